@@ -1,0 +1,32 @@
+-- The order of keys: by folio, then the title, the rights by number, the sale.
+use Rattle.std.specs.Prelude.{ℕ, Bool, ◌==◌}
+use Rattle.std.specs.declared.cmp.Ordering.{Ordering}
+use Rattle.std.specs.Ordering.{nat_cmp, on, then_cmp, eq_of_both}
+use Rattle.gb_base.specs.RightNo.{RightNo}
+use Rattle.gb_base.specs.declared.keys.Key.{Key}
+use Rattle.gb_base.specs.declared.keys.Key.TheVariants.{Title, Right, Case}
+
+abbrev pub folio_of : Key → ℕ
+folio_of (Title folio) = folio
+folio_of (Right folio right) = folio
+folio_of (Case folio) = folio
+
+-- the place among the parts of a folio
+abbrev pub part_of : Key → ℕ
+part_of (Title folio) = 0
+part_of (Right folio right) = 1
+part_of (Case folio) = 2
+
+abbrev pub right_of : Key → RightNo
+right_of (Title folio) = record { receipt = 0; act = 0 }
+right_of (Right folio right) = right
+right_of (Case folio) = record { receipt = 0; act = 0 }
+
+abbrev pub key_cmp : Key → Key → Ordering
+key_cmp = then_cmp (on folio_of nat_cmp) (then_cmp (on part_of nat_cmp)
+    (then_cmp (on (λ k. (right_of k).receipt) nat_cmp) (on (λ k. (right_of k).act) nat_cmp)))
+
+-- of one folio and part, and of one right
+abbrev pub same_key : Key → Key → Bool
+same_key = eq_of_both (on folio_of ◌==◌) (eq_of_both (on part_of ◌==◌)
+    (eq_of_both (on (λ k. (right_of k).receipt) ◌==◌) (on (λ k. (right_of k).act) ◌==◌)))

@@ -1,0 +1,3 @@
+pub mod RightNo
+pub mod DayMinute
+pub mod Keys

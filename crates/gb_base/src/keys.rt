@@ -1,0 +1,109 @@
+// What items touch, and what entries stand at.
+ghost use Rattle.std.specs.Prelude.{◌≡◌};
+ghost use Rattle.std.proofs.Common.{rules};
+ghost use Rattle.std.specs.Cmp.{partial_order_from_own_ties};
+ghost use Rattle.std.specs.Cmp.Rules.{comparing};
+ghost use Rattle.std.specs.Ordering.{as_partial_cmp};
+
+use crate::{FolioId, RightId};
+use std::cmp::Ordering;
+
+/// A place in the register: the title of a folio, one of its rights, or its forced sale.
+/// Keys are ordered by folio, then title, rights by number, sale.
+#[derive(Clone, Copy, Debug)]
+pub enum Key {
+    /// The first part and section I of a folio: inventory and owners.
+    Title(FolioId),
+    /// A right in section II or III of a folio.
+    Right(FolioId, RightId),
+    /// The forced sale of a folio.
+    Case(FolioId),
+}
+
+impl Key {
+    ghost use Rattle.gb_base.specs.Keys.{folio_of, part_of, right_of};
+
+    /// The folio.
+    pub fn folio(self) -> FolioId
+        ensures { result ≡ folio_of self }
+    {
+        match self {
+            Key::Title(folio) => folio,
+            Key::Right(folio, _) => folio,
+            Key::Case(folio) => folio,
+        }
+    }
+
+    /// The place among the parts of a folio.
+    fn part(self) -> u8
+        ensures { result ≡ part_of self }
+    {
+        match self {
+            Key::Title(_) => 0,
+            Key::Right(_, _) => 1,
+            Key::Case(_) => 2,
+        }
+    }
+
+    /// The receipt and the act of the right; zeros where the key is of none.
+    fn right(self) -> (u32, u8)
+        ensures receipt { result.0 ≡ (right_of self).receipt }
+        ensures act { result.1 ≡ (right_of self).act }
+    {
+        match self {
+            Key::Right(_, right) => (right.receipt().get(), right.act()),
+            Key::Title(_) => (0, 0),
+            Key::Case(_) => (0, 0),
+        }
+    }
+}
+
+impl PartialEq for Key {
+    ghost use Rattle.gb_base.specs.Keys.{same_key};
+
+    ghost eq = { same_key };
+
+    ghost laws = { Prim.search (comparing, rules) };
+
+    fn eq(&self, other: &Key) -> bool {
+        self.folio() == other.folio()
+            && self.part() == other.part()
+            && self.right() == other.right()
+    }
+}
+
+impl Eq for Key {
+    ghost laws = { Prim.search (comparing, rules) };
+}
+
+impl Ord for Key {
+    ghost use Rattle.gb_base.specs.Keys.{key_cmp};
+
+    ghost cmp = { key_cmp };
+
+    ghost total = { Prim.search (comparing, rules) };
+
+    ghost matches_partial_cmp = { Prim.search (comparing, rules) };
+
+    ghost matches_eq = { Prim.search (comparing, rules) };
+
+    fn cmp(&self, other: &Key) -> Ordering {
+        self.folio()
+            .cmp(&other.folio())
+            .then(self.part().cmp(&other.part()))
+            .then(self.right().cmp(&other.right()))
+    }
+}
+
+impl PartialOrd for Key {
+    ghost use Rattle.gb_base.specs.Keys.{key_cmp};
+
+    ghost partial_cmp = { as_partial_cmp key_cmp };
+
+    ghost laws = { partial_order_from_own_ties (Prim.search (comparing, rules) depth 8)
+        (Prim.search (comparing, rules) depth 8) };
+
+    fn partial_cmp(&self, other: &Key) -> Option<Ordering> {
+        Some(self.cmp(other))
+    }
+}

@@ -1,0 +1,19 @@
+//! The plain values of a land registry: numbers of folios, persons and receipts, amounts in
+//! cents, days, stamps, the sections of the statutes and the keys of the register.
+#![tactic(auto)]
+
+mod amounts;
+mod days;
+mod ids;
+mod keys;
+mod memory;
+mod sections;
+mod stamps;
+
+pub use amounts::Cents;
+pub use days::Day;
+pub use ids::{FolioId, Person, ReceiptNo, RightId};
+pub use keys::Key;
+pub use memory::NoMemory;
+pub use sections::Section;
+pub use stamps::Stamp;
