@@ -1,0 +1,5 @@
+pub mod Faults
+pub mod Bytes
+pub mod Images
+pub mod Ticks
+pub mod Doors

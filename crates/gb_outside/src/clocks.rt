@@ -1,0 +1,15 @@
+use gb_base::Stamp;
+
+/// A clock that stamps receipts.
+pub trait Clock {
+    ghost use Rattle.std.specs.Prelude.{List, Option};
+    ghost use Rattle.gb_base.specs.DayMinute.{DayMinute};
+    ghost use Rattle.gb_outside.specs.Ticks.{Ticks};
+
+    /// The stamps that the clock will still give, the last one again and again, where it tells them.
+    ghost ticks: { Self → Option (List DayMinute) };
+
+    /// The stamp of now.
+    fn now(&mut self) -> Stamp
+        ensures { Ticks (ticks self.old) (ticks self.new) result };
+}
