@@ -37,6 +37,15 @@ impl FolioId {
     }
 }
 
+/// Folio 1, which fills the unused places of a bounded list.
+impl Default for FolioId {
+    ghost is_default = { λ folio. folio ≡ 1 };
+
+    fn default() -> FolioId {
+        FolioId(1)
+    }
+}
+
 /// The number of a natural or legal person, from 1.
 #[derive(Clone, Copy, Debug, PartialEq, Eq, PartialOrd, Ord)]
 pub struct Person(u32);
@@ -114,6 +123,15 @@ impl ReceiptNo {
     }
 }
 
+/// Receipt 1, which fills the unused places of a bounded list.
+impl Default for ReceiptNo {
+    ghost is_default = { λ receipt. receipt ≡ 1 };
+
+    fn default() -> ReceiptNo {
+        ReceiptNo(1)
+    }
+}
+
 /// The number of a right: the receipt of the filing that creates it, and the number of the
 /// creating act in that filing, from 1 to 8.
 #[derive(Clone, Copy, Debug, PartialEq, Eq, PartialOrd, Ord)]
@@ -162,5 +180,17 @@ impl RightId {
         ensures to_eight { self.act ≤ 8 }
     {
         self.act
+    }
+}
+
+/// Right 1.1, which fills the unused places of a bounded list.
+impl Default for RightId {
+    ghost is_default = { λ id. (id.receipt ≡ 1) × (id.act ≡ 1) };
+
+    fn default() -> RightId {
+        RightId {
+            receipt: ReceiptNo::default(),
+            act: 1,
+        }
     }
 }

@@ -58,6 +58,13 @@ impl Key {
     }
 }
 
+/// The title of folio 1, which fills the unused places of a bounded list.
+impl Default for Key {
+    fn default() -> Key {
+        Key::Title(FolioId::default())
+    }
+}
+
 impl PartialEq for Key {
     ghost use Rattle.gb_base.specs.Keys.{same_key};
 

@@ -1,0 +1,94 @@
+ghost use Rattle.std.specs.Prelude.{◌≡◌, ◌≤◌, length};
+
+use crate::{Inventory, Owners, RightSpec};
+use arrayvec::ArrayVec;
+use gb_base::{Cents, FolioId, Person, RightId};
+use std::marker::Model;
+
+/// What a filing applies for, in one folio.
+#[derive(Debug, Drop)]
+pub enum Act {
+    /// A folio is opened for a parcel (GBO § 3).
+    Open {
+        folio: FolioId,
+        inventory: Inventory,
+        owners: Owners,
+    },
+    /// The land goes to new owners (BGB §§ 873, 925).
+    Transfer { folio: FolioId, owners: Owners },
+    /// A right is created (BGB § 873), perhaps under the reservation of a better rank for a later
+    /// right of up to this capital (BGB § 881).
+    Create {
+        folio: FolioId,
+        spec: RightSpec,
+        reserve: Option<Cents>,
+    },
+    /// A priority notice for a right is entered (BGB § 883).
+    NoticeFor { folio: FolioId, spec: RightSpec },
+    /// The right of a priority notice is entered in the notice's place (BGB § 883(3)).
+    Convert { folio: FolioId, right: RightId },
+    /// A right goes to a new holder (BGB § 873).
+    Assign {
+        folio: FolioId,
+        right: RightId,
+        holder: Person,
+    },
+    /// A right is cancelled (BGB § 875).
+    Cancel { folio: FolioId, right: RightId },
+    /// One right recedes in rank behind another (BGB § 880).
+    Exchange {
+        folio: FolioId,
+        recede: RightId,
+        rise: RightId,
+    },
+    /// A right is created in the rank that another right's reservation keeps (BGB § 881).
+    Exercise {
+        folio: FolioId,
+        behind: RightId,
+        spec: RightSpec,
+    },
+}
+
+/// A cancellation of right 1.1 in folio 1, which fills the unused places of a bounded list.
+impl Default for Act {
+    fn default() -> Act {
+        Act::Cancel {
+            folio: FolioId::default(),
+            right: RightId::default(),
+        }
+    }
+}
+
+/// The acts of a filing, at most eight.
+#[derive(Debug, Drop)]
+pub struct Acts {
+    list: ArrayVec<Act, 8>,
+}
+
+impl Model for Acts {
+    ghost use Rattle.std.specs.Prelude.{List, ◌≤◌, length};
+    ghost use Rattle.act_model.specs.declared.filing_acts.Act.{Act};
+
+    ghost Value = { List Act };
+
+    ghost view = { λ a. a.list.items };
+
+    ghost invariant = { λ a. length a.list.items ≤ 8 };
+}
+
+impl Acts {
+    /// These acts.
+    pub fn new(list: ArrayVec<Act, 8>) -> Acts
+        ensures { result ≡ list.items }
+    {
+        Acts { list }
+    }
+
+    /// The acts in their order.
+    pub fn list(&self) -> &[Act]
+        ensures value { result.now ≡ self.now }
+        ensures at_most_eight { length self.now ≤ 8 }
+    {
+        self.list.as_slice()
+    }
+}

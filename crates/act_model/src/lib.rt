@@ -1,0 +1,21 @@
+//! What comes in: filings with their acts and documents, cures, lapses and the items of a forced
+//! sale; receipts, and the journal that numbers them.
+#![tactic(auto)]
+
+mod auctions;
+mod documents;
+mod filing_acts;
+mod items;
+mod land;
+mod people;
+mod receipts;
+mod rights;
+
+pub use auctions::{Basis, Registration};
+pub use documents::{Doc, Docs, Form};
+pub use filing_acts::{Act, Acts};
+pub use items::{Filing, Item};
+pub use land::Inventory;
+pub use people::Owners;
+pub use receipts::Receipt;
+pub use rights::{RightKind, RightSpec};

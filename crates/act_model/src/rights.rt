@@ -1,0 +1,27 @@
+use gb_base::{Cents, Person};
+
+/// The kinds of rights. Section II of a folio holds the first two, section III the last two.
+#[derive(Clone, Copy, Debug, PartialEq, Eq)]
+pub enum RightKind {
+    /// A limited personal easement (BGB § 1090).
+    PersonalEasement,
+    /// A usufruct (BGB § 1030).
+    Usufruct,
+    /// A mortgage (BGB § 1113), with its interest in hundredths of a percent a year.
+    Mortgage { rate_bp: u16 },
+    /// A land charge (BGB § 1191), with its interest in hundredths of a percent a year.
+    LandCharge { rate_bp: u16 },
+}
+
+/// A right as an act describes it.
+#[derive(Clone, Copy, Debug, PartialEq, Eq)]
+pub struct RightSpec {
+    pub kind: RightKind,
+    /// The capital; for a right of section II the highest replacement value (BGB § 882).
+    pub capital: Cents,
+    /// Whose right it is.
+    pub holder: Person,
+    /// Rights of one filing and folio with the same group have equal rank, a smaller group is
+    /// ahead (GBO § 45(3)); from 1 to 8.
+    pub group: u8,
+}
