@@ -1,0 +1,5 @@
+pub mod Entries
+pub mod Judging
+pub mod Entering
+
+pub mod Built

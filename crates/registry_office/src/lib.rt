@@ -1,0 +1,7 @@
+//! The office: reads lines, receives them, settles the journal and writes the report.
+#![tactic(auto)]
+
+mod entries;
+mod judging;
+mod reading;
+mod verdicts;
