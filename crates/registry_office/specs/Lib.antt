@@ -3,3 +3,4 @@ pub mod Judging
 pub mod Entering
 
 pub mod Built
+pub mod Stops

@@ -4,4 +4,6 @@
 mod entries;
 mod judging;
 mod reading;
+mod stops;
 mod verdicts;
+mod writing;
