@@ -4,3 +4,5 @@ pub mod Entering
 
 pub mod Built
 pub mod Stops
+pub mod Lines
+pub mod Sessions
