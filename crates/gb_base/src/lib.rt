@@ -6,6 +6,7 @@ mod amounts;
 mod days;
 mod ids;
 mod keys;
+pub mod laws;
 mod memory;
 mod sections;
 mod stamps;
