@@ -2,3 +2,4 @@ pub mod RightNo
 pub mod DayMinute
 pub mod Keys
 pub mod Calendar
+pub mod Texts

@@ -10,6 +10,7 @@ pub mod laws;
 mod memory;
 mod sections;
 mod stamps;
+mod texts;
 
 pub use amounts::Cents;
 pub use days::Day;
