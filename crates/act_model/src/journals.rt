@@ -56,6 +56,13 @@ impl Journal {
         self.receipts.len() as u32
     }
 
+    /// The receipts in their order.
+    pub fn receipts(&self) -> &[Receipt]
+        ensures { result.now ≡ self.now }
+    {
+        self.receipts.as_slice()
+    }
+
     /// Receipt n; None above the last one.
     pub fn get(&self, n: ReceiptNo) -> Option<&Receipt>
         ensures { option_copied result ≡ receipt_at self.now n }

@@ -4,6 +4,7 @@
 mod entries;
 mod judging;
 mod reading;
+mod session;
 mod stops;
 mod verdicts;
 mod writing;
