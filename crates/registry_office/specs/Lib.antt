@@ -6,3 +6,6 @@ pub mod Built
 pub mod Stops
 pub mod Lines
 pub mod Sessions
+pub mod Settling
+pub mod Ranks
+pub mod Reports

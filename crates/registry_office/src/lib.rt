@@ -4,6 +4,7 @@
 mod entries;
 mod judging;
 mod reading;
+mod register;
 mod session;
 mod stops;
 mod verdicts;
