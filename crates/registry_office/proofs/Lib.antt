@@ -1,3 +1,4 @@
 pub mod Grounds
 pub mod Written
 pub mod Pieces
+pub mod Inputs

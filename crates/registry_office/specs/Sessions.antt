@@ -40,3 +40,9 @@ pub record Session (left0 left1 written0 written1 : Option (List ℕ)) (journal0
   pub consumed : Consumes left0 left1 read
   pub answered : Answered written0 written1 journal0 journal1 [] line read
   pub size : length read ≡ count
+
+-- Some bytes were read, and just the lines that an LF ends in them are answered.
+pub record AnsweredRead (left0 left1 written0 written1 : Option (List ℕ)) : Type 0 where
+  pub read : List ℕ
+  pub consumed : Consumes left0 left1 read
+  pub wrote : Appends written0 written1 (replies [] (ended [] read))

@@ -1,17 +1,24 @@
 // The session of an input: each line is answered as it comes.
-ghost use Rattle.std.specs.Prelude.{◌≡◌, ◌≤◌, ◌<◌, ◌+◌, ◌^◌, ◌++◌, ◌∷◌, [], ◌==◌, false, length, OnOk, OnErr, IfSome, IfNone, Err};
+ghost use Rattle.std.specs.Prelude.{◌≡◌, ◌⊎◌, ◌≤◌, ◌<◌, ◌+◌, ◌^◌, ◌++◌, ◌∷◌, [], ◌==◌, false, length, take, Some, OnOk, OnErr, IfOk, IfSome, IfNone, Err, vec_len};
 ghost use Rattle.std.specs.List.{list_any};
 ghost use Rattle.std.specs.Io.KnownBytes.{Appends};
-ghost use Rattle.gb_outside.specs.Bytes.{AppendsFront};
+ghost use Rattle.gb_outside.specs.Bytes.{AppendsFront, IsGot, Reads, read_failed as read_of_source_failed};
 ghost use Rattle.gb_outside.specs.Faults.{Counts};
 ghost use Rattle.registry_office.specs.Lines.{reply_to, kept_after};
-ghost use Rattle.registry_office.specs.Sessions.{ended, replies, Answered};
-ghost use Rattle.registry_office.specs.Stops.{output_failed};
+ghost use Rattle.registry_office.specs.Sessions.{ended, lines_of, replies, journal_after, Answered, AnsweredRead};
+ghost use Rattle.registry_office.specs.Stops.{output_failed, read_failed, write_failed};
 
-use crate::stops::OutputStop;
+use crate::stops::{OutputStop, Stop};
 use act_model::Journal;
-use gb_outside::Sink;
+use gb_base::NoMemory;
+use gb_outside::{Got, Sink, Source};
 use std::alloc::Global;
+
+/// The most bytes of input that the office takes, 64 MiB.
+const MAX_INPUT: usize = 1 << 26;
+
+/// How many bytes are read at once.
+const BLOCK: usize = 1 << 16;
 
 /// Answers one line.
 fn answer_line<K: Sink>(
@@ -84,4 +91,82 @@ fn answer_piece<K: Sink>(
     }
     line.extend_from_slice(rest)?;
     Ok(())
+}
+
+/// How many bytes to ask for where so many were read: no more than are left of the most that the
+/// office takes, and one where none are, so that a byte more is noticed.
+fn room_for(count: usize) -> usize
+    requires { count ≤ MAX_INPUT }
+    ensures some { 1 ≤ result }
+    ensures block { result ≤ BLOCK }
+    ensures left { count + result ≤ MAX_INPUT ⊎ ((count ≡ MAX_INPUT) × (result ≡ 1)) }
+{
+    (MAX_INPUT - count).min(BLOCK).max(1)
+}
+
+/// A block to read into.
+fn empty_block(alloc: Global) -> Result<Vec<u8>, NoMemory>
+    ensures { IfOk result (λ block. vec_len block ≡ BLOCK) }
+{
+    vec![in alloc; 0; BLOCK]
+}
+
+/// Reads at most so many bytes to the front of the block.
+fn read_block<S: Source>(source: &mut S, block: &mut [u8], room: usize) -> Got
+    requires some { 1 ≤ room }
+    requires within { room ≤ length block.old }
+    ensures count { IsGot result room }
+    ensures content { Reads (S.left source.old) (S.left source.new) result block.new }
+    ensures cause { Counts (S.faults source.old) (S.faults source.new) (read_of_source_failed result) }
+{
+    source.read(&mut block[..room])
+}
+
+/// Answers all lines of the input.
+pub fn answer_input<S: Source, K: Sink>(
+    alloc: Global,
+    journal: &mut Journal,
+    source: &mut S,
+    sink: &mut K,
+) -> Result<(), Stop>
+    requires { journal.old ≡ [] }
+    ensures replies { OnOk result (IfSome (S.left source.old) (λ input.
+        Appends (K.written sink.old) (K.written sink.new) (replies [] (lines_of input)))) }
+    ensures journal { OnOk result (IfSome (S.left source.old) (λ input. journal.new ≡ journal_after [] (lines_of input))) }
+    ensures at_end { OnOk result (IfSome (S.left source.old) (λ _. S.left source.new ≡ Some [])) }
+    ensures short { OnOk result (IfSome (S.left source.old) (λ input. length input ≤ MAX_INPUT)) }
+    ensures long { result ≡ Err Stop.TooLong → IfSome (S.left source.old) (λ input. MAX_INPUT < length input) }
+
+    // Where the source fails, just the lines are answered that an LF ends in the bytes read; where the
+    // input is too long, those that one ends in the most that the office takes.
+    ensures so_far { result ≡ Err Stop.Read → AnsweredRead (S.left source.old) (S.left source.new) (K.written sink.old) (K.written sink.new) }
+    ensures most { result ≡ Err Stop.TooLong → IfSome (S.left source.old) (λ input.
+        Appends (K.written sink.old) (K.written sink.new) (replies [] (ended [] (take MAX_INPUT input)))) }
+
+    // Else a front of the replies is written.
+    ensures part { OnErr result (IfSome (S.left source.old) (λ input.
+        AppendsFront (K.written sink.old) (K.written sink.new) (replies [] (lines_of input)))) }
+    ensures read_cause { Counts (S.faults source.old) (S.faults source.new) (read_failed result) }
+    ensures write_cause { Counts (K.faults sink.old) (K.faults sink.new) (write_failed result) }
+{
+    let mut line = Vec::new(alloc);
+    let mut block = empty_block(alloc)?;
+    let mut count = 0;
+    for _ in 0..MAX_INPUT + 1 {
+        match read_block(source, block.as_mut_slice(), room_for(count)) {
+            Got::Bytes(read) => {
+                if read > MAX_INPUT - count {
+                    return Err(Stop::TooLong);
+                }
+                answer_piece(alloc, journal, &mut line, &block[..read], sink)?;
+                count += read;
+            }
+            Got::End => {
+                answer_line(alloc, journal, line.as_slice(), sink)?;
+                return Ok(());
+            }
+            Got::Failed => return Err(Stop::Read),
+        }
+    }
+    unreachable!()
 }
