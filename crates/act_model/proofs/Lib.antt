@@ -1,1 +1,2 @@
+mod FolioLemmas
 mod JournalLemmas
