@@ -16,6 +16,8 @@ mod ranges;
 mod receipts;
 mod rights;
 mod same;
+#[cfg(test)]
+mod tests;
 mod touched_keys;
 
 pub use added::Added;

@@ -1,8 +1,7 @@
 // The keys that a filing touches.
-ghost use Rattle.std.specs.Prelude.{◌≡◌, ◌+◌, ◌≤◌, ◌<◌, All, IsTrue, MatchOption, insert, length};
+ghost use Rattle.std.specs.Prelude.{◌≡◌, ◌≤◌, IsTrue, insert, length};
 ghost use Rattle.std.specs.Option.{option_copied};
-ghost use Rattle.act_model.specs.Acts.{is_section_three};
-ghost use Rattle.act_model.specs.WellFormed.{names_few_folios, well_formed};
+ghost use Rattle.act_model.specs.WellFormed.{names_few_folios};
 ghost use Rattle.act_model.specs.Touches.{filing_of, filing_at, act_at, created_in, created_before, was_section_three, keys_of_act, keys_of_acts, with_key, with_keys, insert_key, in_key_order, filing_keys, new_right};
 
 use crate::{Act, Filing, Item, Journal, Receipt, RightSpec};
