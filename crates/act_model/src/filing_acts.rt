@@ -61,6 +61,44 @@ pub enum Act {
     },
 }
 
+impl Act {
+    ghost use Rattle.act_model.specs.Acts.{folio_of, right_created};
+
+    /// The folio that the act is in.
+    pub fn folio(&self) -> FolioId
+        ensures { result ≡ folio_of self.now }
+    {
+        match self {
+            Act::Open { folio, .. } => *folio,
+            Act::Transfer { folio, .. } => *folio,
+            Act::Create { folio, .. } => *folio,
+            Act::NoticeFor { folio, .. } => *folio,
+            Act::Convert { folio, .. } => *folio,
+            Act::Assign { folio, .. } => *folio,
+            Act::Cancel { folio, .. } => *folio,
+            Act::Exchange { folio, .. } => *folio,
+            Act::Exercise { folio, .. } => *folio,
+        }
+    }
+
+    /// The right that the act creates; None where it creates none.
+    pub fn right_created(&self) -> Option<RightSpec>
+        ensures { result ≡ right_created self.now }
+    {
+        match self {
+            Act::Create { spec, .. } => Some(*spec),
+            Act::NoticeFor { spec, .. } => Some(*spec),
+            Act::Exercise { spec, .. } => Some(*spec),
+            Act::Open { .. } => None,
+            Act::Transfer { .. } => None,
+            Act::Convert { .. } => None,
+            Act::Assign { .. } => None,
+            Act::Cancel { .. } => None,
+            Act::Exchange { .. } => None,
+        }
+    }
+}
+
 /// A cancellation of right 1.1 in folio 1, which fills the unused places of a bounded list.
 impl Default for Act {
     fn default() -> Act {

@@ -56,9 +56,10 @@ impl Journal {
         self.receipts.len() as u32
     }
 
-    /// The receipts in their order.
+    /// All receipts, in the order of their numbers.
     pub fn receipts(&self) -> &[Receipt]
-        ensures { result.now ≡ self.now }
+        ensures value { result.now ≡ self.now }
+        ensures journal { IsJournal self.now }
     {
         self.receipts.as_slice()
     }

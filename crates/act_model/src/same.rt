@@ -3,7 +3,7 @@ ghost use Rattle.std.specs.Prelude.{◌≡◌, ◌↔◌, IsTrue};
 ghost use Rattle.std.specs.Cmp.Lexicographic.{pointwise};
 ghost use Rattle.act_model.specs.Same.{same_persons, same_act, same_doc, same_filing, same_item};
 
-use crate::{Act, Basis, Doc, Filing, Item, Owners, Registration};
+use crate::{Act, Doc, Filing, Item, Owners};
 
 /// Whether two items are the same: of one kind, with the same values, and with the same acts and
 /// documents in the same order.
