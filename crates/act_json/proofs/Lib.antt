@@ -1,0 +1,3 @@
+pub mod Names
+pub mod Narrow
+pub mod Turns

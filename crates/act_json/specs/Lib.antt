@@ -1,0 +1,4 @@
+pub mod Reading
+pub mod Helpers
+pub mod Dates
+pub mod Grammar

@@ -1,0 +1,14 @@
+//! Items as lines of JSON: a line is an item, or it has a first wrong place, which is named.
+#![tactic(auto)]
+
+mod acts;
+mod arrays;
+mod lines;
+mod numbers;
+mod paths;
+mod reading;
+mod rights;
+mod words;
+
+pub use lines::LineFault;
+pub use paths::Path;
