@@ -307,6 +307,9 @@ item_words =
     ∷ (codes "distribute", item_word.Distribute)
     ∷ []
 
+abbrev pub acts_of : Data → Read (List Act)
+acts_of = array_of 1 8 act_of
+
 abbrev pub docs_of : Data → Read (List Doc)
 docs_of = array_of 0 32 doc_of
 
@@ -315,7 +318,7 @@ unfoldable pub filing_of : Data → Read Item
 filing_of d = do
   applicant ← member (codes "applicant") serial d
   conditional ← member (codes "conditional") truth d
-  acts ← member (codes "acts") (array_of 1 8 act_of) d
+  acts ← member (codes "acts") acts_of d
   docs ← member (codes "docs") docs_of d
   only (codes "kind" ∷ codes "applicant" ∷ codes "conditional" ∷ codes "acts" ∷ codes "docs" ∷ []) d
   within (codes "acts") (wants (keeps_rules acts))

@@ -3,6 +3,8 @@
 
 mod acts;
 mod arrays;
+mod documents;
+mod items;
 mod lines;
 mod numbers;
 mod paths;
