@@ -11,6 +11,9 @@ mod memory;
 mod sections;
 mod stamps;
 
+#[cfg(test)]
+mod tests;
+
 pub use amounts::Cents;
 pub use days::Day;
 pub use ids::{FolioId, Person, ReceiptNo, RightId};
