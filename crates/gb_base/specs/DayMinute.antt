@@ -1,4 +1,4 @@
-use Rattle.std.specs.Prelude.{ℕ, ◌≤◌, ◌<◌}
+use Rattle.std.specs.Prelude.{ℕ, ◌≤◌}
 
 -- what a stamp says: the day's number and the minute of the day
 pub record DayMinute : Type 0 where

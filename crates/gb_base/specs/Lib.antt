@@ -1,3 +1,4 @@
 pub mod RightNo
 pub mod DayMinute
 pub mod Keys
+pub mod Calendar

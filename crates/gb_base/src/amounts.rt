@@ -27,7 +27,11 @@ impl Cents {
         ensures some { IsSome result ↔ (n ≤ 10000000000000) }
         ensures value { IfSome result (λ cents. cents ≡ n) }
     {
-        if n <= Cents::MAX { Some(Cents(n)) } else { None }
+        if n <= Cents::MAX {
+            Some(Cents(n))
+        } else {
+            None
+        }
     }
 
     /// The number of cents.

@@ -6,9 +6,13 @@ mod amounts;
 mod days;
 mod ids;
 mod keys;
+pub mod laws;
 mod memory;
 mod sections;
 mod stamps;
+
+#[cfg(test)]
+mod tests;
 
 pub use amounts::Cents;
 pub use days::Day;

@@ -1,5 +1,5 @@
 -- Links that come and go, where a listener tells them.
-use Rattle.std.specs.Prelude.{◌≡◌, ℕ, ◌+◌, List, [], ◌∷◌, ◌++◌, Option, Some, None, IsSome, Bool, true, false}
+use Rattle.std.specs.Prelude.{◌≡◌, ℕ, ◌+◌, List, [], ◌∷◌, ◌++◌, Option, Some, None, IfSome, Bool, true, false}
 use Rattle.gb_outside.specs.declared.doors.Door.{Door}
 use Rattle.gb_outside.specs.declared.doors.Door.TheVariants as door
 
@@ -13,11 +13,16 @@ abbrev pub NoneWaits : Option (List (List ℕ)) → Type 0
 NoneWaits (Some waiting) = waiting ≡ []
 NoneWaits None = Unit {0}
 
+-- nothing was written to a link that comes; where a listener tells what it served, its links tell what was written
+abbrev pub NothingWritten : Option (List (List ℕ × ℕ)) → Option (List ℕ) → Type 0
+NothingWritten (Some served) written = written ≡ Some []
+NothingWritten None written = IfSome written (λ bytes. bytes ≡ [])
+
 -- A link that comes has its bytes to give, nothing written and no fault; the door is closed only where none waits.
 abbrev pub Accepts : {L : Type 0} → (L → Option (List ℕ)) → (L → Option (List ℕ)) → (L → ℕ)
     → Option (List (List ℕ × ℕ)) → Option (List (List ℕ)) → Option (List (List ℕ)) → Door L → Type 0
 Accepts left written faults served old new (door.Open link) =
-    TakesFirst old new (left link) × (IsSome served → written link ≡ Some []) × (faults link ≡ 0)
+    TakesFirst old new (left link) × NothingWritten served (written link) × (faults link ≡ 0)
 Accepts left written faults served old new door.Closed = NoneWaits old × (new ≡ old)
 Accepts left written faults served old new door.Failed = new ≡ old
 

@@ -3,3 +3,4 @@ pub mod Bytes
 pub mod Images
 pub mod Ticks
 pub mod Doors
+pub mod InMemory
