@@ -248,16 +248,22 @@ doc_of d = do
 abbrev pub basis_words : List (List ℕ × BasisWord)
 basis_words = (codes "personal", basis_word.Personal) ∷ (codes "right", basis_word.Right) ∷ []
 
-unfoldable pub basis_called : BasisWord → Data → Read Basis
-basis_called basis_word.Personal d = do
+unfoldable pub personal_of : Data → Read Basis
+personal_of d = do
   creditor ← member (codes "creditor") serial d
   claim ← member (codes "claim") amount d
   only (codes "type" ∷ codes "creditor" ∷ codes "claim" ∷ []) d
   Ok (basis.Personal creditor claim)
-basis_called basis_word.Right d = do
+
+unfoldable pub from_right_of : Data → Read Basis
+from_right_of d = do
   right ← member (codes "right") right_of d
   only (codes "type" ∷ codes "right" ∷ []) d
   Ok (basis.FromRight right)
+
+abbrev pub basis_called : BasisWord → Data → Read Basis
+basis_called basis_word.Personal = personal_of
+basis_called basis_word.Right = from_right_of
 
 unfoldable pub basis_of : Data → Read Basis
 basis_of d = do
@@ -268,24 +274,33 @@ basis_of d = do
 abbrev pub claim_words : List (List ℕ × ClaimWord)
 claim_words = (codes "advance", claim_word.Advance) ∷ (codes "charge", claim_word.Charge) ∷ (codes "arrears", claim_word.Arrears) ∷ []
 
-unfoldable pub claim_called : ClaimWord → Data → Read Registration
-claim_called claim_word.Advance d = do
+unfoldable pub advance_of : Data → Read Registration
+advance_of d = do
   person ← member (codes "person") serial d
   cents ← member (codes "amount") amount d
   only (codes "type" ∷ codes "person" ∷ codes "amount" ∷ []) d
   Ok (registration.Advance person cents)
-claim_called claim_word.Charge d = do
+
+unfoldable pub charge_of : Data → Read Registration
+charge_of d = do
   person ← member (codes "person") serial d
   cents ← member (codes "amount") amount d
   due ← member (codes "due") day_of d
   only (codes "type" ∷ codes "person" ∷ codes "amount" ∷ codes "due" ∷ []) d
   Ok (registration.PublicCharge person cents due)
-claim_called claim_word.Arrears d = do
+
+unfoldable pub arrears_of : Data → Read Registration
+arrears_of d = do
   right ← member (codes "right") right_of d
   from ← member (codes "from") day_of d
   until ← member (codes "until") day_of d
   only (codes "type" ∷ codes "right" ∷ codes "from" ∷ codes "until" ∷ []) d
   Ok (registration.Arrears right from until)
+
+abbrev pub claim_called : ClaimWord → Data → Read Registration
+claim_called claim_word.Advance = advance_of
+claim_called claim_word.Charge = charge_of
+claim_called claim_word.Arrears = arrears_of
 
 unfoldable pub claim_of : Data → Read Registration
 claim_of d = do

@@ -3,6 +3,8 @@
 
 mod acts;
 mod arrays;
+mod auctions;
+mod dates;
 mod documents;
 mod items;
 mod lines;
