@@ -1,0 +1,2 @@
+mod FolioLemmas
+mod JournalLemmas

@@ -1,3 +1,6 @@
 pub mod Acts
+pub mod Numbers
 pub mod Persons
+pub mod Receiving
+pub mod Same
 pub mod WellFormed

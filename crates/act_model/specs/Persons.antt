@@ -1,4 +1,4 @@
-use Rattle.std.specs.Prelude.{◌≡◌, ℕ, ◌<◌, ◌&&◌, ◌==◌, not, List, [], ◌∷◌, length, Bool, true, IsTrue}
+use Rattle.std.specs.Prelude.{ℕ, ◌<◌, ◌&&◌, ◌==◌, not, List, [], ◌∷◌, length, Bool, true, IsTrue}
 use Rattle.std.specs.List.{list_any}
 
 -- no person is named twice

@@ -1,6 +1,6 @@
 -- Which items are well formed: the ranges of their values, and four rules over a whole filing.
 -- What the types hold by themselves is not repeated here: numbers from 1, owners, the length of lists.
-use Rattle.std.specs.Prelude.{ℕ, ◌+◌, Bool, true, false, not, ◌&&◌, ◌||◌, ◌==◌, nat_le, if◌then◌else◌, List, [], ◌∷◌, ◌++◌, map, length, Option, Some, None}
+use Rattle.std.specs.Prelude.{ℕ, ◌+◌, Bool, true, false, not, ◌&&◌, ◌||◌, ◌==◌, nat_le, if◌then◌else◌, List, [], ◌∷◌, map, length, Option, Some, None}
 use Rattle.std.specs.List.{list_any, list_all, filter_map, flat_map}
 use Rattle.gb_base.specs.RightNo.{RightNo, same_right}
 use Rattle.act_model.specs.Persons.{is_distinct}

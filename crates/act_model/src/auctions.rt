@@ -13,7 +13,10 @@ pub enum Basis {
 #[derive(Clone, Copy, Debug, PartialEq, Eq)]
 pub enum Registration {
     /// An advance for keeping up the land, of class 1.
-    Advance { person: Person, amount: Cents },
+    Advance {
+        person: Person,
+        amount: Cents,
+    },
     /// A public charge, of class 3, or of class 7 where it is older.
     PublicCharge {
         person: Person,

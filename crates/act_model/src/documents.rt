@@ -65,4 +65,22 @@ impl Docs {
     {
         self.list.as_slice()
     }
+
+    /// A copy, which takes no memory.
+    pub fn copy(&self) -> Docs
+        ensures { result ≡ self.now }
+    {
+        Docs {
+            list: copy_docs(self.list.as_slice()),
+        }
+    }
+}
+
+fn copy_docs(list: &[Doc]) -> ArrayVec<Doc, 32>
+    requires { length list.now ≤ 32 }
+    ensures { result.items ≡ list.now }
+{
+    let mut copy = ArrayVec::new();
+    let _ = copy.try_extend_from_slice(list);
+    copy
 }

@@ -15,7 +15,10 @@ pub enum Act {
         owners: Owners,
     },
     /// The land goes to new owners (BGB §§ 873, 925).
-    Transfer { folio: FolioId, owners: Owners },
+    Transfer {
+        folio: FolioId,
+        owners: Owners,
+    },
     /// A right is created (BGB § 873), perhaps under the reservation of a better rank for a later
     /// right of up to this capital (BGB § 881).
     Create {
@@ -24,9 +27,15 @@ pub enum Act {
         reserve: Option<Cents>,
     },
     /// A priority notice for a right is entered (BGB § 883).
-    NoticeFor { folio: FolioId, spec: RightSpec },
+    NoticeFor {
+        folio: FolioId,
+        spec: RightSpec,
+    },
     /// The right of a priority notice is entered in the notice's place (BGB § 883(3)).
-    Convert { folio: FolioId, right: RightId },
+    Convert {
+        folio: FolioId,
+        right: RightId,
+    },
     /// A right goes to a new holder (BGB § 873).
     Assign {
         folio: FolioId,
@@ -34,7 +43,10 @@ pub enum Act {
         holder: Person,
     },
     /// A right is cancelled (BGB § 875).
-    Cancel { folio: FolioId, right: RightId },
+    Cancel {
+        folio: FolioId,
+        right: RightId,
+    },
     /// One right recedes in rank behind another (BGB § 880).
     Exchange {
         folio: FolioId,
@@ -47,6 +59,44 @@ pub enum Act {
         behind: RightId,
         spec: RightSpec,
     },
+}
+
+impl Act {
+    ghost use Rattle.act_model.specs.Acts.{folio_of, right_created};
+
+    /// The folio that the act is in.
+    pub fn folio(&self) -> FolioId
+        ensures { result ≡ folio_of self.now }
+    {
+        match self {
+            Act::Open { folio, .. } => *folio,
+            Act::Transfer { folio, .. } => *folio,
+            Act::Create { folio, .. } => *folio,
+            Act::NoticeFor { folio, .. } => *folio,
+            Act::Convert { folio, .. } => *folio,
+            Act::Assign { folio, .. } => *folio,
+            Act::Cancel { folio, .. } => *folio,
+            Act::Exchange { folio, .. } => *folio,
+            Act::Exercise { folio, .. } => *folio,
+        }
+    }
+
+    /// The right that the act creates; None where it creates none.
+    pub fn right_created(&self) -> Option<RightSpec>
+        ensures { result ≡ right_created self.now }
+    {
+        match self {
+            Act::Create { spec, .. } => Some(*spec),
+            Act::NoticeFor { spec, .. } => Some(*spec),
+            Act::Exercise { spec, .. } => Some(*spec),
+            Act::Open { .. } => None,
+            Act::Transfer { .. } => None,
+            Act::Convert { .. } => None,
+            Act::Assign { .. } => None,
+            Act::Cancel { .. } => None,
+            Act::Exchange { .. } => None,
+        }
+    }
 }
 
 /// A cancellation of right 1.1 in folio 1, which fills the unused places of a bounded list.

@@ -18,9 +18,14 @@ pub enum Item {
     /// An application.
     Filing(Filing),
     /// Further documents for a pending filing (GBO § 18).
-    Cure { filing: ReceiptNo, docs: Docs },
+    Cure {
+        filing: ReceiptNo,
+        docs: Docs,
+    },
     /// A pending filing is to be rejected, since its deadline has passed (GBO § 18).
-    Lapse { filing: ReceiptNo },
+    Lapse {
+        filing: ReceiptNo,
+    },
     /// The land is seized for a creditor (ZVG § 20); `served` is the day on which the debtor was
     /// served.
     Seize {
@@ -34,7 +39,10 @@ pub enum Item {
         what: Registration,
     },
     /// The call to bid, with the costs of the sale (ZVG § 66).
-    OpenBids { folio: FolioId, costs: Cents },
+    OpenBids {
+        folio: FolioId,
+        costs: Cents,
+    },
     /// The award to a bidder (ZVG § 81).
     Award {
         folio: FolioId,
@@ -42,5 +50,7 @@ pub enum Item {
         bid: Cents,
     },
     /// The proceeds are distributed (ZVG § 105).
-    Distribute { folio: FolioId },
+    Distribute {
+        folio: FolioId,
+    },
 }

@@ -2,20 +2,31 @@
 //! sale; receipts, and the journal that numbers them.
 #![tactic(auto)]
 
+mod added;
 mod auctions;
+mod copies;
 mod documents;
 mod filing_acts;
+mod filing_rules;
 mod items;
+mod journals;
 mod land;
 mod people;
+mod ranges;
 mod receipts;
 mod rights;
+mod same;
 
+pub use added::Added;
 pub use auctions::{Basis, Registration};
+pub use copies::{copy_act, copy_item};
 pub use documents::{Doc, Docs, Form};
 pub use filing_acts::{Act, Acts};
 pub use items::{Filing, Item};
+pub use journals::Journal;
 pub use land::Inventory;
 pub use people::Owners;
+pub use ranges::well_formed;
 pub use receipts::Receipt;
 pub use rights::{RightKind, RightSpec};
+pub use same::same_item;

@@ -43,6 +43,24 @@ impl Owners {
     {
         self.list.as_slice()
     }
+
+    /// A copy, which takes no memory.
+    pub fn copy(&self) -> Owners
+        ensures { result ≡ self.now }
+    {
+        Owners {
+            list: copy_persons(self.list.as_slice()),
+        }
+    }
+}
+
+fn copy_persons(list: &[Person]) -> ArrayVec<Person, 4>
+    requires { length list.now ≤ 4 }
+    ensures { result.items ≡ list.now }
+{
+    let mut copy = ArrayVec::new();
+    let _ = copy.try_extend_from_slice(list);
+    copy
 }
 
 /// Whether no person is named twice.

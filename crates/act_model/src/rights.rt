@@ -1,3 +1,5 @@
+ghost use Rattle.std.specs.Prelude.{◌≡◌};
+
 use gb_base::{Cents, Person};
 
 /// The kinds of rights. Section II of a folio holds the first two, section III the last two.
@@ -11,6 +13,22 @@ pub enum RightKind {
     Mortgage { rate_bp: u16 },
     /// A land charge (BGB § 1191), with its interest in hundredths of a percent a year.
     LandCharge { rate_bp: u16 },
+}
+
+impl RightKind {
+    ghost use Rattle.act_model.specs.Acts.{is_section_three};
+
+    /// Whether section III of the folio holds the right; section II holds the others.
+    pub fn is_section_three(self) -> bool
+        ensures { result ≡ is_section_three self }
+    {
+        match self {
+            RightKind::PersonalEasement => false,
+            RightKind::Usufruct => false,
+            RightKind::Mortgage { .. } => true,
+            RightKind::LandCharge { .. } => true,
+        }
+    }
 }
 
 /// A right as an act describes it.
