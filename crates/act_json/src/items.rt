@@ -9,7 +9,7 @@ use crate::Path;
 use crate::arrays::array;
 use crate::reading::{FromJson, an_object, member, only};
 use crate::words::{ItemWord, item_word};
-use act_model::{Act, Acts, Doc, Docs, Filing, Item};
+use act_model::{Acts, Docs, Filing, Item, keeps_rules};
 use serde_json::Value;
 
 impl FromJson for ItemWord {
@@ -97,10 +97,7 @@ fn filing(value: &Value) -> Result<Item, Path>
     let conditional = member(value, "conditional")?;
     let acts: Acts = member(value, "acts")?;
     let docs = member(value, "docs")?;
-    only(
-        value,
-        &["kind", "applicant", "conditional", "acts", "docs"],
-    )?;
+    only(value, &["kind", "applicant", "conditional", "acts", "docs"])?;
     if !keeps_rules(acts.list()) {
         return Err(Path::of("acts"));
     }

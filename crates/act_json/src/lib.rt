@@ -14,5 +14,5 @@ mod reading;
 mod rights;
 mod words;
 
-pub use lines::LineFault;
+pub use lines::{LineFault, read_item, read_stamped};
 pub use paths::Path;
