@@ -1,5 +1,5 @@
 -- How many folios the acts of a filing name.
-use Rattle.std.proofs.Common.{◌≡◌, ◌+◌, ◌-◌, ◌<◌, cond, eqb, List, [], ◌∷◌, map, length, take, drop, get_or, refl, arith}
+use Rattle.std.proofs.Common.{◌≡◌, ◌+◌, ◌-◌, ◌<◌, cond, eqb, List, [], ◌∷◌, map, length, take, drop, get_or, arith}
 use Rattle.std.specs.List.{list_any}
 use Rattle.std.proofs.lemmas.Grind.{common_steps}
 use Rattle.act_model.specs.declared.filing_acts.Act.{Act}

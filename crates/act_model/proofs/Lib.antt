@@ -1,2 +1,3 @@
 mod FolioLemmas
 mod JournalLemmas
+mod KeyLemmas

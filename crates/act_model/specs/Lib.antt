@@ -3,4 +3,5 @@ pub mod Numbers
 pub mod Persons
 pub mod Receiving
 pub mod Same
+pub mod Touches
 pub mod WellFormed

@@ -56,6 +56,14 @@ impl Journal {
         self.receipts.len() as u32
     }
 
+    /// All receipts, in the order of their numbers.
+    pub fn receipts(&self) -> &[Receipt]
+        ensures value { result.now ≡ self.now }
+        ensures journal { IsJournal self.now }
+    {
+        self.receipts.as_slice()
+    }
+
     /// Receipt n; None above the last one.
     pub fn get(&self, n: ReceiptNo) -> Option<&Receipt>
         ensures { option_copied result ≡ receipt_at self.now n }

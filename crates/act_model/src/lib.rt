@@ -16,12 +16,16 @@ mod ranges;
 mod receipts;
 mod rights;
 mod same;
+#[cfg(test)]
+mod tests;
+mod touched_keys;
 
 pub use added::Added;
 pub use auctions::{Basis, Registration};
 pub use copies::{copy_act, copy_item};
 pub use documents::{Doc, Docs, Form};
 pub use filing_acts::{Act, Acts};
+pub use filing_rules::keeps_rules;
 pub use items::{Filing, Item};
 pub use journals::Journal;
 pub use land::Inventory;
@@ -30,3 +34,4 @@ pub use ranges::well_formed;
 pub use receipts::Receipt;
 pub use rights::{RightKind, RightSpec};
 pub use same::same_item;
+pub use touched_keys::filing_keys;

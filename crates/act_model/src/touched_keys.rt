@@ -1,0 +1,189 @@
+// The keys that a filing touches.
+ghost use Rattle.std.specs.Prelude.{◌≡◌, ◌≤◌, IsTrue, insert, length};
+ghost use Rattle.std.specs.Option.{option_copied};
+ghost use Rattle.act_model.specs.WellFormed.{names_few_folios};
+ghost use Rattle.act_model.specs.Touches.{filing_of, filing_at, act_at, created_in, created_before, was_section_three, keys_of_act, keys_of_acts, with_key, with_keys, insert_key, in_key_order, filing_keys, new_right};
+
+use crate::{Act, Filing, Item, Journal, Receipt, RightSpec};
+use arrayvec::ArrayVec;
+use gb_base::{FolioId, Key, ReceiptNo, RightId};
+
+/// The keys of filing n in key order, each once; none where receipt n is no filing.
+pub fn filing_keys(journal: &Journal, n: ReceiptNo) -> ArrayVec<Key, 18>
+    ensures { result.items ≡ filing_keys journal.now n }
+{
+    let receipts = journal.receipts();
+    match filing_at(receipts, n) {
+        Some(filing) => keys_of_acts(receipts, n, filing.acts.list()),
+        None => ArrayVec::new(),
+    }
+}
+
+/// Filing n; None where receipt n is no filing.
+fn filing_at(receipts: &[Receipt], n: ReceiptNo) -> Option<&Filing>
+    ensures { option_copied result ≡ filing_at receipts.now n }
+{
+    match receipts.get(n.get() as usize - 1) {
+        Some(receipt) => filing_of(&receipt.item),
+        None => None,
+    }
+}
+
+fn filing_of(item: &Item) -> Option<&Filing>
+    ensures { option_copied result ≡ filing_of item.now }
+{
+    match item {
+        Item::Filing(filing) => Some(filing),
+        _ => None,
+    }
+}
+
+fn act_at(filing: &Filing, a: u8) -> Option<&Act>
+    requires { 1 ≤ a }
+    ensures { option_copied result ≡ act_at filing.now a }
+{
+    filing.acts.list().get(a as usize - 1)
+}
+
+/// The right that an act creates in this folio.
+fn created_in(folio: FolioId, act: &Act) -> Option<RightSpec>
+    ensures { result ≡ created_in folio act.now }
+{
+    if act.folio() == folio {
+        act.right_created()
+    } else {
+        None
+    }
+}
+
+/// The right of this number as a filing before receipt n creates it in this folio.
+fn created_before(
+    receipts: &[Receipt],
+    n: ReceiptNo,
+    folio: FolioId,
+    right: RightId,
+) -> Option<RightSpec>
+    ensures { result ≡ created_before receipts.now n folio right }
+{
+    if right.receipt() >= n {
+        return None;
+    }
+    let filing = filing_at(receipts, right.receipt())?;
+    let act = act_at(filing, right.act())?;
+    created_in(folio, act)
+}
+
+/// Whether a filing before receipt n creates this right, and in section III of this folio.
+fn was_section_three(receipts: &[Receipt], n: ReceiptNo, folio: FolioId, right: RightId) -> bool
+    ensures { result ≡ was_section_three receipts.now n folio right }
+{
+    match created_before(receipts, n, folio, right) {
+        Some(spec) => spec.kind.is_section_three(),
+        None => false,
+    }
+}
+
+/// The keys of act a of filing n.
+fn keys_of_act(receipts: &[Receipt], n: ReceiptNo, a: u8, act: &Act) -> ArrayVec<Key, 3>
+    requires from_one { 1 ≤ a }
+    requires to_eight { a ≤ 8 }
+    ensures { result.items ≡ keys_of_act receipts.now n a act.now }
+{
+    let mut keys = ArrayVec::new();
+    match act {
+        Act::Open { folio, .. } => keys.push(Key::Title(*folio)),
+        Act::Transfer { folio, .. } => keys.push(Key::Title(*folio)),
+        Act::Create { folio, .. } => {
+            keys.push(Key::Title(*folio));
+            keys.push(Key::Right(*folio, new_right(n, a)));
+        }
+        Act::NoticeFor { folio, .. } => {
+            keys.push(Key::Title(*folio));
+            keys.push(Key::Right(*folio, new_right(n, a)));
+        }
+        Act::Convert { folio, right } => {
+            keys.push(Key::Title(*folio));
+            keys.push(Key::Right(*folio, *right));
+        }
+        Act::Assign { folio, right, .. } => keys.push(Key::Right(*folio, *right)),
+        Act::Cancel { folio, right } => {
+            keys.push(Key::Title(*folio));
+            keys.push(Key::Right(*folio, *right));
+        }
+        Act::Exchange {
+            folio,
+            recede,
+            rise,
+        } => {
+            keys.push(Key::Right(*folio, *recede));
+            keys.push(Key::Right(*folio, *rise));
+            if was_section_three(receipts, n, *folio, *recede) {
+                keys.push(Key::Title(*folio));
+            }
+        }
+        Act::Exercise { folio, behind, .. } => {
+            keys.push(Key::Title(*folio));
+            keys.push(Key::Right(*folio, *behind));
+            keys.push(Key::Right(*folio, new_right(n, a)));
+        }
+    }
+    keys
+}
+
+/// The right that act a of filing n creates.
+fn new_right(n: ReceiptNo, a: u8) -> RightId
+    requires from_one { 1 ≤ a }
+    requires to_eight { a ≤ 8 }
+    ensures { result ≡ new_right n a }
+{
+    RightId::new(n, a).unwrap()
+}
+
+/// The keys of the acts of filing n in key order, each once.
+fn keys_of_acts(receipts: &[Receipt], n: ReceiptNo, acts: &[Act]) -> ArrayVec<Key, 18>
+    requires acts { length acts.now ≤ 8 }
+    requires folios { IsTrue (names_few_folios acts.now) }
+    ensures { result.items ≡ in_key_order (keys_of_acts receipts.now n 1 acts.now) }
+{
+    let mut keys = ArrayVec::new();
+    for (i, act) in acts.iter().enumerate() {
+        insert_keys(
+            &mut keys,
+            keys_of_act(receipts, n, i as u8 + 1, act).as_slice(),
+        );
+    }
+    keys
+}
+
+/// Puts each of these keys in its place, unless it stands.
+fn insert_keys(keys: &mut ArrayVec<Key, 18>, more: &[Key])
+    requires { length (with_keys more.now keys.old.items) ≤ 18 }
+    ensures { keys.new.items ≡ with_keys more.now keys.old.items }
+{
+    for key in more {
+        insert_key(keys, *key);
+    }
+}
+
+/// Puts a key in its place, unless it stands.
+fn insert_key(keys: &mut ArrayVec<Key, 18>, key: Key)
+    requires { length (with_key key keys.old.items) ≤ 18 }
+    ensures { keys.new.items ≡ with_key key keys.old.items }
+{
+    if keys.as_slice().contains(&key) {
+        return;
+    }
+    let place = place_for(keys.as_slice(), key);
+    keys.insert(place, key);
+}
+
+/// The place of the first key that is greater, or behind the last.
+fn place_for(keys: &[Key], key: Key) -> usize
+    ensures place { insert keys.now result key ≡ insert_key key keys.now }
+    ensures within { result ≤ length keys.now }
+{
+    match keys {
+        [first, rest @ ..] if key >= *first => place_for(rest, key) + 1,
+        _ => 0,
+    }
+}
