@@ -12,6 +12,9 @@ mod sections;
 mod stamps;
 mod texts;
 
+#[cfg(test)]
+mod tests;
+
 pub use amounts::Cents;
 pub use days::Day;
 pub use ids::{FolioId, Person, ReceiptNo, RightId};

@@ -1,0 +1,4 @@
+pub mod Names
+pub mod Narrow
+pub mod Turns
+pub mod WidestRead

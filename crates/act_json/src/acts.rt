@@ -1,0 +1,227 @@
+// The acts of a filing. A reader of an act takes the whole object, and its folio, which is read.
+ghost use Rattle.std.specs.Prelude.{◌≡◌, ◌≤◌, length, IfErr, IfOk, IsTrue};
+ghost use Rattle.act_model.specs.WellFormed.{is_act, is_inventory};
+ghost use Rattle.act_json.specs.Grammar.{act_called, inventory_of, open_of, transfer_of, create_of, notice_of, convert_of, assign_of, cancel_of, exchange_of, exercise_of};
+ghost use Rattle.act_json.specs.Helpers.{widest};
+ghost use Rattle.serde_json.specs.View.{view};
+
+use crate::Path;
+use crate::reading::{FromJson, an_object, member, number, only, only_of_both, optional};
+use crate::rights::{is_charge, spec, spec_names};
+use crate::words::{ActWord, RightWord, act_word};
+use act_model::{Act, Inventory};
+use gb_base::FolioId;
+use serde_json::Value;
+
+impl FromJson for ActWord {
+    ghost use Rattle.act_json.specs.Reading.{word_of};
+    ghost use Rattle.act_json.specs.Grammar.{act_words};
+
+    ghost reads = { word_of act_words };
+
+    ghost longest = { 0 };
+
+    fn read(value: &Value) -> Result<ActWord, Path> {
+        value.as_str().and_then(act_word).ok_or(Path::here())
+    }
+}
+
+impl FromJson for Act {
+    ghost use Rattle.act_json.specs.Grammar.{act_of};
+    ghost use Rattle.act_model.specs.WellFormed.{is_act};
+
+    ghost reads = { act_of };
+
+    ghost longest = { 15 };
+
+    ghost keeps = { is_act };
+
+    #[tactic(auto, unfolding(crate::specs::Grammar::act_of))]
+    fn read(value: &Value) -> Result<Act, Path> {
+        an_object(value)?;
+        let word = member(value, "act")?;
+        let folio = member(value, "folio")?;
+        act(value, word, folio)
+    }
+}
+
+/// The act of this folio that is called so.
+fn act(value: &Value, word: ActWord, folio: FolioId) -> Result<Act, Path>
+    requires { widest (view value.now) ≤ 99999 }
+    ensures exact { result ≡ act_called word folio (view value.now) }
+    ensures short { IfErr result (λ path. length path ≤ 15) }
+    ensures good { IfOk result (λ act. IsTrue (is_act act)) }
+{
+    match word {
+        ActWord::Open => open(value, folio),
+        ActWord::Transfer => transfer(value, folio),
+        ActWord::Create => create(value, folio),
+        ActWord::Notice => notice(value, folio),
+        ActWord::Convert => convert(value, folio),
+        ActWord::Assign => assign(value, folio),
+        ActWord::Cancel => cancel(value, folio),
+        ActWord::Exchange => exchange(value, folio),
+        ActWord::Exercise => exercise(value, folio),
+    }
+}
+
+#[tactic(auto, unfolding(crate::specs::Grammar::open_of))]
+fn open(value: &Value, folio: FolioId) -> Result<Act, Path>
+    requires { widest (view value.now) ≤ 99999 }
+    ensures exact { result ≡ open_of folio (view value.now) }
+    ensures short { IfErr result (λ path. length path ≤ 15) }
+    ensures good { IfOk result (λ act. IsTrue (is_act act)) }
+{
+    let inventory = inventory(value)?;
+    let owners = member(value, "owners")?;
+    only(
+        value,
+        &[
+            "act", "folio", "district", "parcel", "sub", "area", "owners",
+        ],
+    )?;
+    Ok(Act::Open {
+        folio,
+        inventory,
+        owners,
+    })
+}
+
+fn inventory(value: &Value) -> Result<Inventory, Path>
+    ensures exact { result ≡ inventory_of (view value.now) }
+    ensures short { IfErr result (λ path. length path ≤ 8) }
+    ensures good { IfOk result (λ inventory. IsTrue (is_inventory inventory)) }
+{
+    let district = number(value, "district", 1, 65_535)?;
+    let parcel = number(value, "parcel", 1, 4_294_967_295)?;
+    let sub = number(value, "sub", 0, 65_535)?;
+    let area = number(value, "area", 1, 1_000_000_000)?;
+    Ok(Inventory {
+        district: district as u16,
+        parcel: parcel as u32,
+        sub: sub as u16,
+        area: area as u32,
+    })
+}
+
+#[tactic(auto, unfolding(crate::specs::Grammar::transfer_of))]
+fn transfer(value: &Value, folio: FolioId) -> Result<Act, Path>
+    requires { widest (view value.now) ≤ 99999 }
+    ensures exact { result ≡ transfer_of folio (view value.now) }
+    ensures short { IfErr result (λ path. length path ≤ 15) }
+    ensures good { IfOk result (λ act. IsTrue (is_act act)) }
+{
+    let owners = member(value, "owners")?;
+    only(value, &["act", "folio", "owners"])?;
+    Ok(Act::Transfer { folio, owners })
+}
+
+#[tactic(auto, unfolding(crate::specs::Grammar::create_of))]
+fn create(value: &Value, folio: FolioId) -> Result<Act, Path>
+    requires { widest (view value.now) ≤ 99999 }
+    ensures exact { result ≡ create_of folio (view value.now) }
+    ensures short { IfErr result (λ path. length path ≤ 15) }
+    ensures good { IfOk result (λ act. IsTrue (is_act act)) }
+{
+    let word = member(value, "kind")?;
+    let spec = spec(value, word)?;
+    let reserve = optional(value, "reserve")?;
+    only_of_both(value, &["act", "folio", "reserve"], spec_names(word))?;
+    Ok(Act::Create {
+        folio,
+        spec,
+        reserve,
+    })
+}
+
+#[tactic(auto, unfolding(crate::specs::Grammar::notice_of))]
+fn notice(value: &Value, folio: FolioId) -> Result<Act, Path>
+    requires { widest (view value.now) ≤ 99999 }
+    ensures exact { result ≡ notice_of folio (view value.now) }
+    ensures short { IfErr result (λ path. length path ≤ 15) }
+    ensures good { IfOk result (λ act. IsTrue (is_act act)) }
+{
+    let word = member(value, "kind")?;
+    let spec = spec(value, word)?;
+    only_of_both(value, &["act", "folio"], spec_names(word))?;
+    Ok(Act::NoticeFor { folio, spec })
+}
+
+#[tactic(auto, unfolding(crate::specs::Grammar::convert_of))]
+fn convert(value: &Value, folio: FolioId) -> Result<Act, Path>
+    requires { widest (view value.now) ≤ 99999 }
+    ensures exact { result ≡ convert_of folio (view value.now) }
+    ensures short { IfErr result (λ path. length path ≤ 15) }
+    ensures good { IfOk result (λ act. IsTrue (is_act act)) }
+{
+    let right = member(value, "right")?;
+    only(value, &["act", "folio", "right"])?;
+    Ok(Act::Convert { folio, right })
+}
+
+#[tactic(auto, unfolding(crate::specs::Grammar::assign_of))]
+fn assign(value: &Value, folio: FolioId) -> Result<Act, Path>
+    requires { widest (view value.now) ≤ 99999 }
+    ensures exact { result ≡ assign_of folio (view value.now) }
+    ensures short { IfErr result (λ path. length path ≤ 15) }
+    ensures good { IfOk result (λ act. IsTrue (is_act act)) }
+{
+    let right = member(value, "right")?;
+    let holder = member(value, "holder")?;
+    only(value, &["act", "folio", "right", "holder"])?;
+    Ok(Act::Assign {
+        folio,
+        right,
+        holder,
+    })
+}
+
+#[tactic(auto, unfolding(crate::specs::Grammar::cancel_of))]
+fn cancel(value: &Value, folio: FolioId) -> Result<Act, Path>
+    requires { widest (view value.now) ≤ 99999 }
+    ensures exact { result ≡ cancel_of folio (view value.now) }
+    ensures short { IfErr result (λ path. length path ≤ 15) }
+    ensures good { IfOk result (λ act. IsTrue (is_act act)) }
+{
+    let right = member(value, "right")?;
+    only(value, &["act", "folio", "right"])?;
+    Ok(Act::Cancel { folio, right })
+}
+
+#[tactic(auto, unfolding(crate::specs::Grammar::exchange_of))]
+fn exchange(value: &Value, folio: FolioId) -> Result<Act, Path>
+    requires { widest (view value.now) ≤ 99999 }
+    ensures exact { result ≡ exchange_of folio (view value.now) }
+    ensures short { IfErr result (λ path. length path ≤ 15) }
+    ensures good { IfOk result (λ act. IsTrue (is_act act)) }
+{
+    let recede = member(value, "recede")?;
+    let rise = member(value, "rise")?;
+    only(value, &["act", "folio", "recede", "rise"])?;
+    Ok(Act::Exchange {
+        folio,
+        recede,
+        rise,
+    })
+}
+
+#[tactic(auto, unfolding(crate::specs::Grammar::exercise_of))]
+fn exercise(value: &Value, folio: FolioId) -> Result<Act, Path>
+    requires { widest (view value.now) ≤ 99999 }
+    ensures exact { result ≡ exercise_of folio (view value.now) }
+    ensures short { IfErr result (λ path. length path ≤ 15) }
+    ensures good { IfOk result (λ act. IsTrue (is_act act)) }
+{
+    let behind = member(value, "behind")?;
+    let word: RightWord = member(value, "kind")?;
+    if !is_charge(word) {
+        return Err(Path::of("kind"));
+    }
+    let spec = spec(value, word)?;
+    only_of_both(value, &["act", "folio", "behind"], spec_names(word))?;
+    Ok(Act::Exercise {
+        folio,
+        behind,
+        spec,
+    })
+}

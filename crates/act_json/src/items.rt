@@ -1,0 +1,205 @@
+// The items. A reader of an item takes the whole object.
+ghost use Rattle.std.specs.Prelude.{◌≡◌, ◌≤◌, length, IfErr, IfOk, IsTrue};
+ghost use Rattle.act_model.specs.WellFormed.{well_formed, keeps_rules, is_doc, is_act};
+ghost use Rattle.act_json.specs.Grammar.{filing_of, cure_of, lapse_of, seize_of, register_of, open_bids_of, award_of, distribute_of};
+ghost use Rattle.act_json.specs.Helpers.{widest};
+ghost use Rattle.serde_json.specs.View.{view};
+
+use crate::Path;
+use crate::arrays::array;
+use crate::reading::{FromJson, an_object, member, only};
+use crate::words::{ItemWord, item_word};
+use act_model::{Acts, Docs, Filing, Item, keeps_rules};
+use serde_json::Value;
+
+impl FromJson for ItemWord {
+    ghost use Rattle.act_json.specs.Reading.{word_of};
+    ghost use Rattle.act_json.specs.Grammar.{item_words};
+
+    ghost reads = { word_of item_words };
+
+    ghost longest = { 0 };
+
+    fn read(value: &Value) -> Result<ItemWord, Path> {
+        value.as_str().and_then(item_word).ok_or(Path::here())
+    }
+}
+
+impl FromJson for Docs {
+    ghost use Rattle.std.specs.List.{list_all};
+    ghost use Rattle.act_json.specs.Grammar.{docs_of};
+    ghost use Rattle.act_model.specs.WellFormed.{is_doc};
+
+    ghost reads = { docs_of };
+
+    ghost longest = { 13 };
+
+    ghost keeps = { list_all is_doc };
+
+    fn read(value: &Value) -> Result<Docs, Path> {
+        let list = array(value, 0)?;
+        Ok(Docs::new(list))
+    }
+}
+
+impl FromJson for Acts {
+    ghost use Rattle.std.specs.Prelude.{◌&&◌, length};
+    ghost use Rattle.std.specs.List.{list_all};
+    ghost use Rattle.act_json.specs.Grammar.{acts_of};
+    ghost use Rattle.act_model.specs.WellFormed.{is_act, is_between};
+
+    ghost reads = { acts_of };
+
+    ghost longest = { 21 };
+
+    ghost keeps = { λ acts. is_between 1 8 (length acts) && list_all is_act acts };
+
+    fn read(value: &Value) -> Result<Acts, Path> {
+        let list = array(value, 1)?;
+        Ok(Acts::new(list))
+    }
+}
+
+impl FromJson for Item {
+    ghost use Rattle.act_json.specs.Grammar.{any_item};
+    ghost use Rattle.act_model.specs.WellFormed.{well_formed};
+
+    ghost reads = { any_item };
+
+    ghost longest = { 26 };
+
+    ghost keeps = { well_formed };
+
+    #[tactic(auto, unfolding(crate::specs::Grammar::any_item))]
+    fn read(value: &Value) -> Result<Item, Path> {
+        an_object(value)?;
+        match member(value, "kind")? {
+            ItemWord::Filing => filing(value),
+            ItemWord::Cure => cure(value),
+            ItemWord::Lapse => lapse(value),
+            ItemWord::Seize => seize(value),
+            ItemWord::Register => register(value),
+            ItemWord::OpenBids => open_bids(value),
+            ItemWord::Award => award(value),
+            ItemWord::Distribute => distribute(value),
+        }
+    }
+}
+
+#[tactic(auto, unfolding(crate::specs::Grammar::filing_of))]
+fn filing(value: &Value) -> Result<Item, Path>
+    requires { widest (view value.now) ≤ 99999 }
+    ensures exact { result ≡ filing_of (view value.now) }
+    ensures short { IfErr result (λ path. length path ≤ 26) }
+    ensures good { IfOk result (λ item. IsTrue (well_formed item)) }
+{
+    let applicant = member(value, "applicant")?;
+    let conditional = member(value, "conditional")?;
+    let acts: Acts = member(value, "acts")?;
+    let docs = member(value, "docs")?;
+    only(value, &["kind", "applicant", "conditional", "acts", "docs"])?;
+    if !keeps_rules(acts.list()) {
+        return Err(Path::of("acts"));
+    }
+    Ok(Item::Filing(Filing {
+        applicant,
+        conditional,
+        acts,
+        docs,
+    }))
+}
+
+#[tactic(auto, unfolding(crate::specs::Grammar::cure_of))]
+fn cure(value: &Value) -> Result<Item, Path>
+    requires { widest (view value.now) ≤ 99999 }
+    ensures exact { result ≡ cure_of (view value.now) }
+    ensures short { IfErr result (λ path. length path ≤ 26) }
+    ensures good { IfOk result (λ item. IsTrue (well_formed item)) }
+{
+    let filing = member(value, "filing")?;
+    let docs = member(value, "docs")?;
+    only(value, &["kind", "filing", "docs"])?;
+    Ok(Item::Cure { filing, docs })
+}
+
+#[tactic(auto, unfolding(crate::specs::Grammar::lapse_of))]
+fn lapse(value: &Value) -> Result<Item, Path>
+    requires { widest (view value.now) ≤ 99999 }
+    ensures exact { result ≡ lapse_of (view value.now) }
+    ensures short { IfErr result (λ path. length path ≤ 26) }
+    ensures good { IfOk result (λ item. IsTrue (well_formed item)) }
+{
+    let filing = member(value, "filing")?;
+    only(value, &["kind", "filing"])?;
+    Ok(Item::Lapse { filing })
+}
+
+#[tactic(auto, unfolding(crate::specs::Grammar::seize_of))]
+fn seize(value: &Value) -> Result<Item, Path>
+    requires { widest (view value.now) ≤ 99999 }
+    ensures exact { result ≡ seize_of (view value.now) }
+    ensures short { IfErr result (λ path. length path ≤ 26) }
+    ensures good { IfOk result (λ item. IsTrue (well_formed item)) }
+{
+    let folio = member(value, "folio")?;
+    let basis = member(value, "basis")?;
+    let served = member(value, "served")?;
+    only(value, &["kind", "folio", "basis", "served"])?;
+    Ok(Item::Seize {
+        folio,
+        basis,
+        served,
+    })
+}
+
+#[tactic(auto, unfolding(crate::specs::Grammar::register_of))]
+fn register(value: &Value) -> Result<Item, Path>
+    requires { widest (view value.now) ≤ 99999 }
+    ensures exact { result ≡ register_of (view value.now) }
+    ensures short { IfErr result (λ path. length path ≤ 26) }
+    ensures good { IfOk result (λ item. IsTrue (well_formed item)) }
+{
+    let folio = member(value, "folio")?;
+    let what = member(value, "what")?;
+    only(value, &["kind", "folio", "what"])?;
+    Ok(Item::Register { folio, what })
+}
+
+#[tactic(auto, unfolding(crate::specs::Grammar::open_bids_of))]
+fn open_bids(value: &Value) -> Result<Item, Path>
+    requires { widest (view value.now) ≤ 99999 }
+    ensures exact { result ≡ open_bids_of (view value.now) }
+    ensures short { IfErr result (λ path. length path ≤ 26) }
+    ensures good { IfOk result (λ item. IsTrue (well_formed item)) }
+{
+    let folio = member(value, "folio")?;
+    let costs = member(value, "costs")?;
+    only(value, &["kind", "folio", "costs"])?;
+    Ok(Item::OpenBids { folio, costs })
+}
+
+#[tactic(auto, unfolding(crate::specs::Grammar::award_of))]
+fn award(value: &Value) -> Result<Item, Path>
+    requires { widest (view value.now) ≤ 99999 }
+    ensures exact { result ≡ award_of (view value.now) }
+    ensures short { IfErr result (λ path. length path ≤ 26) }
+    ensures good { IfOk result (λ item. IsTrue (well_formed item)) }
+{
+    let folio = member(value, "folio")?;
+    let buyer = member(value, "buyer")?;
+    let bid = member(value, "bid")?;
+    only(value, &["kind", "folio", "buyer", "bid"])?;
+    Ok(Item::Award { folio, buyer, bid })
+}
+
+#[tactic(auto, unfolding(crate::specs::Grammar::distribute_of))]
+fn distribute(value: &Value) -> Result<Item, Path>
+    requires { widest (view value.now) ≤ 99999 }
+    ensures exact { result ≡ distribute_of (view value.now) }
+    ensures short { IfErr result (λ path. length path ≤ 26) }
+    ensures good { IfOk result (λ item. IsTrue (well_formed item)) }
+{
+    let folio = member(value, "folio")?;
+    only(value, &["kind", "folio"])?;
+    Ok(Item::Distribute { folio })
+}

@@ -1,0 +1,18 @@
+//! Items as lines of JSON: a line is an item, or it has a first wrong place, which is named.
+#![tactic(auto)]
+
+mod acts;
+mod arrays;
+mod auctions;
+mod dates;
+mod documents;
+mod items;
+mod lines;
+mod numbers;
+mod paths;
+mod reading;
+mod rights;
+mod words;
+
+pub use lines::{LineFault, read_item, read_stamped};
+pub use paths::Path;

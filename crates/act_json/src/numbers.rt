@@ -1,0 +1,77 @@
+// Numbers of persons, folios and receipts, and amounts.
+ghost use Rattle.std.specs.Prelude.{◌≡◌, ◌<◌, [], IfErr, IfOk};
+ghost use Rattle.act_json.specs.Grammar.{serial};
+ghost use Rattle.serde_json.specs.View.{view};
+
+use crate::Path;
+use crate::reading::{FromJson, whole};
+use gb_base::{Cents, FolioId, Person, ReceiptNo};
+use serde_json::Value;
+
+/// The greatest number of a person, a folio or a receipt.
+const LAST_SERIAL: u64 = 4_294_967_295;
+
+/// The number of a person, a folio or a receipt.
+fn serial(value: &Value) -> Result<u32, Path>
+    ensures exact { result ≡ serial (view value.now) }
+    ensures short { IfErr result (λ path. path ≡ []) }
+    ensures positive { IfOk result (λ n. 0 < n) }
+{
+    let n = whole(value, 1, LAST_SERIAL)?;
+    Ok(n as u32)
+}
+
+impl FromJson for Person {
+    ghost use Rattle.act_json.specs.Grammar.{serial};
+
+    ghost reads = { serial };
+
+    ghost longest = { 0 };
+
+    fn read(value: &Value) -> Result<Person, Path> {
+        let n = serial(value)?;
+        Ok(Person::new(n).unwrap())
+    }
+}
+
+impl FromJson for FolioId {
+    ghost use Rattle.act_json.specs.Grammar.{serial};
+
+    ghost reads = { serial };
+
+    ghost longest = { 0 };
+
+    fn read(value: &Value) -> Result<FolioId, Path> {
+        let n = serial(value)?;
+        Ok(FolioId::new(n).unwrap())
+    }
+}
+
+impl FromJson for ReceiptNo {
+    ghost use Rattle.act_json.specs.Grammar.{serial};
+
+    ghost reads = { serial };
+
+    ghost longest = { 0 };
+
+    fn read(value: &Value) -> Result<ReceiptNo, Path> {
+        let n = serial(value)?;
+        Ok(ReceiptNo::new(n).unwrap())
+    }
+}
+
+impl FromJson for Cents {
+    ghost use Rattle.act_json.specs.Grammar.{amount};
+    ghost use Rattle.act_model.specs.WellFormed.{is_amount};
+
+    ghost reads = { amount };
+
+    ghost longest = { 0 };
+
+    ghost keeps = { is_amount };
+
+    fn read(value: &Value) -> Result<Cents, Path> {
+        let n = whole(value, 1, Cents::MAX)?;
+        Ok(Cents::new(n).unwrap())
+    }
+}

@@ -1,0 +1,167 @@
+// What a JSON value is read as, and the members of an object.
+ghost use Rattle.std.specs.Prelude.{◌≡◌, ◌+◌, ◌<◌, ◌≤◌, [], length, map, None, Some, MatchResult, IfErr, IfOk, IsTrue, string_bytes, ◌++◌, ◌||◌};
+ghost use Rattle.std.specs.List.{list_all};
+ghost use Rattle.std.specs.BTreeMap.{keys};
+ghost use Rattle.serde_json.specs.Find.{get};
+ghost use Rattle.serde_json.specs.View.{view};
+ghost use Rattle.act_json.specs.Reading.{within, an_object, member, optional, only, whole, truth};
+ghost use Rattle.act_json.specs.Helpers.{widest, among};
+
+use crate::Path;
+use serde_json::{Map, Value};
+
+/// What stands in a line as a JSON value.
+pub(crate) trait FromJson: Drop {
+    ghost use Rattle.std.specs.Prelude.{◌≡◌, ◌≤◌, ℕ, List, Bool, true, length, Result, IfErr, IfOk, IsTrue};
+    ghost use Rattle.serde_json.specs.Data.{Data};
+    ghost use Rattle.serde_json.specs.View.{view};
+    ghost use Rattle.act_json.specs.Helpers.{widest};
+
+    // What the grammar reads.
+    ghost reads: { Data → Result Self (List ℕ) };
+
+    // No path of a wrong place inside is longer.
+    ghost longest: { ℕ };
+
+    // The ranges and rules that each value read keeps.
+    ghost keeps: { Self → Bool } = { λ _. true };
+
+    fn read(value: &Value) -> Result<Self, Path>
+        requires { widest (view value.now) ≤ 99999 }
+        ensures exact { result ≡ reads (view value.now) }
+        ensures short { IfErr result (λ path. length path ≤ longest) }
+        ensures good { IfOk result (λ x. IsTrue (keeps x)) };
+}
+
+/// The member of this name, which has to be there.
+#[tactic(auto, using(crate::proofs::Narrow::widest_member))]
+pub(crate) fn member<T: FromJson>(value: &Value, name: &str) -> Result<T, Path>
+    requires narrow { widest (view value.now) ≤ 99999 }
+    requires short { length name.now + T.longest < 32 }
+    ensures exact { result ≡ member name.now T.reads (view value.now) }
+    ensures short { IfErr result (λ path. length path ≤ length name.now + 1 + T.longest) }
+    ensures good { IfOk result (λ x. IsTrue (T.keeps x)) }
+{
+    let found = found(value, name)?;
+    match T::read(found) {
+        Ok(x) => Ok(x),
+        Err(path) => Err(path.below(name)),
+    }
+}
+
+/// The member of this name, where it is there.
+#[tactic(auto, using(crate::proofs::Narrow::widest_member))]
+pub(crate) fn optional<T: FromJson>(value: &Value, name: &str) -> Result<Option<T>, Path>
+    requires narrow { widest (view value.now) ≤ 99999 }
+    requires short { length name.now + T.longest < 32 }
+    ensures exact { result ≡ optional name.now T.reads (view value.now) }
+    ensures short { IfErr result (λ path. length path ≤ length name.now + 1 + T.longest) }
+{
+    let Some(found) = value.get(name) else {
+        return Ok(None);
+    };
+    match T::read(found) {
+        Ok(x) => Ok(Some(x)),
+        Err(path) => Err(path.below(name)),
+    }
+}
+
+/// The member of this name, a whole number from `low` to `high`.
+pub(crate) fn number(value: &Value, name: &str, low: u64, high: u64) -> Result<u64, Path>
+    requires { length name.now < 32 }
+    ensures exact { result ≡ member name.now (whole low high) (view value.now) }
+    ensures short { IfErr result (λ path. length path ≤ length name.now) }
+    ensures in_range { IfOk result (λ n. (low ≤ n) × (n ≤ high)) }
+{
+    let number = found(value, name)?;
+    match whole(number, low, high) {
+        Ok(n) => Ok(n),
+        Err(_) => Err(Path::of(name)),
+    }
+}
+
+/// A whole number from `low` to `high`.
+pub(crate) fn whole(value: &Value, low: u64, high: u64) -> Result<u64, Path>
+    ensures exact { result ≡ whole low high (view value.now) }
+    ensures short { IfErr result (λ path. path ≡ []) }
+    ensures in_range { IfOk result (λ n. (low ≤ n) × (n ≤ high)) }
+{
+    match value.as_u64() {
+        Some(n) if low <= n && n <= high => Ok(n),
+        _ => Err(Path::here()),
+    }
+}
+
+impl FromJson for bool {
+    ghost use Rattle.act_json.specs.Reading.{truth};
+
+    ghost reads = { truth };
+
+    ghost longest = { 0 };
+
+    fn read(value: &Value) -> Result<bool, Path> {
+        value.as_bool().ok_or(Path::here())
+    }
+}
+
+fn found<'v>(value: &'v Value, name: &str) -> Result<&'v Value, Path>
+    requires { length name.now < 32 }
+    ensures { MatchResult result (λ v. get name.now (view value.now) ≡ Some (view v.now))
+        (λ path. (path ≡ name.now) × (get name.now (view value.now) ≡ None)) }
+{
+    match value.get(name) {
+        Some(member) => Ok(member),
+        None => Err(Path::of(name)),
+    }
+}
+
+/// The value is an object.
+pub(crate) fn an_object(value: &Value) -> Result<(), Path>
+    ensures exact { result ≡ an_object (view value.now) }
+    ensures short { IfErr result (λ path. path ≡ []) }
+{
+    if value.is_object() {
+        Ok(())
+    } else {
+        Err(Path::here())
+    }
+}
+
+/// The object has no member of another name.
+#[tactic(auto, using(crate::proofs::Names::no_more))]
+pub(crate) fn only(value: &Value, names: &[&str]) -> Result<(), Path>
+    ensures exact { result ≡ only (map (λ name. name.now) names.now) (view value.now) }
+    ensures short { IfErr result (λ path. length path ≤ 1) }
+{
+    only_of_both(value, names, &[])
+}
+
+/// The object has no member of another name than these and those.
+#[tactic(auto, using(crate::proofs::Names::are_named_by_keys))]
+pub(crate) fn only_of_both(value: &Value, names: &[&str], others: &[&str]) -> Result<(), Path>
+    ensures exact { result ≡ only (map (λ name. name.now) names.now ++ map (λ name. name.now) others.now)
+        (view value.now) }
+    ensures short { IfErr result (λ path. length path ≤ 1) }
+{
+    let Some(members) = value.as_object() else {
+        return Err(Path::here());
+    };
+    if are_named(members, names, others) {
+        Ok(())
+    } else {
+        Err(Path::of("*"))
+    }
+}
+
+fn are_named(members: &Map<String, Value>, names: &[&str], others: &[&str]) -> bool
+    ensures { result ≡ list_all (λ name. among names.now (string_bytes name) || among others.now (string_bytes name))
+        (keys members.now) }
+{
+    members.keys().all(|name| is_among(name.as_str(), names) || is_among(name.as_str(), others))
+}
+
+fn is_among(name: &str, names: &[&str]) -> bool
+    ensures { result ≡ among names.now name.now }
+{
+    names.iter().any(|known| name == *known)
+}

@@ -1,0 +1,135 @@
+// Rights and owners.
+ghost use Rattle.std.specs.Prelude.{◌≡◌, ◌≤◌, List, ◌∷◌, [], length, map, codes, IfErr, IfOk, IsTrue};
+ghost use Rattle.act_model.specs.Acts.{is_section_three};
+ghost use Rattle.act_model.specs.WellFormed.{is_right_spec, is_right_kind};
+ghost use Rattle.act_json.specs.Grammar.{rate, kind_of, spec_of, spec_names, is_charge};
+ghost use Rattle.act_json.specs.Helpers.{widest};
+ghost use Rattle.serde_json.specs.View.{view};
+
+use crate::Path;
+use crate::arrays::array;
+use crate::reading::{FromJson, an_object, member, number, only};
+use crate::words::{RightWord, right_word};
+use act_model::{Owners, RightKind, RightSpec};
+use gb_base::RightId;
+use serde_json::Value;
+
+impl FromJson for RightId {
+    ghost use Rattle.act_json.specs.Grammar.{right_of};
+
+    ghost reads = { right_of };
+
+    ghost longest = { 8 };
+
+    #[tactic(auto, unfolding(crate::specs::Grammar::right_of))]
+    fn read(value: &Value) -> Result<RightId, Path> {
+        an_object(value)?;
+        let receipt = member(value, "receipt")?;
+        let act = number(value, "act", 1, 8)?;
+        only(value, &["receipt", "act"])?;
+        Ok(RightId::new(receipt, act as u8).unwrap())
+    }
+}
+
+impl FromJson for Owners {
+    ghost use Rattle.act_json.specs.Grammar.{owners_of};
+
+    ghost reads = { owners_of };
+
+    ghost longest = { 6 };
+
+    #[tactic(auto, unfolding(crate::specs::Grammar::owners_of))]
+    fn read(value: &Value) -> Result<Owners, Path> {
+        let persons = array(value, 1)?;
+        Owners::new(persons).ok_or(Path::here())
+    }
+}
+
+impl FromJson for RightWord {
+    ghost use Rattle.act_json.specs.Reading.{word_of};
+    ghost use Rattle.act_json.specs.Grammar.{right_words};
+
+    ghost reads = { word_of right_words };
+
+    ghost longest = { 0 };
+
+    fn read(value: &Value) -> Result<RightWord, Path> {
+        value.as_str().and_then(right_word).ok_or(Path::here())
+    }
+}
+
+/// Whether rights of this kind stand in section III.
+pub(crate) fn is_charge(word: RightWord) -> bool
+    ensures { result ≡ is_charge word }
+{
+    match word {
+        RightWord::PersonalEasement | RightWord::Usufruct => false,
+        RightWord::Mortgage | RightWord::LandCharge => true,
+    }
+}
+
+/// The right that an act describes, of the kind that is called so.
+#[tactic(auto, unfolding(crate::specs::Grammar::spec_of))]
+pub(crate) fn spec(value: &Value, word: RightWord) -> Result<RightSpec, Path>
+    requires { widest (view value.now) ≤ 99999 }
+    ensures exact { result ≡ spec_of word (view value.now) }
+    ensures short { IfErr result (λ path. length path ≤ 9) }
+    ensures good { IfOk result (λ spec. IsTrue (is_right_spec spec)) }
+    ensures section { IfOk result (λ spec. is_section_three spec.kind ≡ is_charge word) }
+{
+    let kind = kind(value, word)?;
+    let capital = member(value, "capital")?;
+    let holder = member(value, "holder")?;
+    let group = number(value, "group", 1, 8)?;
+    Ok(RightSpec {
+        kind,
+        capital,
+        holder,
+        group: group as u8,
+    })
+}
+
+#[tactic(auto, unfolding(crate::specs::Grammar::kind_of))]
+fn kind(value: &Value, word: RightWord) -> Result<RightKind, Path>
+    ensures exact { result ≡ kind_of word (view value.now) }
+    ensures short { IfErr result (λ path. length path ≤ 4) }
+    ensures good { IfOk result (λ kind. IsTrue (is_right_kind kind)) }
+    ensures section { IfOk result (λ kind. is_section_three kind ≡ is_charge word) }
+{
+    match word {
+        RightWord::PersonalEasement => Ok(RightKind::PersonalEasement),
+        RightWord::Usufruct => Ok(RightKind::Usufruct),
+        RightWord::Mortgage => {
+            let rate_bp = rate(value)?;
+            Ok(RightKind::Mortgage { rate_bp })
+        }
+        RightWord::LandCharge => {
+            let rate_bp = rate(value)?;
+            Ok(RightKind::LandCharge { rate_bp })
+        }
+    }
+}
+
+/// The interest, in hundredths of a percent a year.
+fn rate(value: &Value) -> Result<u16, Path>
+    ensures exact { result ≡ rate (view value.now) }
+    ensures short { IfErr result (λ path. length path ≤ 4) }
+    ensures in_range { IfOk result (λ bp. bp ≤ 2000) }
+{
+    let bp = number(value, "rate", 0, 2_000)?;
+    Ok(bp as u16)
+}
+
+/// The names of the members that `spec` reads, and of the kind.
+pub(crate) fn spec_names(word: RightWord) -> &'static [&'static str]
+    ensures { map (λ name. name.now) result.now ≡ spec_names word }
+{
+    match word {
+        RightWord::PersonalEasement | RightWord::Usufruct => &[
+            "kind", "capital", "holder", "group",
+        ],
+        RightWord::Mortgage | RightWord::LandCharge => {
+            &["kind", "rate", "capital", "holder", "group"]
+        }
+    }
+}
