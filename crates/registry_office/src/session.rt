@@ -8,7 +8,9 @@ ghost use Rattle.registry_office.specs.Lines.{reply_to, kept_after};
 ghost use Rattle.registry_office.specs.Sessions.{ended, lines_of, replies, journal_after, Answered, AnsweredRead};
 ghost use Rattle.registry_office.specs.Stops.{output_failed, read_failed, write_failed};
 
+use crate::lines::receive_stamped;
 use crate::stops::{OutputStop, Stop};
+use crate::writing::write_all;
 use act_model::Journal;
 use gb_base::NoMemory;
 use gb_outside::{Got, Sink, Source};
@@ -32,7 +34,8 @@ fn answer_line<K: Sink>(
     ensures part { OnErr result (AppendsFront (K.written sink.old) (K.written sink.new) (reply_to journal.old line.now)) }
     ensures cause { Counts (K.faults sink.old) (K.faults sink.new) (output_failed result) }
 {
-    Err(OutputStop::Memory)
+    let reply = receive_stamped(alloc, journal, line)?;
+    write_all(sink, reply.as_slice())
 }
 
 /// Answers the line that these bytes end; an LF stands behind them, and none among them.
