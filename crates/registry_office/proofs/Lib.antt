@@ -1,3 +1,5 @@
 pub mod Grounds
 pub mod Written
 pub mod Pieces
+pub mod Ascending
+pub mod Brought
