@@ -1,4 +1,6 @@
+pub mod Ascending
+pub mod Brought
 pub mod Grounds
-pub mod Written
-pub mod Pieces
 pub mod Inputs
+pub mod Pieces
+pub mod Written
