@@ -9,3 +9,6 @@ pub mod Sessions
 pub mod Settling
 pub mod Ranks
 pub mod Reports
+pub mod Words
+pub mod Outcomes
+pub mod Statuses

@@ -12,6 +12,8 @@ mod reading;
 mod register;
 mod registrar;
 mod session;
+mod statuses;
 mod stops;
 mod verdicts;
+mod words;
 mod writing;

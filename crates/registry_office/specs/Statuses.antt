@@ -1,0 +1,78 @@
+-- Which statuses blame which object.
+use Rattle.std.specs.Prelude.{Bool, true, false, Result, Ok, Err}
+use Rattle.registry_office.specs.declared.statuses.Status.{Status}
+use Rattle.registry_office.specs.declared.statuses.Status.TheVariants as status
+use Rattle.registry_office.specs.declared.stops.Stop.{Stop}
+use Rattle.registry_office.specs.declared.stops.Stop.TheVariants as stop
+
+abbrev pub read_fault : Status → Bool
+read_fault status.Ok = false
+read_fault status.Usage = false
+read_fault status.ReadFault = true
+read_fault status.WriteFault = false
+read_fault status.DiskFault = false
+read_fault status.Memory = false
+read_fault status.NotJournal = false
+read_fault (status.BadRecord at) = false
+read_fault status.InputTooLong = false
+read_fault status.DoorFault = false
+
+abbrev pub write_fault : Status → Bool
+write_fault status.Ok = false
+write_fault status.Usage = false
+write_fault status.ReadFault = false
+write_fault status.WriteFault = true
+write_fault status.DiskFault = false
+write_fault status.Memory = false
+write_fault status.NotJournal = false
+write_fault (status.BadRecord at) = false
+write_fault status.InputTooLong = false
+write_fault status.DoorFault = false
+
+abbrev pub disk_fault : Status → Bool
+disk_fault status.Ok = false
+disk_fault status.Usage = false
+disk_fault status.ReadFault = false
+disk_fault status.WriteFault = false
+disk_fault status.DiskFault = true
+disk_fault status.Memory = false
+disk_fault status.NotJournal = false
+disk_fault (status.BadRecord at) = false
+disk_fault status.InputTooLong = false
+disk_fault status.DoorFault = false
+
+abbrev pub door_fault : Status → Bool
+door_fault status.Ok = false
+door_fault status.Usage = false
+door_fault status.ReadFault = false
+door_fault status.WriteFault = false
+door_fault status.DiskFault = false
+door_fault status.Memory = false
+door_fault status.NotJournal = false
+door_fault (status.BadRecord at) = false
+door_fault status.InputTooLong = false
+door_fault status.DoorFault = true
+
+-- the disk stood for no journal when it was opened
+abbrev pub is_no_journal : Status → Bool
+is_no_journal status.Ok = false
+is_no_journal status.Usage = false
+is_no_journal status.ReadFault = false
+is_no_journal status.WriteFault = false
+is_no_journal status.DiskFault = false
+is_no_journal status.Memory = false
+is_no_journal status.NotJournal = true
+is_no_journal (status.BadRecord at) = true
+is_no_journal status.InputTooLong = false
+is_no_journal status.DoorFault = false
+
+abbrev pub status_of_stop : Stop → Status
+status_of_stop stop.Read = status.ReadFault
+status_of_stop stop.Write = status.WriteFault
+status_of_stop stop.Memory = status.Memory
+status_of_stop stop.TooLong = status.InputTooLong
+
+-- the status of work over an input
+abbrev pub status_of : {A : Type 0} → Result A Stop → Status
+status_of (Ok value) = status.Ok
+status_of (Err stop) = status_of_stop stop

@@ -1,0 +1,35 @@
+-- The words of the command line.
+use Rattle.std.specs.Prelude.{ℕ, ◌+◌, ◌-◌, ◌*◌, Bool, ◌&&◌, nat_le, if◌then◌else◌, List, [], ◌∷◌, length, codes, Option, Some, None}
+use Rattle.std.specs.List.{list_all}
+use Rattle.std.specs.Str.{bytes_eq}
+use Rattle.act_model.specs.WellFormed.{is_between}
+use Rattle.registry_office.specs.declared.words.Command.{Command}
+use Rattle.registry_office.specs.declared.words.Command.TheVariants.{SettleLines}
+
+abbrev pub is_digit : ℕ → Bool
+is_digit b = is_between 48 57 b
+
+-- 1 to 10 digits
+abbrev pub is_numeral : List ℕ → Bool
+is_numeral text = is_between 1 10 (length text) && list_all is_digit text
+
+-- the number that these digits write behind those of `before`
+abbrev pub value_from : ℕ → List ℕ → ℕ
+value_from before [] = before
+value_from before (b ∷ bs) = value_from (before * 10 + (b - 48)) bs
+
+-- the value of an option, where it is in the range
+abbrev pub value_in : ℕ → ℕ → List ℕ → Option ℕ
+value_in low high text =
+    if is_numeral text && is_between low high (value_from 0 text) then Some (value_from 0 text) else None
+
+abbrev pub settle_lines_by : Option ℕ → Option Command
+settle_lines_by (Some desks) = Some (SettleLines desks)
+settle_lines_by None = None
+
+-- `settle --desks N --lines`
+abbrev pub command_of : List (List ℕ) → Option Command
+command_of (name ∷ flag ∷ desks ∷ lines ∷ []) =
+    if bytes_eq name (codes "settle") && bytes_eq flag (codes "--desks") && bytes_eq lines (codes "--lines")
+    then settle_lines_by (value_in 1 64 desks) else None
+command_of other = None
