@@ -1,0 +1,71 @@
+ghost use Rattle.std.specs.Prelude.{◌≡◌, ◌↔◌, ◌<◌, ◌≤◌, ◌^◌, ℕ, [], Some, None, IfSome, List, map, length, take, true, false};
+ghost use Rattle.std.specs.Io.KnownBytes.{Appends};
+ghost use Rattle.std.specs.Rc.{rc_str_bytes};
+ghost use Rattle.gb_outside.specs.Bytes.{AppendsFront};
+ghost use Rattle.gb_outside.specs.Faults.{Counts};
+ghost use Rattle.registry_office.specs.Outcomes.{output_of, uses_disk, uses_input, Told};
+ghost use Rattle.registry_office.specs.Sessions.{ended, replies, AnsweredRead};
+ghost use Rattle.registry_office.specs.Statuses.{read_fault, write_fault, disk_fault, door_fault, is_no_journal};
+ghost use Rattle.registry_office.specs.Words.{command_of};
+
+use crate::settling::settle_lines;
+use crate::statuses::{Status, status_of};
+use crate::words::{Command, read_words};
+use gb_outside::{Clock, DeskGate, Disk, Listener, Sink, Source};
+use std::rc::RcStr;
+
+/// The office: does what the words say, over the objects that are handed in.
+///
+/// Each status but `Ok`, `Usage` and `Memory` blames one object: its count of faults rose in this
+/// call, or, for the input, more bytes came than the office takes. Want of memory may be answered
+/// at any point. The number of desks never changes what is written.
+pub fn run<R: AllocGlobal, S: Source, K: Sink, D: Disk, C: Clock, L: Listener, G: DeskGate>(
+    rt: &R,
+    words: &[RcStr],
+    source: &mut S,
+    sink: &mut K,
+    disk: &mut D,
+    clock: &mut C,
+    door: &mut L,
+    gate: &G,
+) -> Status
+    ensures usage { (result ≡ Status.Usage) ↔ (command_of (map rc_str_bytes words.now) ≡ None) }
+
+    // All was read, and all was written.
+    ensures written { (input : List ℕ) → Told (command_of (map rc_str_bytes words.now)) (S.left source.old) input
+        → result ≡ Status.Ok
+        → Appends (K.written sink.old) (K.written sink.new) (output_of (command_of (map rc_str_bytes words.now)) input) }
+    ensures at_end { uses_input (command_of (map rc_str_bytes words.now)) ≡ true → result ≡ Status.Ok
+        → IfSome (S.left source.old) (λ _. S.left source.new ≡ Some []) }
+    ensures short { uses_input (command_of (map rc_str_bytes words.now)) ≡ true → result ≡ Status.Ok
+        → IfSome (S.left source.old) (λ input. length input ≤ 2 ^ 26) }
+    ensures long { result ≡ Status.InputTooLong → IfSome (S.left source.old) (λ input. 2 ^ 26 < length input) }
+
+    // On every other status a front of it was written; where the source failed or gave too much, just
+    // the replies to the lines that an LF ends in what was read, of which the first 64 MiB count.
+    ensures part { (input : List ℕ) → Told (command_of (map rc_str_bytes words.now)) (S.left source.old) input
+        → (result ≡ Status.Ok → ⊥)
+        → AppendsFront (K.written sink.old) (K.written sink.new) (output_of (command_of (map rc_str_bytes words.now)) input) }
+    ensures so_far { result ≡ Status.ReadFault
+        → AnsweredRead (S.left source.old) (S.left source.new) (K.written sink.old) (K.written sink.new) }
+    ensures most { result ≡ Status.InputTooLong → IfSome (S.left source.old) (λ input.
+        Appends (K.written sink.old) (K.written sink.new) (replies [] (ended [] (take (2 ^ 26) input)))) }
+
+    // Each fault has its cause, and a count rises with no other answer.
+    ensures read { Counts (S.faults source.old) (S.faults source.new) (read_fault result) }
+    ensures write { Counts (K.faults sink.old) (K.faults sink.new) (write_fault result) }
+    ensures disk { Counts (D.faults disk.old) (D.faults disk.new) (disk_fault result) }
+    ensures door { Counts (L.faults door.old) (L.faults door.new) (door_fault result) }
+
+    // A status of an object that the command does not use never comes.
+    ensures no_disk { uses_disk (command_of (map rc_str_bytes words.now)) ≡ false
+        → (disk_fault result ≡ false) × (is_no_journal result ≡ false) }
+    ensures no_input { uses_input (command_of (map rc_str_bytes words.now)) ≡ false
+        → (read_fault result ≡ false) × (result ≡ Status.InputTooLong → ⊥) }
+    ensures no_door { door_fault result ≡ false }
+{
+    match read_words(words) {
+        None => Status::Usage,
+        Some(Command::SettleLines { .. }) => status_of(settle_lines(rt.alloc(), source, sink)),
+    }
+}
