@@ -10,7 +10,6 @@ pub mod laws;
 mod memory;
 mod sections;
 mod stamps;
-
 #[cfg(test)]
 mod tests;
 
