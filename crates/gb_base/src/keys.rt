@@ -60,6 +60,10 @@ impl Key {
 
 /// The title of folio 1, which fills the unused places of a bounded list.
 impl Default for Key {
+    ghost use Rattle.gb_base.specs.declared.keys.Key.TheVariants.{Title};
+
+    ghost is_default = { λ key. key ≡ Title 1 };
+
     fn default() -> Key {
         Key::Title(FolioId::default())
     }

@@ -10,10 +10,9 @@ pub mod laws;
 mod memory;
 mod sections;
 mod stamps;
-mod texts;
-
 #[cfg(test)]
 mod tests;
+mod texts;
 
 pub use amounts::Cents;
 pub use days::Day;

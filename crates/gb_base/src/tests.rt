@@ -32,19 +32,31 @@ fn what_is_no_date_of_the_range_is_no_day(rt: HostRuntime) {
         (2024, 1, 0),
         (2024, 255, 255),
     ] {
-        assert_eq!(rt; Day::from_civil(year, month, day), None, "{year}-{month}-{day}");
+        assert_eq!(rt;
+            Day::from_civil(year, month, day),
+            None,
+            "{year}-{month}-{day}"
+        );
     }
 }
 
 #[test]
 fn constructors_end_where_their_ranges_end(rt: HostRuntime) -> Result<(), Fail> {
-    assert!(rt; FolioId::new(0).is_none() && Person::new(0).is_none() && ReceiptNo::new(0).is_none());
+    assert!(rt;
+        FolioId::new(0).is_none() && Person::new(0).is_none() && ReceiptNo::new(0).is_none()
+    );
     assert_eq!(rt; FolioId::new(1).ok_or("folio 1")?.get(), 1);
-    assert_eq!(rt; Person::new(u32::MAX).ok_or("the last person")?.get(), u32::MAX);
+    assert_eq!(rt;
+        Person::new(u32::MAX).ok_or("the last person")?.get(),
+        u32::MAX
+    );
     let receipt = ReceiptNo::new(1).ok_or("receipt 1")?;
     assert!(rt; RightId::new(receipt, 0).is_none() && RightId::new(receipt, 9).is_none());
     assert_eq!(rt; RightId::new(receipt, 8).ok_or("act 8")?.act(), 8);
-    assert_eq!(rt; Cents::new(10_000_000_000_000).ok_or("10^13")?.get(), 10_000_000_000_000);
+    assert_eq!(rt;
+        Cents::new(10_000_000_000_000).ok_or("10^13")?.get(),
+        10_000_000_000_000
+    );
     assert!(rt; Cents::new(10_000_000_000_001).is_none());
     assert!(rt; Day::new(84_005).is_some() && Day::new(84_006).is_none());
     Ok(())
@@ -60,7 +72,11 @@ fn stamps_are_of_the_years_2000_to_2149(rt: HostRuntime) -> Result<(), Fail> {
         (65_744, 0, false),
     ] {
         let day = Day::new(number).ok_or("no day")?;
-        assert_eq!(rt; Stamp::new(day, minute).is_some(), is_stamp, "{number} {minute}");
+        assert_eq!(rt;
+            Stamp::new(day, minute).is_some(),
+            is_stamp,
+            "{number} {minute}"
+        );
     }
     Ok(())
 }

@@ -20,6 +20,8 @@ mod sure_link;
 mod sure_listener;
 mod sure_sink;
 mod sure_source;
+#[cfg(test)]
+mod tests;
 
 pub use clocks::Clock;
 pub use disks::{Disk, DiskFailed};

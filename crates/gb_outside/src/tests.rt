@@ -1,0 +1,126 @@
+ghost use Rattle.std.specs.Prelude.{◌≡◌, ◌<◌, length, false};
+ghost use Rattle.gb_outside.specs.Bytes.{read_failed};
+ghost use Rattle.gb_outside.specs.Faults.{Counts};
+
+use crate::{
+    Clock, DeskGate, Disk, Door, Got, Link, ListClock, Listener, MemSink, MemSource, OpenGate,
+    Sink, Source, SureDisk, SureLink, SureListener, SureSink, SureSource, Wrote,
+};
+use gb_base::{Day, ReceiptNo, Stamp};
+use std::test::Fail;
+
+// A call through the bound, as the office makes it.
+fn read_some<S: Source>(source: &mut S, into: &mut [u8]) -> Got
+    requires { 0 < length into.old }
+    ensures { Counts (S.faults source.old) (S.faults source.new) (read_failed result) }
+{
+    source.read(into)
+}
+
+// A source whose count is constant never fails: this follows from the clauses of the trait.
+fn read_surely(bytes: &[u8], into: &mut [u8]) -> Got
+    requires { 0 < length into.old }
+    ensures { read_failed result ≡ false }
+{
+    read_some(&mut SureSource::new(bytes), into)
+}
+
+// Neither does a source in memory of which no call is to fail: this is its own clause.
+fn read_unplanned(bytes: &[u8], into: &mut [u8]) -> Got
+    requires { 0 < length into.old }
+    ensures { read_failed result ≡ false }
+{
+    MemSource::new(bytes, &[]).read(into)
+}
+
+#[test]
+fn sources_without_faults_give_what_fits(rt: HostRuntime) {
+    let mut into = [0; 2];
+    assert_eq!(rt; read_surely(b"abc", &mut into), Got::Bytes(2));
+    assert_eq!(rt; into, *b"ab");
+    assert_eq!(rt; read_unplanned(b"c", &mut into), Got::Bytes(1));
+    assert_eq!(rt; into[0], b'c');
+    assert_eq!(rt; read_surely(b"", &mut into), Got::End);
+}
+
+#[test]
+fn a_source_fails_at_the_chosen_reads(rt: HostRuntime) {
+    let mut source = MemSource::new(b"abcde", &[1, 3]);
+    let mut into = [0; 2];
+    assert_eq!(rt; source.read(&mut into), Got::Failed);
+    assert_eq!(rt; source.read(&mut into), Got::Bytes(2));
+    assert_eq!(rt; into, *b"ab");
+    assert_eq!(rt; source.read(&mut into), Got::Failed);
+    assert_eq!(rt; source.read(&mut into), Got::Bytes(2));
+    assert_eq!(rt; into, *b"cd");
+    assert_eq!(rt; source.read(&mut into), Got::Bytes(1));
+    assert_eq!(rt; into[0], b'e');
+    assert_eq!(rt; source.read(&mut into), Got::End);
+}
+
+#[test]
+fn a_sink_takes_what_it_has_room_for(rt: HostRuntime) -> Result<(), Fail> {
+    let mut sink = MemSink::new(rt.alloc(), 4, &[2])?;
+    assert_eq!(rt; sink.write(b"abc"), Wrote::Took(3));
+    assert_eq!(rt;
+        sink.write(b"d"),
+        Wrote::Failed,
+        "the second write is to fail"
+    );
+    assert_eq!(rt; sink.write(b"de"), Wrote::Took(1));
+    assert_eq!(rt; sink.write(b"e"), Wrote::Failed, "the room is used up");
+    assert_eq!(rt; sink.write(b""), Wrote::Took(0));
+    assert_eq!(rt; sink.written(), b"abcd".as_slice());
+    Ok(())
+}
+
+#[test]
+fn a_sure_disk_is_empty_and_reads_zeros(rt: HostRuntime) {
+    let mut disk = SureDisk::new();
+    let mut into = [7; 3];
+    assert_eq!(rt; disk.write_at(0, b"abc"), Ok(()));
+    assert_eq!(rt; disk.sync(), Ok(()));
+    assert_eq!(rt; disk.len(), Ok(0));
+    assert_eq!(rt; disk.read_at(0, &mut into), Ok(()));
+    assert_eq!(rt; into, [0; 3]);
+}
+
+#[test]
+fn links_come_in_their_order(rt: HostRuntime) -> Result<(), Fail> {
+    let mut links = Vec::new(rt.alloc());
+    links.push(SureLink::new(b"a"))?;
+    links.push(SureLink::new(b"b"))?;
+    let mut door = SureListener::new(links);
+    for byte in *b"ab" {
+        let Door::Open(mut link) = door.accept() else {
+            return Err(Fail::from("the door closed"));
+        };
+        let mut into = [0; 1];
+        assert_eq!(rt; link.read(&mut into), Got::Bytes(1));
+        assert_eq!(rt; into, [byte]);
+        assert_eq!(rt; link.write(b"reply"), Wrote::Took(5));
+        assert_eq!(rt; link.read(&mut into), Got::End);
+        door.done(link);
+    }
+    assert!(rt; matches!(door.accept(), Door::Closed));
+    Ok(())
+}
+
+#[test]
+fn a_clock_stays_at_its_last_stamp(rt: HostRuntime) -> Result<(), Fail> {
+    let day = Day::new(20_000).ok_or("a day")?;
+    let first = Stamp::new(day, 0).ok_or("midnight")?;
+    let last = Stamp::new(day, 1_439).ok_or("the last minute")?;
+    let stamps = [first, last];
+    let mut clock = ListClock::new(&stamps);
+    assert_eq!(rt; clock.now(), first);
+    assert_eq!(rt; clock.now(), last);
+    assert_eq!(rt; clock.now(), last);
+    Ok(())
+}
+
+#[test]
+fn what_has_no_effect_returns(rt: HostRuntime) {
+    OpenGate.at(ReceiptNo::default());
+    assert_eq!(rt; SureSink::new().write(b"abc"), Wrote::Took(3));
+}
