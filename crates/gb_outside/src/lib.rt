@@ -8,6 +8,7 @@ mod disks;
 mod doors;
 mod gates;
 mod links;
+mod mem_disk;
 mod streams;
 
 pub use clocks::Clock;
@@ -15,4 +16,5 @@ pub use disks::{Disk, DiskFailed};
 pub use doors::{Door, Listener};
 pub use gates::DeskGate;
 pub use links::Link;
+pub use mem_disk::MemDisk;
 pub use streams::{Got, Sink, Source, Wrote};
