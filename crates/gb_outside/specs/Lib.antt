@@ -4,3 +4,6 @@ pub mod Images
 pub mod Ticks
 pub mod Doors
 pub mod InMemory
+pub mod Recorded
+pub mod RecordedLaws
+pub mod MemRoom

@@ -68,6 +68,10 @@ pub trait Disk {
     /// A disk as it reads is one of its images.
     ghost reads_is_image: { (disk : Self) → IsTrue tells → images disk (reads disk) };
 
+    /// No image is longer than what a read gives. (None is shorter than the file at the last
+    /// successful sync, since no step makes an image shorter.)
+    ghost no_longer: { (disk : Self) (c : List ℕ) → IsTrue tells → images disk c → length c ≤ length (reads disk) };
+
     /// The images of now are among those since an earlier moment.
     ghost counts_now: { (disk : Self) (t : ℕ) (c : List ℕ) → IsTrue tells → t ≤ moment disk → images disk c → since disk t c };
 

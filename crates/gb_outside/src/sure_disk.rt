@@ -60,6 +60,8 @@ impl Disk for SureDisk {
 
     ghost reads_is_image = { λ disk no. Prim.cc };
 
+    ghost no_longer = { λ disk c no image. absurd image };
+
     ghost counts_now = { λ disk t c no later now. now };
 
     ghost only_now = { λ disk c no left. left };
