@@ -1,6 +1,9 @@
 pub mod Ascending
+pub mod AtKeys
 pub mod Brought
 pub mod Grounds
+pub mod InOrder
 pub mod Inputs
 pub mod Pieces
+pub mod Settled
 pub mod Written

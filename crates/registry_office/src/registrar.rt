@@ -1,6 +1,10 @@
 // One registrar who takes the journal in the order of receipt (GBO § 17).
-ghost use Rattle.std.specs.Prelude.{◌≡◌, ◌≤◌, ◌++◌, length, OnOk, IfOk};
+ghost use Rattle.std.specs.Prelude.{◌≡◌, ◌≤◌, ◌*◌, ◌++◌, ℕ, length, IsTrue, OnOk, IfOk};
+ghost use Rattle.std.specs.List.{list_all};
+ghost use Rattle.act_model.specs.Receiving.{IsJournal};
+ghost use Rattle.registry_office.specs.Built.{is_built};
 ghost use Rattle.registry_office.specs.Entering.{entered};
+ghost use Rattle.registry_office.specs.Ranks.{rights_in, rights_entered};
 ghost use Rattle.registry_office.specs.Settling.{brought, brought_by, registrar};
 
 use crate::entering::enter;
@@ -15,7 +19,16 @@ use std::alloc::Global;
 /// The register that one registrar makes of these receipts, taken in their order.
 pub fn alone(alloc: Global, receipts: &[Receipt]) -> Result<Register, NoMemory>
     requires few { length receipts.now ≤ 200000 }
-    ensures { IfOk result (λ register. register ≡ registrar receipts.now) }
+    ensures register { IfOk result (λ register. register ≡ registrar receipts.now) }
+    ensures verdicts { IfOk result (λ register. length register.verdicts ≡ length receipts.now) }
+
+    // Of filings of one act each brings two entries at most, and rights stand in order of entry.
+    ensures few { IfOk result (λ register. IsJournal receipts.now
+        → IsTrue (list_all (λ r. is_built r.item) receipts.now)
+        → length register.entries ≤ 2 * length receipts.now) }
+    ensures in_order { IfOk result (λ register. IsJournal receipts.now
+        → IsTrue (list_all (λ r. is_built r.item) receipts.now) → (folio : ℕ)
+        → rights_in register.entries (length register.verdicts) folio ≡ rights_entered register.entries folio) }
 {
     let mut entries = Vec::new(alloc);
     let mut verdicts = Vec::new(alloc);
