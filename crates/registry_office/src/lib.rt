@@ -6,6 +6,8 @@ mod judging;
 mod reading;
 mod register;
 mod session;
+mod standing_rights;
 mod stops;
+mod verdict_lines;
 mod verdicts;
 mod writing;
