@@ -2,6 +2,7 @@
 #![tactic(auto)]
 
 mod entries;
+mod extracts;
 mod judging;
 mod reading;
 mod register;
