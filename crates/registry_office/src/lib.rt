@@ -4,6 +4,7 @@
 mod entries;
 mod extracts;
 mod judging;
+mod ranks;
 mod reading;
 mod register;
 mod session;
