@@ -1,3 +1,4 @@
 pub mod Grounds
+pub mod CentPieces
 pub mod Written
 pub mod Pieces

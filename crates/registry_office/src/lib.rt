@@ -1,6 +1,7 @@
 //! The office: reads lines, receives them, settles the journal and writes the report.
 #![tactic(auto)]
 
+mod cent_line;
 mod entries;
 mod extracts;
 mod judging;
