@@ -5,6 +5,7 @@ mod cent_line;
 mod entries;
 mod extracts;
 mod judging;
+mod rank_tables;
 mod ranks;
 mod reading;
 mod register;

@@ -30,7 +30,8 @@ pub fn rights_entered(
     entries: &[Entry],
     folio: FolioId,
 ) -> Result<Vec<Standing>, NoMemory>
-    ensures { IfOk result (λ rights. rights.items ≡ rights_entered entries.now folio) }
+    ensures value { IfOk result (λ rights. rights.items ≡ rights_entered entries.now folio) }
+    ensures bound { IfOk result (λ rights. length rights.items ≤ length entries.now) }
 {
     entries
         .iter()
