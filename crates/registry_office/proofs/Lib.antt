@@ -1,6 +1,7 @@
 pub mod Ascending
 pub mod AtKeys
 pub mod Brought
+pub mod CentPieces
 pub mod Grounds
 pub mod InOrder
 pub mod Inputs

@@ -3,17 +3,31 @@
 
 mod acts;
 mod built;
+mod cent_line;
 mod entering;
 mod entries;
+mod extracts;
 mod folios;
 mod judging;
 mod lines;
+mod rank_tables;
+mod ranks;
 mod reading;
 mod register;
 mod registrar;
+mod reports;
 mod session;
+mod settling;
+mod standing_rights;
 mod statuses;
 mod stops;
+mod top;
+mod verdict_lines;
 mod verdicts;
 mod words;
 mod writing;
+#[cfg(test)]
+mod tests;
+
+pub use statuses::Status;
+pub use top::run;

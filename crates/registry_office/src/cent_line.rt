@@ -1,0 +1,65 @@
+// The cents that the rights of a folio take in turn.
+ghost use Rattle.std.specs.Prelude.{◌≡◌, ◌+◌, ◌*◌, ◌≤◌, ◌++◌, List, IfOk, OnOk, length, sum_by, replicate};
+ghost use Rattle.registry_office.specs.Ranks.{Standing, cent_line, pieces_of};
+
+use crate::ranks::has_same_place;
+use crate::standing_rights::Standing;
+use gb_base::NoMemory;
+use std::alloc::Global;
+use std::marker::Model;
+
+/// So many cents on end of one place in the cent line.
+#[derive(Clone, Copy, Debug)]
+pub struct Piece {
+    /// The first right of the place.
+    pub owner: Standing,
+    pub cents: u64,
+}
+
+impl Model for Piece {
+    ghost use Rattle.registry_office.specs.Ranks.{Piece};
+
+    ghost Value = { Piece };
+
+    ghost view = { λ a. record { owner = a.owner; cents = a.cents } };
+
+    ghost inverse = { λ p. record { owner = p.owner; cents = p.cents } };
+}
+
+/// The pieces of the cent line of these rights.
+pub fn pieces(alloc: Global, rights: &[Standing]) -> Result<Vec<Piece>, NoMemory>
+    requires few { length rights.now ≤ 400000 }
+    ensures value { IfOk result (λ pieces. pieces.items ≡ pieces_of (cent_line rights.now)) }
+    ensures bound { IfOk result (λ pieces. sum_by (λ p. p.cents) pieces.items ≤ 10000000000000 * length rights.now) }
+{
+    let mut pieces = Vec::new(alloc);
+    for right in rights {
+        add_claim(&mut pieces, right)?;
+    }
+    Ok(pieces)
+}
+
+/// Adds a right's cents to the pieces of the cents before them.
+fn add_claim(pieces: &mut Vec<Piece>, right: &Standing) -> Result<(), NoMemory>
+    requires few { sum_by (λ p. p.cents) pieces.old.items ≤ 10000000000000 * 400000 }
+    ensures joined { OnOk result ((line : List Standing) → pieces.old.items ≡ pieces_of line
+        → pieces.new.items ≡ pieces_of (line ++ replicate right.now.created.spec.capital right.now)) }
+    ensures bound { OnOk result (sum_by (λ p. p.cents) pieces.new.items
+        ≤ sum_by (λ p. p.cents) pieces.old.items + 10000000000000) }
+{
+    let cents = right.created.spec.capital.get();
+    if cents == 0 {
+        return Ok(());
+    }
+    if let Some(piece) = pieces.last_mut()
+        && has_same_place(&piece.owner, right)
+    {
+        piece.cents += cents;
+        return Ok(());
+    }
+    pieces.push(Piece {
+        owner: *right,
+        cents,
+    })?;
+    Ok(())
+}
