@@ -8,3 +8,5 @@ pub mod Inputs
 pub mod Pieces
 pub mod Settled
 pub mod Written
+pub mod BuiltJournals
+pub mod Whole

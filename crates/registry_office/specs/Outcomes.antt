@@ -8,7 +8,7 @@ use Rattle.registry_office.specs.declared.words.Command.{Command}
 use Rattle.registry_office.specs.declared.words.Command.TheVariants.{SettleLines}
 
 -- the report of the journal that one registrar takes in the order of receipt
-abbrev pub report_of : List Receipt → List ℕ
+unfoldable pub report_of : List Receipt → List ℕ
 report_of journal = report (registrar journal)
 
 -- the replies of the session over this input, from the empty journal, and then the report of the journal that it leaves

@@ -1,9 +1,10 @@
 // The session of an input: each line is answered as it comes.
-ghost use Rattle.std.specs.Prelude.{◌≡◌, ◌⊎◌, ◌≤◌, ◌<◌, ◌+◌, ◌^◌, ◌++◌, ◌∷◌, [], ◌==◌, false, length, take, Some, OnOk, OnErr, IfOk, IfSome, IfNone, Err, vec_len};
-ghost use Rattle.std.specs.List.{list_any};
+ghost use Rattle.std.specs.Prelude.{◌≡◌, ◌⊎◌, ◌≤◌, ◌<◌, ◌+◌, ◌^◌, ◌++◌, ◌∷◌, [], ◌==◌, false, length, take, Some, OnOk, OnErr, IfOk, IfSome, IfNone, IsTrue, Err, vec_len};
+ghost use Rattle.std.specs.List.{list_all, list_any};
 ghost use Rattle.std.specs.Io.KnownBytes.{Appends};
 ghost use Rattle.gb_outside.specs.Bytes.{AppendsFront, IsGot, Reads, read_failed as read_of_source_failed};
 ghost use Rattle.gb_outside.specs.Faults.{Counts};
+ghost use Rattle.registry_office.specs.Built.{is_built};
 ghost use Rattle.registry_office.specs.Lines.{reply_to, kept_after};
 ghost use Rattle.registry_office.specs.Sessions.{ended, lines_of, replies, journal_after, Answered, AnsweredRead};
 ghost use Rattle.registry_office.specs.Stops.{output_failed, read_failed, write_failed};
@@ -136,6 +137,7 @@ pub fn answer_input<S: Source, K: Sink>(
     ensures replies { OnOk result (IfSome (S.left source.old) (λ input.
         Appends (K.written sink.old) (K.written sink.new) (replies [] (lines_of input)))) }
     ensures journal { OnOk result (IfSome (S.left source.old) (λ input. journal.new ≡ journal_after [] (lines_of input))) }
+    ensures built { OnOk result (IsTrue (list_all (λ r. is_built r.item) journal.new)) }
     ensures at_end { OnOk result (IfSome (S.left source.old) (λ _. S.left source.new ≡ Some [])) }
     ensures short { OnOk result (IfSome (S.left source.old) (λ input. length input ≤ MAX_INPUT)) }
     ensures long { result ≡ Err Stop.TooLong → IfSome (S.left source.old) (λ input. MAX_INPUT < length input) }

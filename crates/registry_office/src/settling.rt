@@ -1,8 +1,10 @@
 // The command that settles stamped lines in memory.
-ghost use Rattle.std.specs.Prelude.{◌≡◌, ◌≤◌, ◌<◌, ◌^◌, [], Some, Err, OnOk, OnErr, IfSome, length, take};
+ghost use Rattle.std.specs.Prelude.{◌≡◌, ◌≤◌, ◌<◌, ◌^◌, [], Some, Err, OnOk, OnErr, IfSome, length, take, IsTrue};
+ghost use Rattle.std.specs.List.{list_all};
 ghost use Rattle.std.specs.Io.KnownBytes.{Appends};
 ghost use Rattle.gb_outside.specs.Bytes.{AppendsFront};
 ghost use Rattle.gb_outside.specs.Faults.{Counts};
+ghost use Rattle.registry_office.specs.Built.{is_built};
 ghost use Rattle.registry_office.specs.Outcomes.{report_of, settle_lines_output};
 ghost use Rattle.registry_office.specs.Sessions.{ended, replies, AnsweredRead};
 ghost use Rattle.registry_office.specs.Stops.{output_failed, read_failed, write_failed};
@@ -44,7 +46,9 @@ pub fn settle_lines<S: Source, K: Sink>(
 }
 
 /// Settles the journal and writes the report.
+#[tactic(auto, unfolding(crate::specs::Outcomes::report_of))]
 fn write_report<K: Sink>(alloc: Global, journal: &Journal, sink: &mut K) -> Result<(), OutputStop>
+    requires { IsTrue (list_all (λ r. is_built r.item) journal.now) }
     ensures whole { OnOk result (Appends (K.written sink.old) (K.written sink.new) (report_of journal.now)) }
     ensures part { OnErr result (AppendsFront (K.written sink.old) (K.written sink.new) (report_of journal.now)) }
     ensures cause { Counts (K.faults sink.old) (K.faults sink.new) (output_failed result) }

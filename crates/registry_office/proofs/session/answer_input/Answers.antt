@@ -3,6 +3,7 @@ use Rattle.std.proofs.lemmas.Grind.{common_steps}
 use Rattle.std.proofs.lemmas.List.{take_at}
 use Rattle.std.proofs.lemmas.Result.{MatchResult-from_err}
 use Rattle.registry_office.proofs.Inputs.{session_then, session_ends, journal_ends, front_of_session, front_of_session_piece, front_of_last_line, session_of_most}
+use Rattle.registry_office.proofs.Whole.{built_ends}
 use Rattle.registry_office.proofs.session.answer_input.Goals as goal
 
 pub returns-then-read-count-clause-most : goal.returns-then-read-count-clause-most
@@ -51,3 +52,6 @@ loop-preserved g c =
         (rw (c.deref.ensures.value, take_at c.read_block.new.block _ _ whole) at c.in_ok-answer_piece-in-Bytes.ensures.answered) (grind (arith, common_steps));
     quiet_source = c.in-Bytes.ensures.cause.else_same refl ∙ c.loop.invariant.quiet_source;
     quiet_sink = c.in_ok-answer_piece-in-Bytes.ensures.cause.else_same refl ∙ c.loop.invariant.quiet_sink }
+
+pub returns-in-End-clause-built : goal.returns-in-End-clause-built
+returns-in-End-clause-built g c = built_ends _ _ _ _ _ _ _ _ c.loop.invariant.so_far c.in_ok-answer_line-in-End.ensures.journal
