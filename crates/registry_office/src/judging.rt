@@ -5,6 +5,7 @@ ghost use Rattle.act_model.specs.Acts.{folio_of, right_created};
 ghost use Rattle.registry_office.specs.Judging.{some_act, holds, creates_in, creations_in, is_beyond_limit, opens, is_open_as_of, lacks_folio, owners_named, owners_as_of, affected, owner_side, may_not_apply, is_consent_of, is_strangers_consent, lacks_consent, judged};
 ghost use Rattle.registry_office.specs.Entries.{owners_of};
 
+use crate::acts::folio_of;
 use crate::entries::Entry;
 use crate::reading::{is_open, owners_of};
 use act_model::{Act, Doc, Filing, Item, Receipt};
@@ -302,23 +303,6 @@ fn is_strangers_consent(doc: &Doc, number: u8, affected: &[Person], owners: &[Pe
         Doc::Agreement { .. } => false,
         Doc::TaxClearance { .. } => false,
         Doc::ExpiryProof { .. } => false,
-    }
-}
-
-/// The folio that an act names.
-fn folio_of(act: &Act) -> FolioId
-    ensures { result ≡ folio_of act.now }
-{
-    match act {
-        Act::Open { folio, .. } => *folio,
-        Act::Transfer { folio, .. } => *folio,
-        Act::Create { folio, .. } => *folio,
-        Act::NoticeFor { folio, .. } => *folio,
-        Act::Convert { folio, .. } => *folio,
-        Act::Assign { folio, .. } => *folio,
-        Act::Cancel { folio, .. } => *folio,
-        Act::Exchange { folio, .. } => *folio,
-        Act::Exercise { folio, .. } => *folio,
     }
 }
 

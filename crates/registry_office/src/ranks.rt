@@ -1,12 +1,11 @@
 // Which rights are ahead of which (BGB § 879, GBO § 45).
 ghost use Rattle.std.specs.Prelude.{◌≡◌, ◌≤◌, IfOk, length};
 ghost use Rattle.std.specs.List.{list_any};
-ghost use Rattle.act_model.specs.Acts.{is_section_three};
 ghost use Rattle.registry_office.specs.Ranks.{has_earlier_place, is_behind, in_one_section, is_ahead, has_same_place, different_places, rank_of};
 
+use crate::acts::is_section_three;
 use crate::entries::Created;
 use crate::standing_rights::Standing;
-use act_model::RightKind;
 use gb_base::{NoMemory, ReceiptNo};
 use std::alloc::Global;
 
@@ -91,18 +90,6 @@ fn in_one_section(a: &Created, b: &Created) -> bool
     ensures { result ≡ in_one_section a.now b.now }
 {
     is_section_three(a.spec.kind) == is_section_three(b.spec.kind)
-}
-
-/// Whether a right of this kind stands in section III.
-fn is_section_three(kind: RightKind) -> bool
-    ensures { result ≡ is_section_three kind }
-{
-    match kind {
-        RightKind::PersonalEasement => false,
-        RightKind::Usufruct => false,
-        RightKind::Mortgage { .. } => true,
-        RightKind::LandCharge { .. } => true,
-    }
 }
 
 /// Whether two rights of a folio have one place: they are of one filing and group.
