@@ -1,5 +1,5 @@
 -- The pieces of a cent line that is read claim by claim.
-use Rattle.std.proofs.Common.{◌≡◌, ℕ, zero, suc, ◌+◌, ◌-◌, ◌<◌, Bool, true, false, cond, List, [], ◌∷◌, ◌++◌, length, get_or, set, replicate, refl, sym, ap, ◌∙◌, arith, add-one, add_assoc, add_comm}
+use Rattle.std.proofs.Common.{◌≡◌, ℕ, zero, suc, ◌+◌, ◌<◌, Bool, true, false, cond, List, [], ◌∷◌, ◌++◌, length, get_or, set, replicate, refl, sym, ap, ◌∙◌, arith, add-one, add_comm}
 use Rattle.std.proofs.lemmas.Bool.Decides.{nat_tests}
 use Rattle.registry_office.specs.Ranks.{Standing, Piece, has_same_place, one_more_cent, pieces_of}
 
@@ -35,7 +35,7 @@ one_more_alike x y n (q ∷ qs) same =
     rw (has_same_place_like x y q.owner same)
     (elim (has_same_place y q.owner)
     as (λ b. one_more_cent x (cond b (piece y (n + q.cents) ∷ qs) (piece y n ∷ q ∷ qs))
-        ≡ cond b (piece x (n + 1 + q.cents) ∷ qs) (piece x (n + 1) ∷ q ∷ qs))
+    ≡ cond b (piece x (n + 1 + q.cents) ∷ qs) (piece x (n + 1) ∷ q ∷ qs))
     [ true ↦ rw same (ap (λ k. piece x k ∷ qs) (omega arith)) | false ↦ rw same refl ])
 
 one_more_apart : (x y : Standing) (n : ℕ) (qs : List Piece) → has_same_place x y ≡ false
@@ -44,21 +44,22 @@ one_more_apart x y n [] differs = rw differs refl
 one_more_apart x y n (q ∷ qs) differs =
     elim (has_same_place y q.owner)
     as (λ b. one_more_cent x (cond b (piece y (n + q.cents) ∷ qs) (piece y n ∷ q ∷ qs))
-        ≡ piece x 1 ∷ cond b (piece y (n + q.cents) ∷ qs) (piece y n ∷ q ∷ qs))
+    ≡ piece x 1 ∷ cond b (piece y (n + q.cents) ∷ qs) (piece y n ∷ q ∷ qs))
     [ true ↦ rw differs refl | false ↦ rw differs refl ]
 
 one_more_joined : (x : Standing) (ps qs : List Piece) → one_more_cent x (joined ps qs) ≡ joined (one_more_cent x ps) qs
 one_more_joined x [] qs = one_more_first x qs
 one_more_joined x (p ∷ []) qs =
     let P : Bool → Type 0 = λ b. has_same_place x p.owner ≡ b
-        → one_more_cent x (after_cents p.owner p.cents qs) ≡ joined (cond b (piece x (p.cents + 1) ∷ []) (piece x 1 ∷ p ∷ [])) qs in
+    → one_more_cent x (after_cents p.owner p.cents qs) ≡ joined (cond b (piece x (p.cents + 1) ∷ []) (piece x 1 ∷ p ∷ [])) qs in
     (elim (has_same_place x p.owner) as P [
-        true ↦ λ same. one_more_alike x p.owner p.cents qs same
-        | false ↦ λ differs. one_more_apart x p.owner p.cents qs differs ]) refl
+      | true ↦ λ same. one_more_alike x p.owner p.cents qs same
+      | false ↦ λ differs. one_more_apart x p.owner p.cents qs differs
+    ]) refl
 one_more_joined x (p ∷ r ∷ ps) qs =
     elim (has_same_place x p.owner)
     as (λ b. cond b (piece x (p.cents + 1) ∷ joined (r ∷ ps) qs) (piece x 1 ∷ p ∷ joined (r ∷ ps) qs)
-        ≡ joined (cond b (piece x (p.cents + 1) ∷ r ∷ ps) (piece x 1 ∷ p ∷ r ∷ ps)) qs)
+    ≡ joined (cond b (piece x (p.cents + 1) ∷ r ∷ ps) (piece x 1 ∷ p ∷ r ∷ ps)) qs)
     [ true ↦ refl | false ↦ refl ]
 
 -- the pieces of two lines, one behind the other

@@ -5,6 +5,7 @@ ghost use Rattle.std.specs.String.{string_bytes};
 ghost use Rattle.registry_office.specs.Ranks.{rights_in, rights_entered};
 ghost use Rattle.registry_office.specs.Reports.{inventory_line, owners_line, kind_text, section_of, rate_part, form_text, behind_part, equal_part, reserve_part, right_line, extract};
 
+use crate::acts::is_section_three;
 use crate::entries::{Created, RightForm};
 use crate::reading::{inventory_of, owners_of};
 use crate::register::Register;
@@ -69,7 +70,11 @@ fn add_right_line(text: &mut String, right: &Standing) -> Result<(), NoMemory>
     let spec = created.spec;
     let section = section_of(spec.kind);
     let kind = kind_name(spec.kind);
-    write!(text, "right {} {section} {} {kind} {}", right.id, created.form, spec.capital)?;
+    write!(
+        text,
+        "right {} {section} {} {kind} {}",
+        right.id, created.form, spec.capital
+    )?;
     add_rate(text, spec.kind)?;
     write!(text, " holder {} placed {}", spec.holder, created.placed)?;
     add_notes(text, &created)?;
@@ -90,12 +95,7 @@ fn add_notes(text: &mut String, right: &Created) -> Result<(), NoMemory>
 fn section_of(kind: RightKind) -> &'static str
     ensures { result.now ≡ section_of kind }
 {
-    match kind {
-        RightKind::PersonalEasement => "II",
-        RightKind::Usufruct => "II",
-        RightKind::Mortgage { .. } => "III",
-        RightKind::LandCharge { .. } => "III",
-    }
+    if is_section_three(kind) { "III" } else { "II" }
 }
 
 fn kind_name(kind: RightKind) -> &'static str
@@ -143,7 +143,11 @@ fn add_behind(text: &mut String, behind: Option<ReceiptNo>) -> Result<(), NoMemo
 fn add_equal(text: &mut String, equal: bool) -> Result<(), NoMemory>
     ensures { OnOk result (string_bytes text.new ≡ string_bytes text.old ++ equal_part equal) }
 {
-    if equal { text.push_str(" equal") } else { Ok(()) }
+    if equal {
+        text.push_str(" equal")
+    } else {
+        Ok(())
+    }
 }
 
 fn add_reserve(text: &mut String, reserve: Option<Cents>) -> Result<(), NoMemory>

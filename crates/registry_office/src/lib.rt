@@ -26,6 +26,7 @@ mod verdict_lines;
 mod verdicts;
 mod words;
 mod writing;
+
 #[cfg(test)]
 mod tests;
 

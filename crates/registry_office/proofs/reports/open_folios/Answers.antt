@@ -9,7 +9,8 @@ use Rattle.registry_office.proofs.reports.open_folios.Goals.{in-Some+in_ok-inser
 pub loop-entry-preserved : goal.loop-entry-preserved
 loop-entry-preserved c =
     let more = ascending_more (λ e. folio_of_title (is_opening e.what) e.key) c.args.entries.now c.loop-entry.entry-index
-        c.entry-item.result c.loop-entry-test.true in
+    c.entry-item.result c.loop-entry-test.true in
     elim c.match-folio_opened.branch [
-        in-Some+in_ok-insert_folio w ↦ grind (arith, common_steps, more, w.in_ok-insert_folio.ensures)
-        | in_default w ↦ grind (arith, common_steps, more) ]
+      | in-Some+in_ok-insert_folio w ↦ grind (arith, common_steps, more, w.in_ok-insert_folio.ensures)
+      | in_default w ↦ grind (arith, common_steps, more)
+    ]
