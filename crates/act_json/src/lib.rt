@@ -12,6 +12,8 @@ mod numbers;
 mod paths;
 mod reading;
 mod rights;
+#[cfg(test)]
+mod tests;
 mod words;
 
 pub use lines::{LineFault, read_item, read_stamped};

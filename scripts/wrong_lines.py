@@ -1,0 +1,340 @@
+"""Lines of JSON that are no items, each with the path of its first wrong place.
+
+For each kind of item, act, document, basis and claim there is one line that is an item, and for
+each member of it the values that it must not have: absent, of another kind, below its range, above
+it. The tables are those of docs/formats.md, 'Items as JSON'; nothing here is taken from a program.
+
+    scripts/wrong_lines.py             prints 'PATH<tab>LINE' for each wrong line
+    scripts/wrong_lines.py --good      prints the lines that are items
+    scripts/wrong_lines.py --lines     prints all lines, also those that are no JSON
+    scripts/wrong_lines.py --answers   prints for each of these what it is, as it is handed in and
+                                       as a stamped line
+"""
+
+import copy
+import json
+import sys
+
+ABSENT = object()
+
+SERIAL = ["7", 0, 4294967296, 7.5]
+AMOUNT = [False, 0, 10000000000001]
+DATE = [20240301, "1969-12-31", "2200-01-01", "2023-02-29", "2024-3-01", "2024-03-01 ", "2024/03/01", "2O24-03-01"]
+OBJECT = ["right", [], None]
+ARRAY = [{}, None, 1]
+
+
+def whole(low, high):
+    return [None, low - 1, high + 1]
+
+
+def word(other):
+    return [1, "", other]
+
+
+# The members of each object in their order, with values that are wrong.
+RIGHT = {"receipt": SERIAL, "act": whole(1, 8)}
+SECURED = {
+    "kind": word("Mortgage"),
+    "rate": whole(0, 2000),
+    "capital": AMOUNT,
+    "holder": SERIAL,
+    "group": whole(1, 8),
+}
+UNSECURED = {name: SECURED[name] for name in ("kind", "capital", "holder", "group")}
+FOLIO = {"act": word("sell"), "folio": SERIAL}
+ACTS = {
+    "open": {
+        **FOLIO,
+        "district": whole(1, 65535),
+        "parcel": whole(1, 4294967295),
+        "sub": whole(0, 65535),
+        "area": whole(1, 1000000000),
+        "owners": ARRAY + [[], [1, 2, 3, 4, 5], [10, 10], [1, 2, 1]],
+    },
+    "transfer": {**FOLIO, "owners": ARRAY + [[], [1, 2, 3, 4, 5], [10, 10]]},
+    "create": {**FOLIO, **SECURED, "reserve": AMOUNT + [None]},
+    "notice": {**FOLIO, **SECURED},
+    "convert": {**FOLIO, "right": OBJECT},
+    "assign": {**FOLIO, "right": OBJECT, "holder": SERIAL},
+    "cancel": {**FOLIO, "right": OBJECT},
+    "exchange": {**FOLIO, "recede": OBJECT, "rise": OBJECT},
+    "exercise": {**FOLIO, "behind": OBJECT, **SECURED},
+}
+DOC = {"doc": word("will"), "act": whole(1, 8)}
+DOCS = {
+    "consent": {**DOC, "person": SERIAL, "form": word("sealed")},
+    "agreement": DOC,
+    "clearance": DOC,
+    "expiry": DOC,
+}
+BASES = {
+    "personal": {"type": word("public"), "creditor": SERIAL, "claim": AMOUNT},
+    "right": {"type": word("public"), "right": OBJECT},
+}
+CLAIMS = {
+    "advance": {"type": word("costs"), "person": SERIAL, "amount": AMOUNT},
+    "charge": {"type": word("costs"), "person": SERIAL, "amount": AMOUNT, "due": DATE},
+    "arrears": {"type": word("costs"), "right": OBJECT, "from": DATE, "until": DATE},
+}
+ITEMS = {
+    "filing": {
+        "kind": word("deed"),
+        "applicant": SERIAL,
+        "conditional": [0, "false", None],
+        "acts": ARRAY + [[]],
+        "docs": ARRAY,
+    },
+    "cure": {"kind": word("deed"), "filing": SERIAL, "docs": ARRAY},
+    "lapse": {"kind": word("deed"), "filing": SERIAL},
+    "seize": {"kind": word("deed"), "folio": SERIAL, "basis": OBJECT, "served": DATE},
+    "register": {"kind": word("deed"), "folio": SERIAL, "what": OBJECT},
+    "open-bids": {"kind": word("deed"), "folio": SERIAL, "costs": AMOUNT},
+    "award": {"kind": word("deed"), "folio": SERIAL, "buyer": SERIAL, "bid": AMOUNT},
+    "distribute": {"kind": word("deed"), "folio": SERIAL},
+}
+LINE = {"sender": ["1", -1, 4294967296], "reference": ["1", -1, 18446744073709551616], "item": OBJECT}
+STAMP = {"day": DATE + ["1999-12-31", "2150-01-01"], "minute": ["9", -1, 1440]}
+
+# One of each.
+A_RIGHT = {"receipt": 3, "act": 2}
+A_CHARGE = {"kind": "land-charge", "rate": 500, "capital": 10000000, "holder": 20, "group": 1}
+AN_ACT = {
+    "open": {"act": "open", "folio": 7, "district": 12, "parcel": 345, "sub": 6, "area": 800, "owners": [10]},
+    "transfer": {"act": "transfer", "folio": 7, "owners": [10, 11]},
+    "create": {"act": "create", "folio": 7, **A_CHARGE, "reserve": 5000000},
+    "notice": {"act": "notice", "folio": 7, **A_CHARGE},
+    "convert": {"act": "convert", "folio": 7, "right": A_RIGHT},
+    "assign": {"act": "assign", "folio": 7, "right": A_RIGHT, "holder": 20},
+    "cancel": {"act": "cancel", "folio": 7, "right": A_RIGHT},
+    "exchange": {"act": "exchange", "folio": 7, "recede": A_RIGHT, "rise": {"receipt": 3, "act": 1}},
+    "exercise": {"act": "exercise", "folio": 7, "behind": A_RIGHT, **A_CHARGE},
+}
+A_DOC = {
+    "consent": {"doc": "consent", "act": 1, "person": 10, "form": "certified"},
+    "agreement": {"doc": "agreement", "act": 1},
+    "clearance": {"doc": "clearance", "act": 1},
+    "expiry": {"doc": "expiry", "act": 1},
+}
+A_BASIS = {
+    "personal": {"type": "personal", "creditor": 20, "claim": 1},
+    "right": {"type": "right", "right": A_RIGHT},
+}
+A_CLAIM = {
+    "advance": {"type": "advance", "person": 20, "amount": 1},
+    "charge": {"type": "charge", "person": 20, "amount": 1, "due": "2024-02-29"},
+    "arrears": {"type": "arrears", "right": A_RIGHT, "from": "2023-01-01", "until": "2024-01-01"},
+}
+
+
+def filing(acts, docs):
+    return {"kind": "filing", "applicant": 10, "conditional": False, "acts": acts, "docs": docs}
+
+
+AN_ITEM = {
+    "filing": filing([AN_ACT["open"]], [A_DOC["consent"]]),
+    "cure": {"kind": "cure", "filing": 1, "docs": [A_DOC["consent"]]},
+    "lapse": {"kind": "lapse", "filing": 1},
+    "seize": {"kind": "seize", "folio": 7, "basis": A_BASIS["personal"], "served": "2024-03-01"},
+    "register": {"kind": "register", "folio": 7, "what": A_CLAIM["advance"]},
+    "open-bids": {"kind": "open-bids", "folio": 7, "costs": 1},
+    "award": {"kind": "award", "folio": 7, "buyer": 30, "bid": 1},
+    "distribute": {"kind": "distribute", "folio": 7},
+}
+
+
+def line(item):
+    return {"sender": 1, "reference": 1, "item": item}
+
+
+def stamped(item):
+    return {"day": "2024-03-01", "minute": 540, **line(item)}
+
+
+def at(value, path):
+    for part in path:
+        value = value[part]
+    return value
+
+
+def named(path):
+    return ".".join(str(part) for part in path)
+
+
+def wrong_members(good, path, members):
+    """The wrong values of each member of the object at this place of the line, and one member more."""
+    for name, values in members.items():
+        optional = name == "reserve"
+        for value in ([] if optional else [ABSENT]) + values:
+            bad = copy.deepcopy(good)
+            owner = at(bad, path)
+            if value is ABSENT:
+                del owner[name]
+            else:
+                owner[name] = value
+            yield named(path + [name]), bad
+    bad = copy.deepcopy(good)
+    at(bad, path)["x"] = 1
+    yield named(path + ["*"]), bad
+
+
+def wrong_elements(good, path, values):
+    """Elements behind the first that are wrong."""
+    for value in values:
+        bad = copy.deepcopy(good)
+        at(bad, path).append(value)
+        yield named(path + [len(at(good, path))]), bad
+
+
+def good_lines():
+    """Each kind of line, with the way to the object that is peculiar to it, and that one's members."""
+    for name, item in AN_ITEM.items():
+        yield line(item), ["item"], ITEMS[name]
+    for name, act in AN_ACT.items():
+        yield line(filing([act], [])), ["item", "acts", 0], ACTS[name]
+    for name in ("personal-easement", "usufruct"):
+        act = {"act": "notice", "folio": 7, "kind": name, "capital": 1, "holder": 20, "group": 8}
+        yield line(filing([act], [])), ["item", "acts", 0], {**FOLIO, **UNSECURED}
+    mortgage = {**AN_ACT["create"], "kind": "mortgage", "rate": 0}
+    yield line(filing([mortgage], [])), ["item", "acts", 0], ACTS["create"]
+    for name, doc in A_DOC.items():
+        yield line(filing([AN_ACT["open"]], [doc])), ["item", "docs", 0], DOCS[name]
+    docs = [dict(A_DOC["consent"]) for _ in range(32)]
+    yield line({"kind": "cure", "filing": 1, "docs": docs}), ["item", "docs", 31], DOCS["consent"]
+    for name, basis in A_BASIS.items():
+        yield line({**AN_ITEM["seize"], "basis": basis}), ["item", "basis"], BASES[name]
+    for name, claim in A_CLAIM.items():
+        yield line({**AN_ITEM["register"], "what": claim}), ["item", "what"], CLAIMS[name]
+    for act, name in [("convert", "right"), ("exchange", "recede"), ("exchange", "rise"), ("exercise", "behind")]:
+        yield line(filing([AN_ACT[act]], [])), ["item", "acts", 0, name], RIGHT
+    yield line(AN_ITEM["lapse"]), [], LINE
+    yield stamped(AN_ITEM["lapse"]), [], {**STAMP, **LINE}
+
+
+def wrong_arrays():
+    acts = line(filing([AN_ACT["open"]], []))
+    yield from wrong_elements(acts, ["item", "acts"], [1, "open", None, []])
+    owners = line(filing([AN_ACT["transfer"]], []))
+    yield from wrong_elements(owners, ["item", "acts", 0, "owners"], [0, "10", 4294967296, None])
+    docs = line(AN_ITEM["cure"])
+    yield from wrong_elements(docs, ["item", "docs"], [1, "consent", None, []])
+    # All elements are tested before they are counted.
+    many = [AN_ACT["assign"]] * 9
+    yield "item.acts", line(filing(many, []))
+    yield "item.acts.8.folio", line(filing(many[:8] + [{"act": "cancel", "folio": 0}], []))
+    yield "item.docs", line(filing([AN_ACT["open"]], [A_DOC["consent"]] * 33))
+    yield "item.docs.33.doc", line(filing([AN_ACT["open"]], [A_DOC["consent"]] * 33 + [{}]))
+    yield "item.acts.0.owners.4", line(filing([{**AN_ACT["transfer"], "owners": [1, 1, 2, 3, 0]}], []))
+
+
+def wrong_specs():
+    usufruct = {"act": "create", "folio": 7, "kind": "usufruct", "capital": 1, "holder": 20, "group": 1}
+    for rate in (0, 500, 2001, "x"):
+        yield "item.acts.0.*", line(filing([{**usufruct, "rate": rate}], []))
+    yield "item.acts.0.*", line(filing([{**AN_ACT["notice"], "reserve": 1}], []))
+    yield "item.acts.0.*", line(filing([{**AN_ACT["exercise"], "reserve": 1}], []))
+    for kind in ("personal-easement", "usufruct"):
+        yield "item.acts.0.kind", line(filing([{**AN_ACT["exercise"], "kind": kind}], []))
+
+
+def wrong_filings():
+    """The rules over a whole filing."""
+    opening = AN_ACT["open"]
+    three = [{**opening, "folio": folio} for folio in (7, 8, 9)]
+    twice = [opening, {"act": "transfer", "folio": 7, "owners": [11]}]
+    same_right = [AN_ACT["cancel"], {**AN_ACT["assign"], "folio": 8}]
+    swap = [{**AN_ACT["exchange"], "rise": A_RIGHT}]
+    reserved = [AN_ACT["create"], {"act": "notice", "folio": 7, **A_CHARGE}]
+    exercised = [{**A_CHARGE, "act": "create", "folio": 7}, AN_ACT["exercise"]]
+    for acts in (three, twice, same_right, swap, reserved, exercised):
+        yield "item.acts", line(filing(acts, []))
+
+
+def wrong_order():
+    """Of two wrong places the first is named."""
+    bad_act = {**AN_ACT["convert"], "x": 1}
+    twice = [AN_ACT["open"], AN_ACT["transfer"]]
+    yield "item.acts.0.*", line(filing([bad_act], 5))
+    yield "item.docs", line(filing(twice, 5))
+    yield "item.*", line({**filing(twice, []), "x": 1})
+    yield "item.acts", {**line(filing(twice, [])), "x": 1}
+    yield "item.applicant", line({**filing([], []), "applicant": 0})
+    yield "item.kind", line({"folio": 0})
+    yield "item.acts.0.act", line(filing([{"folio": 0}], []))
+    yield "item.acts.0.right.receipt", line(filing([{**AN_ACT["assign"], "right": {"act": 9}, "holder": 0}], []))
+
+
+def wrong_texts():
+    """Lines that no value of Python writes: numbers that are whole only by their value, and no objects."""
+    good = compact(line(AN_ITEM["lapse"]))
+    for number in ("1.0", "1e0", "1E3", "10e-1", "-1", "-0", "1.5"):
+        yield "item.filing", good.replace('"filing":1', '"filing":' + number)
+    for text in ("[1]", "1", '"line"', "null", "true"):
+        yield "line", text
+
+
+NO_JSON = ["", " ", "{", "[1,]", "{'a':1}", "nul", "01", "1 2", '{"sender":1,}']
+
+
+def wrong_lines():
+    """Pairs of a path and a line that is JSON and no item."""
+    for good, path, members in good_lines():
+        for wrong, value in wrong_members(good, path, members):
+            yield wrong, compact(value)
+    for cases in (wrong_arrays(), wrong_specs(), wrong_filings(), wrong_order()):
+        for wrong, value in cases:
+            yield wrong, compact(value)
+    yield from wrong_texts()
+
+
+def right_lines():
+    for good, _, _ in good_lines():
+        yield compact(good)
+
+
+def compact(value):
+    return json.dumps(value, separators=(",", ":"))
+
+
+def is_stamped(text):
+    """Whether a line was made from a stamped one."""
+    return '"day":' in text or '"minute":' in text
+
+
+def answers():
+    """Triples of a line and what it is, as it is handed in and as a stamped line."""
+    for text in right_lines():
+        if is_stamped(text):
+            yield text, "malformed *", "item"
+        else:
+            yield text, "item", "malformed day"
+    for path, text in wrong_lines():
+        wrong = "malformed " + path
+        if not is_stamped(text):
+            yield text, wrong, wrong if path == "line" else "malformed day"
+        elif path in ("day", "minute", "*"):
+            yield text, "malformed *", wrong
+        else:
+            yield text, wrong, wrong
+    for text in NO_JSON:
+        yield text, "malformed json", "malformed json"
+
+
+def main():
+    word = sys.argv[1] if len(sys.argv) > 1 else ""
+    if word == "--lines":
+        for text, _, _ in answers():
+            print(text)
+    elif word == "--answers":
+        for _, handed_in, stamped_line in answers():
+            print(handed_in + "\t" + stamped_line)
+    elif word == "--good":
+        for text in right_lines():
+            print(text)
+    else:
+        for path, text in wrong_lines():
+            print(path + "\t" + text)
+
+
+if __name__ == "__main__":
+    main()
