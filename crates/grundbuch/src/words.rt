@@ -1,8 +1,7 @@
 use registry_office::Status;
-use std::env;
-use std::io;
 use std::rc::RcStr;
 use std::rt::Env;
+use std::{env, io};
 
 /// The words of the command line behind the program's name. Where one is not UTF-8 the words are
 /// no command, and where no memory is found for them the status says so.

@@ -1,5 +1,5 @@
 -- The session keeps items alone that the office takes.
-use Rattle.std.proofs.Common.{◌≡◌, ℕ, Bool, true, false, cond, List, [], ◌∷◌, ◌++◌, refl, Result, Ok, Err, arith}
+use Rattle.std.proofs.Common.{◌≡◌, ℕ, Bool, true, false, cond, List, [], ◌∷◌, ◌++◌, refl, Result, Ok, Err}
 use Rattle.std.specs.Prelude.{nat_lt, length}
 use Rattle.std.specs.List.{list_all}
 use Rattle.std.proofs.lemmas.List.Folds.{list_all-append}
@@ -32,8 +32,9 @@ all_built-found journal found all =
     let kept : List Receipt = journal_with journal found.0 found.1 found.2 found.3 (answer_to journal found.1 found.2 found.3) in
     let P : Bool → Type 0 = λ b. is_built found.3 ≡ b → all_built (cond b kept journal) ≡ true in
     (elim (is_built found.3) as P [
-        true ↦ λ one. all_built-journal_with journal found.0 found.1 found.2 found.3 (answer_to journal found.1 found.2 found.3) all one
-        | false ↦ λ no. all ]) refl
+      | true ↦ λ one. all_built-journal_with journal found.0 found.1 found.2 found.3 (answer_to journal found.1 found.2 found.3) all one
+      | false ↦ λ no. all
+    ]) refl
 
 all_built-stamped : (journal : List Receipt) (said : Result (DayMinute × ℕ × ℕ × Item) LineFault) → all_built journal ≡ true
     → all_built (journal_with_stamped journal said) ≡ true
@@ -44,11 +45,14 @@ pub all_built-kept_after : (journal : List Receipt) (line : List ℕ) → all_bu
 unfolding kept_after
 all_built-kept_after journal line all =
     elim (is_blank line) as (λ b. all_built (cond b journal
-        (cond (nat_lt max_line (length line)) journal (journal_with_stamped journal (stamped_of line)))) ≡ true) [
-        true ↦ all
-        | false ↦ elim (nat_lt max_line (length line))
-            as (λ b. all_built (cond b journal (journal_with_stamped journal (stamped_of line))) ≡ true) [
-            true ↦ all | false ↦ all_built-stamped journal (stamped_of line) all ] ]
+    (cond (nat_lt max_line (length line)) journal (journal_with_stamped journal (stamped_of line)))) ≡ true) [
+      | true ↦ all
+      | false ↦ elim (nat_lt max_line (length line))
+          as (λ b. all_built (cond b journal (journal_with_stamped journal (stamped_of line))) ≡ true) [
+            | true ↦ all
+            | false ↦ all_built-stamped journal (stamped_of line) all
+          ]
+    ]
 
 pub all_built-journal_after : (journal : List Receipt) (lines : List (List ℕ)) → all_built journal ≡ true → all_built (journal_after journal lines) ≡ true
 all_built-journal_after journal [] all = all

@@ -1,7 +1,6 @@
-use Rattle.std.proofs.Common.{◌≡◌, ℕ, ◌+◌, ◌<◌, Bool, false, List, length, get_or, drop, refl, add-one, drop-cons, ap, ◌∙◌, cond}
+use Rattle.std.proofs.Common.{◌≡◌, ℕ, ◌+◌, ◌<◌, Bool, false, List, length, get_or, drop, refl, add-one, drop-cons}
 use Rattle.gb_base.specs.declared.sections.Section.{Section}
 use Rattle.registry_office.specs.Judging.{first_ground}
-use Rattle.registry_office.specs.declared.judging.Judgement.TheVariants.{Reject}
 
 -- a ground that does not hold is passed over
 pub first_ground-drop : (test : Section → Bool) (ss : List Section) (i : ℕ) (s : Section) → i < length ss → test (get_or ss i s) ≡ false

@@ -1,5 +1,5 @@
 -- A whole input that is read in blocks.
-use Rattle.std.proofs.Common.{◌≡◌, ℕ, ◌+◌, ◌≤◌, List, [], ◌∷◌, ◌++◌, length, take, refl, sym, ap, subst, ◌∙◌, append_assoc, append-nil, length-append, arith, Option, Some, None, IfSome}
+use Rattle.std.proofs.Common.{◌≡◌, ℕ, ◌+◌, ◌≤◌, List, [], ◌∷◌, ◌++◌, length, take, refl, ap, ◌∙◌, append_assoc, append-nil, length-append, arith, Option, Some, None, IfSome}
 use Rattle.std.specs.Io.KnownBytes.{Appends, Consumes, IsAtEnd}
 use Rattle.std.proofs.KnownBytes.{Appends-trans, Consumes-trans}
 use Rattle.std.proofs.lemmas.List.{take_at, take-append-le}
@@ -21,10 +21,11 @@ pub session_then : (left0 left1 left2 w0 w1 w2 : Option (List ℕ)) (j1 j2 : Lis
     → Session left0 left1 w0 w1 [] j1 l1 count → Consumes left1 left2 piece → Answered w1 w2 j1 j2 l1 l2 piece → length piece ≡ n
     → Session left0 left2 w0 w2 [] j2 l2 (count + n)
 session_then left0 left1 left2 w0 w1 w2 j1 j2 l1 l2 piece count n before taken now is = record {
-    read = before.read ++ piece;
-    consumed = Consumes-trans left0 left1 left2 before.read piece before.consumed taken;
-    answered = answered_then w0 w1 w2 [] j1 j2 [] l1 l2 before.read piece before.answered now;
-    size = length-append before.read piece ∙ (let e = before.size in omega (arith, is)) }
+  read = before.read ++ piece;
+  consumed = Consumes-trans left0 left1 left2 before.read piece before.consumed taken;
+  answered = answered_then w0 w1 w2 [] j1 j2 [] l1 l2 before.read piece before.answered now;
+  size = length-append before.read piece ∙ (let e = before.size in omega (arith, is));
+}
 
 -- the lines of an input, where a front of it was read
 pub lines_split : (read rest : List ℕ)
@@ -80,9 +81,14 @@ front_of_session_piece (Some x) None left2 w0 w1 w2 j1 l1 piece count s taken pa
 front_of_session_piece (Some x) (Some y) None w0 w1 w2 j1 l1 piece count s taken part = absurd taken
 front_of_session_piece (Some x) (Some y) (Some z) w0 w1 w2 j1 l1 piece count s taken part =
     let l : List ℕ = behind [] s.read in
-    rw (s.consumed, taken, replies_split s.read (piece ++ z), ended-append l piece z,
-        append_assoc (ended l piece) (ended (behind l piece) z) (behind [] (s.read ++ (piece ++ z)) ∷ []),
-        replies-append (journal_after [] (ended [] s.read)) (ended l piece) (ended (behind l piece) z ++ behind [] (s.read ++ (piece ++ z)) ∷ []))
+    rw (
+      s.consumed,
+      taken,
+      replies_split s.read (piece ++ z),
+      ended-append l piece z,
+      append_assoc (ended l piece) (ended (behind l piece) z) (behind [] (s.read ++ (piece ++ z)) ∷ []),
+      replies-append (journal_after [] (ended [] s.read)) (ended l piece) (ended (behind l piece) z ++ behind [] (s.read ++ (piece ++ z)) ∷ []),
+    )
     (front_of_more w0 w1 w2 _ _ s.answered.wrote (front_of_longer w1 w2 _ _ (rw (s.answered.journal, s.answered.line) at part)))
 
 pub front_of_last_line : (left0 left1 w0 w1 w2 : Option (List ℕ)) (j1 : List Receipt) (l1 : List ℕ) (count : ℕ)

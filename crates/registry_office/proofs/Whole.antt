@@ -1,5 +1,5 @@
 -- The session and the report, one after the other.
-use Rattle.std.proofs.Common.{◌≡◌, ℕ, true, List, [], ◌++◌, refl, ap, ◌∙◌, Option, Some, None, IfSome, IsTrue}
+use Rattle.std.proofs.Common.{◌≡◌, ℕ, true, List, [], refl, Option, Some, None, IfSome}
 use Rattle.std.specs.Io.KnownBytes.{Appends}
 use Rattle.std.proofs.KnownBytes.{Appends-trans}
 use Rattle.gb_outside.specs.Bytes.{AppendsFront}

@@ -1,5 +1,5 @@
 -- Texts that are written piece by piece.
-use Rattle.std.proofs.Common.{◌≡◌, ℕ, ◌+◌, ◌-◌, List, ◌++◌, length, take, drop, sym, Option, take-append-drop}
+use Rattle.std.proofs.Common.{◌≡◌, ℕ, ◌+◌, ◌-◌, List, length, take, drop, sym, Option, take-append-drop}
 use Rattle.std.proofs.Math.Seq.{take-add}
 use Rattle.std.proofs.KnownBytes.{Appends-trans}
 use Rattle.std.proofs.lemmas.List.{take_rest}
@@ -16,5 +16,8 @@ Appends-take a b c text done count before now =
 -- where a sink that has a front of a text then fails, it has that front
 pub AppendsFront-take : (a b c : Option (List ℕ)) (text : List ℕ) (done : ℕ) → Appends a b (take done text) → c ≡ b → AppendsFront a c text
 AppendsFront-take a b c text done written stays = record {
-    front = take done text; rest = drop done text; whole = sym (take-append-drop done text);
-    added = rw stays written }
+  front = take done text;
+  rest = drop done text;
+  whole = sym (take-append-drop done text);
+  added = rw stays written;
+}

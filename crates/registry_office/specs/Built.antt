@@ -1,5 +1,5 @@
 -- Which items the office takes today: filings of one act, an opening for one owner or a land charge.
-use Rattle.std.specs.Prelude.{ℕ, Bool, true, false, not, ◌&&◌, ◌==◌, List, [], ◌∷◌, Option, Some, None}
+use Rattle.std.specs.Prelude.{ℕ, Bool, true, false, not, ◌&&◌, ◌==◌, List, [], ◌∷◌, None}
 use Rattle.act_model.specs.declared.documents.Doc.{Doc}
 use Rattle.act_model.specs.declared.documents.Doc.TheVariants.{Consent}
 use Rattle.act_model.specs.declared.documents.Form.{Form}

@@ -1,5 +1,5 @@
 -- What the entry of a filing brings to the register.
-use Rattle.std.specs.Prelude.{ℕ, suc, ◌+◌, Bool, true, false, not, ◌&&◌, ◌==◌, nat_lt, if◌then◌else◌, List, [], ◌∷◌, ◌++◌, map, Option, Some, None}
+use Rattle.std.specs.Prelude.{ℕ, Bool, true, false, not, ◌&&◌, ◌==◌, nat_lt, if◌then◌else◌, List, [], ◌∷◌, ◌++◌, map, Option, Some, None}
 use Rattle.std.specs.List.{list_any, filter_map, flat_map, enumerate_from}
 use Rattle.gb_base.specs.declared.keys.Key.TheVariants.{Title, Right}
 use Rattle.act_model.specs.Acts.{folio_of, right_created, is_section_three}
@@ -42,8 +42,11 @@ create_in_section third folio acts = list_any (λ act. folio_of act == folio && 
 
 abbrev pub place : ℕ → ℕ → ℕ → List Act → ℕ → Entry
 place m receipt day acts folio = record {
-    receipt = receipt; day = day; key = Title folio;
-    what = what.Placed m (create_in_section false folio acts) (create_in_section true folio acts) }
+  receipt = receipt;
+  day = day;
+  key = Title folio;
+  what = what.Placed m (create_in_section false folio acts) (create_in_section true folio acts);
+}
 
 -- ---- the contents of the acts
 
@@ -68,11 +71,19 @@ content m receipt day entries acts k (Open folio inventory owners) =
     record { receipt = receipt; day = day; key = Title folio; what = what.Opened inventory owners } ∷ []
 content m receipt day entries acts k (Create folio spec reserve) =
     record {
-        receipt = receipt; day = day; key = Right folio (record { receipt = m; act = k });
-        what = what.Created (record {
-            spec = spec; form = Full; reserve = reserve; ahead_of = None; placed = day;
-            behind = behind_from (is_section_three spec.kind) day None (at entries (Title folio));
-            equal = has_equal acts k (Create folio spec reserve) }) } ∷ []
+      receipt = receipt;
+      day = day;
+      key = Right folio (record { receipt = m; act = k });
+      what = what.Created (record {
+        spec = spec;
+        form = Full;
+        reserve = reserve;
+        ahead_of = None;
+        placed = day;
+        behind = behind_from (is_section_three spec.kind) day None (at entries (Title folio));
+        equal = has_equal acts k (Create folio spec reserve);
+      });
+    } ∷ []
 content m receipt day entries acts k act = []
 
 -- the entry of filing m: its places, and then the contents of its acts in their order

@@ -3,7 +3,7 @@ use Rattle.std.specs.Prelude.{ℕ, Bool, true, false, if◌then◌else◌, List,
 use Rattle.std.specs.List.{list_any}
 use Rattle.gb_base.specs.Keys.{same_key}
 use Rattle.gb_base.specs.declared.keys.Key.{Key}
-use Rattle.gb_base.specs.declared.keys.Key.TheVariants.{Title, Right, Case}
+use Rattle.gb_base.specs.declared.keys.Key.TheVariants.{Title}
 use Rattle.act_model.specs.declared.land.Inventory.{Inventory}
 use Rattle.registry_office.specs.declared.entries.Created.{Created}
 use Rattle.registry_office.specs.declared.entries.Entry.{Entry}

@@ -1,6 +1,6 @@
 -- How a filing is judged on the register as it stands: rows of grounds for rejection, of which the
 -- first that holds for some act is named.
-use Rattle.std.specs.Prelude.{ℕ, ◌+◌, ◌-◌, Bool, true, false, not, ◌&&◌, ◌||◌, ◌==◌, nat_lt, if◌then◌else◌, List, [], ◌∷◌, ◌++◌, length, take, count_by, sum_by, Option, Some, None, is_some}
+use Rattle.std.specs.Prelude.{ℕ, ◌+◌, ◌-◌, Bool, false, not, ◌&&◌, ◌||◌, ◌==◌, nat_lt, if◌then◌else◌, List, [], ◌∷◌, ◌++◌, length, take, count_by, sum_by, is_some}
 use Rattle.std.specs.List.{list_any}
 use Rattle.gb_base.specs.declared.sections.Section.{Section}
 use Rattle.gb_base.specs.declared.sections.Section.TheVariants as section

@@ -1,7 +1,6 @@
 pub mod Entries
 pub mod Judging
 pub mod Entering
-
 pub mod Built
 pub mod Stops
 pub mod Lines

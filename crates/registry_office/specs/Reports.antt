@@ -1,8 +1,7 @@
 -- The texts of the report.
-use Rattle.std.specs.Prelude.{ℕ, suc, ◌+◌, ◌-◌, Bool, true, false, if◌then◌else◌, List, [], ◌∷◌, ◌++◌, map, filter, length, codes, Option, Some, None}
+use Rattle.std.specs.Prelude.{ℕ, ◌+◌, ◌-◌, Bool, true, false, if◌then◌else◌, List, [], ◌∷◌, ◌++◌, filter, length, codes, Option, Some, None}
 use Rattle.std.specs.List.{filter_map, flat_map}
 use Rattle.std.specs.Fmt.{decimal}
-use Rattle.gb_base.specs.RightNo.{RightNo}
 use Rattle.gb_base.specs.Texts.{euro, right_text, date_text, section_text}
 use Rattle.gb_base.specs.declared.keys.Key.{Key}
 use Rattle.gb_base.specs.declared.keys.Key.TheVariants.{Title, Right, Case}
@@ -14,7 +13,6 @@ use Rattle.registry_office.specs.Entering.{ascending}
 use Rattle.registry_office.specs.Entries.{inventory_of, is_opening, owners_of}
 use Rattle.registry_office.specs.Ranks.{Standing, Piece, rights_in, places_in, rank_of, has_same_place, cent_line, pieces_of}
 use Rattle.registry_office.specs.Settling.{Settled}
-use Rattle.registry_office.specs.declared.entries.Created.{Created}
 use Rattle.registry_office.specs.declared.entries.Entry.{Entry}
 use Rattle.registry_office.specs.declared.entries.RightForm.{RightForm}
 use Rattle.registry_office.specs.declared.entries.RightForm.TheVariants.{Full, Notice}

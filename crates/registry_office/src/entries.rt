@@ -32,7 +32,10 @@ pub struct Created {
 #[derive(Debug, Drop)]
 pub enum What {
     /// The folio is open, with this parcel and these owners.
-    Opened { inventory: Inventory, owners: Owners },
+    Opened {
+        inventory: Inventory,
+        owners: Owners,
+    },
     /// A filing has its place, for rights of section II and of section III.
     Placed {
         filing: ReceiptNo,

@@ -64,7 +64,15 @@ fn holds_for_some(
 {
     let acts = filing.acts.list();
     for (index, act) in acts.iter().enumerate() {
-        if holds(receipts, number, filing, entries, ground, &acts[..index], act) {
+        if holds(
+            receipts,
+            number,
+            filing,
+            entries,
+            ground,
+            &acts[..index],
+            act,
+        ) {
             return true;
         }
     }
@@ -233,8 +241,7 @@ fn lacks_consent(entries: &[Entry], docs: &[Doc], before: &[Act], act: &Act) -> 
     let number = before.len() as u8 + 1;
     let affected = affected(entries, before, act);
     let owners = owner_side(entries, before, act);
-    somebody_is_silent(docs, number, affected)
-        && !stranger_consents(docs, number, affected, owners)
+    somebody_is_silent(docs, number, affected) && !stranger_consents(docs, number, affected, owners)
 }
 
 /// Whether one of these persons has given no consent for the act.

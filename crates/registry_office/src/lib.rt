@@ -21,14 +21,13 @@ mod settling;
 mod standing_rights;
 mod statuses;
 mod stops;
+#[cfg(test)]
+mod tests;
 mod top;
 mod verdict_lines;
 mod verdicts;
 mod words;
 mod writing;
-
-#[cfg(test)]
-mod tests;
 
 pub use statuses::Status;
 pub use top::run;

@@ -2,17 +2,25 @@ use crate::{Status, run};
 use gb_base::{Day, NoMemory, Stamp};
 use gb_outside::{ListClock, MemSink, MemSource, OpenGate, SureDisk, SureListener};
 use std::alloc::Global;
+use std::process::Abort;
 use std::rc::RcStr;
 use std::test::Fail;
 
-const OPENING: &str = r#"{"day":"2024-03-01","minute":540,"sender":1,"reference":1,"item":{"kind":"filing","applicant":10,"conditional":false,"acts":[{"act":"open","folio":7,"district":12,"parcel":345,"sub":6,"area":800,"owners":[10]}],"docs":[{"doc":"consent","act":1,"person":10,"form":"certified"}]}}"#;
-const BARE_OPENING: &str = r#"{"day":"2024-03-01","minute":540,"sender":1,"reference":1,"item":{"kind":"filing","applicant":10,"conditional":false,"acts":[{"act":"open","folio":7,"district":12,"parcel":345,"sub":6,"area":800,"owners":[10]}],"docs":[]}}"#;
-const CHARGE: &str = r#"{"day":"2024-03-01","minute":541,"sender":1,"reference":2,"item":{"kind":"filing","applicant":10,"conditional":false,"acts":[{"act":"create","folio":7,"kind":"land-charge","rate":500,"capital":10000000,"holder":20,"group":1}],"docs":[{"doc":"consent","act":1,"person":10,"form":"certified"}]}}"#;
-const REPORT: &str = "receipt 1 entered\nreceipt 2 entered\nfolio 7\ninventory district 12 parcel 345/6 area 800\nowners 10\nright 2.1 III right land-charge 100000.00 rate 500 holder 20 placed 2024-03-01\nranks 7\nrank 1 2.1\ncents 1-10000000 2.1\nend receipts 2 folios 1\n";
+const OPENING: &str =
+    r#"{"day":"2024-03-01","minute":540,"sender":1,"reference":1,"item":{"kind":"filing","applicant":10,"conditional":false,"acts":[{"act":"open","folio":7,"district":12,"parcel":345,"sub":6,"area":800,"owners":[10]}],"docs":[{"doc":"consent","act":1,"person":10,"form":"certified"}]}}"#;
+
+const BARE_OPENING: &str =
+    r#"{"day":"2024-03-01","minute":540,"sender":1,"reference":1,"item":{"kind":"filing","applicant":10,"conditional":false,"acts":[{"act":"open","folio":7,"district":12,"parcel":345,"sub":6,"area":800,"owners":[10]}],"docs":[]}}"#;
+
+const CHARGE: &str =
+    r#"{"day":"2024-03-01","minute":541,"sender":1,"reference":2,"item":{"kind":"filing","applicant":10,"conditional":false,"acts":[{"act":"create","folio":7,"kind":"land-charge","rate":500,"capital":10000000,"holder":20,"group":1}],"docs":[{"doc":"consent","act":1,"person":10,"form":"certified"}]}}"#;
+
+const REPORT: &str =
+    "receipt 1 entered\nreceipt 2 entered\nfolio 7\ninventory district 12 parcel 345/6 area 800\nowners 10\nright 2.1 III right land-charge 100000.00 rate 500 holder 20 placed 2024-03-01\nranks 7\nrank 1 2.1\ncents 1-10000000 2.1\nend receipts 2 folios 1\n";
 
 /// How a run over the lines ended, and what it wrote; these reads and writes fail.
-fn settled(
-    rt: &HostRuntime,
+fn settled<R: AllocGlobal>(
+    rt: &R,
     lines: &[&str],
     reads: &[u32],
     writes: &[u32],
@@ -48,7 +56,12 @@ fn words(alloc: Global) -> Result<Vec<RcStr>, NoMemory> {
     Ok(words)
 }
 
-fn expect(rt: &HostRuntime, lines: &[&str], replies: &str, report: &str) -> Result<(), Fail> {
+fn expect<R: AllocGlobal + Abort>(
+    rt: &R,
+    lines: &[&str],
+    replies: &str,
+    report: &str,
+) -> Result<(), Fail> {
     let (status, text) = settled(rt, lines, &[], &[])?;
     assert_eq!(rt; status, Status::Ok);
     let mut wanted = Vec::from_slice(rt.alloc(), replies.as_bytes())?;

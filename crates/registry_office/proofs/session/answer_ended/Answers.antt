@@ -7,7 +7,7 @@ pub returns-in_err-answer_line-clause-part : goal.returns-in_err-answer_line-cla
 returns-in_err-answer_line-clause-part g c =
     MatchResult-from_err c.from_residual-in_err-answer_line.result _ _ c.from_residual-in_err-answer_line.ensures.0
     (λ _. front_of_line _ _ _ c.args.line.now.items c.args.end.now _ c.requires.within_line
-        (c.as_slice.ensures.value ∙ c.in_ok-extend_from_slice.ensures.items) c.in_err-answer_line.ensures.part)
+    (c.as_slice.ensures.value ∙ c.in_ok-extend_from_slice.ensures.items) c.in_err-answer_line.ensures.part)
 
 pub returns-clause-answered : goal.returns-clause-answered
 returns-clause-answered g c =

@@ -1,4 +1,4 @@
-use Rattle.std.proofs.Common.{◌≡◌, ◌≤◌, length, arith, refl, sym, ◌∙◌}
+use Rattle.std.proofs.Common.{◌≡◌, ◌≤◌, length, arith, refl, ◌∙◌}
 use Rattle.std.proofs.lemmas.Grind.{common_steps}
 use Rattle.std.proofs.lemmas.List.{take_at}
 use Rattle.std.proofs.lemmas.Result.{MatchResult-from_err}
@@ -18,16 +18,16 @@ pub returns-in_err-answer_piece-in-Bytes-clause-part :
 returns-in_err-answer_piece-in-Bytes-clause-part g c =
     MatchResult-from_err c.from_residual-in_err-answer_piece-in-Bytes.result _ _ c.from_residual-in_err-answer_piece-in-Bytes.ensures.0
     (let whole : length c.read_block.new.block ≡ c.loop.block.len = omega arith in
-        λ _. front_of_session_piece _ _ _ _ _ _ _ c.loop.line.items _ c.loop.count c.loop.invariant.so_far
-        c.in-Bytes.ensures.content
-        (rw (c.deref.ensures.value, take_at c.read_block.new.block _ _ whole) at c.in_err-answer_piece-in-Bytes.ensures.part))
+    λ _. front_of_session_piece _ _ _ _ _ _ _ c.loop.line.items _ c.loop.count c.loop.invariant.so_far
+    c.in-Bytes.ensures.content
+    (rw (c.deref.ensures.value, take_at c.read_block.new.block _ _ whole) at c.in_err-answer_piece-in-Bytes.ensures.part))
 
 pub returns-in_err-answer_line-in-End-clause-part :
     goal.returns-in_err-answer_line-in-End-clause-part
 returns-in_err-answer_line-in-End-clause-part g c =
     MatchResult-from_err c.from_residual-in_err-answer_line-in-End.result _ _ c.from_residual-in_err-answer_line-in-End.ensures.0
     (λ _. front_of_last_line _ _ _ _ _ _ c.loop.line.items c.loop.count c.loop.invariant.so_far
-        c.in-End.ensures.content.0 (rw c.as_slice.ensures.value at c.in_err-answer_line-in-End.ensures.part))
+    c.in-End.ensures.content.0 (rw c.as_slice.ensures.value at c.in_err-answer_line-in-End.ensures.part))
 
 pub returns-in-End-clause-replies : goal.returns-in-End-clause-replies
 returns-in-End-clause-replies g c =
@@ -45,13 +45,14 @@ returns-in-Failed-clause-part g c = front_of_session _ _ _ _ _ _ _ _ c.loop.inva
 pub loop-preserved : goal.loop-preserved
 loop-preserved g c =
     let whole : length c.read_block.new.block ≡ c.loop.block.len = omega arith in record {
-    short = omega arith;
-    took = (let one : 1 ≤ c.in-Bytes.read = c.in-Bytes.ensures.count.0 in omega arith);
-    room = c.loop.invariant.room;
-    so_far = session_then _ _ _ _ _ _ _ _ _ _ _ _ _ c.loop.invariant.so_far c.in-Bytes.ensures.content
-        (rw (c.deref.ensures.value, take_at c.read_block.new.block _ _ whole) at c.in_ok-answer_piece-in-Bytes.ensures.answered) (grind (arith, common_steps));
-    quiet_source = c.in-Bytes.ensures.cause.else_same refl ∙ c.loop.invariant.quiet_source;
-    quiet_sink = c.in_ok-answer_piece-in-Bytes.ensures.cause.else_same refl ∙ c.loop.invariant.quiet_sink }
+      short = omega arith;
+      took = (let one : 1 ≤ c.in-Bytes.read = c.in-Bytes.ensures.count.0 in omega arith);
+      room = c.loop.invariant.room;
+      so_far = session_then _ _ _ _ _ _ _ _ _ _ _ _ _ c.loop.invariant.so_far c.in-Bytes.ensures.content
+          (rw (c.deref.ensures.value, take_at c.read_block.new.block _ _ whole) at c.in_ok-answer_piece-in-Bytes.ensures.answered) (grind (arith, common_steps));
+      quiet_source = c.in-Bytes.ensures.cause.else_same refl ∙ c.loop.invariant.quiet_source;
+      quiet_sink = c.in_ok-answer_piece-in-Bytes.ensures.cause.else_same refl ∙ c.loop.invariant.quiet_sink;
+    }
 
 pub returns-in-End-clause-built : goal.returns-in-End-clause-built
 returns-in-End-clause-built g c = built_ends _ _ _ _ _ _ _ _ c.loop.invariant.so_far c.in_ok-answer_line-in-End.ensures.journal

@@ -7,13 +7,14 @@ pub returns-in_err-answer_ended-clause-part : goal.returns-in_err-answer_ended-c
 returns-in_err-answer_ended-clause-part g c =
     MatchResult-from_err c.from_residual.result _ _ c.from_residual.ensures.0
     (λ _. front_of_piece c.args.piece.now c.loop-end.rest.now c.in-Some.end.now c.in-Some.behind.now _ _ _ _ _ c.args.line.now.items _
-        c.loop-end.invariant.0 c.in-Some.ensures.whole c.in_err-answer_ended.ensures.part)
+    c.loop-end.invariant.0 c.in-Some.ensures.whole c.in_err-answer_ended.ensures.part)
 
 pub loop-end-preserved : goal.loop-end-preserved
-loop-end-preserved g c =
-    ( so_far_then _ c.loop-end.rest.now c.in-Some.end.now c.in-Some.behind.now _ _ _ _ _ _ _ _ _
-        c.loop-end.invariant.0 c.in-Some.ensures.whole c.in_ok-answer_ended.ensures.answered
-    , c.in_ok-answer_ended.ensures.cause.else_same refl ∙ c.loop-end.invariant.1 )
+loop-end-preserved g c = (
+  so_far_then _ c.loop-end.rest.now c.in-Some.end.now c.in-Some.behind.now _ _ _ _ _ _ _ _ _
+      c.loop-end.invariant.0 c.in-Some.ensures.whole c.in_ok-answer_ended.ensures.answered,
+  c.in_ok-answer_ended.ensures.cause.else_same refl ∙ c.loop-end.invariant.1,
+)
 
 pub returns-in_err-extend_from_slice-clause-part :
     goal.returns-in_err-extend_from_slice-clause-part

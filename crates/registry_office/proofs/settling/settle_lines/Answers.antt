@@ -11,7 +11,7 @@ pub returns-in_err-write_report-clause-part : goal.returns-in_err-write_report-c
 returns-in_err-write_report-clause-part g c =
     MatchResult-from_err c.from_residual-in_err-write_report.result _ _ c.from_residual-in_err-write_report.ensures.0
     (λ _. front_of_report _ _ _ _ c.answer_input.new.journal c.in_ok-answer_input.ensures.replies c.in_ok-answer_input.ensures.journal
-        c.in_err-write_report.ensures.part)
+    c.in_err-write_report.ensures.part)
 
 pub returns-clause-output : goal.returns-clause-output
 returns-clause-output g c =

@@ -5,7 +5,8 @@ use Rattle.registry_office.proofs.words.value_of.Given as goal
 
 abbrev pub invariant-loop-digit : goal.invariant-loop-digit
 invariant-loop-digit l = record {
-    few : length l.digits ≤ 10;
-    digits : list_all is_digit (drop l.digit-index l.digits) ≡ true;
-    small : l.value < 10 ^ l.digit-index;
-    so_far : value_from l.value (drop l.digit-index l.digits) ≡ value_from 0 l.digits }
+  few : length l.digits ≤ 10;
+  digits : list_all is_digit (drop l.digit-index l.digits) ≡ true;
+  small : l.value < 10 ^ l.digit-index;
+  so_far : value_from l.value (drop l.digit-index l.digits) ≡ value_from 0 l.digits;
+}
