@@ -42,9 +42,9 @@ pub fn judge(
     requires received { number ≤ length receipts.now }
     ensures { result ≡ judged receipts.now number filing.now entries.now }
 {
-    for ground in GROUNDS {
-        if holds_for_some(receipts, number, filing, entries, ground) {
-            return Judgement::Reject(ground);
+    for section in GROUNDS {
+        if holds_for_some(receipts, number, filing, entries, section) {
+            return Judgement::Reject(section);
         }
     }
     Judgement::Enter
@@ -56,11 +56,11 @@ fn holds_for_some(
     number: ReceiptNo,
     filing: &Filing,
     entries: &[Entry],
-    ground: Section,
+    section: Section,
 ) -> bool
     requires few { length receipts.now ≤ 200000 }
     requires received { number ≤ length receipts.now }
-    ensures { result ≡ some_act (holds receipts.now number filing.now entries.now ground) filing.now.acts }
+    ensures { result ≡ some_act (holds receipts.now number filing.now entries.now section) filing.now.acts }
 {
     let acts = filing.acts.list();
     for (index, act) in acts.iter().enumerate() {
@@ -69,7 +69,7 @@ fn holds_for_some(
             number,
             filing,
             entries,
-            ground,
+            section,
             &acts[..index],
             act,
         ) {
@@ -85,16 +85,16 @@ fn holds(
     number: ReceiptNo,
     filing: &Filing,
     entries: &[Entry],
-    ground: Section,
+    section: Section,
     before: &[Act],
     act: &Act,
 ) -> bool
     requires few { length receipts.now ≤ 200000 }
     requires received { number ≤ length receipts.now }
     requires few_acts { length before.now < 8 }
-    ensures { result ≡ holds receipts.now number filing.now entries.now ground before.now act.now }
+    ensures { result ≡ holds receipts.now number filing.now entries.now section before.now act.now }
 {
-    match ground {
+    match section {
         Section::Limit => is_beyond_limit(receipts, number, before, act),
         Section::Gbo3 => lacks_folio(entries, before, act),
         Section::Gbo13 => may_not_apply(entries, filing.applicant, before, act),
