@@ -1,0 +1,55 @@
+ghost use Rattle.std.specs.Prelude.{◌≡◌, IfSome};
+ghost use Rattle.gb_base.specs.DayMinute.{IsStampDay};
+ghost use Rattle.act_model.specs.declared.receipts.Receipt.{Receipt};
+ghost use Rattle.act_codec.specs.Spelling.{spelling, stamp_bytes};
+ghost use Rattle.act_codec.specs.Values.{Found, IsStamp, IsReceiptOf, IsReceipt};
+ghost use Rattle.act_codec.specs.Reading.{Gives, stamp_at, receipt_at, whole};
+
+use crate::items::item;
+use crate::reader::Reader;
+use act_model::{Receipt, well_formed};
+use gb_base::Stamp;
+
+#[tactic(auto, unfolding(crate::specs::Reading::stamp_at))]
+fn stamp(from: &mut Reader) -> Option<Stamp>
+    ensures read { Gives result from.new (stamp_at from.old) }
+    ensures found { Found result from.old from.new stamp_bytes IsStamp }
+{
+    let day = from.day()?;
+    Stamp::new(day, from.u16()?)
+}
+
+#[tactic(auto, unfolding(crate::specs::Reading::receipt_at))]
+fn receipt(from: &mut Reader) -> Option<Receipt>
+    ensures read { Gives result from.new (receipt_at from.old) }
+    ensures found { Found result from.old from.new spelling IsReceiptOf }
+{
+    Some(Receipt {
+        stamp: stamp(from)?,
+        sender: from.u32()?,
+        reference: from.u64()?,
+        item: item(from)?,
+    })
+}
+
+#[tactic(auto, unfolding(crate::specs::Reading::whole))]
+fn whole(bytes: &[u8]) -> Option<Receipt>
+    ensures read { result ≡ whole bytes.now }
+    ensures found { IfSome result (λ r. IsReceipt r × (bytes.now ≡ spelling r)) }
+{
+    let mut from = Reader::new(bytes);
+    let receipt = receipt(&mut from)?;
+    if from.is_at_end() && well_formed(&receipt.item) {
+        Some(receipt)
+    } else {
+        None
+    }
+}
+
+/// The receipt whose spelling the bytes are; None where they are no spelling.
+pub fn decode(bytes: &[u8]) -> Option<Receipt>
+    ensures found { IfSome result (λ r. IsReceipt r × (bytes.now ≡ spelling r)) }
+    ensures only { (r : Receipt) → IsReceipt r → bytes.now ≡ spelling r → result ≡ Some r }
+{
+    whole(bytes)
+}

@@ -1,0 +1,60 @@
+// Rights, and what a right is to be.
+ghost use Rattle.act_codec.specs.Spelling.{right_bytes, kind_bytes, spec_bytes, reserve_bytes};
+ghost use Rattle.act_codec.specs.Values.{Found, IsRight, IsKind, IsSpec, IsReserve};
+ghost use Rattle.act_codec.specs.Reading.{Gives, right_at, kind_by, kind_at, spec_at, reserve_by, reserve_at};
+
+use crate::reader::Reader;
+use act_model::{RightKind, RightSpec};
+use gb_base::{Cents, RightId};
+
+#[tactic(auto, unfolding(crate::specs::Reading::right_at))]
+pub fn right(from: &mut Reader) -> Option<RightId>
+    ensures read { Gives result from.new (right_at from.old) }
+    ensures found { Found result from.old from.new right_bytes IsRight }
+{
+    let receipt = from.receipt()?;
+    RightId::new(receipt, from.u8()?)
+}
+
+#[tactic(auto, unfolding(crate::specs::Reading::kind_at))]
+fn kind(from: &mut Reader) -> Option<RightKind>
+    ensures read { Gives result from.new (kind_at from.old) }
+    ensures found { Found result from.old from.new kind_bytes IsKind }
+{
+    match from.u8()? {
+        1 => Some(RightKind::PersonalEasement),
+        2 => Some(RightKind::Usufruct),
+        3 => Some(RightKind::Mortgage {
+            rate_bp: from.u16()?,
+        }),
+        4 => Some(RightKind::LandCharge {
+            rate_bp: from.u16()?,
+        }),
+        _ => None,
+    }
+}
+
+#[tactic(auto, unfolding(crate::specs::Reading::spec_at))]
+pub fn spec(from: &mut Reader) -> Option<RightSpec>
+    ensures read { Gives result from.new (spec_at from.old) }
+    ensures found { Found result from.old from.new spec_bytes IsSpec }
+{
+    Some(RightSpec {
+        kind: kind(from)?,
+        capital: from.cents()?,
+        holder: from.person()?,
+        group: from.u8()?,
+    })
+}
+
+#[tactic(auto, unfolding(crate::specs::Reading::reserve_at))]
+pub fn reserve(from: &mut Reader) -> Option<Option<Cents>>
+    ensures read { Gives result from.new (reserve_at from.old) }
+    ensures found { Found result from.old from.new reserve_bytes IsReserve }
+{
+    match from.u8()? {
+        0 => Some(None),
+        1 => Some(Some(from.cents()?)),
+        _ => None,
+    }
+}
