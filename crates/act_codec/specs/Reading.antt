@@ -39,7 +39,7 @@ abbrev pub u8_at : List ℕ → Option (ℕ × List ℕ)
 u8_at [] = None
 u8_at (b ∷ bytes) = Some (b, bytes)
 
-abbrev pub number_at : Width → List ℕ → Option (ℕ × List ℕ)
+unfoldable pub number_at : Width → List ℕ → Option (ℕ × List ℕ)
 number_at w bytes = if nat_lt (length bytes) (byte_len w) then None else Some (from_be_bytes w (take (byte_len w) bytes), drop (byte_len w) bytes)
 
 -- a folio, a person or a receipt

@@ -45,6 +45,7 @@ impl<'a> Reader<'a> {
         Some(*first)
     }
 
+    #[tactic(auto, unfolding(crate::specs::Reading::number_at))]
     pub fn u16(&mut self) -> Option<u16>
         ensures read { Gives result self.new (number_at w16 self.old) }
         ensures found { Found result self.old self.new u16_bytes (λ n. n < 2 ^ 16) }
@@ -58,6 +59,7 @@ impl<'a> Reader<'a> {
         }
     }
 
+    #[tactic(auto, unfolding(crate::specs::Reading::number_at))]
     pub fn u32(&mut self) -> Option<u32>
         ensures read { Gives result self.new (number_at w32 self.old) }
         ensures found { Found result self.old self.new u32_bytes (λ n. n < 2 ^ 32) }
@@ -71,6 +73,7 @@ impl<'a> Reader<'a> {
         }
     }
 
+    #[tactic(auto, unfolding(crate::specs::Reading::number_at))]
     pub fn u64(&mut self) -> Option<u64>
         ensures read { Gives result self.new (number_at w64 self.old) }
         ensures found { Found result self.old self.new u64_bytes (λ n. n < 2 ^ 64) }
