@@ -33,7 +33,7 @@ module _ {X : Type 0} (part_at : List ℕ → Option (X × List ℕ)) (spelled :
   so_far_more count i start left after xs x so_far within read text fits =
       let k : count - i ≡ suc (count - (i + 1)) = omega arith in
       let one : with_front xs (times part_at (count - i) left) ≡ with_front (xs ++ x ∷ []) (times part_at (count - (i + 1)) after) =
-          rw (k, read) (regroup xs x (times part_at (count - (i + 1)) after)) in
+      rw (k, read) (regroup xs x (times part_at (count - (i + 1)) after)) in
       record {
         read = sym one ∙ so_far.read;
         found = so_far.found ∙ ap (λ bs. flat_map spelled xs ++ bs) text ∙ sym (append_assoc (flat_map spelled xs) (spelled x) after) ∙ ap (λ bs. bs ++ after) (sym (spelled_push xs x));

@@ -27,13 +27,13 @@ use Rattle.act_model.specs.declared.receipts.Receipt.{Receipt}
 abbrev pub u8_bytes : ℕ → List ℕ
 u8_bytes n = n ∷ []
 
-abbrev pub u16_bytes : ℕ → List ℕ
+unfoldable pub u16_bytes : ℕ → List ℕ
 u16_bytes n = to_be_bytes w16 n
 
-abbrev pub u32_bytes : ℕ → List ℕ
+unfoldable pub u32_bytes : ℕ → List ℕ
 u32_bytes n = to_be_bytes w32 n
 
-abbrev pub u64_bytes : ℕ → List ℕ
+unfoldable pub u64_bytes : ℕ → List ℕ
 u64_bytes n = to_be_bytes w64 n
 
 -- how many, and then each

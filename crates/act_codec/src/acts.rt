@@ -1,5 +1,5 @@
 // Acts, with what an opening says of the land.
-ghost use Rattle.std.specs.Prelude.{◌≡◌, ◌≤◌, length};
+ghost use Rattle.std.specs.Prelude.{◌≡◌, ◌≤◌, length, ◌++◌, OnOk};
 ghost use Rattle.std.specs.List.{AllByRecursion, flat_map};
 ghost use Rattle.std.specs.Option.{option_map};
 ghost use Rattle.act_codec.specs.Spelling.{counted, u32_bytes, inventory_bytes, owners_bytes, act_bytes};
@@ -7,10 +7,11 @@ ghost use Rattle.act_codec.specs.Values.{Found, FoundAct, IsNumber, IsInventory,
 ghost use Rattle.act_codec.specs.Reading.{Gives, times, counted_at, id_at, inventory_at, owners_at, open_at, transfer_at, create_at, notice_at, convert_at, assign_at, cancel_at, exchange_at, exercise_at, act_by, act_at};
 
 use crate::reader::Reader;
-use crate::rights::{reserve, right, spec};
+use crate::rights::{put_reserve, put_right, put_spec, reserve, right, spec};
+use crate::writer::Writer;
 use act_model::{Act, Acts, Inventory, Owners};
 use arrayvec::ArrayVec;
-use gb_base::{FolioId, Person};
+use gb_base::{FolioId, NoMemory, Person};
 
 #[tactic(auto, unfolding(crate::specs::Reading::inventory_at))]
 fn inventory(from: &mut Reader) -> Option<Inventory>
@@ -197,4 +198,142 @@ pub fn acts(from: &mut Reader) -> Option<Acts>
         return None;
     }
     Some(Acts::new(list(count, from)?))
+}
+
+fn put_inventory(to: &mut Writer, inventory: Inventory) -> Result<(), NoMemory>
+    ensures wrote { OnOk result (to.new ≡ to.old ++ inventory_bytes inventory) }
+    ensures held { OnOk result (IsInventory inventory) }
+{
+    to.u16(inventory.district)?;
+    to.u32(inventory.parcel)?;
+    to.u16(inventory.sub)?;
+    to.u32(inventory.area)?;
+    Ok(())
+}
+
+fn put_persons(to: &mut Writer, persons: &[Person]) -> Result<(), NoMemory>
+    ensures wrote { OnOk result (to.new ≡ to.old ++ flat_map u32_bytes persons.now) }
+    ensures held { OnOk result (AllByRecursion IsNumber persons.now) }
+{
+    for person in persons {
+        to.person(*person)?;
+    }
+    Ok(())
+}
+
+fn put_owners(to: &mut Writer, owners: &Owners) -> Result<(), NoMemory>
+    ensures wrote { OnOk result (to.new ≡ to.old ++ owners_bytes owners.now) }
+    ensures held { OnOk result (IsOwners owners.now) }
+{
+    let persons = owners.list();
+    to.u8(persons.len() as u8)?;
+    put_persons(to, persons)?;
+    Ok(())
+}
+
+fn put_act(to: &mut Writer, act: &Act) -> Result<(), NoMemory>
+    ensures wrote { OnOk result (to.new ≡ to.old ++ act_bytes act.now) }
+    ensures held { OnOk result (IsAct act.now) }
+{
+    match act {
+        Act::Open {
+            folio,
+            inventory,
+            owners,
+        } => {
+            to.u8(1)?;
+            to.folio(*folio)?;
+            put_inventory(to, *inventory)?;
+            put_owners(to, owners)?;
+            Ok(())
+        }
+        Act::Transfer { folio, owners } => {
+            to.u8(2)?;
+            to.folio(*folio)?;
+            put_owners(to, owners)?;
+            Ok(())
+        }
+        Act::Create {
+            folio,
+            spec,
+            reserve,
+        } => {
+            to.u8(3)?;
+            to.folio(*folio)?;
+            put_spec(to, *spec)?;
+            put_reserve(to, *reserve)?;
+            Ok(())
+        }
+        Act::NoticeFor { folio, spec } => {
+            to.u8(4)?;
+            to.folio(*folio)?;
+            put_spec(to, *spec)?;
+            Ok(())
+        }
+        Act::Convert { folio, right } => {
+            to.u8(5)?;
+            to.folio(*folio)?;
+            put_right(to, *right)?;
+            Ok(())
+        }
+        Act::Assign {
+            folio,
+            right,
+            holder,
+        } => {
+            to.u8(6)?;
+            to.folio(*folio)?;
+            put_right(to, *right)?;
+            to.person(*holder)?;
+            Ok(())
+        }
+        Act::Cancel { folio, right } => {
+            to.u8(7)?;
+            to.folio(*folio)?;
+            put_right(to, *right)?;
+            Ok(())
+        }
+        Act::Exchange {
+            folio,
+            recede,
+            rise,
+        } => {
+            to.u8(8)?;
+            to.folio(*folio)?;
+            put_right(to, *recede)?;
+            put_right(to, *rise)?;
+            Ok(())
+        }
+        Act::Exercise {
+            folio,
+            behind,
+            spec,
+        } => {
+            to.u8(9)?;
+            to.folio(*folio)?;
+            put_right(to, *behind)?;
+            put_spec(to, *spec)?;
+            Ok(())
+        }
+    }
+}
+
+fn put_list(to: &mut Writer, acts: &[Act]) -> Result<(), NoMemory>
+    ensures wrote { OnOk result (to.new ≡ to.old ++ flat_map act_bytes acts.now) }
+    ensures held { OnOk result (AllByRecursion IsAct acts.now) }
+{
+    for act in acts {
+        put_act(to, act)?;
+    }
+    Ok(())
+}
+
+pub fn put_acts(to: &mut Writer, acts: &Acts) -> Result<(), NoMemory>
+    ensures wrote { OnOk result (to.new ≡ to.old ++ counted act_bytes acts.now) }
+    ensures held { OnOk result (AreActs acts.now) }
+{
+    let list = acts.list();
+    to.u8(list.len() as u8)?;
+    put_list(to, list)?;
+    Ok(())
 }

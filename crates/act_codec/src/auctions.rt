@@ -1,11 +1,14 @@
 // What a seizure rests on, and what is registered.
+ghost use Rattle.std.specs.Prelude.{◌≡◌, ◌++◌, OnOk};
 ghost use Rattle.act_codec.specs.Spelling.{basis_bytes, what_bytes};
 ghost use Rattle.act_codec.specs.Values.{Found, FoundTagged, IsBasis, IsRegistration};
 ghost use Rattle.act_codec.specs.Reading.{Gives, personal_at, from_right_at, basis_by, basis_at, advance_at, charge_at, arrears_at, what_by, what_at};
 
 use crate::reader::Reader;
-use crate::rights::right;
+use crate::rights::{put_right, right};
+use crate::writer::Writer;
 use act_model::{Basis, Registration};
+use gb_base::NoMemory;
 
 #[tactic(auto, unfolding(crate::specs::Reading::personal_at))]
 fn personal(from: &mut Reader) -> Option<Basis>
@@ -85,5 +88,56 @@ pub fn what(from: &mut Reader) -> Option<Registration>
         2 => charge(from),
         3 => arrears(from),
         _ => None,
+    }
+}
+
+pub fn put_basis(to: &mut Writer, basis: Basis) -> Result<(), NoMemory>
+    ensures wrote { OnOk result (to.new ≡ to.old ++ basis_bytes basis) }
+    ensures held { OnOk result (IsBasis basis) }
+{
+    match basis {
+        Basis::Personal { creditor, claim } => {
+            to.u8(1)?;
+            to.person(creditor)?;
+            to.cents(claim)?;
+            Ok(())
+        }
+        Basis::FromRight { right } => {
+            to.u8(2)?;
+            put_right(to, right)?;
+            Ok(())
+        }
+    }
+}
+
+pub fn put_what(to: &mut Writer, what: Registration) -> Result<(), NoMemory>
+    ensures wrote { OnOk result (to.new ≡ to.old ++ what_bytes what) }
+    ensures held { OnOk result (IsRegistration what) }
+{
+    match what {
+        Registration::Advance { person, amount } => {
+            to.u8(1)?;
+            to.person(person)?;
+            to.cents(amount)?;
+            Ok(())
+        }
+        Registration::PublicCharge {
+            person,
+            amount,
+            due,
+        } => {
+            to.u8(2)?;
+            to.person(person)?;
+            to.cents(amount)?;
+            to.day(due)?;
+            Ok(())
+        }
+        Registration::Arrears { right, from, until } => {
+            to.u8(3)?;
+            put_right(to, right)?;
+            to.day(from)?;
+            to.day(until)?;
+            Ok(())
+        }
     }
 }

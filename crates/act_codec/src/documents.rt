@@ -1,5 +1,5 @@
 // Documents.
-ghost use Rattle.std.specs.Prelude.{◌≡◌, ◌≤◌, length};
+ghost use Rattle.std.specs.Prelude.{◌≡◌, ◌≤◌, length, ◌++◌, OnOk};
 ghost use Rattle.std.specs.List.{AllByRecursion, flat_map};
 ghost use Rattle.std.specs.Option.{option_map};
 ghost use Rattle.act_codec.specs.Spelling.{counted, form_bytes, doc_bytes};
@@ -7,8 +7,10 @@ ghost use Rattle.act_codec.specs.Values.{Found, FoundDoc, IsForm, IsDoc, AreDocs
 ghost use Rattle.act_codec.specs.Reading.{Gives, times, counted_at, form_by, form_at, consent_at, doc_by, doc_at};
 
 use crate::reader::Reader;
+use crate::writer::Writer;
 use act_model::{Doc, Docs, Form};
 use arrayvec::ArrayVec;
+use gb_base::NoMemory;
 
 #[tactic(auto, unfolding(crate::specs::Reading::form_at))]
 fn form(from: &mut Reader) -> Option<Form>
@@ -72,4 +74,64 @@ pub fn docs(from: &mut Reader) -> Option<Docs>
         return None;
     }
     Some(Docs::new(list(count, from)?))
+}
+
+fn put_form(to: &mut Writer, form: Form) -> Result<(), NoMemory>
+    ensures wrote { OnOk result (to.new ≡ to.old ++ form_bytes form) }
+    ensures held { OnOk result (IsForm form) }
+{
+    match form {
+        Form::Certified => to.u8(1),
+        Form::Plain => to.u8(2),
+    }
+}
+
+fn put_doc(to: &mut Writer, doc: Doc) -> Result<(), NoMemory>
+    ensures wrote { OnOk result (to.new ≡ to.old ++ doc_bytes doc) }
+    ensures held { OnOk result (IsDoc doc) }
+{
+    match doc {
+        Doc::Consent { act, person, form } => {
+            to.u8(1)?;
+            to.u8(act)?;
+            to.person(person)?;
+            put_form(to, form)?;
+            Ok(())
+        }
+        Doc::Agreement { act } => {
+            to.u8(2)?;
+            to.u8(act)?;
+            Ok(())
+        }
+        Doc::TaxClearance { act } => {
+            to.u8(3)?;
+            to.u8(act)?;
+            Ok(())
+        }
+        Doc::ExpiryProof { act } => {
+            to.u8(4)?;
+            to.u8(act)?;
+            Ok(())
+        }
+    }
+}
+
+fn put_list(to: &mut Writer, docs: &[Doc]) -> Result<(), NoMemory>
+    ensures wrote { OnOk result (to.new ≡ to.old ++ flat_map doc_bytes docs.now) }
+    ensures held { OnOk result (AllByRecursion IsDoc docs.now) }
+{
+    for doc in docs {
+        put_doc(to, *doc)?;
+    }
+    Ok(())
+}
+
+pub fn put_docs(to: &mut Writer, docs: &Docs) -> Result<(), NoMemory>
+    ensures wrote { OnOk result (to.new ≡ to.old ++ counted doc_bytes docs.now) }
+    ensures held { OnOk result (AreDocs docs.now) }
+{
+    let list = docs.list();
+    to.u8(list.len() as u8)?;
+    put_list(to, list)?;
+    Ok(())
 }

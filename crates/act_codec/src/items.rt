@@ -1,13 +1,16 @@
 // Items.
+ghost use Rattle.std.specs.Prelude.{◌≡◌, ◌++◌, OnOk};
 ghost use Rattle.act_codec.specs.Spelling.{condition_bytes, filing_bytes, item_bytes};
 ghost use Rattle.act_codec.specs.Values.{Found, FoundTagged, IsCondition, IsFiling, IsItem};
 ghost use Rattle.act_codec.specs.Reading.{Gives, condition_by, condition_at, filing_at, filing_item_at, cure_at, lapse_at, seize_at, register_at, open_bids_at, award_at, distribute_at, item_by, item_at};
 
-use crate::acts::acts;
-use crate::auctions::{basis, what};
-use crate::documents::docs;
+use crate::acts::{acts, put_acts};
+use crate::auctions::{basis, put_basis, put_what, what};
+use crate::documents::{docs, put_docs};
 use crate::reader::Reader;
+use crate::writer::Writer;
 use act_model::{Filing, Item};
+use gb_base::NoMemory;
 
 #[tactic(auto, unfolding(crate::specs::Reading::condition_at))]
 fn condition(from: &mut Reader) -> Option<bool>
@@ -134,5 +137,82 @@ pub fn item(from: &mut Reader) -> Option<Item>
         7 => award(from),
         8 => distribute(from),
         _ => None,
+    }
+}
+
+fn put_condition(to: &mut Writer, conditional: bool) -> Result<(), NoMemory>
+    ensures wrote { OnOk result (to.new ≡ to.old ++ condition_bytes conditional) }
+    ensures held { OnOk result (IsCondition conditional) }
+{
+    if conditional { to.u8(1) } else { to.u8(0) }
+}
+
+fn put_filing(to: &mut Writer, filing: &Filing) -> Result<(), NoMemory>
+    ensures wrote { OnOk result (to.new ≡ to.old ++ filing_bytes filing.now) }
+    ensures held { OnOk result (IsFiling filing.now) }
+{
+    to.person(filing.applicant)?;
+    put_condition(to, filing.conditional)?;
+    put_acts(to, &filing.acts)?;
+    put_docs(to, &filing.docs)?;
+    Ok(())
+}
+
+pub fn put_item(to: &mut Writer, item: &Item) -> Result<(), NoMemory>
+    ensures wrote { OnOk result (to.new ≡ to.old ++ item_bytes item.now) }
+    ensures held { OnOk result (IsItem item.now) }
+{
+    match item {
+        Item::Filing(filing) => {
+            to.u8(1)?;
+            put_filing(to, filing)?;
+            Ok(())
+        }
+        Item::Cure { filing, docs } => {
+            to.u8(2)?;
+            to.receipt(*filing)?;
+            put_docs(to, docs)?;
+            Ok(())
+        }
+        Item::Lapse { filing } => {
+            to.u8(3)?;
+            to.receipt(*filing)?;
+            Ok(())
+        }
+        Item::Seize {
+            folio,
+            basis,
+            served,
+        } => {
+            to.u8(4)?;
+            to.folio(*folio)?;
+            put_basis(to, *basis)?;
+            to.day(*served)?;
+            Ok(())
+        }
+        Item::Register { folio, what } => {
+            to.u8(5)?;
+            to.folio(*folio)?;
+            put_what(to, *what)?;
+            Ok(())
+        }
+        Item::OpenBids { folio, costs } => {
+            to.u8(6)?;
+            to.folio(*folio)?;
+            to.cents(*costs)?;
+            Ok(())
+        }
+        Item::Award { folio, buyer, bid } => {
+            to.u8(7)?;
+            to.folio(*folio)?;
+            to.person(*buyer)?;
+            to.cents(*bid)?;
+            Ok(())
+        }
+        Item::Distribute { folio } => {
+            to.u8(8)?;
+            to.folio(*folio)?;
+            Ok(())
+        }
     }
 }

@@ -5,8 +5,10 @@ mod acts;
 mod auctions;
 mod documents;
 mod items;
+pub mod laws;
 mod reader;
 mod receipts;
 mod rights;
+mod writer;
 
-pub use receipts::decode;
+pub use receipts::{decode, encode};

@@ -45,7 +45,7 @@ impl<'a> Reader<'a> {
         Some(*first)
     }
 
-    #[tactic(auto, unfolding(crate::specs::Reading::number_at))]
+    #[tactic(auto, unfolding(crate::specs::Reading::number_at, crate::specs::Spelling::u16_bytes))]
     pub fn u16(&mut self) -> Option<u16>
         ensures read { Gives result self.new (number_at w16 self.old) }
         ensures found { Found result self.old self.new u16_bytes (λ n. n < 2 ^ 16) }
@@ -59,7 +59,7 @@ impl<'a> Reader<'a> {
         }
     }
 
-    #[tactic(auto, unfolding(crate::specs::Reading::number_at))]
+    #[tactic(auto, unfolding(crate::specs::Reading::number_at, crate::specs::Spelling::u32_bytes))]
     pub fn u32(&mut self) -> Option<u32>
         ensures read { Gives result self.new (number_at w32 self.old) }
         ensures found { Found result self.old self.new u32_bytes (λ n. n < 2 ^ 32) }
@@ -73,7 +73,7 @@ impl<'a> Reader<'a> {
         }
     }
 
-    #[tactic(auto, unfolding(crate::specs::Reading::number_at))]
+    #[tactic(auto, unfolding(crate::specs::Reading::number_at, crate::specs::Spelling::u64_bytes))]
     pub fn u64(&mut self) -> Option<u64>
         ensures read { Gives result self.new (number_at w64 self.old) }
         ensures found { Found result self.old self.new u64_bytes (λ n. n < 2 ^ 64) }

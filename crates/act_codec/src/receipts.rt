@@ -1,14 +1,20 @@
-ghost use Rattle.std.specs.Prelude.{◌≡◌, IfSome};
+ghost use Rattle.std.specs.Prelude.{◌≡◌, IfSome, IfOk, OnOk, IsTrue, ◌++◌};
 ghost use Rattle.gb_base.specs.DayMinute.{IsStampDay};
+ghost use Rattle.act_model.specs.WellFormed.{well_formed};
 ghost use Rattle.act_model.specs.declared.receipts.Receipt.{Receipt};
 ghost use Rattle.act_codec.specs.Spelling.{spelling, stamp_bytes};
 ghost use Rattle.act_codec.specs.Values.{Found, IsStamp, IsReceiptOf, IsReceipt};
 ghost use Rattle.act_codec.specs.Reading.{Gives, stamp_at, receipt_at, whole};
 
-use crate::items::item;
+use crate::items::{item, put_item};
 use crate::reader::Reader;
+use crate::writer::Writer;
 use act_model::{Receipt, well_formed};
-use gb_base::Stamp;
+use gb_base::{NoMemory, Stamp};
+use std::alloc::Global;
+
+/// The most bytes of a spelling.
+const MAX_LEN: usize = 522;
 
 #[tactic(auto, unfolding(crate::specs::Reading::stamp_at))]
 fn stamp(from: &mut Reader) -> Option<Stamp>
@@ -52,4 +58,36 @@ pub fn decode(bytes: &[u8]) -> Option<Receipt>
     ensures only { (r : Receipt) → IsReceipt r → bytes.now ≡ spelling r → result ≡ Some r }
 {
     whole(bytes)
+}
+
+fn put_stamp(to: &mut Writer, stamp: Stamp) -> Result<(), NoMemory>
+    ensures wrote { OnOk result (to.new ≡ to.old ++ stamp_bytes stamp) }
+    ensures held { OnOk result (IsStamp stamp) }
+{
+    to.day(stamp.day())?;
+    to.u16(stamp.minute())?;
+    Ok(())
+}
+
+fn put_receipt(to: &mut Writer, receipt: &Receipt) -> Result<(), NoMemory>
+    ensures wrote { OnOk result (to.new ≡ to.old ++ spelling receipt.now) }
+    ensures held { OnOk result (IsReceiptOf receipt.now) }
+{
+    put_stamp(to, receipt.stamp)?;
+    to.u32(receipt.sender)?;
+    to.u64(receipt.reference)?;
+    put_item(to, &receipt.item)?;
+    Ok(())
+}
+
+/// The spelling of a receipt.
+pub fn encode(alloc: Global, receipt: &Receipt) -> Result<Vec<u8>, NoMemory>
+    requires { IsTrue (well_formed receipt.now.item) }
+    ensures spelled { IfOk result (λ v. v.items ≡ spelling receipt.now) }
+    // So `decode` gives this receipt again.
+    ensures is_receipt { OnOk result (IsReceipt receipt.now) }
+{
+    let mut to = Writer::new(alloc, MAX_LEN)?;
+    put_receipt(&mut to, receipt)?;
+    Ok(to.finish())
 }
