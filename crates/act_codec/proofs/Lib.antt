@@ -1,2 +1,3 @@
 mod Again
-pub mod Loop
+mod Lengths
+mod Loop

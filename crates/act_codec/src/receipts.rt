@@ -1,4 +1,4 @@
-ghost use Rattle.std.specs.Prelude.{◌≡◌, IfSome, IfOk, OnOk, IsTrue, ◌++◌};
+ghost use Rattle.std.specs.Prelude.{◌≡◌, IfSome, IfOk, OnOk, IsTrue, ◌≤◌, length, ◌++◌};
 ghost use Rattle.gb_base.specs.DayMinute.{IsStampDay};
 ghost use Rattle.act_model.specs.WellFormed.{well_formed};
 ghost use Rattle.act_model.specs.declared.receipts.Receipt.{Receipt};
@@ -84,6 +84,7 @@ fn put_receipt(to: &mut Writer, receipt: &Receipt) -> Result<(), NoMemory>
 pub fn encode(alloc: Global, receipt: &Receipt) -> Result<Vec<u8>, NoMemory>
     requires { IsTrue (well_formed receipt.now.item) }
     ensures spelled { IfOk result (λ v. v.items ≡ spelling receipt.now) }
+    ensures short { IfOk result (λ v. length v.items ≤ 522) }
     // So `decode` gives this receipt again.
     ensures is_receipt { OnOk result (IsReceipt receipt.now) }
 {
