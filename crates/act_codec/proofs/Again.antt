@@ -1,5 +1,5 @@
 -- What is spelled is read again, whatever follows it.
-use Rattle.std.proofs.Common.{◌≡◌, ℕ, zero, suc, ◌+◌, ◌^◌, ◌<◌, ◌≤◌, Bool, true, false, cond, eqb, ltb, leb, ◌&&◌, List, [], ◌∷◌, ◌++◌, length, Option, Some, None, IsTrue, refl, sym, ap, subst, ◌∙◌, append_assoc, arith, rules}
+use Rattle.std.proofs.Common.{◌≡◌, ℕ, ◌^◌, ◌<◌, ◌≤◌, Bool, true, false, ltb, List, [], ◌∷◌, ◌++◌, length, Option, Some, None, refl, sym, ap, ◌∙◌, append_assoc, arith}
 use Rattle.std.specs.Int.{Width, w16, w32, w64, byte_len, from_be_bytes, to_be_bytes}
 use Rattle.std.specs.List.{AllByRecursion, flat_map}
 use Rattle.std.proofs.lemmas.Bool.{le-ltb, le-leb, lt-ltb, ne_eqb, and_from, cond-true, cond-false}
@@ -26,8 +26,8 @@ use Rattle.act_model.specs.declared.items.Item.{Item}
 use Rattle.act_model.specs.declared.items.Item.TheVariants as item
 use Rattle.act_model.specs.declared.receipts.Receipt.{Receipt}
 use Rattle.act_codec.specs.Spelling.{u8_bytes, u16_bytes, u32_bytes, u64_bytes, counted, owners_bytes, right_bytes, kind_bytes, spec_bytes, inventory_bytes, reserve_bytes, act_bytes, form_bytes, doc_bytes, condition_bytes, filing_bytes, basis_bytes, what_bytes, item_bytes, stamp_bytes, spelling}
-use Rattle.act_codec.specs.Values.{IsNumber, IsCents, IsDay, IsRight, IsOwners, IsInventory, IsKind, IsSpec, IsReserve, IsAct, IsForm, IsDoc, AreDocs, AreActs, IsFiling, IsBasis, IsRegistration, IsItem, IsStamp, IsReceiptOf, IsReceipt}
-use Rattle.act_codec.specs.Reading.{◌>>=◌, u8_at, number_at, id_at, day_at, cents_at, right_at, kind_at, spec_at, inventory_at, reserve_at, times, counted_at, owners_at, open_at, transfer_at, create_at, notice_at, convert_at, assign_at, cancel_at, exchange_at, exercise_at, act_at, form_at, consent_at, doc_at, condition_at, filing_at, personal_at, from_right_at, basis_at, advance_at, charge_at, arrears_at, what_at, filing_item_at, cure_at, lapse_at, seize_at, register_at, open_bids_at, award_at, distribute_at, item_at, stamp_at, receipt_at, whole}
+use Rattle.act_codec.specs.Values.{IsNumber, IsCents, IsDay, IsRight, IsOwners, IsInventory, IsKind, IsSpec, IsReserve, IsAct, IsDoc, AreDocs, AreActs, IsFiling, IsBasis, IsRegistration, IsItem, IsStamp, IsReceiptValue, IsReceipt}
+use Rattle.act_codec.specs.Reading.{◌>>=◌, number_at, id_at, day_at, cents_at, right_at, kind_at, spec_at, inventory_at, reserve_at, times, counted_at, owners_at, open_at, transfer_at, create_at, notice_at, convert_at, assign_at, cancel_at, exchange_at, exercise_at, act_at, form_at, consent_at, doc_at, condition_at, filing_at, personal_at, from_right_at, basis_at, advance_at, charge_at, arrears_at, what_at, filing_item_at, cure_at, lapse_at, seize_at, register_at, open_bids_at, award_at, distribute_at, item_at, stamp_at, receipt_at, whole}
 
 pub bind_again : {A B : Type 0} (f : A → Option B) (read : Option A) (x : A) (y : Option B) → read ≡ Some x → f x ≡ y → (read >>= f) ≡ y
 unfolding u16_bytes u32_bytes u64_bytes
@@ -184,7 +184,7 @@ stamp_again t rest h =
     bind_again _ _ _ _ (day_again t.day _ (omega (arith, h.0.1))) (bind_again _ _ _ _ (u16_again t.minute rest (omega (arith, h.1)))
     (cond-true _ _ _ (and_from _ _ (and_from _ _ (le-leb 10957 t.day h.0.0) (le-leb t.day 65743 h.0.1)) (lt-ltb t.minute 1440 h.1))))
 
-receipt_again : (r : Receipt) (rest : List ℕ) → IsReceiptOf r → receipt_at (spelling r ++ rest) ≡ Some (r, rest)
+receipt_again : (r : Receipt) (rest : List ℕ) → IsReceiptValue r → receipt_at (spelling r ++ rest) ≡ Some (r, rest)
 unfolding receipt_at u16_bytes u32_bytes u64_bytes
 receipt_again r rest h =
     bind_again _ _ _ _ (stamp_again r.stamp _ h.0) (bind_again _ _ _ _ (u32_again r.sender _ h.1) (bind_again _ _ _ _ (u64_again r.reference _ h.2) (bind_again _ _ _ _ (item_again r.item rest h.3) refl)))

@@ -1,10 +1,9 @@
 -- How long a spelling is at most.
-use Rattle.std.proofs.Common.{◌≡◌, ℕ, ◌+◌, ◌*◌, ◌≤◌, List, [], ◌∷◌, ◌++◌, length, Option, Some, None, Bool, true, false, refl, arith}
+use Rattle.std.proofs.Common.{◌≡◌, ℕ, ◌*◌, ◌≤◌, List, [], ◌∷◌, length, Option, Some, None, Bool, true, false, refl, arith}
 use Rattle.std.specs.List.{AllByRecursion, flat_map}
 use Rattle.std.proofs.lemmas.List.{length-append}
 use Rattle.act_model.specs.declared.rights.RightKind.{RightKind}
 use Rattle.act_model.specs.declared.rights.RightKind.TheVariants as kind
-use Rattle.act_model.specs.declared.rights.RightSpec.{RightSpec}
 use Rattle.act_model.specs.declared.filing_acts.Act.{Act}
 use Rattle.act_model.specs.declared.filing_acts.Act.TheVariants.{Open, Transfer, Create, NoticeFor, Convert, Assign, Cancel, Exchange, Exercise}
 use Rattle.act_model.specs.declared.documents.Form.{Form}
@@ -19,8 +18,8 @@ use Rattle.act_model.specs.declared.items.Filing.{Filing}
 use Rattle.act_model.specs.declared.items.Item.{Item}
 use Rattle.act_model.specs.declared.items.Item.TheVariants as item
 use Rattle.act_model.specs.declared.receipts.Receipt.{Receipt}
-use Rattle.act_codec.specs.Spelling.{u8_bytes, u16_bytes, u32_bytes, u64_bytes, counted, owners_bytes, right_bytes, kind_bytes, spec_bytes, inventory_bytes, reserve_bytes, act_bytes, form_bytes, doc_bytes, condition_bytes, filing_bytes, basis_bytes, what_bytes, item_bytes, stamp_bytes, spelling}
-use Rattle.act_codec.specs.Values.{IsOwners, IsAct, IsDoc, AreDocs, AreActs, IsFiling, IsItem, IsReceipt}
+use Rattle.act_codec.specs.Spelling.{u16_bytes, u32_bytes, u64_bytes, counted, kind_bytes, reserve_bytes, act_bytes, form_bytes, doc_bytes, condition_bytes, filing_bytes, basis_bytes, what_bytes, item_bytes, spelling}
+use Rattle.act_codec.specs.Values.{IsAct, IsDoc, AreDocs, AreActs, IsFiling, IsItem, IsReceipt}
 
 u16_len : (n : ℕ) → length (u16_bytes n) ≡ 2
 unfolding u16_bytes

@@ -1,6 +1,6 @@
 -- Reading from left to right, part by part: a value and the bytes behind it. What is promised of reading does not rest
 -- on these: it is said by the spelling alone.
-use Rattle.std.specs.Prelude.{◌≡◌, ℕ, zero, suc, Bool, true, false, ◌&&◌, ◌==◌, nat_lt, nat_le, if◌then◌else◌, List, [], ◌∷◌, length, take, drop, Option, Some, None}
+use Rattle.std.specs.Prelude.{◌≡◌, ◌<◌, ◌^◌, ◌++◌, ℕ, zero, suc, Bool, true, false, ◌&&◌, ◌==◌, nat_lt, nat_le, if◌then◌else◌, List, [], ◌∷◌, length, take, drop, Option, Some, None}
 use Rattle.std.specs.Int.{Width, w16, w32, w64, byte_len, from_be_bytes}
 use Rattle.gb_base.specs.RightNo.{RightNo}
 use Rattle.gb_base.specs.DayMinute.{DayMinute}
@@ -24,6 +24,8 @@ use Rattle.act_model.specs.declared.items.Item.TheVariants as item
 use Rattle.act_model.specs.declared.receipts.Receipt.{Receipt}
 use Rattle.act_model.specs.Persons.{is_distinct}
 use Rattle.act_model.specs.WellFormed.{is_between, well_formed}
+use Rattle.act_codec.specs.Spelling.{u32_bytes, act_bytes, doc_bytes}
+use Rattle.act_codec.specs.Values.{IsNumber, IsAct, IsDoc}
 
 infixl 10 ◌>>=◌
 abbrev pub ◌>>=◌ : {A B : Type 0} → Option A → (A → Option B) → Option B
@@ -34,6 +36,26 @@ None >>= f = None
 abbrev pub Gives : {X : Type 0} → Option X → List ℕ → Option (X × List ℕ) → Type 0
 Gives (Some x) left read = read ≡ Some (x, left)
 Gives None left read = read ≡ None
+
+-- A reader that gave this value had its spelling before the bytes that are left.
+abbrev pub Found : {X : Type 0} → Option X → List ℕ → List ℕ → (X → List ℕ) → (X → Type 0) → Type 0
+Found (Some x) old new spelled IsX = (old ≡ spelled x ++ new) × IsX x
+Found None old new spelled IsX = Unit {0}
+
+-- the same where the tag was read before
+abbrev pub FoundTagged : {X : Type 0} → ℕ → Option X → List ℕ → List ℕ → (X → List ℕ) → (X → Type 0) → Type 0
+FoundTagged tag (Some x) old new spelled IsX = (tag ∷ old ≡ spelled x ++ new) × IsX x
+FoundTagged tag None old new spelled IsX = Unit {0}
+
+-- an act of this tag and folio, which were read before
+abbrev pub FoundAct : ℕ → ℕ → Option Act → List ℕ → List ℕ → Type 0
+FoundAct tag folio (Some act) old new = IsNumber folio → (tag ∷ u32_bytes folio ++ old ≡ act_bytes act ++ new) × IsAct act
+FoundAct tag folio None old new = Unit {0}
+
+-- a document of this tag and act, which were read before
+abbrev pub FoundDoc : ℕ → ℕ → Option Doc → List ℕ → List ℕ → Type 0
+FoundDoc tag act (Some doc) old new = act < 2 ^ 8 → (tag ∷ act ∷ old ≡ doc_bytes doc ++ new) × IsDoc doc
+FoundDoc tag act None old new = Unit {0}
 
 abbrev pub u8_at : List ℕ → Option (ℕ × List ℕ)
 u8_at [] = None

@@ -1,5 +1,5 @@
 -- What the types of a receipt hold by themselves: which values the definitions of its spelling are meant for.
-use Rattle.std.specs.Prelude.{◌≡◌, ℕ, Bool, ◌∷◌, ◌<◌, ◌≤◌, ◌^◌, List, ◌++◌, length, IsTrue, Option, Some, None}
+use Rattle.std.specs.Prelude.{ℕ, Bool, ◌<◌, ◌≤◌, ◌^◌, List, length, IsTrue, Option, Some, None}
 use Rattle.std.specs.List.{AllByRecursion}
 use Rattle.gb_base.specs.RightNo.{RightNo}
 use Rattle.gb_base.specs.DayMinute.{DayMinute, IsStampDay}
@@ -22,17 +22,6 @@ use Rattle.act_model.specs.declared.items.Filing.{Filing}
 use Rattle.act_model.specs.declared.items.Item.{Item}
 use Rattle.act_model.specs.declared.items.Item.TheVariants as item
 use Rattle.act_model.specs.declared.receipts.Receipt.{Receipt}
-use Rattle.act_codec.specs.Spelling.{u32_bytes, act_bytes, doc_bytes}
-
--- A reader that gave this value had its spelling before the bytes that are left.
-abbrev pub Found : {X : Type 0} → Option X → List ℕ → List ℕ → (X → List ℕ) → (X → Type 0) → Type 0
-Found (Some x) old new spelled IsX = (old ≡ spelled x ++ new) × IsX x
-Found None old new spelled IsX = Unit {0}
-
--- the same where the tag was read before
-abbrev pub FoundTagged : {X : Type 0} → ℕ → Option X → List ℕ → List ℕ → (X → List ℕ) → (X → Type 0) → Type 0
-FoundTagged tag (Some x) old new spelled IsX = (tag ∷ old ≡ spelled x ++ new) × IsX x
-FoundTagged tag None old new spelled IsX = Unit {0}
 
 -- a folio, a person or a receipt
 abbrev pub IsNumber : ℕ → Type 0
@@ -121,19 +110,9 @@ abbrev pub IsStamp : DayMinute → Type 0
 IsStamp t = IsStampDay t.day × (t.minute < 1440)
 
 -- what the type of a receipt holds by itself
-abbrev pub IsReceiptOf : Receipt → Type 0
-IsReceiptOf r = IsStamp r.stamp × (r.sender < 2 ^ 32) × (r.reference < 2 ^ 64) × IsItem r.item
+abbrev pub IsReceiptValue : Receipt → Type 0
+IsReceiptValue r = IsStamp r.stamp × (r.sender < 2 ^ 32) × (r.reference < 2 ^ 64) × IsItem r.item
 
 -- a receipt of a well-formed item
 abbrev pub IsReceipt : Receipt → Type 0
-IsReceipt r = IsReceiptOf r × IsTrue (well_formed r.item)
-
--- an act of this tag and folio, which were read before
-abbrev pub FoundAct : ℕ → ℕ → Option Act → List ℕ → List ℕ → Type 0
-FoundAct tag folio (Some act) old new = IsNumber folio → (tag ∷ u32_bytes folio ++ old ≡ act_bytes act ++ new) × IsAct act
-FoundAct tag folio None old new = Unit {0}
-
--- a document of this tag and act, which were read before
-abbrev pub FoundDoc : ℕ → ℕ → Option Doc → List ℕ → List ℕ → Type 0
-FoundDoc tag act (Some doc) old new = act < 2 ^ 8 → (tag ∷ act ∷ old ≡ doc_bytes doc ++ new) × IsDoc doc
-FoundDoc tag act None old new = Unit {0}
+IsReceipt r = IsReceiptValue r × IsTrue (well_formed r.item)

@@ -3,8 +3,8 @@ ghost use Rattle.std.specs.Prelude.{◌≡◌, ◌≤◌, length, ◌++◌, OnOk
 ghost use Rattle.std.specs.List.{AllByRecursion, flat_map};
 ghost use Rattle.std.specs.Option.{option_map};
 ghost use Rattle.act_codec.specs.Spelling.{counted, u32_bytes, inventory_bytes, owners_bytes, act_bytes};
-ghost use Rattle.act_codec.specs.Values.{Found, FoundAct, IsNumber, IsInventory, IsOwners, IsAct, AreActs};
-ghost use Rattle.act_codec.specs.Reading.{Gives, times, counted_at, id_at, inventory_at, owners_at, open_at, transfer_at, create_at, notice_at, convert_at, assign_at, cancel_at, exchange_at, exercise_at, act_by, act_at};
+ghost use Rattle.act_codec.specs.Values.{IsNumber, IsInventory, IsOwners, IsAct, AreActs};
+ghost use Rattle.act_codec.specs.Reading.{Gives, Found, FoundAct, times, counted_at, id_at, inventory_at, owners_at, open_at, transfer_at, create_at, notice_at, convert_at, assign_at, cancel_at, exchange_at, exercise_at, act_at};
 
 use crate::reader::Reader;
 use crate::rights::{put_reserve, put_right, put_spec, reserve, right, spec};

@@ -1,8 +1,8 @@
 // What a seizure rests on, and what is registered.
 ghost use Rattle.std.specs.Prelude.{◌≡◌, ◌++◌, OnOk};
 ghost use Rattle.act_codec.specs.Spelling.{basis_bytes, what_bytes};
-ghost use Rattle.act_codec.specs.Values.{Found, FoundTagged, IsBasis, IsRegistration};
-ghost use Rattle.act_codec.specs.Reading.{Gives, personal_at, from_right_at, basis_by, basis_at, advance_at, charge_at, arrears_at, what_by, what_at};
+ghost use Rattle.act_codec.specs.Values.{IsBasis, IsRegistration};
+ghost use Rattle.act_codec.specs.Reading.{Gives, Found, FoundTagged, personal_at, from_right_at, basis_at, advance_at, charge_at, arrears_at, what_at};
 
 use crate::reader::Reader;
 use crate::rights::{put_right, right};

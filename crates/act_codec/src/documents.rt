@@ -3,8 +3,8 @@ ghost use Rattle.std.specs.Prelude.{◌≡◌, ◌≤◌, length, ◌++◌, OnOk
 ghost use Rattle.std.specs.List.{AllByRecursion, flat_map};
 ghost use Rattle.std.specs.Option.{option_map};
 ghost use Rattle.act_codec.specs.Spelling.{counted, form_bytes, doc_bytes};
-ghost use Rattle.act_codec.specs.Values.{Found, FoundDoc, IsForm, IsDoc, AreDocs};
-ghost use Rattle.act_codec.specs.Reading.{Gives, times, counted_at, form_by, form_at, consent_at, doc_by, doc_at};
+ghost use Rattle.act_codec.specs.Values.{IsForm, IsDoc, AreDocs};
+ghost use Rattle.act_codec.specs.Reading.{Gives, Found, FoundDoc, times, counted_at, form_at, consent_at, doc_at};
 
 use crate::reader::Reader;
 use crate::writer::Writer;

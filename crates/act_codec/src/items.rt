@@ -1,8 +1,8 @@
 // Items.
 ghost use Rattle.std.specs.Prelude.{◌≡◌, ◌++◌, OnOk};
 ghost use Rattle.act_codec.specs.Spelling.{condition_bytes, filing_bytes, item_bytes};
-ghost use Rattle.act_codec.specs.Values.{Found, FoundTagged, IsCondition, IsFiling, IsItem};
-ghost use Rattle.act_codec.specs.Reading.{Gives, condition_by, condition_at, filing_at, filing_item_at, cure_at, lapse_at, seize_at, register_at, open_bids_at, award_at, distribute_at, item_by, item_at};
+ghost use Rattle.act_codec.specs.Values.{IsCondition, IsFiling, IsItem};
+ghost use Rattle.act_codec.specs.Reading.{Gives, Found, FoundTagged, condition_at, filing_at, filing_item_at, cure_at, lapse_at, seize_at, register_at, open_bids_at, award_at, distribute_at, item_at};
 
 use crate::acts::{acts, put_acts};
 use crate::auctions::{basis, put_basis, put_what, what};

@@ -9,6 +9,8 @@ pub mod laws;
 mod reader;
 mod receipts;
 mod rights;
+#[cfg(test)]
+mod tests;
 mod writer;
 
 pub use receipts::{decode, encode};

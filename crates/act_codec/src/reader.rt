@@ -1,8 +1,8 @@
 ghost use Rattle.std.specs.Prelude.{◌≡◌, ◌==◌, ◌<◌, ◌^◌, length};
 ghost use Rattle.std.specs.Int.{w16, w32, w64};
 ghost use Rattle.act_codec.specs.Spelling.{u8_bytes, u16_bytes, u32_bytes, u64_bytes};
-ghost use Rattle.act_codec.specs.Values.{Found, IsNumber, IsDay, IsCents};
-ghost use Rattle.act_codec.specs.Reading.{Gives, u8_at, number_at, id_at, day_at, cents_at};
+ghost use Rattle.act_codec.specs.Values.{IsNumber, IsDay, IsCents};
+ghost use Rattle.act_codec.specs.Reading.{Gives, Found, u8_at, number_at, id_at, day_at, cents_at};
 
 use gb_base::{Cents, Day, FolioId, Person, ReceiptNo};
 use std::marker::Model;

@@ -1,10 +1,9 @@
 ghost use Rattle.std.specs.Prelude.{◌≡◌, IfSome, IfOk, OnOk, IsTrue, ◌≤◌, length, ◌++◌};
-ghost use Rattle.gb_base.specs.DayMinute.{IsStampDay};
 ghost use Rattle.act_model.specs.WellFormed.{well_formed};
 ghost use Rattle.act_model.specs.declared.receipts.Receipt.{Receipt};
 ghost use Rattle.act_codec.specs.Spelling.{spelling, stamp_bytes};
-ghost use Rattle.act_codec.specs.Values.{Found, IsStamp, IsReceiptOf, IsReceipt};
-ghost use Rattle.act_codec.specs.Reading.{Gives, stamp_at, receipt_at, whole};
+ghost use Rattle.act_codec.specs.Values.{IsStamp, IsReceiptValue, IsReceipt};
+ghost use Rattle.act_codec.specs.Reading.{Gives, Found, stamp_at, receipt_at, whole};
 
 use crate::items::{item, put_item};
 use crate::reader::Reader;
@@ -28,7 +27,7 @@ fn stamp(from: &mut Reader) -> Option<Stamp>
 #[tactic(auto, unfolding(crate::specs::Reading::receipt_at))]
 fn receipt(from: &mut Reader) -> Option<Receipt>
     ensures read { Gives result from.new (receipt_at from.old) }
-    ensures found { Found result from.old from.new spelling IsReceiptOf }
+    ensures found { Found result from.old from.new spelling IsReceiptValue }
 {
     Some(Receipt {
         stamp: stamp(from)?,
@@ -71,7 +70,7 @@ fn put_stamp(to: &mut Writer, stamp: Stamp) -> Result<(), NoMemory>
 
 fn put_receipt(to: &mut Writer, receipt: &Receipt) -> Result<(), NoMemory>
     ensures wrote { OnOk result (to.new ≡ to.old ++ spelling receipt.now) }
-    ensures held { OnOk result (IsReceiptOf receipt.now) }
+    ensures held { OnOk result (IsReceiptValue receipt.now) }
 {
     put_stamp(to, receipt.stamp)?;
     to.u32(receipt.sender)?;

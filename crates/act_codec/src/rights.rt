@@ -1,8 +1,8 @@
 // Rights, and what a right is to be.
 ghost use Rattle.std.specs.Prelude.{◌≡◌, ◌++◌, OnOk};
 ghost use Rattle.act_codec.specs.Spelling.{right_bytes, kind_bytes, spec_bytes, reserve_bytes};
-ghost use Rattle.act_codec.specs.Values.{Found, IsRight, IsKind, IsSpec, IsReserve};
-ghost use Rattle.act_codec.specs.Reading.{Gives, right_at, kind_by, kind_at, spec_at, reserve_by, reserve_at};
+ghost use Rattle.act_codec.specs.Values.{IsRight, IsKind, IsSpec, IsReserve};
+ghost use Rattle.act_codec.specs.Reading.{Gives, Found, right_at, kind_at, spec_at, reserve_at};
 
 use crate::reader::Reader;
 use crate::writer::Writer;
