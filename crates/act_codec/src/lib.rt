@@ -1,0 +1,16 @@
+//! Receipts as bytes: each receipt has one spelling.
+#![tactic(auto)]
+
+mod acts;
+mod auctions;
+mod documents;
+mod items;
+pub mod laws;
+mod reader;
+mod receipts;
+mod rights;
+#[cfg(test)]
+mod tests;
+mod writer;
+
+pub use receipts::{decode, encode};
