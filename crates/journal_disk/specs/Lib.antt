@@ -1,0 +1,9 @@
+pub mod PlacedBody
+pub mod Layout
+pub mod LogState
+pub mod Scan
+pub mod Reading
+pub mod Heading
+pub mod Writing
+pub mod Appending
+pub mod Opening

@@ -1,0 +1,48 @@
+-- How the frames of a journal are found, gate by gate.
+use Rattle.std.specs.Prelude.{◌≡◌, ◌≢◌, ◌⊎◌, ℕ, ◌+◌, ◌<◌, ◌≤◌, List, [], ◌∷◌, ◌++◌, length, All, Result, Ok, Err}
+use Rattle.std.specs.Int.{w32, from_be_bytes}
+use Rattle.journal_disk.specs.PlacedBody.{PlacedBody}
+use Rattle.journal_disk.specs.Layout.{IsBody, measured, frames, placed}
+use Rattle.journal_disk.specs.declared.layout.TheConstants.{LONGEST_BODY}
+use Rattle.journal_disk.specs.declared.scan.Ending.{Ending}
+use Rattle.journal_disk.specs.declared.scan.Ending.TheVariants.{Closed, Wrong, Short}
+
+-- behind an open gate: a length that no frame has
+abbrev pub IsWrong : List ℕ → Type 0
+IsWrong (a ∷ b ∷ c ∷ d ∷ rest) = let size = from_be_bytes w32 (a ∷ b ∷ c ∷ d ∷ []) in (size ≡ 0) ⊎ (LONGEST_BODY < size)
+IsWrong rest = ⊥
+
+-- behind an open gate: fewer bytes than the frame and the gate behind it have
+abbrev pub IsShort : List ℕ → Type 0
+IsShort (a ∷ b ∷ c ∷ d ∷ rest) = let size = from_be_bytes w32 (a ∷ b ∷ c ∷ d ∷ []) in (size ≤ LONGEST_BODY) × (length rest ≤ size)
+IsShort rest = Unit {0}
+
+-- why no frame begins here
+abbrev pub Ends : List ℕ → Ending → Type 0
+Ends bytes Closed = (gate : ℕ) × (rest : List ℕ) × (bytes ≡ gate ∷ rest) × (gate ≢ 1)
+Ends bytes Wrong = (rest : List ℕ) × (bytes ≡ 1 ∷ rest) × IsWrong rest
+Ends bytes Short = (rest : List ℕ) × (bytes ≡ 1 ∷ rest) × IsShort rest
+
+-- a whole frame, with a body of this size, and a gate behind it
+pub record Begins (bytes : List ℕ) (size : ℕ) : Type 0 where
+  pub body : List ℕ
+  pub rest : List ℕ
+  pub is_body : IsBody body
+  pub sized : length body ≡ size
+  pub gate_behind : 1 ≤ length rest
+  pub whole : bytes ≡ 1 ∷ (measured body ++ rest)
+
+-- what stands at a gate
+abbrev pub StandsAt : List ℕ → Result ℕ Ending → Type 0
+StandsAt bytes (Ok size) = Begins bytes size
+StandsAt bytes (Err ending) = Ends bytes ending
+
+-- These bytes, the first of them a gate at this place, are whole frames, and then none begins.
+pub record Scanned (at : ℕ) (bytes : List ℕ) (before now : List PlacedBody) (end : ℕ) (ending : Ending) : Type 0 where
+  pub bodies : List (List ℕ)
+  pub rest : List ℕ
+  pub sizes : All IsBody bodies
+  pub whole : bytes ≡ frames bodies ++ rest
+  pub ends : Ends rest ending
+  pub end_is : end ≡ at + length (frames bodies)
+  pub added : now ≡ before ++ placed at bodies
