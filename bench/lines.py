@@ -1,5 +1,6 @@
 #!/usr/bin/env python3
-"""Measures how fast stamped lines are read, beside the time of serde_json alone.
+"""Measures how fast stamped lines are read, beside the time of serde_json alone, and how fast
+receipts are read and spelled as bytes.
 
     bench/lines.py [COUNT ..]      COUNT lines each time; 50000, 100000 and 200000 where none is given
 

@@ -8,12 +8,15 @@ it. The tables are those of docs/formats.md, 'Items as JSON'; nothing here is ta
     scripts/wrong_lines.py --good      prints the lines that are items
     scripts/wrong_lines.py --lines     prints all lines, also those that are no JSON
     scripts/wrong_lines.py --answers   prints for each of these what it is, as it is handed in and
-                                       as a stamped line
+                                       as a stamped line; an item of a stamped line with its
+                                       spelling as a receipt
 """
 
 import copy
 import json
 import sys
+
+import spelling
 
 ABSENT = object()
 
@@ -301,13 +304,19 @@ def is_stamped(text):
     return '"day":' in text or '"minute":' in text
 
 
+def stamped_lines():
+    """A stamped line of each kind of item, with other numbers in each."""
+    for number, (good, _, _) in enumerate(good_lines()):
+        yield {**stamped(good["item"]), "minute": number, "sender": number << 24, "reference": number << 56}
+
+
 def answers():
     """Triples of a line and what it is, as it is handed in and as a stamped line."""
     for text in right_lines():
-        if is_stamped(text):
-            yield text, "malformed *", "item"
-        else:
+        if not is_stamped(text):
             yield text, "item", "malformed day"
+    for value in stamped_lines():
+        yield compact(value), "malformed *", "item " + spelling.receipt(value).hex()
     for path, text in wrong_lines():
         wrong = "malformed " + path
         if not is_stamped(text):

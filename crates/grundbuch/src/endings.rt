@@ -1,8 +1,13 @@
 // How the program ends: the exit status, and the line on standard error.
+ghost use Rattle.std.specs.Prelude.{◌≡◌};
+ghost use Rattle.grundbuch.specs.Endings.{exit_status};
+
 use registry_office::Status;
 
 /// The exit status of the program.
-pub fn number(status: Status) -> u8 {
+pub fn number(status: Status) -> u8
+    ensures { result ≡ exit_status status }
+{
     match status {
         Status::Ok => 0,
         Status::Usage => 2,
