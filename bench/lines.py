@@ -8,7 +8,6 @@ The lines take turns through all kinds of items. The times grow with the number 
 reading is linear.
 """
 
-import copy
 import pathlib
 import subprocess
 import sys
@@ -21,12 +20,10 @@ import wrong_lines  # noqa: E402
 PROGRAM = ROOT / "crates" / "read_lines" / "out" / "read_lines"
 
 
-def stamped_lines(count):
-    items = [good["item"] for good, _, _ in wrong_lines.good_lines()]
+def lines(count):
+    kinds = list(wrong_lines.stamped_lines())
     for number in range(count):
-        text = wrong_lines.stamped(copy.copy(items[number % len(items)]))
-        text["reference"] = number
-        yield wrong_lines.compact(text)
+        yield wrong_lines.compact({**kinds[number % len(kinds)], "reference": number})
 
 
 def main():
@@ -34,7 +31,7 @@ def main():
     if not PROGRAM.exists():
         subprocess.run(["rt", "run"], cwd=ROOT / "crates" / "read_lines", input=b"", check=True)
     for count in counts:
-        text = "".join(line + "\n" for line in stamped_lines(count))
+        text = "".join(line + "\n" for line in lines(count))
         subprocess.run([str(PROGRAM), "time"], input=text.encode(), check=True)
 
 
