@@ -1,0 +1,4 @@
+pub mod BookState
+pub mod Standing
+pub mod Opening
+pub mod Receiving
