@@ -1,4 +1,5 @@
 pub mod Acts
+pub mod JournalState
 pub mod Numbers
 pub mod Persons
 pub mod Receiving

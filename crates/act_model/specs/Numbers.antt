@@ -1,5 +1,5 @@
 -- The index of a journal by sender and reference.
-use Rattle.std.specs.Prelude.{◌≡◌, ℕ, List}
+use Rattle.std.specs.Prelude.{◌≡◌, ℕ, ◌+◌, ◌<◌, ◌≤◌, Bool, List, length, take, IsTrue}
 use Rattle.std.specs.declared.cmp.Ordering.{Ordering}
 use Rattle.std.specs.Ordering.{nat_cmp, ordering_then}
 use Rattle.std.specs.BTreeMap.{BTreeMap, get}
@@ -14,3 +14,13 @@ pair_cmp a b = ordering_then (nat_cmp a.0 b.0) (nat_cmp a.1 b.1)
 abbrev pub IsIndexOf : BTreeMap (ℕ × ℕ) ℕ → List Receipt → Type 0
 IsIndexOf numbers journal =
     (sender reference : ℕ) → get pair_cmp numbers (sender, reference) ≡ number_of sender reference journal
+
+-- the index has the numbers of the first receipts, all of them or all but the last
+pub record IsIndexed (numbers : BTreeMap (ℕ × ℕ) ℕ) (indexed : ℕ) (journal : List Receipt) : Type 0 where
+  pub index : IsIndexOf numbers (take indexed journal)
+  pub not_beyond : indexed ≤ length journal
+  pub nearly_all : length journal ≤ indexed + 1
+
+-- a journal that is ready has room for one more receipt, and none that waits for the index
+abbrev pub IsReady : Bool → ℕ → ℕ → ℕ → Type 0
+IsReady ready indexed count capacity = IsTrue ready → (indexed ≡ count) × (count < capacity)

@@ -1,37 +1,44 @@
-ghost use Rattle.std.specs.Prelude.{◌≡◌, ◌⊎◌, ◌≤◌, true, [], length, IsTrue};
+ghost use Rattle.std.specs.Prelude.{◌≡◌, ◌⊎◌, ◌≤◌, ◌-◌, true, false, [], length, drop, vec_len, vec_capacity, IsTrue, IsOk, OnOk, OnErr};
 ghost use Rattle.std.specs.Option.{option_copied};
-ghost use Rattle.act_model.specs.Receiving.{answer_again, stamp_after};
+ghost use Rattle.act_model.specs.Receiving.{answer_again, stamp_after, IsJournal};
+ghost use Rattle.act_model.specs.Numbers.{IsIndexOf, IsIndexed};
 
 use crate::{Added, Item, Receipt, copy_item, same_item};
-use gb_base::{ReceiptNo, Stamp};
+use gb_base::{NoMemory, ReceiptNo, Stamp};
 use std::alloc::Global;
 use std::collections::BTreeMap;
 use std::marker::Model;
 
 /// The receipts of the office, numbered from 1 (GBO § 13): at most 200,000, no two of the same
-/// sender and reference, with stamps that never fall. In contracts it is the list of its receipts.
+/// sender and reference, with stamps that never fall. In contracts it is the list of its receipts,
+/// and whether room is kept for one more.
 #[derive(Drop)]
 pub struct Journal {
     receipts: Vec<Receipt>,
-    /// The number of each receipt by its sender and reference.
+    /// The numbers of the first `indexed` receipts by sender and reference. A map takes memory
+    /// for each new key, so the last receipt may wait for the next call that may take memory.
     numbers: BTreeMap<(u32, u64), ReceiptNo>,
+    indexed: usize,
+    /// Whether all receipts are in the index, and the list has room for one more.
+    ready: bool,
 }
 
 impl Model for Journal {
-    ghost use Rattle.std.specs.Prelude.{List};
-    ghost use Rattle.act_model.specs.declared.receipts.Receipt.{Receipt};
+    ghost use Rattle.std.specs.Prelude.{vec_len, vec_capacity};
+    ghost use Rattle.act_model.specs.JournalState.{JournalState};
     ghost use Rattle.act_model.specs.Receiving.{IsJournal};
-    ghost use Rattle.act_model.specs.Numbers.{IsIndexOf};
+    ghost use Rattle.act_model.specs.Numbers.{IsIndexed, IsReady};
 
-    ghost Value = { List Receipt };
+    ghost Value = { JournalState };
 
-    ghost view = { λ a. a.receipts.items };
+    ghost view = { λ a. record { receipts = a.receipts.items; room_for_one = a.ready } };
 
-    ghost invariant = { λ a. IsJournal a.receipts.items × IsIndexOf a.numbers a.receipts.items };
+    ghost invariant = { λ a. IsJournal a.receipts.items × IsIndexed a.numbers a.indexed a.receipts.items × IsReady a.ready a.indexed (vec_len a.receipts) (vec_capacity a.receipts) };
 }
 
 impl Journal {
-    ghost use Rattle.act_model.specs.Receiving.{answer_by, answer_to, journal_with, number_of, receipt_at, is_accepted, IsJournal};
+    ghost use Rattle.act_model.specs.Receiving.{answer_by, answer_to, journal_with, number_from, number_of, receipt_at, is_accepted, IsJournal};
+    ghost use Rattle.act_model.specs.JournalState.{has_room};
     ghost use Rattle.act_model.specs.WellFormed.{well_formed};
 
     /// The most receipts that a journal holds.
@@ -39,53 +46,103 @@ impl Journal {
 
     /// The empty journal.
     pub fn new(alloc: Global) -> Journal
-        ensures { result ≡ [] }
+        ensures { result.receipts ≡ [] }
     {
         Journal {
             receipts: Vec::new(alloc),
             numbers: BTreeMap::new(alloc),
+            indexed: 0,
+            ready: false,
         }
     }
 
     /// The number of receipts.
     pub fn len(&self) -> u32
-        ensures value { result ≡ length self.now }
-        ensures limit { length self.now ≤ 200000 }
-        ensures journal { IsJournal self.now }
+        ensures value { result ≡ length self.now.receipts }
+        ensures limit { length self.now.receipts ≤ 200000 }
+        ensures journal { IsJournal self.now.receipts }
     {
         self.receipts.len() as u32
     }
 
     /// All receipts, in the order of their numbers.
     pub fn receipts(&self) -> &[Receipt]
-        ensures value { result.now ≡ self.now }
-        ensures journal { IsJournal self.now }
+        ensures value { result.now ≡ self.now.receipts }
+        ensures journal { IsJournal self.now.receipts }
     {
         self.receipts.as_slice()
     }
 
     /// Receipt n; None above the last one.
     pub fn get(&self, n: ReceiptNo) -> Option<&Receipt>
-        ensures { option_copied result ≡ receipt_at self.now n }
+        ensures { option_copied result ≡ receipt_at self.now.receipts n }
     {
         self.receipts.as_slice().get(n.get() as usize - 1)
     }
 
     /// The number of the receipt of this sender and reference; None where there is none.
     pub fn find(&self, sender: u32, reference: u64) -> Option<ReceiptNo>
-        ensures { result ≡ number_of sender reference self.now }
+        ensures { result ≡ number_of sender reference self.now.receipts }
     {
-        self.numbers.get(&(sender, reference)).copied()
+        match self.numbers.get(&(sender, reference)) {
+            Some(n) => Some(*n),
+            None => self.find_waiting(sender, reference),
+        }
+    }
+
+    /// The number of the last receipt, which may still wait for the index, where it is of this
+    /// sender and reference.
+    fn find_waiting(&self, sender: u32, reference: u64) -> Option<ReceiptNo>
+        ensures { result ≡ number_from (length self.now.receipts) sender reference (drop (length self.now.receipts - 1) self.now.receipts) }
+    {
+        match self.receipts.as_slice().last() {
+            Some(last) if last.sender == sender && last.reference == reference => {
+                ReceiptNo::new(self.len())
+            }
+            _ => None,
+        }
+    }
+
+    /// The stamp that a receipt gets behind the last one: the last one's where that is later.
+    pub fn next_stamp(&self, stamp: Stamp) -> Stamp
+        ensures { result ≡ stamp_after self.now.receipts stamp }
+    {
+        match self.receipts.as_slice().last() {
+            Some(last) if stamp < last.stamp => last.stamp,
+            _ => stamp,
+        }
+    }
+
+    /// Keeps room for one receipt more: the next `add`, where it is of this item, does not answer
+    /// `Memory`. Where no memory is found the journal is unchanged.
+    pub fn reserve_one(&mut self, item: &Item) -> Result<(), NoMemory>
+        ensures receipts { self.new.receipts ≡ self.old.receipts }
+        ensures room { OnOk result (IsTrue (has_room self.new item.now)) }
+        ensures unchanged { OnErr result (self.new ≡ self.old) }
+        ensures succeeds { IsTrue (has_room self.old item.now) → IsOk result }
+    {
+        // The item is not read: no index goes by what an item says, so room for one serves any.
+        if self.ready {
+            return Ok(());
+        }
+        index_waiting(&mut self.numbers, self.indexed, self.receipts.as_slice())?;
+        self.indexed = self.receipts.len();
+        self.receipts.reserve(1)?;
+        self.ready = true;
+        Ok(())
     }
 
     /// Receives an item. One number acts once: an item whose sender and reference stand already is
     /// answered with the number under which they stand. The stamp is the last receipt's where that
-    /// is later. Want of memory comes only where the item would be accepted, and changes nothing.
+    /// is later. Want of memory comes only where the item would be accepted and no room is kept
+    /// for it, and changes nothing.
     pub fn add(&mut self, stamp: Stamp, sender: u32, reference: u64, item: &Item) -> Added
         requires { IsTrue (well_formed item.now) }
-        ensures answer { (result ≡ answer_to self.old sender reference item.now)
-            ⊎ ((result ≡ Added.Memory) × (is_accepted (answer_to self.old sender reference item.now) ≡ true)) }
-        ensures journal { self.new ≡ journal_with self.old stamp sender reference item.now result }
+        ensures answer { (result ≡ answer_to self.old.receipts sender reference item.now)
+            ⊎ ((result ≡ Added.Memory) × (is_accepted (answer_to self.old.receipts sender reference item.now) ≡ true)) }
+        ensures room { IsTrue (has_room self.old item.now) → result ≡ answer_to self.old.receipts sender reference item.now }
+        ensures journal { self.new.receipts ≡ journal_with self.old.receipts stamp sender reference item.now result }
+        ensures unchanged { is_accepted result ≡ false → self.new ≡ self.old }
     {
         match self.find(sender, reference) {
             Some(n) => answer_again(self.get(n), n, item),
@@ -96,31 +153,51 @@ impl Journal {
     /// Receives an item whose sender and reference do not stand yet.
     fn add_new(&mut self, stamp: Stamp, sender: u32, reference: u64, item: &Item) -> Added
         requires well { IsTrue (well_formed item.now) }
-        requires unknown { number_of sender reference self.old ≡ None }
-        ensures answer { (result ≡ answer_by self.old item.now None)
-            ⊎ ((result ≡ Added.Memory) × (is_accepted (answer_by self.old item.now None) ≡ true)) }
-        ensures journal { self.new ≡ journal_with self.old stamp sender reference item.now result }
+        requires unknown { number_of sender reference self.old.receipts ≡ None }
+        ensures answer { (result ≡ answer_by self.old.receipts item.now None)
+            ⊎ ((result ≡ Added.Memory) × (is_accepted (answer_by self.old.receipts item.now None) ≡ true)) }
+        ensures room { IsTrue (has_room self.old item.now) → result ≡ answer_by self.old.receipts item.now None }
+        ensures journal { self.new.receipts ≡ journal_with self.old.receipts stamp sender reference item.now result }
+        ensures unchanged { is_accepted result ≡ false → self.new ≡ self.old }
     {
         let count = self.receipts.len();
         if count >= Journal::MAX {
             return Added::Full;
         }
         let n = ReceiptNo::new(count as u32 + 1).unwrap();
-        let stamp = stamp_after(self.receipts.as_slice(), stamp);
-        if self.receipts.reserve(1).is_err() {
+        if self.reserve_one(item).is_err() {
             return Added::Memory;
         }
-        match self.numbers.insert((sender, reference), n) {
-            Ok(_) => {}
-            Err(_) => return Added::Memory,
-        }
+        let stamp = self.next_stamp(stamp);
         self.receipts.push_reserved(Receipt {
             stamp,
             sender,
             reference,
             item: copy_item(item),
         });
+        self.ready = false;
         Added::Accepted(n)
+    }
+}
+
+/// Brings the last receipt into the index where it waits.
+fn index_waiting(
+    numbers: &mut BTreeMap<(u32, u64), ReceiptNo>,
+    indexed: usize,
+    receipts: &[Receipt],
+) -> Result<(), NoMemory>
+    requires journal { IsJournal receipts.now }
+    requires index { IsIndexed numbers.old indexed receipts.now }
+    ensures all { OnOk result (IsIndexOf numbers.new receipts.now) }
+    ensures as_before { OnErr result (IsIndexed numbers.new indexed receipts.now) }
+{
+    match receipts.get(indexed) {
+        Some(waiting) => {
+            let n = ReceiptNo::new(indexed as u32 + 1).unwrap();
+            numbers.insert((waiting.sender, waiting.reference), n)?;
+            Ok(())
+        }
+        None => Ok(()),
     }
 }
 
@@ -131,16 +208,6 @@ fn answer_again(receipt: Option<&Receipt>, n: ReceiptNo, item: &Item) -> Added
     match receipt {
         Some(receipt) if same_item(&receipt.item, item) => Added::Repeated(n),
         _ => Added::Differs(n),
-    }
-}
-
-/// The stamp of the last receipt where that is later, else this one.
-fn stamp_after(receipts: &[Receipt], stamp: Stamp) -> Stamp
-    ensures { result ≡ stamp_after receipts.now stamp }
-{
-    match receipts.last() {
-        Some(last) if stamp < last.stamp => last.stamp,
-        _ => stamp,
     }
 }
 

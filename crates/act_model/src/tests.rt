@@ -98,6 +98,30 @@ fn one_number_acts_once(rt: HostRuntime) -> Result<(), Fail> {
 }
 
 #[test]
+fn room_is_kept_for_one(rt: HostRuntime) -> Result<(), Fail> {
+    let mut journal = Journal::new(rt.alloc());
+    let item = lapse(&rt, 2);
+    assert!(rt; well_formed(&item));
+    for n in 1..4 {
+        assert_eq!(rt;
+            journal.next_stamp(stamp(&rt, 530)),
+            stamp(&rt, if n == 1 { 530 } else { 540 })
+        );
+        journal.reserve_one(&item)?;
+        journal.reserve_one(&item)?;
+        assert_eq!(rt;
+            journal.add(stamp(&rt, 540), 1, n, &item),
+            Added::Accepted(receipt(&rt, n as u32))
+        );
+        // One that stands and one that waits for the index.
+        assert_eq!(rt; journal.find(1, 1), Some(receipt(&rt, 1)));
+        assert_eq!(rt; journal.find(1, n), Some(receipt(&rt, n as u32)));
+        assert_eq!(rt; journal.find(2, n), None);
+    }
+    Ok(())
+}
+
+#[test]
 fn a_charge_touches_the_title_and_itself(rt: HostRuntime) -> Result<(), Fail> {
     let mut journal = Journal::new(rt.alloc());
     let mut acts = ArrayVec::new();

@@ -10,7 +10,7 @@ use gb_base::{FolioId, Key, ReceiptNo, RightId};
 
 /// The keys of filing n in key order, each once; none where receipt n is no filing.
 pub fn filing_keys(journal: &Journal, n: ReceiptNo) -> ArrayVec<Key, 18>
-    ensures { result.items ≡ filing_keys journal.now n }
+    ensures { result.items ≡ filing_keys journal.now.receipts n }
 {
     let receipts = journal.receipts();
     match filing_at(receipts, n) {
