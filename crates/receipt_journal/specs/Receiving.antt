@@ -25,6 +25,14 @@ abbrev pub next_receipt : List Receipt → DayMinute → ℕ → ℕ → Item �
 next_receipt journal stamp sender reference item =
     record { stamp = stamp_after journal stamp; sender = sender; reference = reference; item = item }
 
+-- a journal's answer as a book's
+abbrev pub in_journal : Added → Received
+in_journal (added.Accepted n) = received.Accepted n
+in_journal (added.Repeated n) = received.Repeated n
+in_journal (added.Differs n) = received.Differs n
+in_journal added.Full = received.Full
+in_journal added.Memory = received.Memory
+
 -- a journal's answer, on a disk that would then have so many bytes
 abbrev pub on_disk : ℕ → Added → Received
 on_disk size (added.Accepted n) = if nat_lt longest_file size then received.Full else received.Accepted n

@@ -2,9 +2,12 @@
 //! kept over a stop.
 #![tactic(auto)]
 
+mod books;
 mod faults;
 pub mod laws;
 mod received;
+mod records;
 
+pub use books::Book;
 pub use faults::BookFault;
 pub use received::Received;
