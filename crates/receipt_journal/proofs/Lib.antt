@@ -1,4 +1,6 @@
+pub mod Answering
 pub mod Fronts
+pub mod Openings
 pub mod Placing
 pub mod Sizes
 pub mod Standings

@@ -58,7 +58,7 @@ again_not_accepted item n None = refl
 again_not_accepted item n (Some r) = neither (same_item r.item item) n
 
 -- what a journal accepts is new to it, and it has room
-accepted_new : (journal : List Receipt) (item : Item) (o : Option ℕ) → is_accepted (answer_by journal item o) ≡ true → (o ≡ None) × (length journal < 200000)
+pub accepted_new : (journal : List Receipt) (item : Item) (o : Option ℕ) → is_accepted (answer_by journal item o) ≡ true → (o ≡ None) × (length journal < 200000)
 accepted_new journal item (Some n) accepted = let no = again_not_accepted item n (receipt_at journal n) in absurd cc
 accepted_new journal item None accepted =
     ⊎_elim

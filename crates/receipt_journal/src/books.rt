@@ -5,8 +5,11 @@ ghost use Rattle.gb_outside.specs.Faults.{Counts};
 ghost use Rattle.gb_outside.specs.Images.{LeavesOnly};
 ghost use Rattle.act_model.specs.WellFormed.{well_formed};
 ghost use Rattle.act_model.specs.Receiving.{receipt_at, number_of, answer_to};
+ghost use Rattle.act_model.specs.Receiving as journals;
+ghost use Rattle.act_model.specs.declared.items.Item.{Item};
 ghost use Rattle.act_codec.specs.Spelling.{spelling};
 ghost use Rattle.act_codec.specs.Values.{IsReceipt};
+ghost use Rattle.journal_disk.specs.Layout.{IsBody};
 ghost use Rattle.journal_disk.specs.Opening.{IsKept};
 ghost use Rattle.receipt_journal.specs.Standing.{Stands};
 ghost use Rattle.receipt_journal.specs.Opening.{Opens, Refuses, KeepsFile};
@@ -130,8 +133,7 @@ impl Book {
         if self.log.failed() {
             return Received::MustReopen;
         }
-        let known = self.journal.find(sender, reference).is_some();
-        if known || self.journal.len() as usize >= Journal::MAX {
+        if !self.accepts(sender, reference) {
             return answered(self.journal.add(stamp, sender, reference, item));
         }
         let Ok(spelling) = self.spell(alloc, stamp, sender, reference, item) else {
@@ -147,6 +149,14 @@ impl Book {
             Err(AppendFault::MustReopen) => Received::MustReopen,
         }
     }
+    /// Whether the journal accepts an item of this sender and reference.
+    fn accepts(&self, sender: u32, reference: u64) -> bool
+        ensures { (item : Item) → journals.is_accepted (answer_to self.now.journal sender reference item) ≡ result }
+    {
+        let known = self.journal.find(sender, reference).is_some();
+        !known && (self.journal.len() as usize) < Journal::MAX
+    }
+
     /// The spelling of the receipt that an item gets.
     fn spell(
         &self,
@@ -157,6 +167,7 @@ impl Book {
         item: &Item,
     ) -> Result<Vec<u8>, NoMemory>
         requires { IsTrue (well_formed item.now) }
+        ensures body { IfOk result (λ bytes. IsBody bytes.items) }
         ensures spelled { IfOk result (λ bytes. bytes.items ≡ spelling (next_receipt self.now.journal stamp sender reference item.now)) }
         ensures is_receipt { OnOk result (IsReceipt (next_receipt self.now.journal stamp sender reference item.now)) }
     {

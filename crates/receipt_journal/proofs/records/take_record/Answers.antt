@@ -8,9 +8,11 @@ pub returns-then-ne-clause-refused : goal.returns-then-ne-clause-refused
 returns-then-ne-clause-refused c =
     let journal = c.args.journal.now.receipts in
     let r = c.in-Some.receipt in
-    let spelled : c.args.frame.now.body ≡ spelling r = cc c.in-Some.ensures.found.1 in
-    (no_record journal c.args.frame.now.body r c.in-Some.ensures.found.0 spelled
-    (λ is. other_stamp c.next_stamp.result r.stamp c.ne.result c.ne.ensures c.if-ne.true (c.next_stamp.ensures ∙ stamp_in_order journal r is)), ap (λ f. f.at) c.frame.view_is)
+    let spelled : c.args.frame.now.body ≡ spelling r = cc c.in-Some.ensures.found.1 in (
+      no_record journal c.args.frame.now.body r c.in-Some.ensures.found.0 spelled
+          (λ is. other_stamp c.next_stamp.result r.stamp c.ne.result c.ne.ensures c.if-ne.true (c.next_stamp.ensures ∙ stamp_in_order journal r is)),
+      ap (λ f. f.at) c.frame.view_is,
+    )
 
 pub returns-in-Accepted-clause-taken : goal.returns-in-Accepted-clause-taken
 returns-in-Accepted-clause-taken c =
