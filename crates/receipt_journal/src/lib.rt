@@ -7,6 +7,8 @@ mod faults;
 pub mod laws;
 mod received;
 mod records;
+#[cfg(test)]
+mod tests;
 
 pub use books::Book;
 pub use faults::BookFault;
