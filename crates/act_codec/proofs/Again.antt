@@ -4,6 +4,7 @@ use Rattle.std.specs.Int.{Width, w16, w32, w64, byte_len, from_be_bytes, to_be_b
 use Rattle.std.specs.List.{AllByRecursion, flat_map}
 use Rattle.std.proofs.lemmas.Bool.{le-ltb, le-leb, lt-ltb, ne_eqb, and_from, cond-true, cond-false}
 use Rattle.std.proofs.lemmas.List.{take_at, drop_at, length-append, append-nil}
+use Rattle.std.proofs.lemmas.Option.{same_Some}
 use Rattle.std.proofs.lemmas.Nat.{from_be_bytes-to_be_bytes_2, from_be_bytes-to_be_bytes_4, from_be_bytes-to_be_bytes_8}
 use Rattle.gb_base.specs.RightNo.{RightNo}
 use Rattle.gb_base.specs.DayMinute.{DayMinute}
@@ -194,3 +195,7 @@ pub whole_again : (r : Receipt) → IsReceipt r → whole (spelling r) ≡ Some 
 unfolding whole u16_bytes u32_bytes u64_bytes
 whole_again r h =
     bind_again _ _ _ _ (ap receipt_at (sym (append-nil (spelling r))) ∙ receipt_again r [] h.0) (cond-true _ _ _ h.1)
+
+-- so no two receipts share one spelling
+pub spelling_once : (r s : Receipt) → IsReceipt r → IsReceipt s → spelling r ≡ spelling s → r ≡ s
+spelling_once r s is_r is_s same = same_Some r s (sym (whole_again r is_r) ∙ ap whole same ∙ whole_again s is_s)

@@ -107,3 +107,6 @@ item_len (item.Distribute f) h = omega (arith, u32_len f)
 
 pub spelling_len : (r : Receipt) → IsReceipt r → length (spelling r) ≤ 522
 spelling_len r h = simp (length-append, u16_len, u32_len, u64_len) (omega (arith, item_len r.item h.0.3))
+
+pub spelling_some : (r : Receipt) → 1 ≤ length (spelling r)
+spelling_some r = simp (length-append, u32_len) (omega arith)

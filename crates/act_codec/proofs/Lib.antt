@@ -1,3 +1,3 @@
-mod Again
-mod Lengths
+pub mod Again
+pub mod Lengths
 mod Loop

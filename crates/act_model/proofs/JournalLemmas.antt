@@ -72,11 +72,11 @@ stamp_after-last journal stamp stamps k d h =
     ⊎_elim (λ e. rw e (before_itself last.stamp)) (λ ne. stamps k (length journal - 1) d (omega arith) (omega arith)) (cases_eq k (length journal - 1)) in
     rw is_last (not_before_behind stamp (get_or journal k d).stamp last after)
 
-sent_both_ways : (a b c d : ℕ) → (eqb a c && eqb b d) ≡ (eqb c a && eqb d b)
+pub sent_both_ways : (a b c d : ℕ) → (eqb a c && eqb b d) ≡ (eqb c a && eqb d b)
 sent_both_ways a b c d = grind (arith, nat_tests)
 
 -- a journal after one more receipt, of a sender and reference that it had not, stamped before none that stands
-IsJournal-push : (journal : List Receipt) (r : Receipt) → IsJournal journal → length journal < 200000 → IsTrue (well_formed r.item) → number_of r.sender r.reference journal ≡ None → ((k : ℕ) (d : Receipt) → k < length journal → is_before r.stamp (get_or journal k d).stamp ≡ false) → IsJournal (journal ++ r ∷ [])
+pub IsJournal-push : (journal : List Receipt) (r : Receipt) → IsJournal journal → length journal < 200000 → IsTrue (well_formed r.item) → number_of r.sender r.reference journal ≡ None → ((k : ℕ) (d : Receipt) → k < length journal → is_before r.stamp (get_or journal k d).stamp ≡ false) → IsJournal (journal ++ r ∷ [])
 IsJournal-push journal r j few well none later = record {
   few = grind (arith, common_steps);
   items = All-push (λ q. IsTrue (well_formed q.item)) journal r j.items well;
@@ -97,7 +97,7 @@ Journal-push journal after r numbers indexed same j index all few well none late
     subst (λ rs. IsJournal rs × IsIndexed numbers indexed rs) (sym same) (IsJournal-push journal r j few well none later, waits)
 
 -- where no receipt is of this sender and reference, no number is found
-none_from : (n sender reference : ℕ) (rs : List Receipt) → ((k : ℕ) (d : Receipt) → k < length rs → is_sent_as sender reference (get_or rs k d) ≡ false) → number_from n sender reference rs ≡ None
+pub none_from : (n sender reference : ℕ) (rs : List Receipt) → ((k : ℕ) (d : Receipt) → k < length rs → is_sent_as sender reference (get_or rs k d) ≡ false) → number_from n sender reference rs ≡ None
 none_from n s f [] others = refl
 none_from n s f (r ∷ rs) others =
     cond-false (is_sent_as s f r) (Some n) _ (others 0 r (omega arith))

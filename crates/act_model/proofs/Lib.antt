@@ -1,3 +1,3 @@
 mod FolioLemmas
-mod JournalLemmas
+pub mod JournalLemmas
 mod KeyLemmas

@@ -51,6 +51,13 @@ impl Log {
         open_synced(alloc, disk)
     }
 
+    /// Whether an append has failed.
+    pub fn failed(&self) -> bool
+        ensures { result ≡ self.now.failed }
+    {
+        self.failed
+    }
+
     /// Appends a frame with this body, of 1 to 1,024 bytes. From the answer Ok on a stop leaves it;
     /// a stop before leaves the frames with it or without. After `Disk` the log has failed.
     pub fn append<D: Disk>(&mut self, disk: &mut D, body: &[u8]) -> Result<(), AppendFault>

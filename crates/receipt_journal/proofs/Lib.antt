@@ -1,0 +1,7 @@
+pub mod Answering
+pub mod Fronts
+pub mod Openings
+pub mod Placing
+pub mod Sizes
+pub mod Standings
+pub mod Taking

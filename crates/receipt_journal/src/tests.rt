@@ -1,0 +1,137 @@
+// What no clause says: the bytes of worked files, openings of bad ones, and devices that fail.
+use crate::{Book, BookFault, Received};
+use act_model::{Item, well_formed};
+use gb_base::{Day, ReceiptNo, Stamp};
+use gb_outside::MemDisk;
+use std::alloc::{AllocError, Global};
+use std::process::Abort;
+use std::test::Fail;
+
+/// The lapse of filing 2 by sender 1, reference 5, stamped 2024-02-29 minute 540.
+const LAPSE: [u8; 23] =
+    *b"\x00\x00\x4d\x46\x02\x1c\x00\x00\x00\x01\x00\x00\x00\x00\x00\x00\x00\x05\x03\x00\x00\x00\x02";
+
+/// The same with a kind of item that there is not.
+const OF_KIND_9: [u8; 23] =
+    *b"\x00\x00\x4d\x46\x02\x1c\x00\x00\x00\x01\x00\x00\x00\x00\x00\x00\x00\x05\x09\x00\x00\x00\x02";
+
+/// The same lapse as reference 6, a minute earlier.
+const EARLIER: [u8; 23] =
+    *b"\x00\x00\x4d\x46\x02\x1b\x00\x00\x00\x01\x00\x00\x00\x00\x00\x00\x00\x06\x03\x00\x00\x00\x02";
+
+fn receipt(rt: &impl Abort, n: u32) -> ReceiptNo {
+    ReceiptNo::new(n).expect(rt, "a receipt")
+}
+
+/// 2024-02-29, minute 540.
+fn stamp(rt: &impl Abort) -> Stamp {
+    let day = Day::new(19_782).expect(rt, "a day");
+    Stamp::new(day, 540).expect(rt, "a stamp")
+}
+
+fn lapse(rt: &impl Abort, n: u32) -> Item {
+    Item::Lapse {
+        filing: receipt(rt, n),
+    }
+}
+
+/// A file with these records and the gate that ends them.
+fn file_of(alloc: Global, records: &[[u8; 23]], gate: u8) -> Result<Vec<u8>, AllocError> {
+    let mut file = Vec::from_slice(alloc, b"\x47GBJOURN1")?;
+    for record in records {
+        file.extend_from_slice(b"\x01\x00\x00\x00\x17")?;
+        file.extend_from_slice(record)?;
+    }
+    file.push(gate)?;
+    Ok(file)
+}
+
+/// A disk with this file, of which the numbered calls fail. An opening of a made file makes four
+/// calls, and a record four more.
+fn disk_of(alloc: Global, file: &[u8], fail: &[u32]) -> Result<MemDisk, AllocError> {
+    MemDisk::new(alloc, file, 128, 128, 32, fail)
+}
+
+#[test]
+fn a_lapse_makes_38_bytes_and_acts_once(rt: HostRuntime) -> Result<(), Fail> {
+    let alloc = rt.alloc();
+    let item = lapse(&rt, 2);
+    let other = lapse(&rt, 3);
+    assert!(rt; well_formed(&item) && well_formed(&other));
+    let file = file_of(alloc, &[LAPSE], 0)?;
+    assert_eq!(rt; file.len(), 38);
+    let first = receipt(&rt, 1);
+    let mut disk = disk_of(alloc, &[], &[])?;
+    let mut book = Book::open(alloc, &mut disk)?;
+    let answer = book.receive(alloc, &mut disk, stamp(&rt), 1, 5, &item);
+    assert_eq!(rt; answer, Received::Accepted(first));
+    assert_eq!(rt; disk.bytes(), file.as_slice());
+    let again = book.receive(alloc, &mut disk, stamp(&rt), 1, 5, &item);
+    assert_eq!(rt; again, Received::Repeated(first));
+    let another = book.receive(alloc, &mut disk, stamp(&rt), 1, 5, &other);
+    assert_eq!(rt; another, Received::Differs(first));
+    assert_eq!(rt; disk.bytes(), file.as_slice());
+    let reopened = Book::open(alloc, &mut disk)?;
+    assert_eq!(rt; reopened.len(), 1);
+    assert_eq!(rt; reopened.journal().find(1, 5), Some(first));
+    Ok(())
+}
+
+#[test]
+fn a_bad_record_is_named_by_its_gate(rt: HostRuntime) -> Result<(), Fail> {
+    let alloc = rt.alloc();
+    // The records, the gate behind them, and the gate of the first one that is bad.
+    let files: [(&[[u8; 23]], u8, u64); 5] = [
+        (&[OF_KIND_9], 0, 9),
+        (&[LAPSE, LAPSE], 0, 37),
+        (&[LAPSE, EARLIER], 0, 37),
+        (&[LAPSE], 1, 37),
+        (&[OF_KIND_9, LAPSE], 1, 9),
+    ];
+    for (records, gate, at) in files {
+        let file = file_of(alloc, records, gate)?;
+        let mut disk = disk_of(alloc, &file, &[])?;
+        let fault = Book::open(alloc, &mut disk).err();
+        assert_eq!(rt; fault, Some(BookFault::BadRecord { at }));
+    }
+    let mut disk = disk_of(alloc, b"hello world", &[])?;
+    let fault = Book::open(alloc, &mut disk).err();
+    assert_eq!(rt; fault, Some(BookFault::NotJournal));
+    Ok(())
+}
+
+#[test]
+fn a_failed_write_leaves_no_receipt(rt: HostRuntime) -> Result<(), Fail> {
+    let alloc = rt.alloc();
+    let item = lapse(&rt, 2);
+    assert!(rt; well_formed(&item));
+    let file = file_of(alloc, &[], 0)?;
+    let mut disk = disk_of(alloc, &file, &[5])?;
+    let mut book = Book::open(alloc, &mut disk)?;
+    let answer = book.receive(alloc, &mut disk, stamp(&rt), 1, 5, &item);
+    assert_eq!(rt; answer, Received::Disk);
+    assert!(rt; book.failed());
+    let left = disk.bytes().to_vec(alloc)?;
+    let next = book.receive(alloc, &mut disk, stamp(&rt), 1, 5, &item);
+    assert_eq!(rt; next, Received::MustReopen);
+    assert_eq!(rt; disk.bytes(), left.as_slice());
+    let reopened = Book::open(alloc, &mut disk)?;
+    assert_eq!(rt; reopened.len(), 0);
+    Ok(())
+}
+
+#[test]
+fn a_failed_second_sync_may_leave_the_receipt(rt: HostRuntime) -> Result<(), Fail> {
+    let alloc = rt.alloc();
+    let item = lapse(&rt, 2);
+    assert!(rt; well_formed(&item));
+    let file = file_of(alloc, &[], 0)?;
+    let mut disk = disk_of(alloc, &file, &[8])?;
+    let mut book = Book::open(alloc, &mut disk)?;
+    let answer = book.receive(alloc, &mut disk, stamp(&rt), 1, 5, &item);
+    assert_eq!(rt; answer, Received::Disk);
+    let mut reopened = Book::open(alloc, &mut disk)?;
+    let again = reopened.receive(alloc, &mut disk, stamp(&rt), 1, 5, &item);
+    assert_eq!(rt; again, Received::Repeated(receipt(&rt, 1)));
+    Ok(())
+}
