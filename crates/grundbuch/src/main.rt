@@ -3,13 +3,16 @@
 
 mod endings;
 mod input;
+mod journal_file;
 mod output;
+mod system_clock;
 mod words;
 
 use crate::input::Input;
+use crate::journal_file::JournalFile;
 use crate::output::Output;
-use gb_base::{Day, Stamp};
-use gb_outside::{ListClock, OpenGate, SureDisk, SureListener};
+use crate::system_clock::SystemClock;
+use gb_outside::{OpenGate, SureListener};
 use registry_office::{Status, run};
 use std::io;
 use std::process::ExitCode;
@@ -24,13 +27,13 @@ fn main(rt: HostRuntime) -> ExitCode {
     ExitCode::from(endings::number(status))
 }
 
-/// Runs the office over standard input and output, with nothing behind the other objects.
+/// Runs the office over standard input and output, the journal's file of the current folder and
+/// the system's clock, with nobody at the door.
 fn office(rt: &HostRuntime, words: &[RcStr]) -> Status {
     let mut source = Input::new(rt.reader());
     let mut sink = Output::new(io::writer(rt));
-    let mut disk = SureDisk::new();
-    let stamps = [first_stamp()];
-    let mut clock = ListClock::new(&stamps);
+    let mut disk = JournalFile::new(rt);
+    let mut clock = SystemClock::new(rt);
     let mut door = SureListener::new(Vec::new(rt.alloc()));
     run(
         rt,
@@ -42,9 +45,4 @@ fn office(rt: &HostRuntime, words: &[RcStr]) -> Status {
         &mut door,
         &OpenGate,
     )
-}
-
-/// The first minute that a receipt can have, 2000-01-01 at midnight.
-fn first_stamp() -> Stamp {
-    Stamp::new(Day::new(10_957).unwrap(), 0).unwrap()
 }
