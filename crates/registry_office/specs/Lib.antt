@@ -11,3 +11,4 @@ pub mod Reports
 pub mod Words
 pub mod Outcomes
 pub mod Statuses
+pub mod Disks

@@ -4,6 +4,12 @@ use Rattle.registry_office.specs.declared.statuses.Status.{Status}
 use Rattle.registry_office.specs.declared.statuses.Status.TheVariants as status
 use Rattle.registry_office.specs.declared.stops.Stop.{Stop}
 use Rattle.registry_office.specs.declared.stops.Stop.TheVariants as stop
+use Rattle.registry_office.specs.declared.stops.OutputStop.{OutputStop}
+use Rattle.registry_office.specs.declared.stops.OutputStop.TheVariants as output
+use Rattle.registry_office.specs.declared.stops.DiskStop.{DiskStop}
+use Rattle.registry_office.specs.declared.stops.DiskStop.TheVariants as disk
+use Rattle.receipt_journal.specs.declared.faults.BookFault.{BookFault}
+use Rattle.receipt_journal.specs.declared.faults.BookFault.TheVariants as fault
 
 abbrev pub read_fault : Status → Bool
 read_fault status.Ok = false
@@ -76,3 +82,19 @@ status_of_stop stop.TooLong = status.InputTooLong
 abbrev pub status_of : {A : Type 0} → Result A Stop → Status
 status_of (Ok value) = status.Ok
 status_of (Err stop) = status_of_stop stop
+
+abbrev pub status_of_fault : BookFault → Status
+status_of_fault fault.Disk = status.DiskFault
+status_of_fault fault.NotJournal = status.NotJournal
+status_of_fault (fault.BadRecord at) = status.BadRecord at
+status_of_fault fault.Memory = status.Memory
+
+abbrev pub status_of_output : OutputStop → Status
+status_of_output output.Write = status.WriteFault
+status_of_output output.Memory = status.Memory
+
+-- the status of work over the disk's journal
+abbrev pub status_of_disk : {A : Type 0} → Result A DiskStop → Status
+status_of_disk (Ok value) = status.Ok
+status_of_disk (Err (disk.Opening fault)) = status_of_fault fault
+status_of_disk (Err (disk.Output stop)) = status_of_output stop

@@ -4,7 +4,7 @@ use Rattle.std.specs.List.{list_all}
 use Rattle.std.specs.Str.{bytes_eq}
 use Rattle.act_model.specs.WellFormed.{is_between}
 use Rattle.registry_office.specs.declared.words.Command.{Command}
-use Rattle.registry_office.specs.declared.words.Command.TheVariants.{SettleLines}
+use Rattle.registry_office.specs.declared.words.Command.TheVariants.{Settle, SettleLines}
 
 abbrev pub is_digit : ℕ → Bool
 is_digit b = is_between 48 57 b
@@ -23,12 +23,19 @@ abbrev pub value_in : ℕ → ℕ → List ℕ → Option ℕ
 value_in low high text =
     if is_numeral text && is_between low high (value_from 0 text) then Some (value_from 0 text) else None
 
+abbrev pub settle_by : Option ℕ → Option Command
+settle_by (Some desks) = Some (Settle desks)
+settle_by None = None
+
 abbrev pub settle_lines_by : Option ℕ → Option Command
 settle_lines_by (Some desks) = Some (SettleLines desks)
 settle_lines_by None = None
 
--- `settle --desks N --lines`
+-- `settle --desks N`, and the same with `--lines`
 abbrev pub command_of : List (List ℕ) → Option Command
+command_of (name ∷ flag ∷ desks ∷ []) =
+    if bytes_eq name (codes "settle") && bytes_eq flag (codes "--desks")
+    then settle_by (value_in 1 64 desks) else None
 command_of (name ∷ flag ∷ desks ∷ lines ∷ []) =
     if bytes_eq name (codes "settle") && bytes_eq flag (codes "--desks") && bytes_eq lines (codes "--lines")
     then settle_lines_by (value_in 1 64 desks) else None

@@ -4,6 +4,7 @@
 mod acts;
 mod built;
 mod cent_line;
+mod disk_settling;
 mod entering;
 mod entries;
 mod extracts;

@@ -1,7 +1,8 @@
 ghost use Rattle.std.specs.Prelude.{◌≡◌};
-ghost use Rattle.registry_office.specs.Statuses.{status_of};
+ghost use Rattle.registry_office.specs.Statuses.{status_of, status_of_disk};
 
-use crate::stops::Stop;
+use crate::stops::{DiskStop, OutputStop, Stop};
+use receipt_journal::BookFault;
 
 /// How a run of the office ended.
 #[derive(Clone, Copy, Debug, PartialEq, Eq)]
@@ -38,5 +39,20 @@ pub fn status_of(done: Result<(), Stop>) -> Status
         Err(Stop::Write) => Status::WriteFault,
         Err(Stop::Memory) => Status::Memory,
         Err(Stop::TooLong) => Status::InputTooLong,
+    }
+}
+
+/// The status of work over the journal of the disk.
+pub fn status_of_disk(done: Result<(), DiskStop>) -> Status
+    ensures { result ≡ status_of_disk done }
+{
+    match done {
+        Ok(()) => Status::Ok,
+        Err(DiskStop::Opening(BookFault::Disk)) => Status::DiskFault,
+        Err(DiskStop::Opening(BookFault::NotJournal)) => Status::NotJournal,
+        Err(DiskStop::Opening(BookFault::BadRecord { at })) => Status::BadRecord { at },
+        Err(DiskStop::Opening(BookFault::Memory)) => Status::Memory,
+        Err(DiskStop::Output(OutputStop::Write)) => Status::WriteFault,
+        Err(DiskStop::Output(OutputStop::Memory)) => Status::Memory,
     }
 }

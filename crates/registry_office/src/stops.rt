@@ -2,6 +2,7 @@ ghost use Rattle.registry_office.specs.declared.stops.OutputStop.TheVariants.{Me
 ghost use Rattle.registry_office.specs.declared.stops.Stop.TheVariants.{Memory as NoMemoryToGoOn};
 ghost use Rattle.std.specs.Prelude.{◌≡◌};
 
+use receipt_journal::BookFault;
 use std::alloc::{AllocError, AllocFailed};
 
 /// Why something was not written whole.
@@ -69,5 +70,36 @@ impl<T: Drop> From<AllocFailed<T>> for Stop {
 
     fn from(_: AllocFailed<T>) -> Stop {
         Stop::Memory
+    }
+}
+
+/// Why work over the journal of the disk ended early.
+#[derive(Clone, Copy, Debug, PartialEq, Eq)]
+pub enum DiskStop {
+    /// The book was not opened.
+    Opening(BookFault),
+    /// What was to be written was not written whole.
+    Output(OutputStop),
+}
+
+impl From<BookFault> for DiskStop {
+    ghost use Rattle.std.specs.Prelude.{◌≡◌};
+    ghost use Rattle.registry_office.specs.declared.stops.DiskStop.TheVariants.{Opening};
+
+    ghost from_gives = { λ fault e. e ≡ Opening fault };
+
+    fn from(fault: BookFault) -> DiskStop {
+        DiskStop::Opening(fault)
+    }
+}
+
+impl From<OutputStop> for DiskStop {
+    ghost use Rattle.std.specs.Prelude.{◌≡◌};
+    ghost use Rattle.registry_office.specs.declared.stops.DiskStop.TheVariants.{Output};
+
+    ghost from_gives = { λ stop e. e ≡ Output stop };
+
+    fn from(stop: OutputStop) -> DiskStop {
+        DiskStop::Output(stop)
     }
 }

@@ -1,15 +1,19 @@
-ghost use Rattle.std.specs.Prelude.{◌≡◌, ◌↔◌, ◌<◌, ◌≤◌, ◌^◌, ℕ, [], Some, None, IfSome, List, map, length, take, true, false};
+ghost use Rattle.std.specs.Prelude.{◌≡◌, ◌↔◌, ◌<◌, ◌≤◌, ◌^◌, ℕ, [], Some, None, IfSome, IsTrue, List, map, length, take, true, false};
 ghost use Rattle.std.specs.Io.KnownBytes.{Appends};
 ghost use Rattle.std.specs.Rc.{rc_str_bytes};
 ghost use Rattle.gb_outside.specs.Bytes.{AppendsFront};
 ghost use Rattle.gb_outside.specs.Faults.{Counts};
+ghost use Rattle.act_model.specs.declared.receipts.Receipt.{Receipt};
+ghost use Rattle.journal_disk.specs.Opening.{IsKept};
+ghost use Rattle.registry_office.specs.Disks.{FindsBy, KeepsDisk};
 ghost use Rattle.registry_office.specs.Outcomes.{output_of, uses_disk, uses_input, Told};
 ghost use Rattle.registry_office.specs.Sessions.{ended, replies, AnsweredRead};
 ghost use Rattle.registry_office.specs.Statuses.{read_fault, write_fault, disk_fault, door_fault, is_no_journal};
 ghost use Rattle.registry_office.specs.Words.{command_of};
 
+use crate::disk_settling::settle_disk;
 use crate::settling::settle_lines;
-use crate::statuses::{Status, status_of};
+use crate::statuses::{Status, status_of, status_of_disk};
 use crate::words::{Command, read_words};
 use gb_outside::{Clock, DeskGate, Disk, Listener, Sink, Source};
 use std::rc::RcStr;
@@ -32,9 +36,10 @@ pub fn run<R: AllocGlobal, S: Source, K: Sink, D: Disk, C: Clock, L: Listener, G
     ensures usage { (result ≡ Status.Usage) ↔ (command_of (map rc_str_bytes words.now) ≡ None) }
 
     // All was read, and all was written.
-    ensures written { (input : List ℕ) → Told (command_of (map rc_str_bytes words.now)) (S.left source.old) input
+    ensures written { (journal : List Receipt) (input : List ℕ)
+        → Told (command_of (map rc_str_bytes words.now)) D.tells (D.reads disk.old) (S.left source.old) journal input
         → result ≡ Status.Ok
-        → Appends (K.written sink.old) (K.written sink.new) (output_of (command_of (map rc_str_bytes words.now)) input) }
+        → Appends (K.written sink.old) (K.written sink.new) (output_of (command_of (map rc_str_bytes words.now)) journal input) }
     ensures at_end { uses_input (command_of (map rc_str_bytes words.now)) ≡ true → result ≡ Status.Ok
         → IfSome (S.left source.old) (λ _. S.left source.new ≡ Some []) }
     ensures short { uses_input (command_of (map rc_str_bytes words.now)) ≡ true → result ≡ Status.Ok
@@ -43,13 +48,23 @@ pub fn run<R: AllocGlobal, S: Source, K: Sink, D: Disk, C: Clock, L: Listener, G
 
     // On every other status a front of it was written; where the source failed or gave too much, just
     // the replies to the lines that an LF ends in what was read, of which the first 64 MiB count.
-    ensures part { (input : List ℕ) → Told (command_of (map rc_str_bytes words.now)) (S.left source.old) input
+    ensures part { (journal : List Receipt) (input : List ℕ)
+        → Told (command_of (map rc_str_bytes words.now)) D.tells (D.reads disk.old) (S.left source.old) journal input
         → (result ≡ Status.Ok → ⊥)
-        → AppendsFront (K.written sink.old) (K.written sink.new) (output_of (command_of (map rc_str_bytes words.now)) input) }
+        → AppendsFront (K.written sink.old) (K.written sink.new) (output_of (command_of (map rc_str_bytes words.now)) journal input) }
     ensures so_far { result ≡ Status.ReadFault
         → AnsweredRead (S.left source.old) (S.left source.new) (K.written sink.old) (K.written sink.new) }
     ensures most { result ≡ Status.InputTooLong → IfSome (S.left source.old) (λ input.
         Appends (K.written sink.old) (K.written sink.new) (replies [] (ended [] (take (2 ^ 26) input)))) }
+
+    // The disk's file keeps its journal, also over a stop at any moment; a status tells what it
+    // stood for, and where it stood for none nothing is written.
+    ensures found { IsTrue D.tells → uses_disk (command_of (map rc_str_bytes words.now)) ≡ true → FindsBy (D.reads disk.old) result }
+    ensures kept { IsTrue D.tells → uses_disk (command_of (map rc_str_bytes words.now)) ≡ true → IsKept (D.reads disk.old) (D.reads disk.new) }
+    ensures any_moment { IsTrue D.tells → uses_disk (command_of (map rc_str_bytes words.now)) ≡ true
+        → KeepsDisk D.reads D.images D.moment D.since disk.old disk.new (disk_fault result) }
+    ensures untouched { uses_disk (command_of (map rc_str_bytes words.now)) ≡ false → disk.new ≡ disk.old }
+    ensures unopened { is_no_journal result ≡ true → sink.new ≡ sink.old }
 
     // Each fault has its cause, and a count rises with no other answer.
     ensures read { Counts (S.faults source.old) (S.faults source.new) (read_fault result) }
@@ -66,6 +81,7 @@ pub fn run<R: AllocGlobal, S: Source, K: Sink, D: Disk, C: Clock, L: Listener, G
 {
     match read_words(words) {
         None => Status::Usage,
+        Some(Command::Settle { .. }) => status_of_disk(settle_disk(rt.alloc(), disk, sink)),
         Some(Command::SettleLines { .. }) => status_of(settle_lines(rt.alloc(), source, sink)),
     }
 }

@@ -2,13 +2,15 @@
 ghost use Rattle.std.specs.Prelude.{◌≡◌, ◌≤◌, ◌<◌, ◌^◌, length, map, IfSome, IsTrue};
 ghost use Rattle.std.specs.List.{list_all};
 ghost use Rattle.std.specs.Rc.{rc_str_bytes};
-ghost use Rattle.registry_office.specs.Words.{command_of, settle_lines_by, is_digit, is_numeral, value_from, value_in};
+ghost use Rattle.registry_office.specs.Words.{command_of, settle_by, settle_lines_by, is_digit, is_numeral, value_from, value_in};
 
 use std::rc::RcStr;
 
 /// What the office is to do.
 #[derive(Clone, Copy, Debug, PartialEq, Eq)]
 pub enum Command {
+    /// Settle the journal of the disk at so many desks, and write the report.
+    Settle { desks: u16 },
     /// Receive the stamped lines of the input into a journal in memory, settle it at so many desks
     /// and write the report.
     SettleLines { desks: u16 },
@@ -19,6 +21,13 @@ pub fn read_words(words: &[RcStr]) -> Option<Command>
     ensures { result ≡ command_of (map rc_str_bytes words.now) }
 {
     match words {
+        [name, flag, desks] => {
+            if &**name == "settle" && &**flag == "--desks" {
+                settle(&**desks)
+            } else {
+                None
+            }
+        }
         [name, flag, desks, lines] => {
             if &**name == "settle" && &**flag == "--desks" && &**lines == "--lines" {
                 settle_lines(&**desks)
@@ -28,6 +37,13 @@ pub fn read_words(words: &[RcStr]) -> Option<Command>
         }
         _ => None,
     }
+}
+
+fn settle(desks: &str) -> Option<Command>
+    ensures { result ≡ settle_by (value_in 1 64 desks.now) }
+{
+    let desks = value_in(desks, 1, 64)? as u16;
+    Some(Command::Settle { desks })
 }
 
 fn settle_lines(desks: &str) -> Option<Command>

@@ -1,0 +1,40 @@
+-- The disk in a run: what its file stood for, and what a stop leaves of it.
+use Rattle.std.specs.Prelude.{◌≡◌, ◌⊎◌, ℕ, Bool, true, false, List, Result, Ok, Err}
+use Rattle.gb_outside.specs.Images.{LeavesOnly}
+use Rattle.act_model.specs.declared.receipts.Receipt.{Receipt}
+use Rattle.journal_disk.specs.Layout.{IsForeign}
+use Rattle.journal_disk.specs.Opening.{SyncsFirst}
+use Rattle.receipt_journal.specs.Standing.{StandsForJournal, IsBadBehind, gate_behind}
+use Rattle.receipt_journal.specs.Opening.{Refuses}
+use Rattle.registry_office.specs.declared.stops.DiskStop.{DiskStop}
+use Rattle.registry_office.specs.declared.stops.DiskStop.TheVariants as stop
+use Rattle.registry_office.specs.declared.statuses.Status.{Status}
+use Rattle.registry_office.specs.declared.statuses.Status.TheVariants as status
+
+-- the file stood for some journal
+abbrev pub IsJournalFile : List ℕ → Type 0
+IsJournalFile file = (journal : List Receipt) × StandsForJournal file journal
+
+-- what the end of work over a disk's journal says of the file that was found
+abbrev pub Finds : {A : Type 0} → List ℕ → Result A DiskStop → Type 0
+Finds file (Ok value) = IsJournalFile file
+Finds file (Err (stop.Opening fault)) = Refuses file fault
+Finds file (Err (stop.Output output)) = IsJournalFile file
+
+-- what a status says of the file that was found
+abbrev pub FindsBy : List ℕ → Status → Type 0
+FindsBy file status.Ok = IsJournalFile file
+FindsBy file status.Usage = Unit {0}
+FindsBy file status.ReadFault = IsJournalFile file
+FindsBy file status.WriteFault = IsJournalFile file
+FindsBy file status.DiskFault = Unit {0}
+FindsBy file status.Memory = Unit {0}
+FindsBy file status.NotJournal = IsForeign file
+FindsBy file (status.BadRecord at) = (journal : List Receipt) × IsBadBehind file journal × (at ≡ gate_behind journal)
+FindsBy file status.InputTooLong = IsJournalFile file
+FindsBy file status.DoorFault = Unit {0}
+
+-- a first sync was done, from which on a stop leaves the journal that was found; or, where the disk failed, it may be that it was not done
+abbrev pub KeepsDisk : {D : Type 0} → (D → List ℕ) → (D → List ℕ → Type 0) → (D → ℕ) → (D → ℕ → List ℕ → Type 0) → D → D → Bool → Type 0
+KeepsDisk reads images moment since old new true = LeavesOnly moment since old new (images old) ⊎ SyncsFirst reads images moment since old new
+KeepsDisk reads images moment since old new false = SyncsFirst reads images moment since old new
