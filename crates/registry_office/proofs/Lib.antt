@@ -10,3 +10,4 @@ pub mod Settled
 pub mod Written
 pub mod BuiltJournals
 pub mod Whole
+pub mod OnDisk

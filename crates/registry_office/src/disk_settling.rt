@@ -7,6 +7,7 @@ ghost use Rattle.gb_outside.specs.Faults.{Counts};
 ghost use Rattle.act_model.specs.declared.receipts.Receipt.{Receipt};
 ghost use Rattle.journal_disk.specs.Opening.{IsKept};
 ghost use Rattle.receipt_journal.specs.Standing.{StandsForJournal};
+ghost use Rattle.receipt_journal.specs.declared.faults.BookFault.{BookFault};
 ghost use Rattle.registry_office.specs.Built.{is_built};
 ghost use Rattle.registry_office.specs.Disks.{Finds, KeepsDisk};
 ghost use Rattle.registry_office.specs.Outcomes.{settle_output};
@@ -46,11 +47,7 @@ pub fn settle_disk<D: Disk, K: Sink>(
 }
 
 /// Writes the report of a journal, or the line that says that an item of it is not built.
-fn write_settled<K: Sink>(
-    alloc: Global,
-    journal: &Journal,
-    sink: &mut K,
-) -> Result<(), OutputStop>
+fn write_settled<K: Sink>(alloc: Global, journal: &Journal, sink: &mut K) -> Result<(), OutputStop>
     ensures whole { OnOk result (Appends (K.written sink.old) (K.written sink.new) (settle_output journal.now.receipts)) }
     ensures part { OnErr result (AppendsFront (K.written sink.old) (K.written sink.new) (settle_output journal.now.receipts)) }
     ensures cause { Counts (K.faults sink.old) (K.faults sink.new) (output_failed result) }

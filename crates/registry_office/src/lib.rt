@@ -5,6 +5,8 @@ mod acts;
 mod built;
 mod cent_line;
 mod disk_settling;
+#[cfg(test)]
+mod disk_tests;
 mod entering;
 mod entries;
 mod extracts;

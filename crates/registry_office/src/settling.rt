@@ -47,7 +47,11 @@ pub fn settle_lines<S: Source, K: Sink>(
 
 /// Settles the journal and writes the report.
 #[tactic(auto, unfolding(crate::specs::Outcomes::report_of))]
-pub(crate) fn write_report<K: Sink>(alloc: Global, journal: &Journal, sink: &mut K) -> Result<(), OutputStop>
+pub(crate) fn write_report<K: Sink>(
+    alloc: Global,
+    journal: &Journal,
+    sink: &mut K,
+) -> Result<(), OutputStop>
     requires { IsTrue (list_all (λ r. is_built r.item) journal.now.receipts) }
     ensures whole { OnOk result (Appends (K.written sink.old) (K.written sink.new) (report_of journal.now.receipts)) }
     ensures part { OnErr result (AppendsFront (K.written sink.old) (K.written sink.new) (report_of journal.now.receipts)) }

@@ -42,15 +42,24 @@ pub fn read_words(words: &[RcStr]) -> Option<Command>
 fn settle(desks: &str) -> Option<Command>
     ensures { result ≡ settle_by (value_in 1 64 desks.now) }
 {
-    let desks = value_in(desks, 1, 64)? as u16;
-    Some(Command::Settle { desks })
+    Some(Command::Settle {
+        desks: number_of_desks(desks)?,
+    })
 }
 
 fn settle_lines(desks: &str) -> Option<Command>
     ensures { result ≡ settle_lines_by (value_in 1 64 desks.now) }
 {
-    let desks = value_in(desks, 1, 64)? as u16;
-    Some(Command::SettleLines { desks })
+    Some(Command::SettleLines {
+        desks: number_of_desks(desks)?,
+    })
+}
+
+fn number_of_desks(text: &str) -> Option<u16>
+    ensures { result ≡ value_in 1 64 text.now }
+{
+    let desks = value_in(text, 1, 64)?;
+    Some(desks as u16)
 }
 
 /// The value of an option, where it is a number of 1 to 10 digits in the range.
