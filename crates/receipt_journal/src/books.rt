@@ -149,6 +149,7 @@ impl Book {
             Err(AppendFault::MustReopen) => Received::MustReopen,
         }
     }
+
     /// Whether the journal accepts an item of this sender and reference.
     fn accepts(&self, sender: u32, reference: u64) -> bool
         ensures { (item : Item) → journals.is_accepted (answer_to self.now.journal sender reference item) ≡ result }
