@@ -23,8 +23,8 @@ pub fn receive_stamped(
     journal: &mut Journal,
     line: &[u8],
 ) -> Result<Vec<u8>, NoMemory>
-    ensures reply { IfOk result (λ text. text.items ≡ reply_to journal.old line.now) }
-    ensures journal { OnOk result (journal.new ≡ kept_after journal.old line.now) }
+    ensures reply { IfOk result (λ text. text.items ≡ reply_to journal.old.receipts line.now) }
+    ensures journal { OnOk result (journal.new.receipts ≡ kept_after journal.old.receipts line.now) }
 {
     if is_blank(line) {
         return Ok(Vec::new(alloc));
@@ -59,9 +59,9 @@ fn receive(
 ) -> Result<Vec<u8>, NoMemory>
     requires { IsTrue (well_formed item.now) }
     ensures built { is_built item.now ≡ true → IfOk result (λ text.
-        text.items ≡ added_text (answer_to journal.old sender reference item.now) ++ codes "\n") }
+        text.items ≡ added_text (answer_to journal.old.receipts sender reference item.now) ++ codes "\n") }
     ensures received { is_built item.now ≡ true → OnOk result
-        (journal.new ≡ journal_with journal.old stamp sender reference item.now (answer_to journal.old sender reference item.now)) }
+        (journal.new.receipts ≡ journal_with journal.old.receipts stamp sender reference item.now (answer_to journal.old.receipts sender reference item.now)) }
     ensures not_built { is_built item.now ≡ false → IfOk result (λ text. text.items ≡ codes "not built\n") }
     ensures kept { is_built item.now ≡ false → journal.new ≡ journal.old }
 {

@@ -30,9 +30,9 @@ fn answer_line<K: Sink>(
     line: &[u8],
     sink: &mut K,
 ) -> Result<(), OutputStop>
-    ensures reply { OnOk result (Appends (K.written sink.old) (K.written sink.new) (reply_to journal.old line.now)) }
-    ensures journal { OnOk result (journal.new ≡ kept_after journal.old line.now) }
-    ensures part { OnErr result (AppendsFront (K.written sink.old) (K.written sink.new) (reply_to journal.old line.now)) }
+    ensures reply { OnOk result (Appends (K.written sink.old) (K.written sink.new) (reply_to journal.old.receipts line.now)) }
+    ensures journal { OnOk result (journal.new.receipts ≡ kept_after journal.old.receipts line.now) }
+    ensures part { OnErr result (AppendsFront (K.written sink.old) (K.written sink.new) (reply_to journal.old.receipts line.now)) }
     ensures cause { Counts (K.faults sink.old) (K.faults sink.new) (output_failed result) }
 {
     let reply = receive_stamped(alloc, journal, line)?;
@@ -48,10 +48,10 @@ fn answer_ended<K: Sink>(
     sink: &mut K,
 ) -> Result<(), OutputStop>
     requires within_line { list_any (λ b. b == 10) end.now ≡ false }
-    ensures answered { OnOk result (Answered (K.written sink.old) (K.written sink.new) journal.old journal.new
+    ensures answered { OnOk result (Answered (K.written sink.old) (K.written sink.new) journal.old.receipts journal.new.receipts
         line.old.items line.new.items (end.now ++ 10 ∷ [])) }
     ensures part { OnErr result (AppendsFront (K.written sink.old) (K.written sink.new)
-        (replies journal.old (ended line.old.items (end.now ++ 10 ∷ [])))) }
+        (replies journal.old.receipts (ended line.old.items (end.now ++ 10 ∷ [])))) }
     ensures cause { Counts (K.faults sink.old) (K.faults sink.new) (output_failed result) }
 {
     line.extend_from_slice(end)?;
@@ -82,10 +82,10 @@ fn answer_piece<K: Sink>(
     piece: &[u8],
     sink: &mut K,
 ) -> Result<(), OutputStop>
-    ensures answered { OnOk result (Answered (K.written sink.old) (K.written sink.new) journal.old journal.new
+    ensures answered { OnOk result (Answered (K.written sink.old) (K.written sink.new) journal.old.receipts journal.new.receipts
         line.old.items line.new.items piece.now) }
     ensures part { OnErr result (AppendsFront (K.written sink.old) (K.written sink.new)
-        (replies journal.old (ended line.old.items piece.now))) }
+        (replies journal.old.receipts (ended line.old.items piece.now))) }
     ensures cause { Counts (K.faults sink.old) (K.faults sink.new) (output_failed result) }
 {
     let mut rest = piece;
@@ -133,11 +133,11 @@ pub fn answer_input<S: Source, K: Sink>(
     source: &mut S,
     sink: &mut K,
 ) -> Result<(), Stop>
-    requires { journal.old ≡ [] }
+    requires { journal.old.receipts ≡ [] }
     ensures replies { OnOk result (IfSome (S.left source.old) (λ input.
         Appends (K.written sink.old) (K.written sink.new) (replies [] (lines_of input)))) }
-    ensures journal { OnOk result (IfSome (S.left source.old) (λ input. journal.new ≡ journal_after [] (lines_of input))) }
-    ensures built { OnOk result (IsTrue (list_all (λ r. is_built r.item) journal.new)) }
+    ensures journal { OnOk result (IfSome (S.left source.old) (λ input. journal.new.receipts ≡ journal_after [] (lines_of input))) }
+    ensures built { OnOk result (IsTrue (list_all (λ r. is_built r.item) journal.new.receipts)) }
     ensures at_end { OnOk result (IfSome (S.left source.old) (λ _. S.left source.new ≡ Some [])) }
     ensures short { OnOk result (IfSome (S.left source.old) (λ input. length input ≤ MAX_INPUT)) }
     ensures long { result ≡ Err Stop.TooLong → IfSome (S.left source.old) (λ input. MAX_INPUT < length input) }

@@ -48,9 +48,9 @@ pub fn settle_lines<S: Source, K: Sink>(
 /// Settles the journal and writes the report.
 #[tactic(auto, unfolding(crate::specs::Outcomes::report_of))]
 fn write_report<K: Sink>(alloc: Global, journal: &Journal, sink: &mut K) -> Result<(), OutputStop>
-    requires { IsTrue (list_all (λ r. is_built r.item) journal.now) }
-    ensures whole { OnOk result (Appends (K.written sink.old) (K.written sink.new) (report_of journal.now)) }
-    ensures part { OnErr result (AppendsFront (K.written sink.old) (K.written sink.new) (report_of journal.now)) }
+    requires { IsTrue (list_all (λ r. is_built r.item) journal.now.receipts) }
+    ensures whole { OnOk result (Appends (K.written sink.old) (K.written sink.new) (report_of journal.now.receipts)) }
+    ensures part { OnErr result (AppendsFront (K.written sink.old) (K.written sink.new) (report_of journal.now.receipts)) }
     ensures cause { Counts (K.faults sink.old) (K.faults sink.new) (output_failed result) }
 {
     let register = alone(alloc, journal.receipts())?;

@@ -8,7 +8,7 @@ invariant-loop g l = record {
   took : l.counter ≤ l.count;
   room : vec_len l.block ≡ 65536;
   so_far : Session (g.S.Source.left l.fn.source) (g.S.Source.left l.source) (g.K.Sink.written l.fn.sink) (g.K.Sink.written l.sink)
-      [] l.journal l.line.items l.count;
+      [] l.journal.receipts l.line.items l.count;
   quiet_source : g.S.Source.faults l.source ≡ g.S.Source.faults l.fn.source;
   quiet_sink : g.K.Sink.faults l.sink ≡ g.K.Sink.faults l.fn.sink;
 }

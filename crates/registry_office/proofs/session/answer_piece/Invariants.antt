@@ -8,5 +8,5 @@ decreases-loop-end g l = length l.rest
 abbrev pub invariant-loop-end : goal.invariant-loop-end
 invariant-loop-end g l =
     SoFar l.fn.piece l.rest (g.K.Sink.written l.fn.sink) (g.K.Sink.written l.sink)
-    l.fn.journal l.journal l.fn.line.items l.line.items
+    l.fn.journal.receipts l.journal.receipts l.fn.line.items l.line.items
     × (g.K.Sink.faults l.sink ≡ g.K.Sink.faults l.fn.sink)
