@@ -1,6 +1,6 @@
 -- A book's answer to an item, and what the file stands for then.
-use Rattle.std.proofs.Common.{◌≡◌, ◌⊎◌, inl, inr, ⊎_elim, ℕ, ◌+◌, ◌<◌, ◌≤◌, Bool, true, false, ltb, List, [], ◌∷◌, ◌++◌, length, Option, Some, None, Result, Ok, Err, OnOk, is_err, refl, sym, ◌∙◌, ap, subst, arith}
-use Rattle.std.proofs.lemmas.Bool.{cases_Bool, cond-true, cond-false, le-ltb}
+use Rattle.std.proofs.Common.{◌≡◌, inl, inr, ℕ, ◌+◌, ◌≤◌, Bool, true, false, ltb, List, [], ◌∷◌, ◌++◌, length, Result, Ok, Err, OnOk, is_err, refl, sym, ◌∙◌, ap, subst, arith}
+use Rattle.std.proofs.lemmas.Bool.{cond-true, cond-false, le-ltb}
 use Rattle.std.proofs.lemmas.List.{map-append}
 use Rattle.std.proofs.lemmas.List.Elements.{All-push}
 use Rattle.std.proofs.lemmas.List.Sums.{sum_by_push}
@@ -17,9 +17,8 @@ use Rattle.act_codec.specs.Values.{IsReceipt}
 use Rattle.act_codec.proofs.Lengths.{spelling_len, spelling_some}
 use Rattle.journal_disk.specs.Layout.{IsBody, StandsFor, end_of}
 use Rattle.journal_disk.specs.Appending as frames
-use Rattle.receipt_journal.specs.Standing.{records, IsKeepable, StandsForJournal}
+use Rattle.receipt_journal.specs.Standing.{records, IsKeepable}
 use Rattle.receipt_journal.specs.Receiving.{file_size, longest_file, next_receipt, in_journal, on_disk, is_accepted, answer_on, Answers, WithOrWithout}
-use Rattle.receipt_journal.specs.declared.received.Received.{Received}
 use Rattle.receipt_journal.specs.declared.received.Received.TheVariants as received
 use Rattle.receipt_journal.proofs.Sizes.{has_room, records_size}
 use Rattle.receipt_journal.proofs.Taking.{accepted_new}

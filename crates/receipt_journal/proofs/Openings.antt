@@ -1,7 +1,6 @@
 -- What an opening finds in a file.
-use Rattle.std.proofs.Common.{◌≡◌, ◌⊎◌, inl, inr, ⊎_elim, ℕ, List, ◌∷◌, ◌++◌, subst}
+use Rattle.std.proofs.Common.{◌⊎◌, inl, ℕ, List, subst}
 use Rattle.journal_disk.specs.Layout.{StandsFor, IsBad}
-use Rattle.receipt_journal.specs.Standing.{records}
 use Rattle.receipt_journal.specs.Opening.{Refuses}
 use Rattle.receipt_journal.specs.Taking.{RefusesFrames}
 use Rattle.receipt_journal.specs.declared.faults.BookFault.{BookFault}

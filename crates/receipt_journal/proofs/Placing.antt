@@ -1,6 +1,6 @@
 -- Frames with the places of their gates, taken one after another.
 use Rattle.std.proofs.Common.{◌≡◌, ℕ, suc, ◌+◌, ◌<◌, List, [], ◌∷◌, ◌++◌, length, get_or, take, drop, map, Result, Ok, Err, IfErr, refl, sym, ◌∙◌, ap, subst, arith, length-append}
-use Rattle.std.proofs.lemmas.List.{map_more, map-append, take_all, take-append-drop, length-map, length-take-le}
+use Rattle.std.proofs.lemmas.List.{map-append, take_all, take-append-drop, length-map, length-take-le}
 use Rattle.std.proofs.Math.Seq.{drop-cons}
 use Rattle.std.specs.Result.{IsErrAnd}
 use Rattle.act_model.specs.declared.receipts.Receipt.{Receipt}
@@ -8,7 +8,7 @@ use Rattle.journal_disk.specs.PlacedBody.{PlacedBody}
 use Rattle.journal_disk.specs.Layout.{measured, frames, placed}
 use Rattle.journal_disk.proofs.FrameBytes.{length-measured}
 use Rattle.receipt_journal.specs.Standing.{records, IsKeepable, gate_behind}
-use Rattle.receipt_journal.specs.Taking.{Takes, RefusesFrame, RefusesFrames}
+use Rattle.receipt_journal.specs.Taking.{RefusesFrame, RefusesFrames}
 use Rattle.receipt_journal.specs.declared.faults.BookFault.{BookFault}
 use Rattle.receipt_journal.specs.declared.faults.BookFault.TheVariants.{Disk, NotJournal, BadRecord, Memory}
 

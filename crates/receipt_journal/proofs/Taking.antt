@@ -1,5 +1,5 @@
 -- The record of one receipt more, and what is none.
-use Rattle.std.proofs.Common.{◌≡◌, ◌⊎◌, inl, inr, ⊎_elim, ℕ, ◌+◌, ◌-◌, ◌<◌, Bool, true, false, not, ◌&&◌, cond, leb, eqb, List, [], ◌∷◌, ◌++◌, length, get_or, Option, Some, None, refl, sym, ◌∙◌, ap, ap₂, subst, arith, length-append}
+use Rattle.std.proofs.Common.{◌≡◌, ◌⊎◌, inl, inr, ⊎_elim, ℕ, ◌-◌, ◌<◌, Bool, true, false, not, ◌&&◌, cond, leb, eqb, List, [], ◌∷◌, ◌++◌, length, get_or, Option, Some, None, refl, sym, ◌∙◌, ap, ap₂, subst, arith, length-append}
 use Rattle.std.proofs.lemmas.Bool.{cases_Bool, cond-false, ne_eqb}
 use Rattle.std.proofs.lemmas.Bool.Decides.{nat_tests}
 use Rattle.std.proofs.lemmas.List.{get_or_append_left, get_or_at, map-append}
@@ -11,7 +11,7 @@ use Rattle.act_model.specs.declared.items.Item.{Item}
 use Rattle.act_model.specs.declared.added.Added.{Added}
 use Rattle.act_model.specs.declared.added.Added.TheVariants.{Accepted, Repeated, Differs, Full, Memory}
 use Rattle.act_model.specs.Same.{same_item}
-use Rattle.act_model.specs.Receiving.{IsJournal, is_sent_as, is_before, number_from, number_of, receipt_at, stamp_after, stamp_behind, answer_again, answer_by, answer_to, is_accepted, journal_with}
+use Rattle.act_model.specs.Receiving.{IsJournal, is_sent_as, is_before, number_of, receipt_at, stamp_after, answer_again, answer_by, answer_to, is_accepted}
 use Rattle.act_model.proofs.JournalLemmas.{IsJournal-push, stamp_after-last, sent_both_ways, none_from}
 use Rattle.act_codec.specs.Spelling.{spelling}
 use Rattle.act_codec.specs.Values.{IsReceipt}

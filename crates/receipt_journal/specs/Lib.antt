@@ -1,5 +1,5 @@
 pub mod BookState
-pub mod Standing
 pub mod Opening
 pub mod Receiving
+pub mod Standing
 pub mod Taking

@@ -1,5 +1,5 @@
 // The book: a journal and the log that keeps it.
-ghost use Rattle.std.specs.Prelude.{◌≡◌, ◌↔◌, ◌+◌, ◌++◌, [], ◌∷◌, ℕ, List, true, false, ◌||◌, IsTrue, IfOk, IfErr, IfSome, OnOk, length, drop, map};
+ghost use Rattle.std.specs.Prelude.{◌≡◌, ◌↔◌, true, false, ◌||◌, IsTrue, IfOk, IfErr, IfSome, OnOk, length};
 ghost use Rattle.std.specs.Option.{option_copied};
 ghost use Rattle.gb_outside.specs.Faults.{Counts};
 ghost use Rattle.gb_outside.specs.Images.{LeavesOnly};

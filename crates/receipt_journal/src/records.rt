@@ -1,5 +1,5 @@
 // The records of a journal's file.
-ghost use Rattle.std.specs.Prelude.{◌≡◌, ◌++◌, [], ◌∷◌, ℕ, List, false, IfErr, OnOk};
+ghost use Rattle.std.specs.Prelude.{◌≡◌, [], ℕ, List, false, IfErr, OnOk};
 ghost use Rattle.journal_disk.specs.Layout.{placed};
 ghost use Rattle.receipt_journal.specs.Standing.{records, IsKeepable, gate_behind};
 ghost use Rattle.receipt_journal.specs.Opening.{disk_failed};
@@ -7,7 +7,7 @@ ghost use Rattle.receipt_journal.specs.Taking.{Takes, RefusesFrame, RefusesFrame
 
 use crate::BookFault;
 use act_codec::decode;
-use act_model::{Added, Journal, Receipt};
+use act_model::{Added, Journal};
 use journal_disk::Frame;
 
 /// Takes the receipts that the frames spell into the journal, in their order. `BadRecord` names

@@ -1,134 +1,120 @@
+-- A book receives an item: the frame is appended, and then the journal takes the receipt.
 use Rattle.std.proofs.Common.{◌≡◌, ◌++◌, ◌∷◌, [], ℕ, List, Err, IsTrue, true, false, sym, ◌∙◌, ap, subst}
 use Rattle.gb_outside.proofs.Moments.{weakened}
 use Rattle.act_model.specs.JournalState.{has_room}
 use Rattle.act_model.specs.declared.receipts.Receipt.{Receipt}
-use Rattle.act_model.specs.Receiving.{answer_to, journal_with}
+use Rattle.act_model.specs.Receiving.{answer_to}
 use Rattle.act_model.specs.Receiving as journals
 use Rattle.act_codec.specs.Spelling.{spelling}
-use Rattle.act_codec.specs.Values.{IsReceipt}
 use Rattle.journal_disk.specs.Appending as frames
 use Rattle.journal_disk.specs.Appending.{StandsOn}
 use Rattle.receipt_journal.specs.Standing.{records, IsKeepable}
-use Rattle.receipt_journal.specs.Receiving.{in_journal, next_receipt, answer_on, Answers, WithOrWithout}
+use Rattle.receipt_journal.specs.Receiving.{next_receipt, answer_on, Answers, WithOrWithout}
 use Rattle.receipt_journal.proofs.Answering.{keepable_next, records_push, with_or_without, answers_kept, answers_disk, never_full, accepted_added, no_error}
 use Rattle.receipt_journal.proofs.books.Book.receive.Goals as goal
+
+-- room was kept, so the journal gives the answer expected
+added : (g : _) (c : goal.After-drop-spelling-in-Ok-append g) → c.add-in-Ok-append.result ≡ answer_to c.args.self.now.journal c.args.sender c.args.reference c.args.item.now
+added g c =
+    let kept : c.reserve_one.new.self.receipts ≡ c.args.self.now.journal = c.reserve_one.ensures.receipts ∙ ap (λ b. b.journal) c.self.view_is in
+    let room : IsTrue (has_room c.reserve_one.new.self c.args.item.now) =
+    no_error c.reserve_one.result (IsTrue (has_room c.reserve_one.new.self c.args.item.now)) c.is_err.result c.is_err.ensures.value c.if-is_err.false c.reserve_one.ensures.room in
+    subst (λ (j : List Receipt). c.add-in-Ok-append.result ≡ answer_to j c.args.sender c.args.reference c.args.item.now) kept (c.add-in-Ok-append.ensures.room room)
+
+-- and takes the receipt
+whole : (g : _) (c : goal.After-drop-spelling-in-Ok-append g)
+    → c.add-in-Ok-append.new.self.receipts ≡ c.args.self.now.journal ++ next_receipt c.args.self.now.journal c.args.stamp c.args.sender c.args.reference c.args.item.now ∷ []
+whole g c =
+    let kept : c.reserve_one.new.self.receipts ≡ c.args.self.now.journal = c.reserve_one.ensures.receipts ∙ ap (λ b. b.journal) c.self.view_is in
+    subst (λ (j : List Receipt). c.add-in-Ok-append.new.self.receipts ≡ j ++ next_receipt j c.args.stamp c.args.sender c.args.reference c.args.item.now ∷ []) kept
+    (accepted_added c.reserve_one.new.self.receipts c.add-in-Ok-append.new.self.receipts c.args.stamp c.args.sender c.args.reference c.args.item.now c.add-in-Ok-append.result
+    (ap journals.is_accepted (added g c) ∙ c.accepts.ensures c.args.item.now ∙ c.if-not-accepts.false) c.add-in-Ok-append.ensures.journal)
 
 pub invariant_of-self-in-Ok-append : goal.invariant_of-self-in-Ok-append
 invariant_of-self-in-Ok-append g c =
     let journal = c.args.self.now.journal in
     let next = next_receipt journal c.args.stamp c.args.sender c.args.reference c.args.item.now in
-    let expected = answer_to journal c.args.sender c.args.reference c.args.item.now in
-    let accepted : journals.is_accepted expected ≡ true = c.accepts.ensures c.args.item.now ∙ c.if-not-accepts.false in
-    let was : c.self.inside.journal.receipts ≡ journal = ap (λ b. b.journal) c.self.view_is in
-    let is : IsKeepable journal = subst IsKeepable was c.self.invariant in
+    let accepted : journals.is_accepted (answer_to journal c.args.sender c.args.reference c.args.item.now) ≡ true = c.accepts.ensures c.args.item.now ∙ c.if-not-accepts.false in
+    let is : IsKeepable journal = subst IsKeepable (ap (λ b. b.journal) c.self.view_is) c.self.invariant in
     let is_next : IsKeepable (journal ++ next ∷ []) = keepable_next journal c.args.stamp c.args.sender c.args.reference c.args.item.now is c.in-Ok.ensures.is_receipt accepted in
-    let kept : c.reserve_one.new.self.receipts ≡ journal = c.reserve_one.ensures.receipts ∙ was in
-    let room : IsTrue (has_room c.reserve_one.new.self c.args.item.now) = no_error c.reserve_one.result (IsTrue (has_room c.reserve_one.new.self c.args.item.now)) c.is_err.result c.is_err.ensures.value c.if-is_err.false c.reserve_one.ensures.room in
-    let added : c.add-in-Ok-append.result ≡ expected = subst (λ (j : List Receipt). c.add-in-Ok-append.result ≡ answer_to j c.args.sender c.args.reference c.args.item.now) kept (c.add-in-Ok-append.ensures.room room) in
-    let whole : c.add-in-Ok-append.new.self.receipts ≡ journal ++ next ∷ [] =
-    subst (λ (j : List Receipt). c.add-in-Ok-append.new.self.receipts ≡ j ++ next_receipt j c.args.stamp c.args.sender c.args.reference c.args.item.now ∷ []) kept
-    (accepted_added c.reserve_one.new.self.receipts c.add-in-Ok-append.new.self.receipts c.args.stamp c.args.sender c.args.reference c.args.item.now c.add-in-Ok-append.result (ap journals.is_accepted added ∙ accepted) c.add-in-Ok-append.ensures.journal) in
-    subst IsKeepable (sym whole) is_next
+    subst IsKeepable (sym (whole g c)) is_next
 
 pub returns-in-Ok-append-clause-answer : goal.returns-in-Ok-append-clause-answer
 returns-in-Ok-append-clause-answer g c = λ tells works.
     let journal = c.args.self.now.journal in
     let next = next_receipt journal c.args.stamp c.args.sender c.args.reference c.args.item.now in
-    let expected = answer_to journal c.args.sender c.args.reference c.args.item.now in
-    let accepted : journals.is_accepted expected ≡ true = c.accepts.ensures c.args.item.now ∙ c.if-not-accepts.false in
-    let was : c.self.inside.journal.receipts ≡ journal = ap (λ b. b.journal) c.self.view_is in
-    let is : IsKeepable journal = subst IsKeepable was c.self.invariant in
+    let accepted : journals.is_accepted (answer_to journal c.args.sender c.args.reference c.args.item.now) ≡ true = c.accepts.ensures c.args.item.now ∙ c.if-not-accepts.false in
+    let is : IsKeepable journal = subst IsKeepable (ap (λ b. b.journal) c.self.view_is) c.self.invariant in
     let is_next : IsKeepable (journal ++ next ∷ []) = keepable_next journal c.args.stamp c.args.sender c.args.reference c.args.item.now is c.in-Ok.ensures.is_receipt accepted in
-    let kept : c.reserve_one.new.self.receipts ≡ journal = c.reserve_one.ensures.receipts ∙ was in
-    let room : IsTrue (has_room c.reserve_one.new.self c.args.item.now) = no_error c.reserve_one.result (IsTrue (has_room c.reserve_one.new.self c.args.item.now)) c.is_err.result c.is_err.ensures.value c.if-is_err.false c.reserve_one.ensures.room in
-    let added : c.add-in-Ok-append.result ≡ expected = subst (λ (j : List Receipt). c.add-in-Ok-append.result ≡ answer_to j c.args.sender c.args.reference c.args.item.now) kept (c.add-in-Ok-append.ensures.room room) in
-    subst (Answers (answer_on journal c.args.stamp c.args.sender c.args.reference c.args.item.now) expected) (sym c.answered-in-Ok-append.ensures)
-    (answers_kept journal c.args.stamp c.args.sender c.args.reference c.args.item.now is_next c.add-in-Ok-append.result added)
+    subst (Answers (answer_on journal c.args.stamp c.args.sender c.args.reference c.args.item.now) (answer_to journal c.args.sender c.args.reference c.args.item.now)) (sym c.answered-in-Ok-append.ensures)
+    (answers_kept journal c.args.stamp c.args.sender c.args.reference c.args.item.now is_next c.add-in-Ok-append.result (added g c))
 
 pub returns-in-Ok-append-clause-stands : goal.returns-in-Ok-append-clause-stands
-returns-in-Ok-append-clause-stands g c = λ tells works.
+returns-in-Ok-append-clause-stands g c = λ tells works_now.
     let journal = c.args.self.now.journal in
     let next = next_receipt journal c.args.stamp c.args.sender c.args.reference c.args.item.now in
-    let expected = answer_to journal c.args.sender c.args.reference c.args.item.now in
-    let accepted : journals.is_accepted expected ≡ true = c.accepts.ensures c.args.item.now ∙ c.if-not-accepts.false in
-    let was : c.self.inside.journal.receipts ≡ journal = ap (λ b. b.journal) c.self.view_is in
-    let is : IsKeepable journal = subst IsKeepable was c.self.invariant in
-    let works_inside : c.self.inside.log.failed ≡ false = sym c.failed.ensures ∙ c.if-failed.false in
+    let works : c.self.inside.log.failed ≡ false = sym c.failed.ensures ∙ c.if-failed.false in
     let stands : StandsOn c.self.inside.log.gate (records journal) (g.D.Disk.reads c.args.disk.now) (g.D.Disk.images c.args.disk.now) =
     subst (λ (n : ℕ). StandsOn n (records journal) (g.D.Disk.reads c.args.disk.now) (g.D.Disk.images c.args.disk.now)) (sym (ap (λ b. b.log.gate) c.self.view_is))
-    (c.requires.stands tells (sym (ap (λ b. b.log.failed) c.self.view_is) ∙ works_inside)) in
-    let is_next : IsKeepable (journal ++ next ∷ []) = keepable_next journal c.args.stamp c.args.sender c.args.reference c.args.item.now is c.in-Ok.ensures.is_receipt accepted in
-    let kept : c.reserve_one.new.self.receipts ≡ journal = c.reserve_one.ensures.receipts ∙ was in
-    let room : IsTrue (has_room c.reserve_one.new.self c.args.item.now) = no_error c.reserve_one.result (IsTrue (has_room c.reserve_one.new.self c.args.item.now)) c.is_err.result c.is_err.ensures.value c.if-is_err.false c.reserve_one.ensures.room in
-    let added : c.add-in-Ok-append.result ≡ expected = subst (λ (j : List Receipt). c.add-in-Ok-append.result ≡ answer_to j c.args.sender c.args.reference c.args.item.now) kept (c.add-in-Ok-append.ensures.room room) in
-    let whole : c.add-in-Ok-append.new.self.receipts ≡ journal ++ next ∷ [] =
-    subst (λ (j : List Receipt). c.add-in-Ok-append.new.self.receipts ≡ j ++ next_receipt j c.args.stamp c.args.sender c.args.reference c.args.item.now ∷ []) kept
-    (accepted_added c.reserve_one.new.self.receipts c.add-in-Ok-append.new.self.receipts c.args.stamp c.args.sender c.args.reference c.args.item.now c.add-in-Ok-append.result (ap journals.is_accepted added ∙ accepted) c.add-in-Ok-append.ensures.journal) in
+    (c.requires.stands tells (sym (ap (λ b. b.log.failed) c.self.view_is) ∙ works)) in
     let spelled : c.deref.result.now ≡ spelling next = c.deref.ensures.value ∙ c.in-Ok.ensures.spelled in
     let bodies : records c.add-in-Ok-append.new.self.receipts ≡ records journal ++ c.deref.result.now ∷ [] =
-    ap records whole ∙ records_push journal next ∙ ap (λ (b : List ℕ). records journal ++ b ∷ []) (sym spelled) in
+    ap records (whole g c) ∙ records_push journal next ∙ ap (λ (b : List ℕ). records journal ++ b ∷ []) (sym spelled) in
     subst (λ (l : List (List ℕ)). StandsOn c.append.new.self.gate l (g.D.Disk.reads c.append.new.disk) (g.D.Disk.images c.append.new.disk)) (sym bodies)
     (c.in-Ok-append.ensures.appended tells (records journal) stands)
 
 pub returns-in-Ok-append-clause-any_moment : goal.returns-in-Ok-append-clause-any_moment
-returns-in-Ok-append-clause-any_moment g c = λ tells works.
+returns-in-Ok-append-clause-any_moment g c = λ tells works_before.
     let journal = c.args.self.now.journal in
     let next = next_receipt journal c.args.stamp c.args.sender c.args.reference c.args.item.now in
-    let expected = answer_to journal c.args.sender c.args.reference c.args.item.now in
-    let accepted : journals.is_accepted expected ≡ true = c.accepts.ensures c.args.item.now ∙ c.if-not-accepts.false in
-    let was : c.self.inside.journal.receipts ≡ journal = ap (λ b. b.journal) c.self.view_is in
-    let is : IsKeepable journal = subst IsKeepable was c.self.invariant in
-    let works_inside : c.self.inside.log.failed ≡ false = sym c.failed.ensures ∙ c.if-failed.false in
+    let accepted : journals.is_accepted (answer_to journal c.args.sender c.args.reference c.args.item.now) ≡ true = c.accepts.ensures c.args.item.now ∙ c.if-not-accepts.false in
+    let is : IsKeepable journal = subst IsKeepable (ap (λ b. b.journal) c.self.view_is) c.self.invariant in
+    let is_next : IsKeepable (journal ++ next ∷ []) = keepable_next journal c.args.stamp c.args.sender c.args.reference c.args.item.now is c.in-Ok.ensures.is_receipt accepted in
+    let works : c.self.inside.log.failed ≡ false = sym c.failed.ensures ∙ c.if-failed.false in
     let stands : StandsOn c.self.inside.log.gate (records journal) (g.D.Disk.reads c.args.disk.now) (g.D.Disk.images c.args.disk.now) =
     subst (λ (n : ℕ). StandsOn n (records journal) (g.D.Disk.reads c.args.disk.now) (g.D.Disk.images c.args.disk.now)) (sym (ap (λ b. b.log.gate) c.self.view_is))
-    (c.requires.stands tells (sym (ap (λ b. b.log.failed) c.self.view_is) ∙ works_inside)) in
-    let is_next : IsKeepable (journal ++ next ∷ []) = keepable_next journal c.args.stamp c.args.sender c.args.reference c.args.item.now is c.in-Ok.ensures.is_receipt accepted in
+    (c.requires.stands tells (sym (ap (λ b. b.log.failed) c.self.view_is) ∙ works)) in
     let spelled : c.deref.result.now ≡ spelling next = c.deref.ensures.value ∙ c.in-Ok.ensures.spelled in
     weakened g.D.Disk.moment g.D.Disk.since c.args.disk.now c.append.new.disk (frames.WithOrWithout (records journal) c.deref.result.now) (WithOrWithout journal next)
     (λ file has. with_or_without journal next c.deref.result.now file is is_next spelled has)
-    (c.in-Ok-append.ensures.any_moment tells (records journal) works_inside stands)
+    (c.in-Ok-append.ensures.any_moment tells (records journal) works stands)
 
 pub returns-in-Err-Full-clause-answer : goal.returns-in-Err-Full-clause-answer
-returns-in-Err-Full-clause-answer g c = λ tells works.
+returns-in-Err-Full-clause-answer g c = λ tells works_before.
     let journal = c.args.self.now.journal in
     let next = next_receipt journal c.args.stamp c.args.sender c.args.reference c.args.item.now in
-    let expected = answer_to journal c.args.sender c.args.reference c.args.item.now in
-    let accepted : journals.is_accepted expected ≡ true = c.accepts.ensures c.args.item.now ∙ c.if-not-accepts.false in
-    let was : c.self.inside.journal.receipts ≡ journal = ap (λ b. b.journal) c.self.view_is in
-    let is : IsKeepable journal = subst IsKeepable was c.self.invariant in
-    let works_inside : c.self.inside.log.failed ≡ false = sym c.failed.ensures ∙ c.if-failed.false in
+    let accepted : journals.is_accepted (answer_to journal c.args.sender c.args.reference c.args.item.now) ≡ true = c.accepts.ensures c.args.item.now ∙ c.if-not-accepts.false in
+    let is : IsKeepable journal = subst IsKeepable (ap (λ b. b.journal) c.self.view_is) c.self.invariant in
+    let is_next : IsKeepable (journal ++ next ∷ []) = keepable_next journal c.args.stamp c.args.sender c.args.reference c.args.item.now is c.in-Ok.ensures.is_receipt accepted in
+    let works : c.self.inside.log.failed ≡ false = sym c.failed.ensures ∙ c.if-failed.false in
     let stands : StandsOn c.self.inside.log.gate (records journal) (g.D.Disk.reads c.args.disk.now) (g.D.Disk.images c.args.disk.now) =
     subst (λ (n : ℕ). StandsOn n (records journal) (g.D.Disk.reads c.args.disk.now) (g.D.Disk.images c.args.disk.now)) (sym (ap (λ b. b.log.gate) c.self.view_is))
-    (c.requires.stands tells (sym (ap (λ b. b.log.failed) c.self.view_is) ∙ works_inside)) in
-    let is_next : IsKeepable (journal ++ next ∷ []) = keepable_next journal c.args.stamp c.args.sender c.args.reference c.args.item.now is c.in-Ok.ensures.is_receipt accepted in
+    (c.requires.stands tells (sym (ap (λ b. b.log.failed) c.self.view_is) ∙ works)) in
     let spelled : c.deref.result.now ≡ spelling next = c.deref.ensures.value ∙ c.in-Ok.ensures.spelled in
-    absurd (never_full journal c.args.stamp c.args.sender c.args.reference c.args.item.now is_next c.self.inside.log.gate c.deref.result.now stands.ends spelled (c.append.ensures.full.0 (c.in-Err-Full.is ∙ ap (λ fault. Err fault) c.in-Err-Full.field-0-is)).1)
+    absurd (never_full journal c.args.stamp c.args.sender c.args.reference c.args.item.now is_next c.self.inside.log.gate c.deref.result.now stands.ends spelled
+    (c.append.ensures.full.0 (c.in-Err-Full.is ∙ ap (λ fault. Err fault) c.in-Err-Full.field-0-is)).1)
 
 pub returns-in-Err-Disk-clause-answer : goal.returns-in-Err-Disk-clause-answer
 returns-in-Err-Disk-clause-answer g c = λ tells works.
     let journal = c.args.self.now.journal in
     let next = next_receipt journal c.args.stamp c.args.sender c.args.reference c.args.item.now in
-    let expected = answer_to journal c.args.sender c.args.reference c.args.item.now in
-    let accepted : journals.is_accepted expected ≡ true = c.accepts.ensures c.args.item.now ∙ c.if-not-accepts.false in
-    let was : c.self.inside.journal.receipts ≡ journal = ap (λ b. b.journal) c.self.view_is in
-    let is : IsKeepable journal = subst IsKeepable was c.self.invariant in
+    let accepted : journals.is_accepted (answer_to journal c.args.sender c.args.reference c.args.item.now) ≡ true = c.accepts.ensures c.args.item.now ∙ c.if-not-accepts.false in
+    let is : IsKeepable journal = subst IsKeepable (ap (λ b. b.journal) c.self.view_is) c.self.invariant in
     let is_next : IsKeepable (journal ++ next ∷ []) = keepable_next journal c.args.stamp c.args.sender c.args.reference c.args.item.now is c.in-Ok.ensures.is_receipt accepted in
     answers_disk journal c.args.stamp c.args.sender c.args.reference c.args.item.now is_next accepted
 
 pub returns-in-Err-Disk-clause-any_moment : goal.returns-in-Err-Disk-clause-any_moment
-returns-in-Err-Disk-clause-any_moment g c = λ tells works.
+returns-in-Err-Disk-clause-any_moment g c = λ tells works_before.
     let journal = c.args.self.now.journal in
     let next = next_receipt journal c.args.stamp c.args.sender c.args.reference c.args.item.now in
-    let expected = answer_to journal c.args.sender c.args.reference c.args.item.now in
-    let accepted : journals.is_accepted expected ≡ true = c.accepts.ensures c.args.item.now ∙ c.if-not-accepts.false in
-    let was : c.self.inside.journal.receipts ≡ journal = ap (λ b. b.journal) c.self.view_is in
-    let is : IsKeepable journal = subst IsKeepable was c.self.invariant in
-    let works_inside : c.self.inside.log.failed ≡ false = sym c.failed.ensures ∙ c.if-failed.false in
+    let accepted : journals.is_accepted (answer_to journal c.args.sender c.args.reference c.args.item.now) ≡ true = c.accepts.ensures c.args.item.now ∙ c.if-not-accepts.false in
+    let is : IsKeepable journal = subst IsKeepable (ap (λ b. b.journal) c.self.view_is) c.self.invariant in
+    let is_next : IsKeepable (journal ++ next ∷ []) = keepable_next journal c.args.stamp c.args.sender c.args.reference c.args.item.now is c.in-Ok.ensures.is_receipt accepted in
+    let works : c.self.inside.log.failed ≡ false = sym c.failed.ensures ∙ c.if-failed.false in
     let stands : StandsOn c.self.inside.log.gate (records journal) (g.D.Disk.reads c.args.disk.now) (g.D.Disk.images c.args.disk.now) =
     subst (λ (n : ℕ). StandsOn n (records journal) (g.D.Disk.reads c.args.disk.now) (g.D.Disk.images c.args.disk.now)) (sym (ap (λ b. b.log.gate) c.self.view_is))
-    (c.requires.stands tells (sym (ap (λ b. b.log.failed) c.self.view_is) ∙ works_inside)) in
-    let is_next : IsKeepable (journal ++ next ∷ []) = keepable_next journal c.args.stamp c.args.sender c.args.reference c.args.item.now is c.in-Ok.ensures.is_receipt accepted in
+    (c.requires.stands tells (sym (ap (λ b. b.log.failed) c.self.view_is) ∙ works)) in
     let spelled : c.deref.result.now ≡ spelling next = c.deref.ensures.value ∙ c.in-Ok.ensures.spelled in
     weakened g.D.Disk.moment g.D.Disk.since c.args.disk.now c.append.new.disk (frames.WithOrWithout (records journal) c.deref.result.now) (WithOrWithout journal next)
     (λ file has. with_or_without journal next c.deref.result.now file is is_next spelled has)
-    (c.in-Err-Disk.ensures.any_moment tells (records journal) works_inside stands)
+    (c.in-Err-Disk.ensures.any_moment tells (records journal) works stands)
