@@ -1,10 +1,10 @@
 // The book: a journal and the log that keeps it.
-ghost use Rattle.std.specs.Prelude.{◌≡◌, ◌↔◌, true, false, ◌||◌, IsTrue, IfOk, IfErr, IfSome, OnOk, length};
+ghost use Rattle.std.specs.Prelude.{◌≡◌, ◌↔◌, true, false, ◌||◌, IsTrue, IfOk, IfErr, OnOk, length};
 ghost use Rattle.std.specs.Option.{option_copied};
 ghost use Rattle.gb_outside.specs.Faults.{Counts};
 ghost use Rattle.gb_outside.specs.Images.{LeavesOnly};
 ghost use Rattle.act_model.specs.WellFormed.{well_formed};
-ghost use Rattle.act_model.specs.Receiving.{receipt_at, number_of, answer_to};
+ghost use Rattle.act_model.specs.Receiving.{receipt_at, answer_to};
 ghost use Rattle.act_model.specs.Receiving as journals;
 ghost use Rattle.act_model.specs.declared.items.Item.{Item};
 ghost use Rattle.act_codec.specs.Spelling.{spelling};
@@ -118,7 +118,8 @@ impl Book {
         // The answer is that of the journal, and each fault has its cause.
         ensures must_reopen { (result ≡ Received.MustReopen) ↔ (self.old.log.failed ≡ true) }
         ensures answer { IsTrue D.tells → self.old.log.failed ≡ false → Answers (answer_on self.old.journal stamp sender reference item.now) (answer_to self.old.journal sender reference item.now) result }
-        ensures again { self.old.log.failed ≡ false → IfSome (number_of sender reference self.old.journal) (λ n. result ≡ answer_on self.old.journal stamp sender reference item.now) }
+        ensures refused { self.old.log.failed ≡ false → journals.is_accepted (answer_to self.old.journal sender reference item.now) ≡ false
+            → result ≡ in_journal (answer_to self.old.journal sender reference item.now) }
         ensures cause { Counts (D.faults disk.old) (D.faults disk.new) (disk_failed result) }
 
         // Only an accepted item changes the journal, and only `Disk` makes the book fail.
