@@ -1,6 +1,10 @@
 // The journal of a disk that is settled, and disks that have none.
+ghost use Rattle.std.specs.Prelude.{IfOk, IsTrue};
+ghost use Rattle.act_model.specs.WellFormed.{well_formed};
+
 use crate::{Status, run};
 use act_json::read_stamped;
+use act_model::Item;
 use gb_base::{Day, NoMemory, Stamp};
 use gb_outside::{ListClock, MemDisk, MemSink, MemSource, OpenGate, SureListener};
 use receipt_journal::{Book, Received};
@@ -23,6 +27,16 @@ const LAPSE: &[u8] =
 
 const OF_KIND_9: &[u8] =
     b"\x47GBJOURN1\x01\x00\x00\x00\x17\x00\x00\x4d\x46\x02\x1c\x00\x00\x00\x01\x00\x00\x00\x00\x00\x00\x00\x05\x09\x00\x00\x00\x02\x00";
+
+/// What a stamped line says.
+fn item_of(alloc: Global, line: &[u8]) -> Result<(Stamp, u32, u64, Item), &'static str>
+    ensures { IfOk result (λ found. IsTrue (well_formed found.3)) }
+{
+    if line.len() > 65_536 {
+        return Err("a line that is too long");
+    }
+    read_stamped(alloc, line).map_err(|_| "a line that is no item")
+}
 
 fn disk_of(alloc: Global, file: &[u8], fail: &[u32]) -> Result<MemDisk, NoMemory> {
     MemDisk::new(alloc, file, 4096, 4096, 64, fail)
@@ -54,12 +68,13 @@ fn settled<R: AllocGlobal>(rt: &R, disk: &mut MemDisk) -> Result<(Status, Vec<u8
 fn the_journal_of_the_disk_is_settled(rt: HostRuntime) -> Result<(), Fail> {
     let alloc = rt.alloc();
     let mut disk = disk_of(alloc, &[], &[])?;
-    let mut book = Book::open(alloc, &mut disk).map_err(|_| "no book")?;
-    for line in [OPENING, CHARGE] {
-        let (stamp, sender, reference, item) = read_stamped(alloc, line).map_err(|_| "no item")?;
-        let received = book.receive(alloc, &mut disk, stamp, sender, reference, &item);
-        assert!(rt; matches!(received, Received::Accepted(_)));
-    }
+    let mut book = Book::open(alloc, &mut disk)?;
+    let (stamp, sender, reference, item) = item_of(alloc, OPENING)?;
+    let received = book.receive(alloc, &mut disk, stamp, sender, reference, &item);
+    assert!(rt; matches!(received, Received::Accepted(_)));
+    let (stamp, sender, reference, item) = item_of(alloc, CHARGE)?;
+    let received = book.receive(alloc, &mut disk, stamp, sender, reference, &item);
+    assert!(rt; matches!(received, Received::Accepted(_)));
     let (status, text) = settled(&rt, &mut disk)?;
     assert_eq!(rt; status, Status::Ok);
     assert_eq!(rt; text.as_slice(), REPORT);
