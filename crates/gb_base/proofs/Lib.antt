@@ -1,1 +1,6 @@
+-- What the proofs share.
+pub mod AfterFirst
 pub mod CivilDays
+pub mod CountedOff
+pub mod DateTexts
+pub mod Members

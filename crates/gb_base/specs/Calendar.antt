@@ -1,43 +1,49 @@
 -- Days as dates of the Gregorian calendar.
-use Rattle.std.specs.Prelude.{◌≡◌, ℕ, zero, suc, ◌+◌, ◌-◌, ◌≤◌, nat_lt, if◌then◌else◌, pos}
-use Rattle.jiff_core.specs.Calendar.{IsCivilDate, days_from_civil, days_in_year, days_in_month}
+use Rattle.std.specs.Prelude.{◌≡◌, ℕ, ◌+◌, ◌-◌, ◌≤◌, Bool, List, map, flat_map, find, Option, Some, None, pos}
+use Rattle.std.specs.List.{range_with_len}
+use Rattle.std.specs.Ordering.{int_eq}
+use Rattle.jiff_core.specs.Calendar.{IsCivilDate, days_from_civil, days_in_month}
+use Rattle.gb_base.specs.Limits.{first_year, last_year}
 
 -- a date of the calendar from 1970-01-01 to 2199-12-31
 pub record IsDateOfRange (year month day : ℕ) : Type 0 where
   pub date : IsCivilDate (pos year) month day
-  pub from : 1970 ≤ year
-  pub to : year ≤ 2199
+  pub from : first_year ≤ year
+  pub to : year ≤ last_year
 
 -- the calendar has this date, and it is day n from 1970-01-01, which is day 0
 pub record IsCivilDay (year month day n : ℕ) : Type 0 where
   pub date : IsCivilDate (pos year) month day
   pub number : days_from_civil (pos year) month day ≡ pos n
 
--- a day in one of the spans that follow one another, as years do: which span, and how many of its days come before
-pub record DayInSpan : Type 0 where
-  pub span : ℕ
-  pub before : ℕ
+-- a year, a month and a day of the month
+pub record CivilDate : Type 0 where
+  pub year : ℕ
+  pub month : ℕ
+  pub day : ℕ
 
--- whole spans of these lengths are counted off the days, from span `first` on, up to `most` of them
-unfoldable pub counted_off : (ℕ → ℕ) → ℕ → ℕ → ℕ → DayInSpan
-counted_off length zero first days = record { span = first; before = days }
-counted_off length (suc most) first days =
-    if nat_lt days (length first) then record { span = first; before = days }
-    else counted_off length most (first + 1) (days - length first)
+-- the dates of a month
+abbrev pub dates_of_month : ℕ → ℕ → List CivilDate
+dates_of_month year month =
+    map (λ day. record { year = year; month = month; day = day }) (range_with_len 1 (days_in_month (pos year) month))
 
--- the year of day n, and how many of its days come before
-unfoldable pub in_year : ℕ → DayInSpan
-in_year n = counted_off (λ year. days_in_year (pos year)) 229 1970 n
+-- the dates of a year
+abbrev pub dates_of_year : ℕ → List CivilDate
+dates_of_year year = flat_map (dates_of_month year) (range_with_len 1 12)
 
-unfoldable pub year_of : ℕ → ℕ
-year_of n = (in_year n).span
+-- the dates from the first day to the last
+unfoldable pub dates_of_range : List CivilDate
+dates_of_range = flat_map dates_of_year (range_with_len first_year (last_year + 1 - first_year))
 
--- the month of day n in its year, and how many of its days come before
-unfoldable pub in_month : ℕ → DayInSpan
-in_month n = counted_off (λ month. days_in_month (pos (year_of n)) month) 11 1 (in_year n).before
+-- whether the calendar numbers this date n
+abbrev pub is_numbered : ℕ → CivilDate → Bool
+is_numbered n date = int_eq (days_from_civil (pos date.year) date.month date.day) (pos n)
 
-unfoldable pub month_of : ℕ → ℕ
-month_of n = (in_month n).span
+-- a date, or zeros where there is none
+abbrev pub date_or_zeros : Option CivilDate → CivilDate
+date_or_zeros (Some date) = date
+date_or_zeros None = record { year = 0; month = 0; day = 0 }
 
-unfoldable pub day_of : ℕ → ℕ
-day_of n = (in_month n).before + 1
+-- the date of day n: the date of the range that has this number
+unfoldable pub date_of : ℕ → CivilDate
+date_of n = date_or_zeros (find (is_numbered n) dates_of_range)

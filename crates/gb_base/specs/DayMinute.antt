@@ -1,4 +1,6 @@
+-- What a stamp says.
 use Rattle.std.specs.Prelude.{ℕ, ◌≤◌}
+use Rattle.gb_base.specs.Limits.{first_stamp_day, last_stamp_day}
 
 -- what a stamp says: the day's number and the minute of the day
 pub record DayMinute : Type 0 where
@@ -7,4 +9,4 @@ pub record DayMinute : Type 0 where
 
 -- the days on which receipts are stamped, 2000-01-01 to 2149-12-31
 abbrev pub IsStampDay : ℕ → Type 0
-IsStampDay day = (10957 ≤ day) × (day ≤ 65743)
+IsStampDay day = (first_stamp_day ≤ day) × (day ≤ last_stamp_day)

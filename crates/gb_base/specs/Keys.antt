@@ -6,27 +6,30 @@ use Rattle.gb_base.specs.RightNo.{RightNo}
 use Rattle.gb_base.specs.declared.keys.Key.{Key}
 use Rattle.gb_base.specs.declared.keys.Key.TheVariants.{Title, Right, Case}
 
+-- the folio of a key
 abbrev pub folio_of : Key → ℕ
 folio_of (Title folio) = folio
 folio_of (Right folio right) = folio
 folio_of (Case folio) = folio
 
--- the place among the parts of a folio
+-- where a key stands among the parts of its folio: title, rights, sale
 abbrev pub part_of : Key → ℕ
 part_of (Title folio) = 0
 part_of (Right folio right) = 1
 part_of (Case folio) = 2
 
+-- the right of a key, and zeros where the key is of none
 abbrev pub right_of : Key → RightNo
 right_of (Title folio) = record { receipt = 0; act = 0 }
 right_of (Right folio right) = right
 right_of (Case folio) = record { receipt = 0; act = 0 }
 
+-- the order of two keys: of their folios, then parts, then rights
 abbrev pub key_cmp : Key → Key → Ordering
 key_cmp = then_cmp (on folio_of nat_cmp) (then_cmp (on part_of nat_cmp)
     (then_cmp (on (λ k. (right_of k).receipt) nat_cmp) (on (λ k. (right_of k).act) nat_cmp)))
 
--- of one folio and part, and of one right
+-- two keys are of the same folio, part and right
 abbrev pub same_key : Key → Key → Bool
 same_key = eq_of_both (on folio_of ◌==◌) (eq_of_both (on part_of ◌==◌)
     (eq_of_both (on (λ k. (right_of k).receipt) ◌==◌) (on (λ k. (right_of k).act) ◌==◌)))

@@ -1,5 +1,8 @@
+-- What contracts cite.
+pub mod Limits
 pub mod RightNo
 pub mod DayMinute
 pub mod Keys
 pub mod Calendar
 pub mod Texts
+pub mod inner

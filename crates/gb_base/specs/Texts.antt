@@ -1,7 +1,9 @@
--- How values are printed.
-use Rattle.std.specs.Prelude.{ℕ, ◌/◌, ◌%◌, List, ◌++◌, codes}
+-- How values are printed, and which day a printed date is.
+use Rattle.std.specs.Prelude.{ℕ, ◌+◌, ◌/◌, ◌%◌, List, ◌++◌, find, Option, codes, bytes_eq}
+use Rattle.std.specs.List.{range_with_len}
 use Rattle.std.specs.Fmt.{decimal}
-use Rattle.gb_base.specs.Calendar.{year_of, month_of, day_of}
+use Rattle.gb_base.specs.Limits.{last_day}
+use Rattle.gb_base.specs.Calendar.{CivilDate, date_of}
 use Rattle.gb_base.specs.RightNo.{RightNo}
 use Rattle.gb_base.specs.declared.sections.Section.{Section}
 use Rattle.gb_base.specs.declared.sections.Section.TheVariants.{Gbo3, Gbo13, Gbo16, Gbo18, Gbo19, Gbo20, Gbo27, Gbo29, Gbo39, Bgb873, Bgb876, Bgb880, Bgb881, Bgb883, Bgb1059, Grest22, Zvg15, Zvg23, Zvg43, Zvg66, Zvg81, Zvg113, Limit}
@@ -12,15 +14,25 @@ two_digits n = decimal (n / 10) ++ decimal (n % 10)
 
 -- an amount as whole euros, a point and two digits
 abbrev pub euro : ℕ → List ℕ
-euro cents = decimal (cents / 100) ++ (codes "." ++ (decimal (cents / 10 % 10) ++ decimal (cents % 10)))
+euro cents = decimal (cents / 100) ++ (codes "." ++ two_digits (cents % 100))
 
 -- a right as the receipt of its filing, a point and its act
 abbrev pub right_text : RightNo → List ℕ
 right_text id = decimal id.receipt ++ (codes "." ++ decimal id.act)
 
--- a day as YYYY-MM-DD
-abbrev pub date_text : ℕ → List ℕ
-date_text day = decimal (year_of day) ++ (codes "-" ++ (two_digits (month_of day) ++ (codes "-" ++ two_digits (day_of day))))
+-- a date as YYYY-MM-DD
+abbrev pub civil_text : CivilDate → List ℕ
+civil_text date =
+    two_digits (date.year / 100) ++ (two_digits (date.year % 100)
+    ++ (codes "-" ++ (two_digits date.month ++ (codes "-" ++ two_digits date.day))))
+
+-- a day as its date
+unfoldable pub date_text : ℕ → List ℕ
+date_text day = civil_text (date_of day)
+
+-- the day whose text this is, if there is one
+unfoldable pub day_written : List ℕ → Option ℕ
+day_written text = find (λ day. bytes_eq (date_text day) text) (range_with_len 0 (last_day + 1))
 
 -- a section as its law and number
 abbrev pub section_text : Section → List ℕ

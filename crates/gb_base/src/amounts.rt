@@ -1,4 +1,6 @@
-ghost use Rattle.std.specs.Prelude.{◌≡◌, ◌<◌, ◌≤◌, ◌^◌, ◌↔◌, IsSome, IfSome};
+// Amounts of money, in cents.
+ghost use Rattle.std.specs.Prelude.{◌≡◌, ◌≤◌, ◌↔◌, IsSome, IfSome};
+ghost use Rattle.gb_base.specs.Limits.{most_cents};
 
 use std::marker::Model;
 
@@ -8,12 +10,13 @@ pub struct Cents(u64);
 
 impl Model for Cents {
     ghost use Rattle.std.specs.Prelude.{ℕ, ◌≤◌};
+    ghost use Rattle.gb_base.specs.Limits.{most_cents};
 
     ghost Value = { ℕ };
 
     ghost view = { λ a. a.0 };
 
-    ghost invariant = { λ a. a.0 ≤ 10000000000000 };
+    ghost invariant = { λ a. a.0 ≤ most_cents };
 
     ghost inverse = { λ n. record { 0 = n } };
 }
@@ -24,7 +27,7 @@ impl Cents {
 
     /// This amount; None above 10^13.
     pub fn new(n: u64) -> Option<Cents>
-        ensures some { IsSome result ↔ (n ≤ 10000000000000) }
+        ensures some { IsSome result ↔ (n ≤ most_cents) }
         ensures value { IfSome result (λ cents. cents ≡ n) }
     {
         if n <= Cents::MAX {
@@ -37,7 +40,7 @@ impl Cents {
     /// The number of cents.
     pub fn get(self) -> u64
         ensures value { result ≡ self }
-        ensures in_range { self ≤ 10000000000000 }
+        ensures in_range { self ≤ most_cents }
     {
         self.0
     }

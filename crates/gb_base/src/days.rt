@@ -1,7 +1,10 @@
+// Days, as numbers and as dates.
 ghost use Rattle.std.specs.Prelude.{◌≡◌, ◌≤◌, ◌↔◌, IsSome, IfSome, pos};
-ghost use Rattle.gb_base.specs.Calendar.{IsDateOfRange, IsCivilDay, year_of, month_of, day_of};
+ghost use Rattle.gb_base.specs.Calendar.{IsDateOfRange, IsCivilDay, date_of};
+ghost use Rattle.gb_base.specs.Limits.{last_day, first_year, last_year};
 
-use jiff_core::civil::Date;
+use jiff::ToSpan;
+use jiff::civil::{self, Date};
 use std::marker::Model;
 
 /// A day from 1970-01-01 to 2199-12-31, as the number of days since the first of these.
@@ -10,12 +13,13 @@ pub struct Day(u32);
 
 impl Model for Day {
     ghost use Rattle.std.specs.Prelude.{ℕ, ◌≤◌};
+    ghost use Rattle.gb_base.specs.Limits.{last_day};
 
     ghost Value = { ℕ };
 
     ghost view = { λ a. a.0 };
 
-    ghost invariant = { λ a. a.0 ≤ 84005 };
+    ghost invariant = { λ a. a.0 ≤ last_day };
 
     ghost inverse = { λ n. record { 0 = n } };
 }
@@ -26,7 +30,7 @@ impl Day {
 
     /// The day of this number; None above 84,005.
     pub fn new(n: u32) -> Option<Day>
-        ensures some { IsSome result ↔ (n ≤ 84005) }
+        ensures some { IsSome result ↔ (n ≤ last_day) }
         ensures value { IfSome result (λ day. day ≡ n) }
     {
         if n <= Day::LAST { Some(Day(n)) } else { None }
@@ -39,52 +43,56 @@ impl Day {
         ensures value { IfSome result (λ n. IsCivilDay year month day n) }
     {
         let date = date_of_range(year, month, day)?;
-        Some(Day(date.to_unix_epoch_day() as u32))
+        Some(Day(date.to_plain().to_unix_epoch_day() as u32))
     }
 
     /// The number of days since 1970-01-01.
     pub fn number(self) -> u32
         ensures value { result ≡ self }
-        ensures in_range { self ≤ 84005 }
+        ensures in_range { self ≤ last_day }
     {
         self.0
     }
 
     /// The year, from 1970 to 2199.
     pub fn year(self) -> u16
-        ensures value { result ≡ year_of self }
-        ensures from { 1970 ≤ result }
-        ensures to { result ≤ 2199 }
+        ensures value { result ≡ (date_of self).year }
+        ensures date { IsCivilDay result (date_of self).month (date_of self).day self }
+        ensures from { first_year ≤ result }
+        ensures to { result ≤ last_year }
     {
-        self.date().year as u16
+        self.date().year() as u16
     }
 
     /// The month of the year, from 1 to 12.
     pub fn month(self) -> u8
-        ensures value { result ≡ month_of self }
+        ensures value { result ≡ (date_of self).month }
+        ensures date { IsCivilDay (date_of self).year result (date_of self).day self }
         ensures from { 1 ≤ result }
         ensures to { result ≤ 12 }
     {
-        self.date().month
+        self.date().month() as u8
     }
 
     /// The day of the month, from 1 to 31.
     pub fn day(self) -> u8
-        ensures value { result ≡ day_of self }
+        ensures value { result ≡ (date_of self).day }
+        ensures date { IsCivilDay (date_of self).year (date_of self).month result self }
         ensures from { 1 ≤ result }
         ensures to { result ≤ 31 }
     {
-        self.date().day
+        self.date().day() as u8
     }
 
     /// The date of the Gregorian calendar.
     fn date(self) -> Date
-        ensures year { result.year ≡ pos (year_of self) }
-        ensures month { result.month ≡ month_of self }
-        ensures day { result.day ≡ day_of self }
-        ensures in_range { IsDateOfRange (year_of self) (month_of self) (day_of self) }
+        ensures year { result.year ≡ pos (date_of self).year }
+        ensures month { result.month ≡ (date_of self).month }
+        ensures day { result.day ≡ (date_of self).day }
+        ensures civil { IsCivilDay (date_of self).year (date_of self).month (date_of self).day self }
+        ensures in_range { IsDateOfRange (date_of self).year (date_of self).month (date_of self).day }
     {
-        match Date::from_unix_epoch_day(i64::from(self.0)) {
+        match civil::date(1970, 1, 1).checked_add(i64::from(self.0).days()) {
             Ok(date) => date,
             Err(_) => unreachable!(),
         }

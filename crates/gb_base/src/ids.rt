@@ -1,5 +1,6 @@
 // Numbers that name something, from 1. In contracts each is its number.
 ghost use Rattle.std.specs.Prelude.{◌≡◌, ◌<◌, ◌≤◌, ◌↔◌, IsNone, IsSome, IfSome};
+ghost use Rattle.gb_base.specs.Limits.{most_acts};
 
 use std::marker::Model;
 
@@ -37,7 +38,7 @@ impl FolioId {
     }
 }
 
-/// Folio 1, which fills the unused places of a bounded list.
+/// Folio 1, which fills the unused slots of a bounded list.
 impl Default for FolioId {
     ghost is_default = { λ folio. folio ≡ 1 };
 
@@ -80,7 +81,7 @@ impl Person {
     }
 }
 
-/// Person 1, which fills the unused places of a bounded list.
+/// Person 1, which fills the unused slots of a bounded list.
 impl Default for Person {
     ghost is_default = { λ person. person ≡ 1 };
 
@@ -89,7 +90,7 @@ impl Default for Person {
     }
 }
 
-/// The number of a receipt: its place in the journal, from 1 (GBO § 13).
+/// The number of a receipt in the journal, from 1 (GBO § 13).
 #[derive(Clone, Copy, Debug, PartialEq, Eq, PartialOrd, Ord)]
 pub struct ReceiptNo(u32);
 
@@ -123,7 +124,7 @@ impl ReceiptNo {
     }
 }
 
-/// Receipt 1, which fills the unused places of a bounded list.
+/// Receipt 1, which fills the unused slots of a bounded list.
 impl Default for ReceiptNo {
     ghost is_default = { λ receipt. receipt ≡ 1 };
 
@@ -142,13 +143,14 @@ pub struct RightId {
 
 impl Model for RightId {
     ghost use Rattle.std.specs.Prelude.{◌≤◌};
+    ghost use Rattle.gb_base.specs.Limits.{most_acts};
     ghost use Rattle.gb_base.specs.RightNo.{RightNo};
 
     ghost Value = { RightNo };
 
     ghost view = { λ a. record { receipt = a.receipt; act = a.act } };
 
-    ghost invariant = { λ a. (1 ≤ a.act) × (a.act ≤ 8) };
+    ghost invariant = { λ a. (1 ≤ a.act) × (a.act ≤ most_acts) };
 
     ghost inverse = { λ id. record { receipt = id.receipt; act = id.act } };
 }
@@ -156,7 +158,7 @@ impl Model for RightId {
 impl RightId {
     /// The right of this receipt and act; None outside the acts 1 to 8.
     pub fn new(receipt: ReceiptNo, act: u8) -> Option<RightId>
-        ensures some { IsSome result ↔ ((1 ≤ act) × (act ≤ 8)) }
+        ensures some { IsSome result ↔ ((1 ≤ act) × (act ≤ most_acts)) }
         ensures value { IfSome result (λ id. (id.receipt ≡ receipt) × (id.act ≡ act)) }
     {
         if 1 <= act && act <= 8 {
@@ -177,13 +179,13 @@ impl RightId {
     pub fn act(self) -> u8
         ensures value { result ≡ self.act }
         ensures from_one { 1 ≤ self.act }
-        ensures to_eight { self.act ≤ 8 }
+        ensures to_eight { self.act ≤ most_acts }
     {
         self.act
     }
 }
 
-/// Right 1.1, which fills the unused places of a bounded list.
+/// Right 1.1, which fills the unused slots of a bounded list.
 impl Default for RightId {
     ghost is_default = { λ id. (id.receipt ≡ 1) × (id.act ≡ 1) };
 

@@ -8,13 +8,13 @@ ghost use Rattle.std.specs.Ordering.{as_partial_cmp};
 use crate::{FolioId, RightId};
 use std::cmp::Ordering;
 
-/// A place in the register: the title of a folio, one of its rights, or its forced sale.
+/// What items touch and entries stand at: the title of a folio, one of its rights, or its forced sale.
 /// Keys are ordered by folio, then title, rights by number, sale.
 #[derive(Clone, Copy, Debug)]
 pub enum Key {
-    /// The first part and section I of a folio: inventory and owners.
+    /// The first part and division I of a folio: inventory and owners.
     Title(FolioId),
-    /// A right in section II or III of a folio.
+    /// A right in division II or III of a folio.
     Right(FolioId, RightId),
     /// The forced sale of a folio.
     Case(FolioId),
@@ -34,7 +34,7 @@ impl Key {
         }
     }
 
-    /// The place among the parts of a folio.
+    /// Where the key stands among the parts of its folio.
     fn part(self) -> u8
         ensures { result ≡ part_of self }
     {
@@ -58,7 +58,7 @@ impl Key {
     }
 }
 
-/// The title of folio 1, which fills the unused places of a bounded list.
+/// The title of folio 1, which fills the unused slots of a bounded list.
 impl Default for Key {
     ghost use Rattle.gb_base.specs.declared.keys.Key.TheVariants.{Title};
 

@@ -1,15 +1,22 @@
 //! Laws of the definitions that contracts cite. Each function does nothing; its contract is the
 //! law.
-ghost use Rattle.std.specs.Prelude.{◌≡◌, ◌≤◌, ℕ};
-ghost use Rattle.gb_base.specs.Calendar.{IsDateOfRange, IsCivilDay, year_of, month_of, day_of};
+ghost use Rattle.std.specs.Prelude.{◌≡◌, ◌≤◌, ℕ, Some};
+ghost use Rattle.gb_base.specs.Calendar.{IsDateOfRange, IsCivilDay, date_of};
+ghost use Rattle.gb_base.specs.Limits.{last_day};
+ghost use Rattle.gb_base.specs.Texts.{date_text, day_written};
 
-/// The year, month and day of a day's number name the date with this number, and each date of the
-/// range has just one number.
+/// Each day has just one date, which is of the range, and each date of the range has just one
+/// number.
 pub fn days_are_dates()
-    ensures in_range { (n : ℕ) → n ≤ 84005 → IsDateOfRange (year_of n) (month_of n) (day_of n) }
-    ensures date { (n : ℕ) → n ≤ 84005 → IsCivilDay (year_of n) (month_of n) (day_of n) n }
+    ensures in_range { (n : ℕ) → n ≤ last_day → IsDateOfRange (date_of n).year (date_of n).month (date_of n).day }
+    ensures date { (n : ℕ) → n ≤ last_day → IsCivilDay (date_of n).year (date_of n).month (date_of n).day n }
     ensures number { (year month day : ℕ) → IsDateOfRange year month day
-        → (n : ℕ) × (n ≤ 84005) × IsCivilDay year month day n }
-    ensures no_other { (year month day n : ℕ) → IsCivilDay year month day n → n ≤ 84005
-        → (year ≡ year_of n) × (month ≡ month_of n) × (day ≡ day_of n) }
+        → (n : ℕ) × (n ≤ last_day) × IsCivilDay year month day n }
+    ensures no_other { (year month day n : ℕ) → IsCivilDay year month day n → n ≤ last_day
+        → (year ≡ (date_of n).year) × (month ≡ (date_of n).month) × (day ≡ (date_of n).day) }
+{}
+
+/// A day's text is the text of no other day.
+pub fn texts_are_days()
+    ensures { (n : ℕ) → n ≤ last_day → day_written (date_text n) ≡ Some n }
 {}

@@ -3,6 +3,7 @@
 #![tactic(auto)]
 
 mod amounts;
+mod date_texts;
 mod days;
 mod ids;
 mod keys;

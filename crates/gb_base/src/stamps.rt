@@ -1,5 +1,7 @@
+// When receipts came in.
 ghost use Rattle.std.specs.Prelude.{◌≡◌, ◌≤◌, ◌<◌, ◌↔◌, IsSome, IfSome};
 ghost use Rattle.gb_base.specs.DayMinute.{IsStampDay};
+ghost use Rattle.gb_base.specs.Limits.{minutes_of_day};
 
 use crate::Day;
 use std::marker::Model;
@@ -14,12 +16,13 @@ pub struct Stamp {
 impl Model for Stamp {
     ghost use Rattle.std.specs.Prelude.{◌<◌};
     ghost use Rattle.gb_base.specs.DayMinute.{DayMinute, IsStampDay};
+    ghost use Rattle.gb_base.specs.Limits.{minutes_of_day};
 
     ghost Value = { DayMinute };
 
     ghost view = { λ a. record { day = a.day; minute = a.minute } };
 
-    ghost invariant = { λ a. IsStampDay a.day × (a.minute < 1440) };
+    ghost invariant = { λ a. IsStampDay a.day × (a.minute < minutes_of_day) };
 
     ghost inverse = { λ t. record { day = t.day; minute = t.minute } };
 }
@@ -36,7 +39,7 @@ impl Stamp {
 
     /// This minute of this day; None outside the stamp days or above minute 1,439.
     pub fn new(day: Day, minute: u16) -> Option<Stamp>
-        ensures some { IsSome result ↔ (IsStampDay day × (minute < 1440)) }
+        ensures some { IsSome result ↔ (IsStampDay day × (minute < minutes_of_day)) }
         ensures value { IfSome result (λ stamp. (stamp.day ≡ day) × (stamp.minute ≡ minute)) }
     {
         let number = day.number();
@@ -58,7 +61,7 @@ impl Stamp {
     /// The minute of the day, from 0 to 1,439.
     pub fn minute(self) -> u16
         ensures value { result ≡ self.minute }
-        ensures in_range { self.minute < 1440 }
+        ensures in_range { self.minute < minutes_of_day }
     {
         self.minute
     }

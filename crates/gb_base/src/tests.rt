@@ -1,3 +1,4 @@
+// Tests of ranges, dates, texts and the order of keys.
 use crate::{Cents, Day, FolioId, Key, Person, ReceiptNo, RightId, Stamp};
 use std::test::Fail;
 
@@ -16,6 +17,28 @@ fn days_have_their_civil_dates(rt: HostRuntime) -> Result<(), Fail> {
         assert_eq!(rt; (date.year(), date.month(), date.day()), (year, month, day));
     }
     Ok(())
+}
+
+#[test]
+fn texts_are_read_as_days(rt: HostRuntime) {
+    let leap_day = Day::from_civil(2024, 2, 29);
+    assert!(rt; leap_day.is_some());
+    assert_eq!(rt; Day::from_text(b"2024-02-29"), leap_day);
+    assert_eq!(rt; Day::from_text(b"1970-01-01"), Day::new(0));
+    assert_eq!(rt; Day::from_text(b"2199-12-31"), Day::new(84_005));
+    for text in [
+        "",
+        "2023-02-29",
+        "2200-01-01",
+        "1969-12-31",
+        "2024-2-29",
+        "2024/02/29",
+        "2024-02-29 ",
+        "+024-02-29",
+        "2024-02-2a",
+    ] {
+        assert_eq!(rt; Day::from_text(text.as_bytes()), None, "{text}");
+    }
 }
 
 #[test]

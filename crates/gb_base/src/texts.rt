@@ -1,9 +1,9 @@
 // How values are printed. Contracts see the bytes.
 ghost use Rattle.std.specs.Prelude.{◌≡◌, Some};
 ghost use Rattle.std.specs.Fmt.{decimal};
-ghost use Rattle.gb_base.specs.Texts.{euro, right_text, date_text, section_text};
+ghost use Rattle.gb_base.specs.Texts.{euro, right_text, section_text};
 
-use crate::{Cents, Day, FolioId, Person, ReceiptNo, RightId, Section};
+use crate::{Cents, FolioId, Person, ReceiptNo, RightId, Section};
 use std::fmt;
 
 impl fmt::Display for FolioId {
@@ -44,27 +44,8 @@ impl fmt::Display for Cents {
     ghost output = { λ cents. Some (euro cents) };
 
     fn fmt<W: fmt::Write>(&self, f: &mut fmt::Formatter<W>) -> fmt::Result {
-        let cents = self.get();
-        write!(f, "{}.{}{}", cents / 100, cents / 10 % 10, cents % 10)
-    }
-}
-
-/// The civil date, as `2024-02-29`.
-impl fmt::Display for Day {
-    ghost output = { λ day. Some (date_text day) };
-
-    fn fmt<W: fmt::Write>(&self, f: &mut fmt::Formatter<W>) -> fmt::Result {
-        let month = self.month();
-        let day = self.day();
-        write!(
-            f,
-            "{}-{}{}-{}{}",
-            self.year(),
-            month / 10,
-            month % 10,
-            day / 10,
-            day % 10
-        )
+        let (euros, cents) = (self.get() / 100, self.get() % 100);
+        write!(f, "{}.{}{}", euros, cents / 10, cents % 10)
     }
 }
 
