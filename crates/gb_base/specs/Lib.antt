@@ -1,5 +1,6 @@
 pub mod RightNo
 pub mod DayMinute
 pub mod Keys
+pub mod Limits
 pub mod Calendar
 pub mod Texts
