@@ -14,7 +14,7 @@ use Rattle.gb_base.specs.DayMinute.{DayMinute}
 use Rattle.act_model.specs.declared.receipts.Receipt.{Receipt}
 use Rattle.act_model.specs.WellFormed.{well_formed}
 use Rattle.act_model.specs.Receiving.{IsJournal, is_before, is_sent_as, number_from, number_of, receipt_at, stamp_after, stamp_behind}
-use Rattle.act_model.specs.Numbers.{IsIndexOf, IsIndexed, pair_cmp}
+use Rattle.act_model.specs.inner.Index.{IsIndexOf, IsIndexed, pair_cmp}
 
 cond_none : {A : Type 0} (b : Bool) (x : A) (o : Option A) → cond b (Some x) o ≡ None → (b ≡ false) × (o ≡ None)
 cond_none true x o e = absurd (cc e)

@@ -14,7 +14,9 @@ use Rattle.act_model.specs.declared.filing_acts.Act.TheVariants.{Open, Transfer,
 use Rattle.act_model.specs.declared.receipts.Receipt.{Receipt}
 use Rattle.act_model.specs.Acts.{folio_of}
 use Rattle.act_model.specs.WellFormed.{different, names_few_folios}
-use Rattle.act_model.specs.Touches.{in_key_order, insert_key, keys_of_act, keys_of_acts, new_right, was_section_three, with_key, with_keys}
+use Rattle.act_model.specs.Touches.{keys_of_act, keys_of_acts, new_right, was_in_division_three}
+use Rattle.act_model.specs.inner.KeyInsertion.{insert_key, with_key, with_keys}
+use Rattle.act_model.proofs.KeyOrder.{any_insert}
 
 ge_not_lt : (o : Ordering) → is_ge o ≡ true → is_lt o ≡ false
 ge_not_lt Less h = absurd (false≢true h)
@@ -54,19 +56,6 @@ pub with_keys-append : (ks ls js : List Key) → with_keys (ks ++ ls) js ≡ wit
 with_keys-append [] ls js = refl
 with_keys-append (k ∷ ks) ls js = with_keys-append ks ls (with_key k js)
 
-or_swap : (a b c : Bool) → (a || (b || c)) ≡ (b || (a || c))
-or_swap true true c = refl
-or_swap true false c = refl
-or_swap false b c = refl
-
-any-insert_key : (p : Key → Bool) (k : Key) (js : List Key) → list_any p (insert_key k js) ≡ (p k || list_any p js)
-any-insert_key p k [] = refl
-any-insert_key p k (j ∷ js) =
-    elim (is_lt (key_cmp k j)) as (λ b. list_any p (cond b (k ∷ j ∷ js) (j ∷ insert_key k js)) ≡ (p k || list_any p (j ∷ js))) [
-      | true ↦ refl
-      | false ↦ ap (λ b. p j || b) (any-insert_key p k js) ∙ or_swap (p j) (p k) (list_any p js)
-    ]
-
 -- how many of the folios have their title among the keys
 abbrev present : List ℕ → List Key → ℕ
 present [] js = 0
@@ -93,7 +82,7 @@ or_rises false false m n h = omega arith
 present-insert_key : (fs : List ℕ) (k : Key) (js : List Key) → present fs js ≤ present fs (insert_key k js)
 present-insert_key [] k js = omega arith
 present-insert_key (f ∷ fs) k js =
-    rw (any-insert_key (λ j. same_key j (Title f)) k js)
+    rw (any_insert (λ j. same_key j (Title f)) k js)
     (or_rises (same_key k (Title f)) (list_any (λ j. same_key j (Title f)) js) (present fs js) (present fs (insert_key k js)) (present-insert_key fs k js))
 
 title_is : (f : ℕ) (k : Key) → same_key k (Title f) ≡ true → k ≡ Title f
@@ -108,7 +97,7 @@ or_right_of false b e h = h
 present-new : (fs : List ℕ) (k : Key) (js : List Key) → list_any (λ f. same_key k (Title f)) fs ≡ true → list_any (λ j. same_key j k) js ≡ false → present fs js + 1 ≤ present fs (insert_key k js)
 present-new [] k js is_title new = absurd (false≢true is_title)
 present-new (f ∷ fs) k js is_title new =
-    rw (any-insert_key (λ j. same_key j (Title f)) k js)
+    rw (any_insert (λ j. same_key j (Title f)) k js)
     (⊎_elim
     (λ same.
     let absent = subst (λ j. list_any (λ i. same_key i j) js ≡ false) (title_is f k same) new in
@@ -189,7 +178,7 @@ keys_of_act-Fits fs rs n a (Assign f q p) js r t h = omega (arith, Fits-other fs
 keys_of_act-Fits fs rs n a (Cancel f q) js r t h = omega (arith, Fits-other fs (Right f q) (with_key (Title f) js) r (Fits-title fs (Title f) js r t h))
 keys_of_act-Fits fs rs n a (Exchange f q u) js r t h =
     let rights = Fits-other fs (Right f u) (with_key (Right f q) js) (r + 1) (Fits-other fs (Right f q) js r h) in
-    elim (was_section_three rs n f q) as (λ b. Fits fs (r + 2) (with_keys (Right f q ∷ Right f u ∷ cond b (Title f ∷ []) []) js)) [
+    elim (was_in_division_three rs n f q) as (λ b. Fits fs (r + 2) (with_keys (Right f q ∷ Right f u ∷ cond b (Title f ∷ []) []) js)) [
       | true ↦ omega (arith, Fits-title fs (Title f) (with_key (Right f u) (with_key (Right f q) js)) (r + 1 + 1) t rights)
       | false ↦ omega (arith, rights)
     ]
@@ -204,7 +193,7 @@ keys_of_acts-Fits fs rs n a (act ∷ acts) js r t h =
     (omega (arith, keys_of_acts-Fits fs rs n (a + 1) acts (with_keys (keys_of_act rs n a act) js) (r + 2) parts.1 (keys_of_act-Fits fs rs n a act js r parts.0 h)))
 
 -- a filing has at most two titles, and two rights for each act
-pub length-keys_of_acts : (rs : List Receipt) (n : ℕ) (acts : List Act) → length acts ≤ 8 → IsTrue (names_few_folios acts) → length (in_key_order (keys_of_acts rs n 1 acts)) ≤ 18
+pub length-keys_of_acts : (rs : List Receipt) (n : ℕ) (acts : List Act) → length acts ≤ 8 → IsTrue (names_few_folios acts) → length (with_keys (keys_of_acts rs n 1 acts) []) ≤ 18
 length-keys_of_acts rs n acts few folios =
     let fs = once (map folio_of acts) in
     let titled = all_titled fs acts (λ f member. any-once (λ g. same_key (Title f) (Title g)) (map folio_of acts) (any_of_member (λ g. same_key (Title f) (Title g)) f (map folio_of acts) member (title_of_equal f f (eq-eqb f f refl)))) in

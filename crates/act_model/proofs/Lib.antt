@@ -1,3 +1,7 @@
+-- Lemmas.
+mod DerivedEquality
 mod FolioLemmas
+mod ItemEquality
 pub mod JournalLemmas
 mod KeyLemmas
+mod KeyOrder

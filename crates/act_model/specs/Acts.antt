@@ -6,6 +6,7 @@ use Rattle.act_model.specs.declared.rights.RightSpec.{RightSpec}
 use Rattle.act_model.specs.declared.filing_acts.Act.{Act}
 use Rattle.act_model.specs.declared.filing_acts.Act.TheVariants.{Open, Transfer, Create, NoticeFor, Convert, Assign, Cancel, Exchange, Exercise}
 
+-- the folio that an act is in
 abbrev pub folio_of : Act → ℕ
 folio_of (Open folio inventory owners) = folio
 folio_of (Transfer folio owners) = folio
@@ -29,9 +30,9 @@ right_created (Cancel folio right) = None
 right_created (Exchange folio recede rise) = None
 right_created (Exercise folio behind spec) = Some spec
 
--- section III of a folio holds mortgages and land charges, section II the other rights
-abbrev pub is_section_three : RightKind → Bool
-is_section_three kind.PersonalEasement = false
-is_section_three kind.Usufruct = false
-is_section_three (kind.Mortgage rate) = true
-is_section_three (kind.LandCharge rate) = true
+-- division III of a folio holds mortgages and land charges, division II the other rights
+abbrev pub is_in_division_three : RightKind → Bool
+is_in_division_three kind.PersonalEasement = false
+is_in_division_three kind.Usufruct = false
+is_in_division_three (kind.Mortgage rate) = true
+is_in_division_three (kind.LandCharge rate) = true

@@ -1,8 +1,10 @@
+-- What contracts cite.
 pub mod Acts
 pub mod JournalState
-pub mod Numbers
+pub mod Limits
 pub mod Persons
 pub mod Receiving
 pub mod Same
 pub mod Touches
 pub mod WellFormed
+pub mod inner

@@ -1,3 +1,4 @@
+-- The owners of a folio.
 use Rattle.std.specs.Prelude.{ℕ, ◌<◌, ◌&&◌, ◌==◌, not, List, [], ◌∷◌, length, Bool, true, IsTrue}
 use Rattle.std.specs.List.{list_any}
 

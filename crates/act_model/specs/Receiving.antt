@@ -5,23 +5,22 @@ use Rattle.act_model.specs.declared.items.Item.{Item}
 use Rattle.act_model.specs.declared.receipts.Receipt.{Receipt}
 use Rattle.act_model.specs.declared.added.Added.{Added}
 use Rattle.act_model.specs.declared.added.Added.TheVariants as added
+use Rattle.act_model.specs.Limits.{most_receipts}
 use Rattle.act_model.specs.Same.{same_item}
 use Rattle.act_model.specs.WellFormed.{well_formed}
 
--- the most receipts that a journal holds
-abbrev pub max_receipts : ℕ
-max_receipts = 200000
-
+-- the receipt is of this sender and reference
 abbrev pub is_sent_as : ℕ → ℕ → Receipt → Bool
 is_sent_as sender reference r = r.sender == sender && r.reference == reference
 
+-- one stamp is earlier than the other
 abbrev pub is_before : DayMinute → DayMinute → Bool
 is_before a b = nat_lt a.day b.day || (a.day == b.day && nat_lt a.minute b.minute)
 
 -- What a journal is: no more receipts than fit, each of a well-formed item, no two of one sender and reference,
 -- none stamped before an earlier one.
 pub record IsJournal (journal : List Receipt) : Type 0 where
-  pub few : length journal ≤ max_receipts
+  pub few : length journal ≤ most_receipts
   pub items : All (λ r. IsTrue (well_formed r.item)) journal
   pub once : AllPairs (λ r s. is_sent_as r.sender r.reference s ≡ false) journal
   pub stamps : AllPairs (λ r s. is_before s.stamp r.stamp ≡ false) journal
@@ -32,6 +31,7 @@ number_from n sender reference [] = None
 number_from n sender reference (r ∷ rs) =
     if is_sent_as sender reference r then Some n else number_from (n + 1) sender reference rs
 
+-- the number of the receipt of this sender and reference; none where there is none
 abbrev pub number_of : ℕ → ℕ → List Receipt → Option ℕ
 number_of sender reference journal = number_from 1 sender reference journal
 
@@ -39,6 +39,7 @@ number_of sender reference journal = number_from 1 sender reference journal
 abbrev pub receipt_at : List Receipt → ℕ → Option Receipt
 receipt_at journal n = if n == 0 then None else slice_get journal (n - 1)
 
+-- the receipt's stamp where there is one and it is later, else this one
 abbrev pub stamp_behind : Option Receipt → DayMinute → DayMinute
 stamp_behind None stamp = stamp
 stamp_behind (Some r) stamp = if is_before stamp r.stamp then r.stamp else stamp
@@ -47,19 +48,22 @@ stamp_behind (Some r) stamp = if is_before stamp r.stamp then r.stamp else stamp
 abbrev pub stamp_after : List Receipt → DayMinute → DayMinute
 stamp_after journal stamp = stamp_behind (receipt_at journal (length journal)) stamp
 
+-- the answer to an item of the sender and reference of receipt n
 abbrev pub answer_again : Item → ℕ → Option Receipt → Added
 answer_again item n (Some r) = if same_item r.item item then added.Repeated n else added.Differs n
 answer_again item n None = added.Differs n
 
+-- the answer by the number of the receipt of this sender and reference
 abbrev pub answer_by : List Receipt → Item → Option ℕ → Added
 answer_by journal item (Some n) = answer_again item n (receipt_at journal n)
 answer_by journal item None =
-    if nat_le max_receipts (length journal) then added.Full else added.Accepted (length journal + 1)
+    if nat_le most_receipts (length journal) then added.Full else added.Accepted (length journal + 1)
 
 -- the answer to an item of this sender and reference
 abbrev pub answer_to : List Receipt → ℕ → ℕ → Item → Added
 answer_to journal sender reference item = answer_by journal item (number_of sender reference journal)
 
+-- the answer is that the item is received
 abbrev pub is_accepted : Added → Bool
 is_accepted (added.Accepted n) = true
 is_accepted (added.Repeated n) = false

@@ -2,6 +2,7 @@
 -- What the types hold by themselves is not repeated here: numbers from 1, owners, the length of lists.
 use Rattle.std.specs.Prelude.{ℕ, ◌+◌, Bool, true, false, not, ◌&&◌, ◌||◌, ◌==◌, nat_le, if◌then◌else◌, List, [], ◌∷◌, map, length, Option, Some, None}
 use Rattle.std.specs.List.{list_any, list_all, filter_map, flat_map}
+use Rattle.gb_base.specs.Limits.{is_between, most_acts, most_cents}
 use Rattle.gb_base.specs.RightNo.{RightNo, same_right}
 use Rattle.act_model.specs.Persons.{is_distinct}
 use Rattle.act_model.specs.declared.land.Inventory.{Inventory}
@@ -19,32 +20,38 @@ use Rattle.act_model.specs.declared.auctions.Registration.TheVariants as registr
 use Rattle.act_model.specs.declared.items.Filing.{Filing}
 use Rattle.act_model.specs.declared.items.Item.{Item}
 use Rattle.act_model.specs.declared.items.Item.TheVariants as item
-use Rattle.act_model.specs.Acts.{folio_of, right_created, is_section_three}
-
-abbrev pub is_between : ℕ → ℕ → ℕ → Bool
-is_between low high n = nat_le low n && nat_le n high
+use Rattle.act_model.specs.Limits.{most_folios, most_groups, highest_rate, greatest_area}
+use Rattle.act_model.specs.Acts.{folio_of, right_created, is_in_division_three}
 
 -- an amount that is claimed, bid or secured: from one cent to 10^13
 abbrev pub is_amount : ℕ → Bool
-is_amount cents = is_between 1 10000000000000 cents
+is_amount cents = is_between 1 most_cents cents
 
+-- the number of an act in its filing, from 1 to 8
+abbrev pub is_act_number : ℕ → Bool
+is_act_number act = is_between 1 most_acts act
+
+-- a parcel as it may be described
 abbrev pub is_inventory : Inventory → Bool
-is_inventory i = is_between 1 65535 i.district && is_between 1 4294967295 i.parcel && is_between 1 1000000000 i.area
+is_inventory i = is_between 1 65535 i.district && is_between 1 4294967295 i.parcel && is_between 1 greatest_area i.area
 
 -- interest up to 20 percent a year
 abbrev pub is_right_kind : RightKind → Bool
 is_right_kind kind.PersonalEasement = true
 is_right_kind kind.Usufruct = true
-is_right_kind (kind.Mortgage rate) = nat_le rate 2000
-is_right_kind (kind.LandCharge rate) = nat_le rate 2000
+is_right_kind (kind.Mortgage rate) = nat_le rate highest_rate
+is_right_kind (kind.LandCharge rate) = nat_le rate highest_rate
 
+-- a right as an act may describe it
 abbrev pub is_right_spec : RightSpec → Bool
-is_right_spec s = is_right_kind s.kind && is_amount s.capital && is_between 1 8 s.group
+is_right_spec s = is_right_kind s.kind && is_amount s.capital && is_between 1 most_groups s.group
 
+-- no reservation, or one of an amount
 abbrev pub is_reserve : Option ℕ → Bool
 is_reserve None = true
 is_reserve (Some cents) = is_amount cents
 
+-- the values of an act are in their ranges, and a right in a reservation's rank is of division III
 abbrev pub is_act : Act → Bool
 is_act (Open folio inventory owners) = is_inventory inventory
 is_act (Transfer folio owners) = true
@@ -54,21 +61,23 @@ is_act (Convert folio right) = true
 is_act (Assign folio right holder) = true
 is_act (Cancel folio right) = true
 is_act (Exchange folio recede rise) = true
-is_act (Exercise folio behind spec) = is_right_spec spec && is_section_three spec.kind
+is_act (Exercise folio behind spec) = is_right_spec spec && is_in_division_three spec.kind
 
+-- a document for one of the acts 1 to 8
 abbrev pub is_doc : Doc → Bool
-is_doc (doc.Consent act person form) = is_between 1 8 act
-is_doc (doc.Agreement act) = is_between 1 8 act
-is_doc (doc.TaxClearance act) = is_between 1 8 act
-is_doc (doc.ExpiryProof act) = is_between 1 8 act
+is_doc (doc.Consent act person form) = is_act_number act
+is_doc (doc.Agreement act) = is_act_number act
+is_doc (doc.TaxClearance act) = is_act_number act
+is_doc (doc.ExpiryProof act) = is_act_number act
 
+-- how many different numbers there are
 abbrev pub different : List ℕ → ℕ
 different [] = 0
 different (n ∷ ns) = if list_any (λ m. m == n) ns then different ns else different ns + 1
 
 -- the acts name at most two different folios
 abbrev pub names_few_folios : List Act → Bool
-names_few_folios acts = nat_le (different (map folio_of acts)) 2
+names_few_folios acts = nat_le (different (map folio_of acts)) most_folios
 
 -- the folio that an act opens or gives to new owners
 abbrev pub folio_with_new_owners : Act → Option ℕ
@@ -98,6 +107,7 @@ rights_named (Cancel folio right) = right ∷ []
 rights_named (Exchange folio recede rise) = recede ∷ rise ∷ []
 rights_named (Exercise folio behind spec) = behind ∷ []
 
+-- no right stands twice
 abbrev pub are_different : List RightNo → Bool
 are_different [] = true
 are_different (r ∷ rs) = not (list_any (same_right r) rs) && are_different rs
@@ -119,6 +129,7 @@ wants_own_group (Cancel folio right) = false
 wants_own_group (Exchange folio recede rise) = false
 wants_own_group (Exercise folio behind spec) = true
 
+-- both are there, and of one group
 abbrev pub same_group : Option RightSpec → Option RightSpec → Bool
 same_group (Some s) (Some t) = s.group == t.group
 same_group (Some s) None = false
@@ -138,24 +149,28 @@ keep_groups_apart (a ∷ acts) =
 abbrev pub keeps_rules : List Act → Bool
 keeps_rules acts = names_few_folios acts && gives_owners_once acts && names_rights_once acts && keep_groups_apart acts
 
+-- one to eight acts, all of them and the documents in their ranges, that keep the rules
 abbrev pub is_filing : Filing → Bool
-is_filing f = is_between 1 8 (length f.acts) && list_all is_act f.acts && list_all is_doc f.docs && keeps_rules f.acts
+is_filing f = is_between 1 most_acts (length f.acts) && list_all is_act f.acts && list_all is_doc f.docs && keeps_rules f.acts
 
+-- a personal claim of an amount, or a right
 abbrev pub is_basis : Basis → Bool
 is_basis (basis.Personal creditor claim) = is_amount claim
 is_basis (basis.FromRight right) = true
 
+-- a registration of an amount, or of arrears
 abbrev pub is_registration : Registration → Bool
 is_registration (registration.Advance person amount) = is_amount amount
 is_registration (registration.PublicCharge person amount due) = is_amount amount
 is_registration (registration.Arrears right from until) = true
 
+-- the values of an item are in their ranges, and a filing keeps the rules
 abbrev pub well_formed : Item → Bool
 well_formed (item.Filing f) = is_filing f
 well_formed (item.Cure filing docs) = list_all is_doc docs
 well_formed (item.Lapse filing) = true
 well_formed (item.Seize folio basis served) = is_basis basis
-well_formed (item.Register folio what) = is_registration what
+well_formed (item.Register folio registered) = is_registration registered
 well_formed (item.OpenBids folio costs) = is_amount costs
 well_formed (item.Award folio buyer bid) = is_amount bid
 well_formed (item.Distribute folio) = true

@@ -1,3 +1,4 @@
+// Documents, and lists of them.
 ghost use Rattle.std.specs.Prelude.{◌≡◌, ◌≤◌, length};
 
 use arrayvec::ArrayVec;
@@ -34,7 +35,7 @@ impl Default for Doc {
 }
 
 /// The documents of a filing or a cure, at most 32.
-#[derive(Debug, Drop)]
+#[derive(Clone, Debug, Drop)]
 pub struct Docs {
     list: ArrayVec<Doc, 32>,
 }
@@ -42,15 +43,32 @@ pub struct Docs {
 impl Model for Docs {
     ghost use Rattle.std.specs.Prelude.{List, ◌≤◌, length};
     ghost use Rattle.act_model.specs.declared.documents.Doc.{Doc};
+    ghost use Rattle.act_model.specs.Limits.{most_docs};
 
     ghost Value = { List Doc };
 
     ghost view = { λ a. a.list.items };
 
-    ghost invariant = { λ a. length a.list.items ≤ 32 };
+    ghost invariant = { λ a. length a.list.items ≤ most_docs };
+}
+
+/// Lists of the same documents in the same order are equal.
+impl PartialEq for Docs {
+    ghost use Rattle.std.specs.Cmp.Lexicographic.{pointwise, lists_per};
+    ghost use Rattle.act_model.specs.contracts.documents.DocPartialEq.TheImpl.Laws.{laws-law};
+
+    ghost eq = { pointwise ⟦<Doc as PartialEq>⟧.eq };
+
+    ghost laws = { lists_per laws-law };
+
+    fn eq(&self, other: &Docs) -> bool {
+        self.list() == other.list()
+    }
 }
 
 impl Docs {
+    ghost use Rattle.act_model.specs.Limits.{most_docs};
+
     /// These documents.
     pub fn new(list: ArrayVec<Doc, 32>) -> Docs
         ensures { result ≡ list.items }
@@ -61,26 +79,8 @@ impl Docs {
     /// The documents in their order.
     pub fn list(&self) -> &[Doc]
         ensures value { result.now ≡ self.now }
-        ensures at_most_32 { length self.now ≤ 32 }
+        ensures at_most_32 { length self.now ≤ most_docs }
     {
         self.list.as_slice()
     }
-
-    /// A copy, which takes no memory.
-    pub fn copy(&self) -> Docs
-        ensures { result ≡ self.now }
-    {
-        Docs {
-            list: copy_docs(self.list.as_slice()),
-        }
-    }
-}
-
-fn copy_docs(list: &[Doc]) -> ArrayVec<Doc, 32>
-    requires { length list.now ≤ 32 }
-    ensures { result.items ≡ list.now }
-{
-    let mut copy = ArrayVec::new();
-    let _ = copy.try_extend_from_slice(list);
-    copy
 }

@@ -1,3 +1,4 @@
+// Acts, and lists of them.
 ghost use Rattle.std.specs.Prelude.{◌≡◌, ◌≤◌, length};
 
 use crate::{Inventory, Owners, RightSpec};
@@ -6,7 +7,7 @@ use gb_base::{Cents, FolioId, Person, RightId};
 use std::marker::Model;
 
 /// What a filing applies for, in one folio.
-#[derive(Debug, Drop)]
+#[derive(Clone, Debug, Drop, PartialEq)]
 pub enum Act {
     /// A folio is opened for a parcel (GBO § 3).
     Open {
@@ -110,23 +111,40 @@ impl Default for Act {
 }
 
 /// The acts of a filing, at most eight.
-#[derive(Debug, Drop)]
+#[derive(Clone, Debug, Drop)]
 pub struct Acts {
     list: ArrayVec<Act, 8>,
 }
 
 impl Model for Acts {
     ghost use Rattle.std.specs.Prelude.{List, ◌≤◌, length};
+    ghost use Rattle.gb_base.specs.Limits.{most_acts};
     ghost use Rattle.act_model.specs.declared.filing_acts.Act.{Act};
 
     ghost Value = { List Act };
 
     ghost view = { λ a. a.list.items };
 
-    ghost invariant = { λ a. length a.list.items ≤ 8 };
+    ghost invariant = { λ a. length a.list.items ≤ most_acts };
+}
+
+/// Lists of the same acts in the same order are equal.
+impl PartialEq for Acts {
+    ghost use Rattle.std.specs.Cmp.Lexicographic.{pointwise, lists_per};
+    ghost use Rattle.act_model.specs.contracts.filing_acts.ActPartialEq.TheImpl.Laws.{laws-law};
+
+    ghost eq = { pointwise ⟦<Act as PartialEq>⟧.eq };
+
+    ghost laws = { lists_per laws-law };
+
+    fn eq(&self, other: &Acts) -> bool {
+        self.list() == other.list()
+    }
 }
 
 impl Acts {
+    ghost use Rattle.gb_base.specs.Limits.{most_acts};
+
     /// These acts.
     pub fn new(list: ArrayVec<Act, 8>) -> Acts
         ensures { result ≡ list.items }
@@ -137,7 +155,7 @@ impl Acts {
     /// The acts in their order.
     pub fn list(&self) -> &[Act]
         ensures value { result.now ≡ self.now }
-        ensures at_most_eight { length self.now ≤ 8 }
+        ensures at_most_eight { length self.now ≤ most_acts }
     {
         self.list.as_slice()
     }

@@ -1,6 +1,7 @@
 // The rules over a whole filing.
 ghost use Rattle.std.specs.Prelude.{◌≡◌, ◌≤◌, ◌==◌, ◌&&◌, ◌||◌, not, length, map};
 ghost use Rattle.std.specs.List.{filter_map, flat_map, list_all, list_any};
+ghost use Rattle.gb_base.specs.Limits.{most_acts};
 ghost use Rattle.act_model.specs.Acts.{folio_of};
 ghost use Rattle.act_model.specs.Persons.{is_distinct};
 ghost use Rattle.act_model.specs.WellFormed.{different, names_few_folios, folio_with_new_owners, gives_owners_once, rights_named, are_different, names_rights_once, wants_own_group, same_group, share_group, keep_groups_apart, keeps_rules};
@@ -13,7 +14,7 @@ use gb_base::{FolioId, RightId};
 /// folio owners at most once, name no right twice, and keep the groups of rights apart that are
 /// entered under or in a reservation.
 pub fn keeps_rules(acts: &[Act]) -> bool
-    requires { length acts.now ≤ 8 }
+    requires { length acts.now ≤ most_acts }
     ensures { result ≡ keeps_rules acts.now }
 {
     different_folios(acts) <= 2
@@ -85,7 +86,7 @@ fn folio_with_new_owners(act: &Act) -> Option<FolioId>
 }
 
 fn names_rights_once(acts: &[Act]) -> bool
-    requires { length acts.now ≤ 8 }
+    requires { length acts.now ≤ most_acts }
     ensures { result ≡ names_rights_once acts.now }
 {
     are_different(rights_of(acts).as_slice())
@@ -93,7 +94,7 @@ fn names_rights_once(acts: &[Act]) -> bool
 
 /// The rights that the acts name, in the order of the acts.
 fn rights_of(acts: &[Act]) -> ArrayVec<RightId, 16>
-    requires { length acts.now ≤ 8 }
+    requires { length acts.now ≤ most_acts }
     ensures { result.items ≡ flat_map rights_named acts.now }
 {
     let mut rights = ArrayVec::new();

@@ -1,8 +1,9 @@
+// Filings and the other items.
 use crate::{Acts, Basis, Docs, Registration};
 use gb_base::{Cents, Day, FolioId, Person, ReceiptNo};
 
 /// An application for entries (GBO § 13).
-#[derive(Debug, Drop)]
+#[derive(Clone, Debug, Drop, PartialEq)]
 pub struct Filing {
     /// Who applies.
     pub applicant: Person,
@@ -13,7 +14,7 @@ pub struct Filing {
 }
 
 /// What a receipt holds.
-#[derive(Debug, Drop)]
+#[derive(Clone, Debug, Drop, PartialEq)]
 pub enum Item {
     /// An application.
     Filing(Filing),
@@ -53,4 +54,15 @@ pub enum Item {
     Distribute {
         folio: FolioId,
     },
+}
+
+impl Item {
+    ghost use Rattle.std.specs.Prelude.{◌≡◌};
+
+    /// A copy. Unlike `clone` of most types it takes no memory, and cannot fail.
+    pub fn copy(&self) -> Item
+        ensures { result ≡ self.now }
+    {
+        self.clone().unwrap()
+    }
 }

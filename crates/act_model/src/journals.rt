@@ -1,9 +1,10 @@
+// The journal of the office.
 ghost use Rattle.std.specs.Prelude.{◌≡◌, ◌⊎◌, ◌≤◌, ◌-◌, true, false, [], length, drop, IsTrue, IsOk, OnOk, OnErr};
 ghost use Rattle.std.specs.Option.{option_copied};
 ghost use Rattle.act_model.specs.Receiving.{answer_again, stamp_after, IsJournal};
-ghost use Rattle.act_model.specs.Numbers.{IsIndexOf, IsIndexed};
+ghost use Rattle.act_model.specs.inner.Index.{IsIndexOf, IsIndexed};
 
-use crate::{Added, Item, Receipt, copy_item, same_item};
+use crate::{Added, Item, Receipt};
 use gb_base::{NoMemory, ReceiptNo, Stamp};
 use std::alloc::Global;
 use std::collections::BTreeMap;
@@ -12,6 +13,18 @@ use std::marker::Model;
 /// The receipts of the office, numbered from 1 (GBO § 13): at most 200,000, no two of the same
 /// sender and reference, with stamps that never fall. In contracts it is the list of its receipts,
 /// and whether room is kept for one more.
+///
+/// ```
+/// let mut journal = Journal::new(alloc);
+/// if well_formed(&item) {
+///     // Sender 1 calls the item 5.
+///     match journal.add(stamp, 1, 5, &item) {
+///         Added::Accepted(n) => assert!(journal.find(1, 5) == Some(n)),
+///         Added::Repeated(_) | Added::Differs(_) => {}
+///         Added::Full | Added::Memory => {}
+///     }
+/// }
+/// ```
 #[derive(Drop)]
 pub struct Journal {
     receipts: Vec<Receipt>,
@@ -27,7 +40,7 @@ impl Model for Journal {
     ghost use Rattle.std.specs.Prelude.{vec_len, vec_capacity};
     ghost use Rattle.act_model.specs.JournalState.{JournalState};
     ghost use Rattle.act_model.specs.Receiving.{IsJournal};
-    ghost use Rattle.act_model.specs.Numbers.{IsIndexed, IsReady};
+    ghost use Rattle.act_model.specs.inner.Index.{IsIndexed, IsReady};
 
     ghost Value = { JournalState };
 
@@ -39,6 +52,7 @@ impl Model for Journal {
 impl Journal {
     ghost use Rattle.act_model.specs.Receiving.{answer_by, answer_to, journal_with, number_from, number_of, receipt_at, is_accepted, IsJournal};
     ghost use Rattle.act_model.specs.JournalState.{has_room};
+    ghost use Rattle.act_model.specs.Limits.{most_receipts};
     ghost use Rattle.act_model.specs.WellFormed.{well_formed};
 
     /// The most receipts that a journal holds.
@@ -59,7 +73,7 @@ impl Journal {
     /// The number of receipts.
     pub fn len(&self) -> u32
         ensures value { result ≡ length self.now.receipts }
-        ensures limit { length self.now.receipts ≤ 200000 }
+        ensures limit { length self.now.receipts ≤ most_receipts }
         ensures journal { IsJournal self.now.receipts }
     {
         self.receipts.len() as u32
@@ -173,7 +187,7 @@ impl Journal {
             stamp,
             sender,
             reference,
-            item: copy_item(item),
+            item: item.copy(),
         });
         self.ready = false;
         Added::Accepted(n)
@@ -206,7 +220,7 @@ fn answer_again(receipt: Option<&Receipt>, n: ReceiptNo, item: &Item) -> Added
     ensures { result ≡ answer_again item.now n (option_copied receipt.entry) }
 {
     match receipt {
-        Some(receipt) if same_item(&receipt.item, item) => Added::Repeated(n),
+        Some(receipt) if receipt.item == *item => Added::Repeated(n),
         _ => Added::Differs(n),
     }
 }

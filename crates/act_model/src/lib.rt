@@ -4,25 +4,23 @@
 
 mod added;
 mod auctions;
-mod copies;
 mod documents;
 mod filing_acts;
 mod filing_rules;
 mod items;
 mod journals;
 mod land;
+pub mod laws;
 mod people;
 mod ranges;
 mod receipts;
 mod rights;
-mod same;
 #[cfg(test)]
 mod tests;
 mod touched_keys;
 
 pub use added::Added;
 pub use auctions::{Basis, Registration};
-pub use copies::{copy_act, copy_item};
 pub use documents::{Doc, Docs, Form};
 pub use filing_acts::{Act, Acts};
 pub use filing_rules::keeps_rules;
@@ -33,5 +31,4 @@ pub use people::Owners;
 pub use ranges::well_formed;
 pub use receipts::Receipt;
 pub use rights::{RightKind, RightSpec};
-pub use same::same_item;
 pub use touched_keys::filing_keys;

@@ -1,3 +1,4 @@
+// Owners.
 ghost use Rattle.std.specs.Prelude.{◌≡◌, ◌↔◌, ◌≤◌, length, IsSome, IfSome, IsTrue};
 ghost use Rattle.act_model.specs.Persons.{AreOwners, is_distinct};
 
@@ -6,23 +7,41 @@ use gb_base::Person;
 use std::marker::Model;
 
 /// The owners of a folio in equal shares, one to four different persons in the order of naming.
-#[derive(Debug, Drop)]
+#[derive(Clone, Debug, Drop)]
 pub struct Owners {
     list: ArrayVec<Person, 4>,
 }
 
 impl Model for Owners {
     ghost use Rattle.std.specs.Prelude.{List, ℕ, ◌≤◌, length};
+    ghost use Rattle.act_model.specs.Limits.{most_owners};
     ghost use Rattle.act_model.specs.Persons.{AreOwners};
 
     ghost Value = { List ℕ };
 
     ghost view = { λ a. a.list.items };
 
-    ghost invariant = { λ a. AreOwners a.list.items × (length a.list.items ≤ 4) };
+    ghost invariant = { λ a. AreOwners a.list.items × (length a.list.items ≤ most_owners) };
+}
+
+/// The same owners in the same order are equal.
+impl PartialEq for Owners {
+    ghost use Rattle.std.specs.Prelude.{◌==◌};
+    ghost use Rattle.std.specs.Cmp.Lexicographic.{pointwise, lists_per};
+    ghost use Rattle.std.specs.Cmp.Rules.{comparing};
+
+    ghost eq = { pointwise ◌==◌ };
+
+    ghost laws = { lists_per (Prim.search comparing) };
+
+    fn eq(&self, other: &Owners) -> bool {
+        self.list() == other.list()
+    }
 }
 
 impl Owners {
+    ghost use Rattle.act_model.specs.Limits.{most_owners};
+
     /// These owners; None where the list is empty or names a person twice.
     pub fn new(list: ArrayVec<Person, 4>) -> Option<Owners>
         ensures some { IsSome result ↔ AreOwners list.items }
@@ -39,28 +58,10 @@ impl Owners {
     pub fn list(&self) -> &[Person]
         ensures value { result.now ≡ self.now }
         ensures owners { AreOwners self.now }
-        ensures at_most_four { length self.now ≤ 4 }
+        ensures at_most_four { length self.now ≤ most_owners }
     {
         self.list.as_slice()
     }
-
-    /// A copy, which takes no memory.
-    pub fn copy(&self) -> Owners
-        ensures { result ≡ self.now }
-    {
-        Owners {
-            list: copy_persons(self.list.as_slice()),
-        }
-    }
-}
-
-fn copy_persons(list: &[Person]) -> ArrayVec<Person, 4>
-    requires { length list.now ≤ 4 }
-    ensures { result.items ≡ list.now }
-{
-    let mut copy = ArrayVec::new();
-    let _ = copy.try_extend_from_slice(list);
-    copy
 }
 
 /// Whether no person is named twice.

@@ -1,7 +1,7 @@
 // Whether an item is well formed.
 ghost use Rattle.std.specs.Prelude.{◌≡◌};
 ghost use Rattle.std.specs.List.{list_all};
-ghost use Rattle.act_model.specs.WellFormed.{is_between, is_amount, is_inventory, is_right_kind, is_right_spec, is_reserve, is_act, is_doc, is_filing, is_basis, is_registration, well_formed};
+ghost use Rattle.act_model.specs.WellFormed.{is_act_number, is_amount, is_inventory, is_right_kind, is_right_spec, is_reserve, is_act, is_doc, is_filing, is_basis, is_registration, well_formed};
 
 use crate::filing_rules::keeps_rules;
 use crate::{Act, Basis, Doc, Filing, Inventory, Item, Registration, RightKind, RightSpec};
@@ -44,7 +44,7 @@ fn is_act(act: &Act) -> bool
         Act::Open { inventory, .. } => is_inventory(*inventory),
         Act::Create { spec, reserve, .. } => is_right_spec(*spec) && is_reserve(*reserve),
         Act::NoticeFor { spec, .. } => is_right_spec(*spec),
-        Act::Exercise { spec, .. } => is_right_spec(*spec) && spec.kind.is_section_three(),
+        Act::Exercise { spec, .. } => is_right_spec(*spec) && spec.kind.is_in_division_three(),
         Act::Transfer { .. } => true,
         Act::Convert { .. } => true,
         Act::Assign { .. } => true,
@@ -113,7 +113,7 @@ fn is_doc(doc: Doc) -> bool
 }
 
 fn is_act_number(act: u8) -> bool
-    ensures { result ≡ is_between 1 8 act }
+    ensures { result ≡ is_act_number act }
 {
     act >= 1 && act <= 8
 }
@@ -127,10 +127,10 @@ fn is_basis(basis: Basis) -> bool
     }
 }
 
-fn is_registration(what: Registration) -> bool
-    ensures { result ≡ is_registration what }
+fn is_registration(registration: Registration) -> bool
+    ensures { result ≡ is_registration registration }
 {
-    match what {
+    match registration {
         Registration::Advance { amount, .. } => is_amount(amount),
         Registration::PublicCharge { amount, .. } => is_amount(amount),
         Registration::Arrears { .. } => true,

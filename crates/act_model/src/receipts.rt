@@ -1,3 +1,4 @@
+// Items as they are received.
 use crate::Item;
 use gb_base::Stamp;
 

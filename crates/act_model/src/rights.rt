@@ -1,8 +1,9 @@
+// Rights as acts describe them.
 ghost use Rattle.std.specs.Prelude.{◌≡◌};
 
 use gb_base::{Cents, Person};
 
-/// The kinds of rights. Section II of a folio holds the first two, section III the last two.
+/// The kinds of rights. Division II of a folio holds the first two, division III the last two.
 #[derive(Clone, Copy, Debug, PartialEq, Eq)]
 pub enum RightKind {
     /// A limited personal easement (BGB § 1090).
@@ -16,11 +17,11 @@ pub enum RightKind {
 }
 
 impl RightKind {
-    ghost use Rattle.act_model.specs.Acts.{is_section_three};
+    ghost use Rattle.act_model.specs.Acts.{is_in_division_three};
 
-    /// Whether section III of the folio holds the right; section II holds the others.
-    pub fn is_section_three(self) -> bool
-        ensures { result ≡ is_section_three self }
+    /// Whether division III of the folio holds the right; division II holds the others.
+    pub fn is_in_division_three(self) -> bool
+        ensures { result ≡ is_in_division_three self }
     {
         match self {
             RightKind::PersonalEasement => false,
@@ -35,7 +36,7 @@ impl RightKind {
 #[derive(Clone, Copy, Debug, PartialEq, Eq)]
 pub struct RightSpec {
     pub kind: RightKind,
-    /// The capital; for a right of section II the highest replacement value (BGB § 882).
+    /// The capital; for a right of division II the highest replacement value (BGB § 882).
     pub capital: Cents,
     /// Whose right it is.
     pub holder: Person,

@@ -1,36 +1,43 @@
 // The keys that a filing touches.
-ghost use Rattle.std.specs.Prelude.{◌≡◌, ◌≤◌, IsTrue, insert, length};
+ghost use Rattle.std.specs.Prelude.{◌≡◌, ◌≤◌, ◌↔◌, IsTrue, Contains, [], insert, length};
+ghost use Rattle.std.specs.List.Sorted.{IsStrictlySortedBy};
 ghost use Rattle.std.specs.Option.{option_copied};
+ghost use Rattle.gb_base.specs.Keys.{key_cmp};
+ghost use Rattle.gb_base.specs.Limits.{most_acts};
+ghost use Rattle.gb_base.specs.declared.keys.Key.{Key};
 ghost use Rattle.act_model.specs.WellFormed.{names_few_folios};
-ghost use Rattle.act_model.specs.Touches.{filing_of, filing_at, act_at, created_in, created_before, was_section_three, keys_of_act, keys_of_acts, with_key, with_keys, insert_key, in_key_order, filing_keys, new_right};
+ghost use Rattle.act_model.specs.Touches.{filing_in, filing_at, act_at, created_in, created_before, was_in_division_three, keys_of_act, keys_of_acts, keys_of_filing, new_right};
+ghost use Rattle.act_model.specs.inner.KeyInsertion.{with_key, with_keys, insert_key};
 
 use crate::{Act, Filing, Item, Journal, Receipt, RightSpec};
 use arrayvec::ArrayVec;
 use gb_base::{FolioId, Key, ReceiptNo, RightId};
 
-/// The keys of filing n in key order, each once; none where receipt n is no filing.
-pub fn filing_keys(journal: &Journal, n: ReceiptNo) -> ArrayVec<Key, 18>
-    ensures { result.items ≡ filing_keys journal.now.receipts n }
+/// The keys of filing m in ascending order, each once; none where receipt m is no filing.
+pub fn filing_keys(journal: &Journal, m: ReceiptNo) -> ArrayVec<Key, 18>
+    ensures ascending { IsStrictlySortedBy key_cmp result.items }
+    ensures members { (k : Key) → Contains result.items k ↔ Contains (keys_of_filing journal.now.receipts m) k }
 {
     let receipts = journal.receipts();
-    match filing_at(receipts, n) {
-        Some(filing) => keys_of_acts(receipts, n, filing.acts.list()),
+    match filing_at(receipts, m) {
+        Some(filing) => keys_of_acts(receipts, m, filing.acts.list()),
         None => ArrayVec::new(),
     }
 }
 
-/// Filing n; None where receipt n is no filing.
-fn filing_at(receipts: &[Receipt], n: ReceiptNo) -> Option<&Filing>
-    ensures { option_copied result ≡ filing_at receipts.now n }
+/// Filing m; None where receipt m is no filing.
+fn filing_at(receipts: &[Receipt], m: ReceiptNo) -> Option<&Filing>
+    ensures { option_copied result ≡ filing_at receipts.now m }
 {
-    match receipts.get(n.get() as usize - 1) {
-        Some(receipt) => filing_of(&receipt.item),
+    match receipts.get(m.get() as usize - 1) {
+        Some(receipt) => filing_in(&receipt.item),
         None => None,
     }
 }
 
-fn filing_of(item: &Item) -> Option<&Filing>
-    ensures { option_copied result ≡ filing_of item.now }
+/// The filing that the item is.
+fn filing_in(item: &Item) -> Option<&Filing>
+    ensures { option_copied result ≡ filing_in item.now }
 {
     match item {
         Item::Filing(filing) => Some(filing),
@@ -38,6 +45,7 @@ fn filing_of(item: &Item) -> Option<&Filing>
     }
 }
 
+/// Act a of the filing, from 1.
 fn act_at(filing: &Filing, a: u8) -> Option<&Act>
     requires { 1 ≤ a }
     ensures { option_copied result ≡ act_at filing.now a }
@@ -56,16 +64,16 @@ fn created_in(folio: FolioId, act: &Act) -> Option<RightSpec>
     }
 }
 
-/// The right of this number as a filing before receipt n creates it in this folio.
+/// The right of this number as a filing before filing m creates it in this folio.
 fn created_before(
     receipts: &[Receipt],
-    n: ReceiptNo,
+    m: ReceiptNo,
     folio: FolioId,
     right: RightId,
 ) -> Option<RightSpec>
-    ensures { result ≡ created_before receipts.now n folio right }
+    ensures { result ≡ created_before receipts.now m folio right }
 {
-    if right.receipt() >= n {
+    if right.receipt() >= m {
         return None;
     }
     let filing = filing_at(receipts, right.receipt())?;
@@ -73,21 +81,21 @@ fn created_before(
     created_in(folio, act)
 }
 
-/// Whether a filing before receipt n creates this right, and in section III of this folio.
-fn was_section_three(receipts: &[Receipt], n: ReceiptNo, folio: FolioId, right: RightId) -> bool
-    ensures { result ≡ was_section_three receipts.now n folio right }
+/// Whether a filing before filing m creates this right, in division III of this folio.
+fn was_in_division_three(receipts: &[Receipt], m: ReceiptNo, folio: FolioId, right: RightId) -> bool
+    ensures { result ≡ was_in_division_three receipts.now m folio right }
 {
-    match created_before(receipts, n, folio, right) {
-        Some(spec) => spec.kind.is_section_three(),
+    match created_before(receipts, m, folio, right) {
+        Some(spec) => spec.kind.is_in_division_three(),
         None => false,
     }
 }
 
-/// The keys of act a of filing n.
-fn keys_of_act(receipts: &[Receipt], n: ReceiptNo, a: u8, act: &Act) -> ArrayVec<Key, 3>
+/// The keys of act a of filing m.
+fn keys_of_act(receipts: &[Receipt], m: ReceiptNo, a: u8, act: &Act) -> ArrayVec<Key, 3>
     requires from_one { 1 ≤ a }
-    requires to_eight { a ≤ 8 }
-    ensures { result.items ≡ keys_of_act receipts.now n a act.now }
+    requires to_eight { a ≤ most_acts }
+    ensures { result.items ≡ keys_of_act receipts.now m a act.now }
 {
     let mut keys = ArrayVec::new();
     match act {
@@ -95,11 +103,11 @@ fn keys_of_act(receipts: &[Receipt], n: ReceiptNo, a: u8, act: &Act) -> ArrayVec
         Act::Transfer { folio, .. } => keys.push(Key::Title(*folio)),
         Act::Create { folio, .. } => {
             keys.push(Key::Title(*folio));
-            keys.push(Key::Right(*folio, new_right(n, a)));
+            keys.push(Key::Right(*folio, new_right(m, a)));
         }
         Act::NoticeFor { folio, .. } => {
             keys.push(Key::Title(*folio));
-            keys.push(Key::Right(*folio, new_right(n, a)));
+            keys.push(Key::Right(*folio, new_right(m, a)));
         }
         Act::Convert { folio, right } => {
             keys.push(Key::Title(*folio));
@@ -117,39 +125,39 @@ fn keys_of_act(receipts: &[Receipt], n: ReceiptNo, a: u8, act: &Act) -> ArrayVec
         } => {
             keys.push(Key::Right(*folio, *recede));
             keys.push(Key::Right(*folio, *rise));
-            if was_section_three(receipts, n, *folio, *recede) {
+            if was_in_division_three(receipts, m, *folio, *recede) {
                 keys.push(Key::Title(*folio));
             }
         }
         Act::Exercise { folio, behind, .. } => {
             keys.push(Key::Title(*folio));
             keys.push(Key::Right(*folio, *behind));
-            keys.push(Key::Right(*folio, new_right(n, a)));
+            keys.push(Key::Right(*folio, new_right(m, a)));
         }
     }
     keys
 }
 
-/// The right that act a of filing n creates.
-fn new_right(n: ReceiptNo, a: u8) -> RightId
+/// The right that act a of filing m creates.
+fn new_right(m: ReceiptNo, a: u8) -> RightId
     requires from_one { 1 ≤ a }
-    requires to_eight { a ≤ 8 }
-    ensures { result ≡ new_right n a }
+    requires to_eight { a ≤ most_acts }
+    ensures { result ≡ new_right m a }
 {
-    RightId::new(n, a).unwrap()
+    RightId::new(m, a).unwrap()
 }
 
-/// The keys of the acts of filing n in key order, each once.
-fn keys_of_acts(receipts: &[Receipt], n: ReceiptNo, acts: &[Act]) -> ArrayVec<Key, 18>
-    requires acts { length acts.now ≤ 8 }
+/// The keys of the acts of filing m in key order, each once.
+fn keys_of_acts(receipts: &[Receipt], m: ReceiptNo, acts: &[Act]) -> ArrayVec<Key, 18>
+    requires acts { length acts.now ≤ most_acts }
     requires folios { IsTrue (names_few_folios acts.now) }
-    ensures { result.items ≡ in_key_order (keys_of_acts receipts.now n 1 acts.now) }
+    ensures { result.items ≡ with_keys (keys_of_acts receipts.now m 1 acts.now) [] }
 {
     let mut keys = ArrayVec::new();
     for (i, act) in acts.iter().enumerate() {
         insert_keys(
             &mut keys,
-            keys_of_act(receipts, n, i as u8 + 1, act).as_slice(),
+            keys_of_act(receipts, m, i as u8 + 1, act).as_slice(),
         );
     }
     keys

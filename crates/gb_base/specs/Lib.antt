@@ -3,6 +3,7 @@ pub mod Limits
 pub mod RightNo
 pub mod DayMinute
 pub mod Keys
+pub mod Limits
 pub mod Calendar
 pub mod Texts
 pub mod inner

@@ -3,7 +3,7 @@ use Rattle.std.proofs.Common.{◌≡◌, ◌≤◌, length, subst, sym, ap, ◌�
 use Rattle.std.proofs.lemmas.Bool.{cond-false}
 use Rattle.std.specs.List.{list_any}
 use Rattle.gb_base.specs.Keys.{same_key}
-use Rattle.act_model.specs.Touches.{insert_key}
+use Rattle.act_model.specs.inner.KeyInsertion.{insert_key}
 use Rattle.act_model.proofs.KeyLemmas.{length-insert_key}
 use Rattle.act_model.proofs.touched_keys.insert_key.Goals as goal
 

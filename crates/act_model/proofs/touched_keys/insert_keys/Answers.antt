@@ -1,6 +1,6 @@
 -- More keys are no fewer, so what fits at the end fits before.
 use Rattle.std.proofs.Common.{◌≡◌, ◌+◌, ◌∷◌, length, drop, ap, arith}
-use Rattle.act_model.specs.Touches.{with_key, with_keys}
+use Rattle.act_model.specs.inner.KeyInsertion.{with_key, with_keys}
 use Rattle.act_model.proofs.KeyLemmas.{drop_next, length-with_keys}
 use Rattle.act_model.proofs.touched_keys.insert_keys.Goals as goal
 

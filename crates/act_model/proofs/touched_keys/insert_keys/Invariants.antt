@@ -1,5 +1,5 @@
 use Rattle.std.proofs.Common.{◌≡◌, drop}
-use Rattle.act_model.specs.Touches.{with_keys}
+use Rattle.act_model.specs.inner.KeyInsertion.{with_keys}
 use Rattle.act_model.proofs.touched_keys.insert_keys.Given as goal
 
 abbrev pub invariant-loop-key : goal.invariant-loop-key

@@ -1,0 +1,4 @@
+-- What only private clauses and proofs use.
+pub mod Index
+pub mod KeyInsertion
+pub mod Touched

@@ -1,0 +1,25 @@
+//! What holds of all keys and of all items.
+ghost use Rattle.std.specs.Prelude.{◌≡◌, ◌↔◌, IsTrue, List, Contains};
+ghost use Rattle.std.specs.List.Sorted.{IsStrictlySortedBy};
+ghost use Rattle.gb_base.specs.Keys.{key_cmp};
+ghost use Rattle.gb_base.specs.declared.keys.Key.{Key};
+ghost use Rattle.act_model.specs.declared.items.Item.{Item};
+ghost use Rattle.act_model.specs.Same.{same_item};
+ghost use Rattle.act_model.specs.Touches.{in_key_order};
+
+/// Keys can be put in ascending order, each once.
+pub fn key_order()
+    ensures ascending { (keys : List Key) → IsStrictlySortedBy key_cmp (in_key_order keys) }
+    ensures members { (keys : List Key) (k : Key) → Contains (in_key_order keys) k ↔ Contains keys k }
+{}
+
+/// They can be in one way only.
+pub fn one_key_order()
+    ensures { (keys others : List Key) → IsStrictlySortedBy key_cmp keys → IsStrictlySortedBy key_cmp others
+        → ((k : Key) → Contains keys k ↔ Contains others k) → keys ≡ others }
+{}
+
+/// `==` of two items is whether they are equal.
+pub fn equal_items()
+    ensures { (a b : Item) → IsTrue (same_item a b) ↔ (a ≡ b) }
+{}
