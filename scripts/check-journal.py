@@ -19,13 +19,14 @@ EMPTY_REPORT = b"end receipts 0 folios 0\n"
 REFUSED = (5, b"", b"disk fault\n")
 
 
-def over(content, words=SETTLE, **how):
+def over(content, tracer=()):
     """A run in a folder with this journal, none where it is None; and what the folder then has."""
     with tempfile.TemporaryDirectory() as folder:
         if content is not None:
             with open(os.path.join(folder, checks.JOURNAL), "wb") as file:
                 file.write(content)
-        ran = checks.run(words, folder, **how)
+        before = [word.replace("FOLDER", os.path.realpath(folder)) for word in tracer]
+        ran = checks.run(SETTLE, folder, before=before)
         return ran, files_of(folder)
 
 
@@ -66,18 +67,20 @@ def check_refusals(look):
         look.skip("settle where the system fails", "there is no strace that works here")
         return
     three, report = checks.journal_of_openings(3)
-    for call, error, when, ends in [
-        ("fsync", "EIO", 1, REFUSED),
-        ("fsync", "EIO", 2, REFUSED),
-        ("fsync", "EINTR", 1, (0, report, b"")),
-        ("pread64", "EIO", 1, REFUSED),
-        ("pread64", "EINTR", 1, (0, report, b"")),
-        ("flock", "ENOLCK", 1, REFUSED),
+    for call, error, on, ends in [
+        ("fsync", "EIO", checks.JOURNAL, REFUSED),
+        ("fsync", "EIO", ".", REFUSED),
+        ("fsync", "EINTR", checks.JOURNAL, (0, report, b"")),
+        ("pread64", "EIO", checks.JOURNAL, REFUSED),
+        ("pread64", "EINTR", checks.JOURNAL, (0, report, b"")),
+        ("flock", "ENOLCK", checks.JOURNAL, REFUSED),
     ]:
-        tracer = ["strace", "-o", os.devnull, "-e", f"trace={call}", "-e", f"inject={call}:error={error}:when={when}"]
-        ran, files = over(three, before=tracer)
-        look.same(f"settle where {call} {when} answers {error}", ran, ends)
-        look.same(f"settle where {call} {when} answers {error}: the folder", files, {checks.JOURNAL: three})
+        what = f"settle where {call} of {'the folder' if on == '.' else 'the file'} answers {error}"
+        tracer = ["strace", "-o", os.devnull, "-P", os.path.normpath(f"FOLDER/{on}")]
+        tracer += ["-e", f"trace={call}", "-e", f"inject={call}:error={error}:when=1"]
+        ran, files = over(three, tracer)
+        look.same(what, ran, ends)
+        look.same(f"{what}: the folder", files, {checks.JOURNAL: three})
 
 
 def check_held(look):
@@ -123,7 +126,7 @@ def check_calls(look):
     calls = calls_of(three)
     file, folder = f"<FOLDER/{checks.JOURNAL}>", "<FOLDER>"
     for what, pattern in [
-        ("the file is opened by its name", rf'^"{checks.JOURNAL}", O_RDWR\|O_CREAT\|O_CLOEXEC'),
+        ("the file is opened by its name", rf'^"{checks.JOURNAL}", O_RDWR\|O_CREAT\b'),
         ("the file is locked without waiting before it is read", rf"flock\(\d+{file}, LOCK_EX\|LOCK_NB\)[^?]*pread64\(\d+{file}"),
         ("the file is synced before it is read", rf"fsync\(\d+{file}\) += 0[^?]*pread64\(\d+{file}"),
         ("the folder is synced before the report", rf"fsync\(\d+{folder}\) += 0[^?]*write\(1"),
