@@ -6,12 +6,9 @@ and the script says so.
 """
 
 import json
-import pathlib
-import sys
 
+import checks
 import wrong_lines
-
-ROOT = pathlib.Path(__file__).resolve().parent.parent
 
 # A validator takes these for whole numbers.
 WHOLE_BY_VALUE = ("1.0", "1e0", "1E3", "10e-1")
@@ -28,33 +25,23 @@ def beyond_schemas():
 
 
 def main():
+    look = checks.Checks()
     try:
         import jsonschema
     except ImportError:
-        print("check-schema: skipped, since python has no package jsonschema here")
-        return 0
-    schema = json.loads((ROOT / "docs" / "receipt.schema.json").read_text())
+        look.skip("schema", "python has no package jsonschema here")
+        look.end()
+    schema = json.loads((checks.ROOT / "docs" / "receipt.schema.json").read_text())
     jsonschema.Draft202012Validator.check_schema(schema)
     validator = jsonschema.Draft202012Validator(schema)
-    faults = 0
-    good = list(wrong_lines.right_lines())
-    for text in good:
-        if not validator.is_valid(json.loads(text)):
-            print("refused, and is an item: " + text)
-            faults += 1
-    let_through = set(beyond_schemas())
-    wrong = list(wrong_lines.wrong_lines())
-    for path, text in wrong:
-        valid = validator.is_valid(json.loads(text))
-        if valid and text not in let_through:
-            print("let through, and wrong at " + path + ": " + text)
-            faults += 1
-        if not valid and text in let_through:
-            print("refused, and said to be beyond a schema: " + text)
-            faults += 1
-    print(f"check-schema: {len(good)} items, {len(wrong)} other lines, of which {len(let_through)} are beyond a schema, {faults} faults")
-    return 1 if faults else 0
+    refused = [text for text in wrong_lines.right_lines() if not validator.is_valid(json.loads(text))]
+    look.same("schema takes each item", refused, [])
+    beyond = set(beyond_schemas())
+    taken = [text for _, text in wrong_lines.wrong_lines() if validator.is_valid(json.loads(text))]
+    look.same("schema refuses what a schema can tell", [text for text in taken if text not in beyond], [])
+    look.same("schema takes what no schema can tell", sorted(beyond - set(taken)), [])
+    look.end()
 
 
 if __name__ == "__main__":
-    sys.exit(main())
+    main()

@@ -1,2 +1,4 @@
+-- The definitions that the contracts of the program cite.
+pub mod Adapters
 pub mod Clock
 pub mod Endings

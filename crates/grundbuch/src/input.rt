@@ -1,7 +1,14 @@
+// Standard input as the office's source.
+ghost use Rattle.std.specs.Io.{ReadsAtMost};
+ghost use Rattle.std.specs.Io.KnownBytes.{ReadConsumes};
+
+use crate::faults::counted;
 use gb_outside::{Got, Source};
+use std::io;
 use std::io::Read;
 
-/// Standard input, or any other reader, as the office's source. It tells nothing of its bytes.
+/// Standard input, or any other reader, as the office's source. It does not tell the office its
+/// bytes, since standard input tells none; what a reader tells, it hands on.
 #[derive(Drop)]
 pub struct Input<R: Read + Drop> {
     reader: R,
@@ -11,29 +18,90 @@ pub struct Input<R: Read + Drop> {
 impl<R: Read + Drop> Input<R> {
     ghost use Rattle.std.specs.Prelude.{◌≡◌};
 
-    /// The reader as a source that has not failed yet.
+    /// The reader as a source that has not failed yet. Nothing is read.
     pub fn new(reader: R) -> Input<R>
-        ensures { result.faults ≡ 0 }
+        ensures reader { result.reader ≡ reader }
+        ensures faults { result.faults ≡ 0 }
     {
         Input { reader, faults: 0 }
     }
 }
 
 impl<R: Read + Drop> Source for Input<R> {
-    ghost use Rattle.std.specs.Prelude.{None};
+    ghost use Rattle.std.specs.Prelude.{◌≡◌, ◌<◌, length, None};
+    ghost use Rattle.gb_outside.specs.Bytes.{IsGot, Reads, read_failed};
+    ghost use Rattle.gb_outside.specs.Faults.{Counts};
+    ghost use Rattle.grundbuch.specs.Adapters.{faults_after, HandsOn};
 
     ghost left = { λ source. None };
 
     ghost faults = { λ source. source.faults };
 
-    fn read(&mut self, into: &mut [u8]) -> Got {
-        match self.reader.read(into) {
+    fn read(&mut self, into: &mut [u8]) -> Got
+        requires { 0 < length into.old }
+        ensures count { IsGot result (length into.new) }
+        ensures content { Reads None None result into.new }
+        ensures cause { Counts self.old.faults self.new.faults (read_failed result) }
+        ensures once { self.new.faults ≡ faults_after self.old.faults (read_failed result) }
+        ensures bytes { HandsOn (R.remaining self.old.reader) (R.remaining self.new.reader) result into.new }
+    {
+        match counted(&mut self.faults, read_some(&mut self.reader, into)) {
             Ok(0) => Got::End,
             Ok(count) => Got::Bytes(count),
-            Err(_) => {
-                self.faults = self.faults.saturating_add(1);
-                Got::Failed
+            Err(_) => Got::Failed,
+        }
+    }
+}
+
+/// Reads once, and again where a signal interrupts the call.
+fn read_some<R: Read>(reader: &mut R, into: &mut [u8]) -> io::Result<usize>
+    ensures bound { ReadsAtMost result into.new }
+    ensures bytes { ReadConsumes (R.remaining reader.old) (R.remaining reader.new) result into.new }
+{
+    for _ in 0..u64::MAX {
+        match reader.read(into) {
+            Err(error) if error.kind() == io::ErrorKind::Interrupted => {}
+            answer => return answer,
+        }
+    }
+    Err(io::Error::from(io::ErrorKind::Interrupted))
+}
+
+#[cfg(test)]
+mod tests {
+    use super::Input;
+    use gb_outside::{Got, Source};
+    use std::io;
+    use std::io::Read;
+
+    /// Answers in turn: an interrupt, three bytes, a failure, an interrupt, the end.
+    #[derive(Drop)]
+    struct Answers {
+        next: u8,
+    }
+
+    impl Read for Answers {
+        fn read(&mut self, buf: &mut [u8]) -> io::Result<usize> {
+            self.next = self.next.saturating_add(1);
+            match self.next {
+                1 | 4 => Err(io::Error::from(io::ErrorKind::Interrupted)),
+                2 if buf.len() >= 3 => {
+                    buf[..3].copy_from_slice(b"GBO");
+                    Ok(3)
+                }
+                5 => Ok(0),
+                _ => Err(io::Error::from(io::ErrorKind::Other)),
             }
         }
+    }
+
+    #[test]
+    fn answers_are_handed_on(rt: HostRuntime) {
+        let mut source = Input::new(Answers { next: 0 });
+        let mut into = [b'.'; 5];
+        assert_eq!(rt; source.read(&mut into), Got::Bytes(3));
+        assert_eq!(rt; into, *b"GBO..");
+        assert_eq!(rt; (source.read(&mut into), source.faults), (Got::Failed, 1));
+        assert_eq!(rt; (source.read(&mut into), source.faults), (Got::End, 1));
     }
 }

@@ -1,17 +1,23 @@
+// The journal's file as the office's disk.
 ghost use Rattle.std.specs.Prelude.{◌≡◌, is_err, IsOk, IsErr, IsTrue};
 ghost use Rattle.gb_outside.specs.Faults.{Counts};
+ghost use Rattle.grundbuch.specs.Adapters.{faults_after};
 
+use crate::faults::counted;
+use crate::held_file::{HeldFile, Lock, open_beside_streams};
 use gb_outside::{Disk, DiskFailed};
-use std::fs::{File, OpenFile, OpenOptions};
+use std::fs::{OpenFile, OpenOptions};
 use std::io;
 use std::os::unix::fs::FileExt;
 use std::rt::Files;
 
 /// The file `grundbuch.journal` of the current folder as the office's disk. It is opened at its
-/// first use, and made where there is none. It tells nothing of its bytes.
+/// first use, made where there is none, and kept from other programs from then on. It tells
+/// nothing of its bytes.
 #[derive(Drop)]
 pub struct JournalFile<'a, R: Files> {
-    file: LazyFile<'a, R>,
+    file: HeldFile<'a, R>,
+    files: &'a R,
     folder: &'a str,
 
     /// Whether the folder was synced, so that a stop leaves the file's entry there.
@@ -35,18 +41,20 @@ impl<'a, R: Files> JournalFile<'a, R> {
         ensures { result.faults ≡ 0 }
     {
         JournalFile {
-            file: LazyFile {
-                files,
-                path,
-                open: None,
-            },
+            file: HeldFile::new(files, path),
+            files,
             folder,
             has_entry: false,
             lost: false,
             faults: 0,
         }
     }
+}
 
+impl<R: Files> JournalFile<'_, R>
+where
+    R::File: FileExt + Lock,
+{
     /// Brings the file onto the disk, and the first time also its entry in the folder, which an
     /// earlier run may have made and not synced. A sync that failed may have given up what was
     /// written, and a later one would say nothing of it: so each later one fails.
@@ -61,8 +69,10 @@ impl<'a, R: Files> JournalFile<'a, R> {
         let synced = self.file.get()?.sync_all();
         self.note(synced)?;
         if !self.has_entry {
-            let synced = File::open(self.file.files, self.folder)?.sync_all();
-            self.note(synced)?;
+            let mut how = OpenOptions::new();
+            how.read(true);
+            let folder = open_beside_streams(self.files, &how, self.folder)?;
+            self.note(folder.sync_all())?;
             self.has_entry = true;
         }
         Ok(())
@@ -81,7 +91,7 @@ impl<'a, R: Files> JournalFile<'a, R> {
 
 impl<R: Files> Disk for JournalFile<'_, R>
 where
-    R::File: FileExt,
+    R::File: FileExt + Lock,
 {
     ghost use Rattle.std.specs.Prelude.{◌≡◌, false, []};
 
@@ -98,20 +108,20 @@ where
     ghost faults = { λ disk. disk.faults };
 
     fn len(&mut self) -> Result<u64, DiskFailed> {
-        counted(&mut self.faults, self.file.len())
+        told(&mut self.faults, self.file.len())
     }
 
     fn read_at(&mut self, at: u64, into: &mut [u8]) -> Result<(), DiskFailed> {
-        counted(&mut self.faults, self.file.read_at(at, into))
+        told(&mut self.faults, self.file.read_at(at, into))
     }
 
     fn write_at(&mut self, at: u64, bytes: &[u8]) -> Result<(), DiskFailed> {
-        counted(&mut self.faults, self.file.write_at(at, bytes))
+        told(&mut self.faults, self.file.write_at(at, bytes))
     }
 
     fn sync(&mut self) -> Result<(), DiskFailed> {
         let brought = self.bring_to_disk();
-        counted(&mut self.faults, brought)
+        told(&mut self.faults, brought)
     }
 
     ghost reads_is_image = { λ disk no. Prim.cc };
@@ -123,61 +133,21 @@ where
     ghost only_now = { λ disk c no left. left };
 }
 
-/// The answer of a call, where an error is a fault that is counted.
-fn counted<T: Drop>(faults: &mut u64, answer: io::Result<T>) -> Result<T, DiskFailed>
+/// What the office is told of a call, where an error is a fault that is counted.
+fn told<T: Drop>(faults: &mut u64, answer: io::Result<T>) -> Result<T, DiskFailed>
     ensures cause { Counts faults.old faults.new (is_err result) }
+    ensures once { faults.new ≡ faults_after faults.old (is_err result) }
 {
-    match answer {
+    match counted(faults, answer) {
         Ok(value) => Ok(value),
-        Err(_) => {
-            *faults = faults.saturating_add(1);
-            Err(DiskFailed)
-        }
-    }
-}
-
-/// A file that is opened at its first use. Each call that finds it shut tries to open it.
-#[derive(Drop)]
-struct LazyFile<'a, R: Files> {
-    files: &'a R,
-    path: &'a str,
-    open: Option<R::File>,
-}
-
-impl<R: Files> LazyFile<'_, R> {
-    fn get(&mut self) -> io::Result<&R::File> {
-        let file = match self.open.take() {
-            Some(file) => file,
-            None => OpenOptions::new()
-                .read(true)
-                .write(true)
-                .create(true)
-                .open(self.files, self.path)?,
-        };
-        Ok(self.open.insert(file))
-    }
-
-    fn len(&mut self) -> io::Result<u64> {
-        Ok(self.get()?.metadata()?.len())
-    }
-}
-
-impl<R: Files> LazyFile<'_, R>
-where
-    R::File: FileExt,
-{
-    fn read_at(&mut self, at: u64, into: &mut [u8]) -> io::Result<()> {
-        self.get()?.read_exact_at(into, at)
-    }
-
-    fn write_at(&mut self, at: u64, bytes: &[u8]) -> io::Result<()> {
-        self.get()?.write_all_at(bytes, at)
+        Err(_) => Err(DiskFailed),
     }
 }
 
 #[cfg(test)]
 mod tests {
     use super::JournalFile;
+    use crate::fake_files::{FakeFiles, Notes};
     use gb_outside::Disk;
     use std::fs;
     use std::test::Fail;
@@ -188,7 +158,7 @@ mod tests {
     const PATH: &str = "grundbuch_journal_file_test/grundbuch.journal";
 
     #[test]
-    fn what_is_written_is_read_back(rt: HostRuntime) -> Result<(), Fail> {
+    fn what_is_written_stands_in_the_file(rt: HostRuntime) -> Result<(), Fail> {
         let _ = fs::remove_dir_all(&rt, FOLDER);
         let mut disk = JournalFile::at(&rt, FOLDER, PATH);
         assert!(rt; disk.len().is_err(), "a file in a folder that is not there");
@@ -198,13 +168,16 @@ mod tests {
         assert_eq!(rt; disk.write_at(4, b"sand"), Ok(()));
         assert_eq!(rt; (disk.sync(), disk.sync()), (Ok(()), Ok(())));
         drop(disk);
+        let text = fs::read_to_string(&rt, PATH)?;
+        assert_eq!(rt; text.as_str(), "the sand register");
         let mut disk = JournalFile::at(&rt, FOLDER, PATH);
         let mut bytes = [0; 8];
-        assert_eq!(rt; disk.read_at(0, &mut bytes), Ok(()));
-        assert_eq!(rt; bytes, *b"the sand");
+        assert_eq!(rt; disk.read_at(4, &mut bytes), Ok(()));
+        assert_eq!(rt; bytes, *b"sand reg");
         assert_eq!(rt; (disk.sync(), disk.len()), (Ok(()), Ok(17)));
         assert!(rt; disk.read_at(10, &mut bytes).is_err(), "bytes past the end");
         assert_eq!(rt; disk.faults, 1);
+        drop(disk);
         fs::remove_dir_all(&rt, FOLDER)?;
         Ok(())
     }
@@ -213,9 +186,53 @@ mod tests {
     fn refusals_are_faults(rt: HostRuntime) {
         // The device refuses each byte, and syncs nothing.
         let mut disk = JournalFile::at(&rt, "/dev", "/dev/full");
+        let mut bytes = [0; 8];
         assert!(rt; disk.write_at(0, b"byte").is_err());
         assert!(rt; disk.sync().is_err());
         assert!(rt; disk.sync().is_err());
         assert_eq!(rt; disk.faults, 3);
+        let mut disk = JournalFile::at(&rt, "/dev", "/dev/no/such/file");
+        assert!(rt; disk.len().is_err());
+        assert!(rt; disk.read_at(0, &mut bytes).is_err());
+        assert_eq!(rt; disk.faults, 2);
+    }
+
+    #[test]
+    fn the_file_is_copied_and_locked_and_synced_with_its_folder(rt: HostRuntime) {
+        let notes = Notes::new(String::new(rt.alloc()), None);
+        let files = FakeFiles::new(&notes);
+        let mut disk = JournalFile::new(&files);
+        assert_eq!(rt;
+            (disk.len(), disk.sync(), disk.sync()),
+            (Ok(17), Ok(()), Ok(()))
+        );
+        let asked = "open grundbuch.journal read write create\ncopy\nclose\nlock\nlength\nsync\n\
+            open . read\ncopy folder\nclose folder\nsync folder\nclose folder\nsync\n";
+        assert!(rt; notes.are(asked));
+    }
+
+    #[test]
+    fn a_file_that_another_has_is_let_go(rt: HostRuntime) {
+        let notes = Notes::new(String::new(rt.alloc()), Some("lock"));
+        let files = FakeFiles::new(&notes);
+        let mut disk = JournalFile::new(&files);
+        assert!(rt; disk.len().is_err());
+        assert_eq!(rt; disk.faults, 1);
+        assert!(rt;
+            notes.are("open grundbuch.journal read write create\ncopy\nclose\nlock\nclose\n")
+        );
+    }
+
+    #[test]
+    fn no_sync_follows_one_that_failed(rt: HostRuntime) {
+        let notes = Notes::new(String::new(rt.alloc()), Some("sync folder"));
+        let files = FakeFiles::new(&notes);
+        let mut disk = JournalFile::new(&files);
+        assert!(rt; disk.sync().is_err());
+        assert!(rt; disk.sync().is_err());
+        assert_eq!(rt; disk.faults, 2);
+        let asked = "open grundbuch.journal read write create\ncopy\nclose\nlock\nsync\n\
+            open . read\ncopy folder\nclose folder\nsync folder\nclose folder\n";
+        assert!(rt; notes.are(asked));
     }
 }

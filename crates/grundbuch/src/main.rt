@@ -2,6 +2,10 @@
 #![tactic(auto)]
 
 mod endings;
+#[cfg(test)]
+mod fake_files;
+mod faults;
+mod held_file;
 mod input;
 mod journal_file;
 mod output;

@@ -1,7 +1,15 @@
+// Standard output as the office's sink.
+ghost use Rattle.std.specs.Prelude.{◌<◌, IfOk, length};
+ghost use Rattle.std.specs.Io.{WritesAtMost};
+ghost use Rattle.std.specs.Io.KnownBytes.{WriteAppends};
+
+use crate::faults::counted;
 use gb_outside::{Sink, Wrote};
+use std::io;
 use std::io::Write;
 
-/// Standard output, or any other writer, as the office's sink. It tells nothing of its bytes.
+/// Standard output, or any other writer, as the office's sink. It does not tell the office its
+/// bytes, since standard output tells none; what a writer tells, it holds.
 #[derive(Drop)]
 pub struct Output<W: Write + Drop> {
     writer: W,
@@ -11,28 +19,99 @@ pub struct Output<W: Write + Drop> {
 impl<W: Write + Drop> Output<W> {
     ghost use Rattle.std.specs.Prelude.{◌≡◌};
 
-    /// The writer as a sink that has not failed yet.
+    /// The writer as a sink that has not failed yet. Nothing is written.
     pub fn new(writer: W) -> Output<W>
-        ensures { result.faults ≡ 0 }
+        ensures writer { result.writer ≡ writer }
+        ensures faults { result.faults ≡ 0 }
     {
         Output { writer, faults: 0 }
     }
 }
 
 impl<W: Write + Drop> Sink for Output<W> {
-    ghost use Rattle.std.specs.Prelude.{None};
+    ghost use Rattle.std.specs.Prelude.{◌≡◌, length, None};
+    ghost use Rattle.gb_outside.specs.Bytes.{IsTaken, Writes, write_failed};
+    ghost use Rattle.gb_outside.specs.Faults.{Counts};
+    ghost use Rattle.grundbuch.specs.Adapters.{faults_after, PutsIn};
 
     ghost written = { λ sink. None };
 
     ghost faults = { λ sink. sink.faults };
 
-    fn write(&mut self, piece: &[u8]) -> Wrote {
-        match self.writer.write(piece) {
-            Ok(count) if count > 0 || piece.is_empty() => Wrote::Took(count),
-            _ => {
-                self.faults = self.faults.saturating_add(1);
-                Wrote::Failed
+    fn write(&mut self, piece: &[u8]) -> Wrote
+        ensures count { IsTaken result (length piece.now) }
+        ensures content { Writes None None result piece.now }
+        ensures cause { Counts self.old.faults self.new.faults (write_failed result) }
+        ensures once { self.new.faults ≡ faults_after self.old.faults (write_failed result) }
+        ensures bytes { PutsIn (W.contents self.old.writer) (W.contents self.new.writer) result piece.now }
+    {
+        match counted(&mut self.faults, write_some(&mut self.writer, piece)) {
+            Ok(count) => Wrote::Took(count),
+            Err(_) => Wrote::Failed,
+        }
+    }
+}
+
+/// Writes once, and again where a signal interrupts the call. A writer that takes nothing of a
+/// piece that is not empty has failed.
+fn write_some<W: Write>(writer: &mut W, piece: &[u8]) -> io::Result<usize>
+    ensures bound { WritesAtMost result piece.now }
+    ensures some { IfOk result (λ count. 0 < length piece.now → 0 < count) }
+    ensures bytes { WriteAppends (W.contents writer.old) (W.contents writer.new) result piece.now }
+{
+    for _ in 0..u64::MAX {
+        match writer.write(piece) {
+            Ok(0) if !piece.is_empty() => return Err(io::Error::from(io::ErrorKind::WriteZero)),
+            Err(error) if error.kind() == io::ErrorKind::Interrupted => {}
+            answer => return answer,
+        }
+    }
+    Err(io::Error::from(io::ErrorKind::Interrupted))
+}
+
+#[cfg(test)]
+mod tests {
+    use super::Output;
+    use gb_outside::{Sink, Wrote};
+    use std::io;
+    use std::io::Write;
+
+    /// Answers in turn: an interrupt, two bytes taken, a failure, none taken.
+    #[derive(Drop)]
+    struct Answers {
+        next: u8,
+        taken: [u8; 2],
+    }
+
+    impl Write for Answers {
+        fn write(&mut self, buf: &[u8]) -> io::Result<usize> {
+            self.next = self.next.saturating_add(1);
+            match self.next {
+                1 => Err(io::Error::from(io::ErrorKind::Interrupted)),
+                2 if buf.len() >= 2 => {
+                    self.taken.copy_from_slice(&buf[..2]);
+                    Ok(2)
+                }
+                3 => Err(io::Error::from(io::ErrorKind::BrokenPipe)),
+                _ => Ok(0),
             }
         }
+
+        fn flush(&mut self) -> io::Result<()> {
+            Ok(())
+        }
+    }
+
+    #[test]
+    fn answers_are_handed_on(rt: HostRuntime) {
+        let mut sink = Output::new(Answers {
+            next: 0,
+            taken: *b"..",
+        });
+        assert_eq!(rt; sink.write(b"BGB"), Wrote::Took(2));
+        assert_eq!(rt; sink.writer.taken, *b"BG");
+        assert_eq!(rt; (sink.write(b"B"), sink.faults), (Wrote::Failed, 1));
+        assert_eq!(rt; (sink.write(b"B"), sink.faults), (Wrote::Failed, 2));
+        assert_eq!(rt; (sink.write(b""), sink.faults), (Wrote::Took(0), 2));
     }
 }

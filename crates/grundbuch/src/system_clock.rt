@@ -1,3 +1,4 @@
+// The system's clock as the office's clock.
 ghost use Rattle.std.specs.Prelude.{◌≡◌};
 ghost use Rattle.grundbuch.specs.Clock.{first_stamp, stamp_at, stamp_of};
 
@@ -16,8 +17,10 @@ pub struct SystemClock<'a, R: rt::Clock> {
 }
 
 impl<'a, R: rt::Clock> SystemClock<'a, R> {
-    /// The clock of this runtime.
-    pub fn new(runtime: &'a R) -> SystemClock<'a, R> {
+    /// The clock of this runtime. It is not asked yet.
+    pub fn new(runtime: &'a R) -> SystemClock<'a, R>
+        ensures { result.runtime.now ≡ runtime.now }
+    {
         SystemClock { runtime }
     }
 }
@@ -72,17 +75,20 @@ mod tests {
     use std::time::Duration;
     use std::{io, rt};
 
-    /// A clock that cannot be read.
+    /// A clock that shows one moment; none where it cannot be read.
     #[derive(Drop)]
-    struct Broken;
+    struct Stopped(Option<Duration>);
 
-    impl rt::Clock for Broken {
+    impl rt::Clock for Stopped {
         fn monotonic(&self) -> io::Result<Duration> {
             Err(io::Error::from(io::ErrorKind::Unsupported))
         }
 
         fn since_1970(&self) -> io::Result<Duration> {
-            Err(io::Error::from(io::ErrorKind::Unsupported))
+            match self.0 {
+                Some(time) => Ok(time),
+                None => Err(io::Error::from(io::ErrorKind::Unsupported)),
+            }
         }
     }
 
@@ -110,8 +116,15 @@ mod tests {
     }
 
     #[test]
-    fn a_clock_that_cannot_be_read_gives_the_first_stamp(rt: HostRuntime) {
-        let stamp = SystemClock::new(&Broken).now();
-        assert_eq!(rt; (stamp.day().number(), stamp.minute()), (10_957, 0));
+    fn the_clock_is_read(rt: HostRuntime) {
+        for (seconds, day, minute) in [
+            (None, 10_957, 0),
+            (Some(1_709_164_799), 19_781, 1_439),
+            (Some(1_709_164_860), 19_782, 1),
+        ] {
+            let shows = Stopped(seconds.map(|seconds| Duration::new(seconds, 999_999_999)));
+            let stamp = SystemClock::new(&shows).now();
+            assert_eq!(rt; (stamp.day().number(), stamp.minute()), (day, minute));
+        }
     }
 }

@@ -37,3 +37,71 @@ fn status_of(error: &io::Error) -> Status
         _ => Status::Memory,
     }
 }
+
+#[cfg(test)]
+mod tests {
+    use super::words;
+    use registry_office::Status;
+    use std::alloc::Global;
+    use std::env::FillError;
+    use std::rt::Env;
+    use std::test::Fail;
+
+    /// A command line of these words.
+    #[derive(Drop)]
+    struct Line<'a> {
+        alloc: Global,
+        words: &'a [&'a [u8]],
+    }
+
+    impl Alloc for Line<'_> {
+        type A = Global;
+
+        fn alloc(&self) -> Global {
+            self.alloc
+        }
+    }
+
+    impl Env for Line<'_> {
+        fn arg(&self, i: usize, buf: &mut [u8]) -> Result<usize, FillError> {
+            let word = self.words.get(i).ok_or(FillError::NotPresent)?;
+            let room = buf.get_mut(..word.len()).ok_or(FillError::TooLong)?;
+            room.copy_from_slice(word);
+            Ok(word.len())
+        }
+
+        fn var(&self, _name: &str, _buf: &mut [u8]) -> Result<usize, FillError> {
+            Err(FillError::NotPresent)
+        }
+
+        fn var_at(&self, _i: usize, _buf: &mut [u8]) -> Result<usize, FillError> {
+            Err(FillError::NotPresent)
+        }
+    }
+
+    #[test]
+    fn the_words_stand_behind_the_name(rt: HostRuntime) {
+        let line = Line {
+            alloc: rt.alloc(),
+            words: &[b"grundbuch", b"settle", b"--desks", b"grundbuch"],
+        };
+        match words(&line) {
+            Ok(words) => match words.as_slice() {
+                [a, b, c] => {
+                    assert_eq!(rt; (&**a, &**b, &**c), ("settle", "--desks", "grundbuch"));
+                }
+                _ => assert!(rt; false, "three words"),
+            },
+            Err(_) => assert!(rt; false, "words"),
+        }
+    }
+
+    #[test]
+    fn bytes_that_are_no_text_are_no_command(rt: HostRuntime) {
+        let line = Line {
+            alloc: rt.alloc(),
+            words: &[b"grundbuch", b"\xff"],
+        };
+        assert!(rt; matches!(words(&line), Err(Status::Usage)));
+    }
+}

@@ -1,0 +1,6 @@
+-- What the reads that were interrupted leave.
+use Rattle.std.specs.Io.KnownBytes.{Keeps}
+use Rattle.grundbuch.proofs.input.read_some.Given as goal
+
+abbrev pub invariant-loop : goal.invariant-loop
+invariant-loop g l = Keeps (g.R.Read.remaining l.fn.reader) (g.R.Read.remaining l.reader)

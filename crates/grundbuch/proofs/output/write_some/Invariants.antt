@@ -1,0 +1,6 @@
+-- What the writes that were interrupted leave.
+use Rattle.std.specs.Io.KnownBytes.{Keeps}
+use Rattle.grundbuch.proofs.output.write_some.Given as goal
+
+abbrev pub invariant-loop : goal.invariant-loop
+invariant-loop g l = Keeps (g.W.Write.contents l.fn.writer) (g.W.Write.contents l.writer)

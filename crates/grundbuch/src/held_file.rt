@@ -1,0 +1,91 @@
+// A file of the system that one program at a time has.
+use std::fs::{File, OpenFile, OpenOptions};
+use std::io;
+use std::os::unix::fs::FileExt;
+use std::rt::Files;
+
+/// A file that can be kept from other programs.
+pub trait Lock {
+    /// Takes the file for this open of it, until that is closed. An error where another has it.
+    fn lock_now(&self) -> io::Result<()>;
+}
+
+impl Lock for File {
+    fn lock_now(&self) -> io::Result<()> {
+        Ok(self.try_lock()?)
+    }
+}
+
+/// A file that is opened at its first use, made where there is none, and kept from other programs
+/// from then on. Each call that finds it shut tries to open it.
+#[derive(Drop)]
+pub struct HeldFile<'a, R: Files> {
+    files: &'a R,
+    path: &'a str,
+    opened: Option<R::File>,
+}
+
+impl<'a, R: Files> HeldFile<'a, R> {
+    ghost use Rattle.std.specs.Prelude.{◌≡◌, None};
+
+    /// The file of this path. It is not touched.
+    pub fn new(files: &'a R, path: &'a str) -> HeldFile<'a, R>
+        ensures path { result.path.now ≡ path.now }
+        ensures shut { result.opened ≡ None }
+    {
+        HeldFile {
+            files,
+            path,
+            opened: None,
+        }
+    }
+}
+
+impl<R: Files> HeldFile<'_, R>
+where
+    R::File: FileExt + Lock,
+{
+    /// The open file.
+    pub fn get(&mut self) -> io::Result<&R::File> {
+        let file = match self.opened.take() {
+            Some(file) => file,
+            None => self.open_and_lock()?,
+        };
+        Ok(self.opened.insert(file))
+    }
+
+    fn open_and_lock(&self) -> io::Result<R::File> {
+        let mut how = OpenOptions::new();
+        how.read(true).write(true).create(true);
+        let file = open_beside_streams(self.files, &how, self.path)?;
+        file.lock_now()?;
+        Ok(file)
+    }
+
+    /// The length in bytes.
+    pub fn len(&mut self) -> io::Result<u64> {
+        Ok(self.get()?.metadata()?.len())
+    }
+
+    /// Fills `into` with the bytes from this offset on.
+    pub fn read_at(&mut self, at: u64, into: &mut [u8]) -> io::Result<()> {
+        self.get()?.read_exact_at(into, at)
+    }
+
+    /// Writes all the bytes, from this offset on.
+    pub fn write_at(&mut self, at: u64, bytes: &[u8]) -> io::Result<()> {
+        self.get()?.write_all_at(bytes, at)
+    }
+}
+
+/// Opens a file under a descriptor above the three of the standard streams. Where a stream is
+/// closed, the system gives its number to the next file that is opened, and what is then printed
+/// would be written into the file. A copy of a descriptor never has one of the three numbers.
+pub fn open_beside_streams<R: Files>(
+    files: &R,
+    how: &OpenOptions,
+    path: &str,
+) -> io::Result<R::File> {
+    let file = how.open(files, path)?;
+    file.try_clone()
+}

@@ -1,0 +1,118 @@
+"""What the checks of this folder share: their lines and counts, the built program, and journals for it.
+
+A check prints a line for each thing that it looked at, `ok`, `differs` or `skipped`, and ends with
+`N passed, N failed, N skipped`.
+"""
+
+import functools
+import os
+import pathlib
+import subprocess
+import sys
+
+import spelling
+
+ROOT = pathlib.Path(__file__).resolve().parent.parent
+WRAPPER = ROOT / "grundbuch"
+PROGRAM = ROOT / "crates" / "grundbuch" / "out" / "grundbuch"
+JOURNAL = "grundbuch.journal"
+
+# No run of a check takes longer, in seconds.
+LIMIT = 60
+
+
+class Checks:
+    """Counts what was looked at, and prints a line of each."""
+
+    def __init__(self):
+        self.passed = self.failed = self.skipped = 0
+
+    def ok(self, what):
+        self.passed += 1
+        print(f"ok {what}", flush=True)
+
+    def differs(self, what, why):
+        self.failed += 1
+        print(f"differs {what}: {why}", flush=True)
+
+    def skip(self, what, why):
+        self.skipped += 1
+        print(f"skipped {what}: {why}", flush=True)
+
+    def same(self, what, got, wanted):
+        """Whether what came is what was wanted."""
+        if got == wanted:
+            self.ok(what)
+        else:
+            self.differs(what, f"{shortened(got)}, and not {shortened(wanted)}")
+
+    def add(self, passed, failed, skipped):
+        self.passed += passed
+        self.failed += failed
+        self.skipped += skipped
+
+    def end(self):
+        """Prints the counts, and ends the check with 1 where something failed."""
+        print(f"{self.passed} passed, {self.failed} failed, {self.skipped} skipped", flush=True)
+        sys.exit(1 if self.failed else 0)
+
+
+def shortened(value, most=200):
+    text = repr(value)
+    return text if len(text) <= most else text[:most] + " .."
+
+
+def build():
+    """Builds the program where it is not built, or a file of the crates is newer than it."""
+    made = subprocess.run([WRAPPER, "--build"], stdin=subprocess.DEVNULL)
+    if made.returncode != 0 or not os.access(PROGRAM, os.X_OK):
+        sys.exit("the program was not built")
+
+
+def run(words, folder=None, before=None, **how):
+    """The status, the output and the errors of a run of the program."""
+    how = {"stdin": subprocess.DEVNULL, "stdout": subprocess.PIPE, "stderr": subprocess.PIPE, **how}
+    if "input" in how:
+        del how["stdin"]
+    ran = subprocess.run([*(before or []), PROGRAM, *words], cwd=folder, timeout=LIMIT, **how)
+    return ran.returncode, ran.stdout, ran.stderr
+
+
+def names_in(folder):
+    return sorted(os.listdir(folder))
+
+
+@functools.cache
+def has_strace():
+    """Whether calls can be watched and made to fail here."""
+    try:
+        return subprocess.run(["strace", "-o", os.devnull, "true"], capture_output=True).returncode == 0
+    except OSError:
+        return False
+
+
+def opening(folio):
+    return {"act": "open", "folio": folio, "district": 1, "parcel": folio, "sub": 0, "area": 500, "owners": [10]}
+
+
+def filing(number, act):
+    """A stamped line with one act, applied for and consented to by person 10."""
+    consent = {"doc": "consent", "act": 1, "person": 10, "form": "certified"}
+    item = {"kind": "filing", "applicant": 10, "conditional": False, "acts": [act], "docs": [consent]}
+    return {"day": "2024-03-01", "minute": 540, "sender": 1, "reference": number, "item": item}
+
+
+def journal(bodies):
+    """The bytes of a journal's file with these records."""
+    frames = b"".join(b"\x01" + spelling.u32(len(body)) + body for body in bodies)
+    return b"GGBJOURN1" + frames + b"\x00"
+
+
+def journal_of_openings(count):
+    """A journal that opens so many folios, and the report of it."""
+    lines = [filing(number, opening(number)) for number in range(1, count + 1)]
+    report = [f"receipt {number} entered" for number in range(1, count + 1)]
+    for folio in range(1, count + 1):
+        report += [f"folio {folio}", f"inventory district 1 parcel {folio}/0 area 500", "owners 10", f"ranks {folio}"]
+    report.append(f"end receipts {count} folios {count}")
+    return journal([spelling.receipt(line) for line in lines]), "".join(line + "\n" for line in report).encode()
