@@ -4,27 +4,27 @@ use Rattle.std.proofs.lemmas.Bool.{cases_eq}
 use Rattle.std.proofs.lemmas.List.{take_at, drop_at, drop_more}
 use Rattle.std.proofs.lemmas.List.Elements.{All-push}
 use Rattle.gb_outside.specs.Images.{Holds, Torn, Only}
-use Rattle.journal_disk.specs.Layout.{name, IsBody, measured, frames, end_of, IsUnmade, IsJournal, StandsFor}
-use Rattle.journal_disk.specs.Writing.{TornFrom}
-use Rattle.journal_disk.specs.Appending.{StandsOn, WithOrWithout}
+use Rattle.journal_disk.specs.Layout.{the_heading, IsBody, measured, frames, end_of, IsUnmade, IsJournal, StandsFor}
+use Rattle.journal_disk.specs.inner.Writing.{TornFrom}
+use Rattle.journal_disk.specs.Appending.{StandsOn, FramesWithOrWithout}
 use Rattle.journal_disk.proofs.FrameBytes.{frames-push, length-frames-push}
 
--- a mark, the name and the frames of these bodies
+-- a mark, the the_heading and the frames of these bodies
 abbrev front : ℕ → List (List ℕ) → List ℕ
-front mark bodies = mark ∷ (name ++ frames bodies)
+front mark bodies = mark ∷ (the_heading ++ frames bodies)
 
-length-front : (mark : ℕ) (bodies : List (List ℕ)) → length (front mark bodies) ≡ end_of bodies
-length-front mark bodies = omega (arith, length-append name (frames bodies))
+length-front : (mark : ℕ) (bodies : List (List ℕ)) → length (front mark bodies) ≡ end_of the_heading bodies
+length-front mark bodies = omega (arith, length-append the_heading (frames bodies))
 
 -- a file with these frames
-journal : (file : List ℕ) (bodies : List (List ℕ)) (mark gate : ℕ) (rest : List ℕ) → mark ≢ 0 → gate ≢ 1 → All IsBody bodies → file ≡ front mark bodies ++ gate ∷ rest → IsJournal file bodies
+journal : (file : List ℕ) (bodies : List (List ℕ)) (mark gate : ℕ) (rest : List ℕ) → mark ≢ 0 → gate ≢ 1 → All IsBody bodies → file ≡ front mark bodies ++ gate ∷ rest → IsJournal the_heading file bodies
 journal file bodies mark gate rest made closed sizes whole = record { mark = mark; gate = gate; rest = rest; made = made; closed = closed; sizes = sizes; whole = whole }
 
 -- an open gate, a length and a body are a frame more
 one_more : (mark : ℕ) (bodies : List (List ℕ)) (body rest : List ℕ) → front mark bodies ++ 1 ∷ (measured body ++ rest) ≡ front mark (bodies ++ body ∷ []) ++ rest
 one_more mark bodies body rest =
     sym (append_assoc (front mark bodies) (1 ∷ measured body) rest)
-    ∙ ap (λ (l : List ℕ). mark ∷ (l ++ rest)) (append_assoc name (frames bodies) (1 ∷ measured body) ∙ ap (λ (l : List ℕ). name ++ l) (sym (frames-push bodies body)))
+    ∙ ap (λ (l : List ℕ). mark ∷ (l ++ rest)) (append_assoc the_heading (frames bodies) (1 ∷ measured body) ∙ ap (λ (l : List ℕ). the_heading ++ l) (sym (frames-push bodies body)))
 
 -- a file whose first two bytes stay is still unmade
 unmade_torn : (at n : ℕ) (d c : List ℕ) → IsUnmade d → Torn (suc (suc at)) n d c → IsUnmade c
@@ -36,9 +36,9 @@ unmade_torn at n (first ∷ second ∷ others) (mark ∷ next ∷ rest) unmade t
     let same : mark ∷ next ∷ take at rest ≡ first ∷ second ∷ take at others = torn.before in cc
 
 -- the gate stands ahead of what is written behind it
-behind_torn : (bodies : List (List ℕ)) (n : ℕ) (d c : List ℕ) → IsJournal d bodies → Torn (end_of bodies + 1) n d c → IsJournal c bodies
+behind_torn : (bodies : List (List ℕ)) (n : ℕ) (d c : List ℕ) → IsJournal the_heading d bodies → Torn (end_of the_heading bodies + 1) n d c → IsJournal the_heading c bodies
 behind_torn bodies n d c is torn =
-    let at = end_of bodies + 1 in
+    let at = end_of the_heading bodies + 1 in
     let ahead = front is.mark bodies ++ is.gate ∷ [] in
     let long : length ahead ≡ at = omega (arith, length-append (front is.mark bodies) (is.gate ∷ []), length-front is.mark bodies) in
     let kept : take at c ≡ ahead =
@@ -47,14 +47,14 @@ behind_torn bodies n d c is torn =
     (sym (take-append-drop at c) ∙ ap (λ (l : List ℕ). l ++ drop at c) kept ∙ append_assoc (front is.mark bodies) (is.gate ∷ []) (drop at c))
 
 module _ (gate : ℕ) (bodies : List (List ℕ)) (body file : List ℕ) (images : List ℕ → Type 0) (stands : StandsOn gate bodies file images) where
-  abbrev was : IsJournal file bodies
+  abbrev was : IsJournal the_heading file bodies
   was = stands.journal
 
   -- while the record is written
   pub record_put : (n : ℕ) (c : List ℕ) → TornFrom images (gate + 1) n c → StandsFor c bodies
   record_put n c from =
       let two : gate + 1 ≡ suc (suc (length (frames bodies) + 8)) = omega (arith, stands.ends) in
-      let same : gate + 1 ≡ end_of bodies + 1 = ap (λ g. g + 1) stands.ends in
+      let same : gate + 1 ≡ end_of the_heading bodies + 1 = ap (λ g. g + 1) stands.ends in
       ⊎_elim
       (λ unmade. inl (unmade_torn (length (frames bodies) + 8) n from.0 c unmade.0 (subst (λ at. Torn at n from.0 c) two from.2), unmade.1))
       (λ is. inr (behind_torn bodies n from.0 c is (subst (λ at. Torn at n from.0 c) same from.2)))
@@ -91,7 +91,7 @@ module _ (gate : ℕ) (bodies : List (List ℕ)) (body file : List ℕ) (images 
     ahead_of = ap (λ (l : List ℕ). take gate l) staged_is ∙ take_at (front was.mark bodies) (was.gate ∷ (measured body ++ 0 ∷ rest)) gate long
 
     -- whatever the gate becomes, the file has the frames with the new one or without it
-    any_gate : (c : List ℕ) (x : ℕ) → c ≡ front was.mark bodies ++ x ∷ (measured body ++ 0 ∷ rest) → WithOrWithout bodies body c
+    any_gate : (c : List ℕ) (x : ℕ) → c ≡ front was.mark bodies ++ x ∷ (measured body ++ 0 ∷ rest) → FramesWithOrWithout bodies body c
     any_gate c x whole = elim (cases_eq x 1) [
       | inl opened ↦
           let shape : c ≡ front was.mark (bodies ++ body ∷ []) ++ 0 ∷ rest =
@@ -101,7 +101,7 @@ module _ (gate : ℕ) (bodies : List (List ℕ)) (body file : List ℕ) (images 
     ]
 
     -- while the gate is written
-    pub gate_put : (c : List ℕ) → TornFrom later gate 1 c → WithOrWithout bodies body c
+    pub gate_put : (c : List ℕ) → TornFrom later gate 1 c → FramesWithOrWithout bodies body c
     gate_put c from =
         let torn : Torn gate 1 staged c = subst (λ (l : List ℕ). Torn gate 1 l c) (only from.0 from.1) from.2 in
         let longer : gate < length c = omega (arith, torn.no_shorter, ap length staged_is, length-append (front was.mark bodies) (was.gate ∷ (measured body ++ 0 ∷ rest)), long) in
@@ -122,5 +122,5 @@ module _ (gate : ℕ) (bodies : List (List ℕ)) (body file : List ℕ) (images 
         record {
           journal = is;
           ends = omega (arith, stands.ends, length-frames-push bodies body);
-          durable = λ c image. inr (subst (λ (l : List ℕ). IsJournal l (bodies ++ body ∷ [])) (sym (only_new c image)) is);
+          durable = λ c image. inr (subst (λ (l : List ℕ). IsJournal the_heading l (bodies ++ body ∷ [])) (sym (only_new c image)) is);
         }

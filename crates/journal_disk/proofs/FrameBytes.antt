@@ -4,9 +4,9 @@ use Rattle.std.proofs.lemmas.List.{take_at, drop_at}
 use Rattle.std.proofs.lemmas.List.Elements.{All-nil, All-push}
 use Rattle.std.proofs.lemmas.Nat.{be_bytes_4}
 use Rattle.std.specs.Int.{w32, to_be_bytes}
-use Rattle.journal_disk.specs.PlacedBody.{PlacedBody}
-use Rattle.journal_disk.specs.Layout.{IsBody, measured, frames, placed}
-use Rattle.journal_disk.specs.Scan.{Begins}
+use Rattle.journal_disk.specs.FrameAt.{FrameAt}
+use Rattle.journal_disk.specs.Layout.{IsBody, measured, frames, frames_from}
+use Rattle.journal_disk.specs.inner.Scan.{Begins}
 
 -- four bytes that are the size of a body, and the body with something behind it
 pub begins : (bytes : List ℕ) (size : ℕ) → 5 ≤ length bytes → get_or bytes 0 0 ≡ 1 → ((i : ℕ) → get_or bytes i 0 < 256)
@@ -56,25 +56,25 @@ pub length-frames-push : (bodies : List (List ℕ)) (body : List ℕ) → length
 length-frames-push bodies body =
     omega (arith, ap length (frames-push bodies body), length-append (frames bodies) (1 ∷ measured body), length-measured body)
 
-pub placed-push : (at : ℕ) (bodies : List (List ℕ)) (body : List ℕ) → placed at (bodies ++ body ∷ []) ≡ placed at bodies ++ record { at = at + length (frames bodies); body = body } ∷ []
-placed-push at [] body = ap (λ n. record { at = n; body = body } ∷ []) (sym (add-zero at))
-placed-push at (first ∷ bodies) body =
-    let place : at + 5 + length first + length (frames bodies) ≡ at + length (frames (first ∷ bodies)) =
+pub frames_from-push : (at : ℕ) (bodies : List (List ℕ)) (body : List ℕ) → frames_from at (bodies ++ body ∷ []) ≡ frames_from at bodies ++ record { at = at + length (frames bodies); body = body } ∷ []
+frames_from-push at [] body = ap (λ n. record { at = n; body = body } ∷ []) (sym (add-zero at))
+frames_from-push at (first ∷ bodies) body =
+    let offset : at + 5 + length first + length (frames bodies) ≡ at + length (frames (first ∷ bodies)) =
     omega (arith, length-append (measured first) (frames bodies), length-measured first) in
-    ap (λ (l : List PlacedBody). record { at = at; body = first } ∷ l) (placed-push (at + 5 + length first) bodies body
-    ∙ ap (λ n. placed (at + 5 + length first) bodies ++ record { at = n; body = body } ∷ []) place)
+    ap (λ (l : List FrameAt). record { at = at; body = first } ∷ l) (frames_from-push (at + 5 + length first) bodies body
+    ∙ ap (λ n. frames_from (at + 5 + length first) bodies ++ record { at = n; body = body } ∷ []) offset)
 
 -- whole frames so far, and a gate behind them
-pub record SoFar (at : ℕ) (bytes : List ℕ) (before now : List PlacedBody) (gate : ℕ) (rest : List ℕ) : Type 0 where
+pub record SoFar (at : ℕ) (bytes : List ℕ) (before now : List FrameAt) (gate : ℕ) (rest : List ℕ) : Type 0 where
   pub bodies : List (List ℕ)
   pub sizes : All IsBody bodies
   pub whole : bytes ≡ frames bodies ++ rest
-  pub place : gate ≡ at + length (frames bodies)
-  pub added : now ≡ before ++ placed at bodies
+  pub offset : gate ≡ at + length (frames bodies)
+  pub added : now ≡ before ++ frames_from at bodies
   pub some : 0 < length rest
 
-pub none_yet : (at : ℕ) (bytes : List ℕ) (before : List PlacedBody) → 0 < length bytes → SoFar at bytes before before at bytes
-none_yet at bytes before some = record { bodies = []; sizes = All-nil IsBody; whole = refl; place = sym (add-zero at); added = sym (append-nil before); some = some }
+pub none_yet : (at : ℕ) (bytes : List ℕ) (before : List FrameAt) → 0 < length bytes → SoFar at bytes before before at bytes
+none_yet at bytes before some = record { bodies = []; sizes = All-nil IsBody; whole = refl; offset = sym (add-zero at); added = sym (append-nil before); some = some }
 
 -- where a frame is cut off, its body stands behind its first five bytes
 pub cut_behind : (rest : List ℕ) (size : ℕ) (begun : Begins rest size) → drop (5 + size) rest ≡ begun.rest
@@ -90,7 +90,7 @@ cut_body rest size begun =
     ∙ drop_at (1 ∷ to_be_bytes w32 (length begun.body)) begun.body 5 refl
 
 -- one frame more
-pub one_more : (at : ℕ) (bytes : List ℕ) (before now next : List PlacedBody) (gate : ℕ) (rest behind : List ℕ) (size : ℕ) → SoFar at bytes before now gate rest
+pub one_more : (at : ℕ) (bytes : List ℕ) (before now next : List FrameAt) (gate : ℕ) (rest behind : List ℕ) (size : ℕ) → SoFar at bytes before now gate rest
     → (begun : Begins rest size) → next ≡ now ++ record { at = gate; body = begun.body } ∷ [] → behind ≡ begun.rest → SoFar at bytes before next (gate + (5 + size)) behind
 one_more at bytes before now next gate rest behind size so_far begun pushed behind_is =
     let body = begun.body in
@@ -103,12 +103,12 @@ one_more at bytes before now next gate rest behind size so_far begun pushed behi
           ∙ sym (append_assoc (frames so_far.bodies) (1 ∷ measured body) begun.rest)
           ∙ ap (λ (l : List ℕ). l ++ begun.rest) (sym (frames-push so_far.bodies body))
           ∙ ap (λ (l : List ℕ). frames (so_far.bodies ++ body ∷ []) ++ l) (sym behind_is);
-      place = omega (arith, so_far.place, length-frames-push so_far.bodies body, begun.sized);
+      offset = omega (arith, so_far.offset, length-frames-push so_far.bodies body, begun.sized);
       added =
           pushed
-          ∙ ap (λ (l : List PlacedBody). l ++ record { at = gate; body = body } ∷ []) so_far.added
-          ∙ append_assoc before (placed at so_far.bodies) (record { at = gate; body = body } ∷ [])
-          ∙ ap (λ (n : ℕ). before ++ (placed at so_far.bodies ++ record { at = n; body = body } ∷ [])) so_far.place
-          ∙ ap (λ (l : List PlacedBody). before ++ l) (sym (placed-push at so_far.bodies body));
+          ∙ ap (λ (l : List FrameAt). l ++ record { at = gate; body = body } ∷ []) so_far.added
+          ∙ append_assoc before (frames_from at so_far.bodies) (record { at = gate; body = body } ∷ [])
+          ∙ ap (λ (n : ℕ). before ++ (frames_from at so_far.bodies ++ record { at = n; body = body } ∷ [])) so_far.offset
+          ∙ ap (λ (l : List FrameAt). before ++ l) (sym (frames_from-push at so_far.bodies body));
       some = omega (arith, ap length behind_is, begun.gate_behind);
     }

@@ -2,12 +2,12 @@
 use Rattle.std.proofs.Common.{◌≡◌, ⊎_elim, ℕ, List, [], ◌∷◌, sym, ◌∙◌, subst}
 use Rattle.gb_outside.specs.Images.{Only, LeavesOnly}
 use Rattle.gb_outside.proofs.Moments.{followed, weakened}
-use Rattle.journal_disk.specs.Layout.{IsUnmade, IsJournal, StandsFor}
-use Rattle.journal_disk.specs.Reading.{OnlyReads}
+use Rattle.journal_disk.specs.Layout.{the_heading, IsUnmade, IsJournal, StandsFor}
+use Rattle.journal_disk.specs.inner.Reading.{OnlyReads}
 use Rattle.journal_disk.specs.Opening.{IsKept}
 
 -- a made file is not unmade
-pub journal_not_unmade : (file : List ℕ) (bodies : List (List ℕ)) → IsJournal file bodies → IsUnmade file → ⊥
+pub journal_not_unmade : (file : List ℕ) (bodies : List (List ℕ)) → IsJournal the_heading file bodies → IsUnmade file → ⊥
 journal_not_unmade [] bodies is unmade = let whole = is.whole in absurd cc
 journal_not_unmade (mark ∷ []) bodies is unmade = let whole = is.whole in absurd cc
 journal_not_unmade (mark ∷ next ∷ rest) bodies is unmade = let whole = is.whole in let same : mark ≡ is.mark = cc in is.made (sym same ∙ unmade)

@@ -1,8 +1,10 @@
-pub mod FrameBytes
+pub mod Appends
 pub mod Blocks
+pub mod Existence
+pub mod FrameBytes
+pub mod Keeping
+pub mod Making
 pub mod OnlyRead
 pub mod Puts
-pub mod Making
-pub mod Appends
-pub mod Keeping
+pub mod Refusing
 pub mod Standings

@@ -2,7 +2,7 @@
 use Rattle.std.proofs.Common.{◌≡◌, ℕ, List, refl, ◌∙◌}
 use Rattle.gb_outside.specs.Images.{NoneNew, Elapses}
 use Rattle.gb_outside.proofs.Moments.{started, goes_on, followed, weakened}
-use Rattle.journal_disk.specs.Reading.{OnlyReads}
+use Rattle.journal_disk.specs.inner.Reading.{OnlyReads}
 
 module _ {D : Type 0} (reads : D → List ℕ) (images : D → List ℕ → Type 0) (moment : D → ℕ) (since : D → ℕ → List ℕ → Type 0) where
   pub nothing_read : (disk : D) → ((c : List ℕ) → since disk (moment disk) c → images disk c) → OnlyReads reads images moment since disk disk

@@ -3,7 +3,7 @@ use Rattle.std.proofs.Common.{◌≡◌, ℕ, ◌+◌, List, [], ◌∷◌, ◌+
 use Rattle.std.proofs.lemmas.List.{take-append-le, take-take, drop_at}
 use Rattle.gb_outside.specs.Images.{Holds, Torn, Follows, NoneNew, Elapses, LeavesOnly}
 use Rattle.gb_outside.proofs.Moments.{started, goes_on}
-use Rattle.journal_disk.specs.Writing.{TornFrom}
+use Rattle.journal_disk.specs.inner.Writing.{TornFrom}
 
 torn_nothing : (at n : ℕ) (c : List ℕ) → Torn at n c c
 torn_nothing at n c = record { before = refl; after = refl; no_shorter = omega arith; no_longer = omega arith }

@@ -1,17 +1,30 @@
--- The journal file: a mark, a name, frames, and a gate that is not open.
-use Rattle.std.specs.Prelude.{◌≡◌, ◌≢◌, ◌⊎◌, ℕ, ◌+◌, ◌<◌, ◌≤◌, List, [], ◌∷◌, ◌++◌, length, All, codes}
+-- The journal file: a mark, a heading, frames, and a gate that is not open.
+use Rattle.std.specs.Prelude.{◌≡◌, ◌≢◌, ◌⊎◌, ℕ, ◌+◌, ◌<◌, ◌≤◌, List, [], ◌∷◌, ◌++◌, length, drop, All, codes}
 use Rattle.std.specs.Int.{w32, to_be_bytes, from_be_bytes}
-use Rattle.journal_disk.specs.PlacedBody.{PlacedBody}
-use Rattle.journal_disk.specs.declared.layout.TheConstants.{HEADER, FRAME_HEAD, LONGEST_BODY}
+use Rattle.journal_disk.specs.FrameAt.{FrameAt}
+use Rattle.journal_disk.specs.Standing.{Standing}
+use Rattle.journal_disk.specs.Standing as standing
 
--- what stands behind the mark
-abbrev pub name : List ℕ
-name = codes "GBJOURN1"
+-- the bytes between the mark and the first gate of each file that is written today
+abbrev pub the_heading : List ℕ
+the_heading = codes "GBJOURN1"
 
--- how long a body may be
+-- the most bytes of a body
+abbrev pub longest_body : ℕ
+longest_body = 1024
+
+-- no closed gate that an append leaves stands at this offset or beyond
+abbrev pub file_limit : ℕ
+file_limit = 134217728
+
+-- how many bytes a frame has ahead of its body: an open gate and a length of four bytes
+abbrev pub frame_head : ℕ
+frame_head = 5
+
+-- a body has at least one byte, and no more than the most
 pub record IsBody (body : List ℕ) : Type 0 where
   pub not_empty : 1 ≤ length body
-  pub not_long : length body ≤ LONGEST_BODY
+  pub not_long : length body ≤ longest_body
 
 -- a length of four bytes, the highest first, and the body
 abbrev pub measured : List ℕ → List ℕ
@@ -22,14 +35,18 @@ abbrev pub frames : List (List ℕ) → List ℕ
 frames [] = []
 frames (body ∷ bodies) = 1 ∷ (measured body ++ frames bodies)
 
--- the place behind the frames of these bodies
-abbrev pub end_of : List (List ℕ) → ℕ
-end_of bodies = HEADER + length (frames bodies)
+-- the offset of the first gate, behind the mark and the heading
+abbrev pub first_gate : List ℕ → ℕ
+first_gate heading = 1 + length heading
 
--- bodies with the places of their gates, where the first gate stands at this place
-abbrev pub placed : ℕ → List (List ℕ) → List PlacedBody
-placed at [] = []
-placed at (body ∷ bodies) = record { at = at; body = body } ∷ placed (at + FRAME_HEAD + length body) bodies
+-- the offset behind the frames of these bodies
+abbrev pub end_of : List ℕ → List (List ℕ) → ℕ
+end_of heading bodies = first_gate heading + length (frames bodies)
+
+-- the frames of these bodies, where the first gate stands at this offset
+abbrev pub frames_from : ℕ → List (List ℕ) → List FrameAt
+frames_from at [] = []
+frames_from at (body ∷ bodies) = record { at = at; body = body } ∷ frames_from (at + frame_head + length body) bodies
 
 -- An unmade file: no byte or one, or a byte 0 of value 0.
 abbrev pub IsUnmade : List ℕ → Type 0
@@ -37,43 +54,58 @@ IsUnmade [] = Unit {0}
 IsUnmade (mark ∷ []) = Unit {0}
 IsUnmade (mark ∷ next ∷ rest) = mark ≡ 0
 
--- A made file: a mark, the name and a gate.
-pub record IsMade (file : List ℕ) : Type 0 where
+-- A made file: a mark, the heading and a gate.
+pub record IsMade (heading file : List ℕ) : Type 0 where
   pub mark : ℕ
   pub gate : ℕ
   pub rest : List ℕ
   pub made : mark ≢ 0
-  pub whole : file ≡ mark ∷ (name ++ gate ∷ rest)
+  pub whole : file ≡ mark ∷ (heading ++ gate ∷ rest)
 
 -- A file that is neither is no journal.
 pub record IsForeign (file : List ℕ) : Type 0 where
   pub not_unmade : IsUnmade file → ⊥
-  pub not_made : IsMade file → ⊥
+  pub not_made : IsMade the_heading file → ⊥
 
 -- A made file with these bodies, ended by a gate that is not open, whatever stands behind it.
-pub record IsJournal (file : List ℕ) (bodies : List (List ℕ)) : Type 0 where
+pub record IsJournal (heading file : List ℕ) (bodies : List (List ℕ)) : Type 0 where
   pub mark : ℕ
   pub gate : ℕ
   pub rest : List ℕ
   pub made : mark ≢ 0
   pub closed : gate ≢ 1
   pub sizes : All IsBody bodies
-  pub whole : file ≡ mark ∷ (name ++ frames bodies ++ gate ∷ rest)
+  pub whole : file ≡ mark ∷ (heading ++ frames bodies ++ gate ∷ rest)
 
 -- Behind an open gate no whole frame: its length is 0 or too long, or it runs past the end with the gate that ends it.
 abbrev pub IsNoFrame : List ℕ → Type 0
-IsNoFrame (a ∷ b ∷ c ∷ d ∷ rest) = let size = from_be_bytes w32 (a ∷ b ∷ c ∷ d ∷ []) in (size ≡ 0) ⊎ (LONGEST_BODY < size) ⊎ (length rest ≤ size)
+IsNoFrame (a ∷ b ∷ c ∷ d ∷ rest) = let size = from_be_bytes w32 (a ∷ b ∷ c ∷ d ∷ []) in (size ≡ 0) ⊎ (longest_body < size) ⊎ (length rest ≤ size)
 IsNoFrame rest = Unit {0}
 
 -- A made file that is bad at the gate behind these bodies: it is open, and no whole frame follows.
-pub record IsBad (file : List ℕ) (ahead : List (List ℕ)) : Type 0 where
+pub record IsBad (heading file : List ℕ) (ahead : List (List ℕ)) : Type 0 where
   pub mark : ℕ
   pub rest : List ℕ
   pub made : mark ≢ 0
   pub sizes : All IsBody ahead
   pub none : IsNoFrame rest
-  pub whole : file ≡ mark ∷ (name ++ frames ahead ++ 1 ∷ rest)
+  pub whole : file ≡ mark ∷ (heading ++ frames ahead ++ 1 ∷ rest)
+
+-- the standing of a file, where a journal is the bodies of its frames
+abbrev pub HasStanding : List ℕ → Standing (List (List ℕ)) → Type 0
+HasStanding file standing.Unmade = IsUnmade file
+HasStanding file standing.Foreign = IsForeign file
+HasStanding file (standing.Bad at) = (ahead : List (List ℕ)) × IsBad the_heading file ahead × (at ≡ end_of the_heading ahead)
+HasStanding file (standing.Journal bodies) = IsJournal the_heading file bodies
 
 -- The file stands for these bodies; an unmade one stands for none.
 abbrev pub StandsFor : List ℕ → List (List ℕ) → Type 0
-StandsFor file bodies = (IsUnmade file × (bodies ≡ [])) ⊎ IsJournal file bodies
+StandsFor file bodies = (HasStanding file standing.Unmade × (bodies ≡ [])) ⊎ HasStanding file (standing.Journal bodies)
+
+-- a file that was just made from this one: the mark, the heading, a closed gate, and what stood behind
+abbrev pub made_from : List ℕ → List ℕ → List ℕ
+made_from heading file = 71 ∷ (heading ++ 0 ∷ drop (first_gate heading + 1) file)
+
+-- a frame with this body in place of a closed gate: its own gate open, and a closed one behind it
+abbrev pub appended : List ℕ → List ℕ
+appended body = 1 ∷ (measured body ++ 0 ∷ [])

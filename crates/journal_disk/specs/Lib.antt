@@ -1,9 +1,7 @@
-pub mod PlacedBody
+pub mod Appending
+pub mod FrameAt
 pub mod Layout
 pub mod LogState
-pub mod Scan
-pub mod Reading
-pub mod Heading
-pub mod Writing
-pub mod Appending
 pub mod Opening
+pub mod Standing
+pub mod inner

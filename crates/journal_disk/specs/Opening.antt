@@ -1,27 +1,49 @@
 -- Opening a journal.
-use Rattle.std.specs.Prelude.{◌≡◌, ◌⊎◌, ℕ, List, Result, Err}
+use Rattle.std.specs.Prelude.{◌≡◌, ◌⊎◌, ℕ, Bool, true, false, List, Result, Ok, Err, All}
 use Rattle.gb_outside.specs.Images.{Only, LeavesOnly}
 use Rattle.journal_disk.specs.LogState.{LogState}
-use Rattle.journal_disk.specs.PlacedBody.{PlacedBody}
-use Rattle.journal_disk.specs.Layout.{IsUnmade, IsForeign, IsBad, StandsFor, end_of, placed}
+use Rattle.journal_disk.specs.FrameAt.{FrameAt}
+use Rattle.journal_disk.specs.Standing as standing
+use Rattle.journal_disk.specs.Layout.{the_heading, IsBody, IsUnmade, HasStanding, StandsFor, first_gate, end_of, frames_from}
 use Rattle.journal_disk.specs.Appending.{StandsOn}
-use Rattle.journal_disk.specs.declared.layout.TheConstants.{HEADER}
 use Rattle.journal_disk.specs.declared.faults.OpenFault.{OpenFault}
 use Rattle.journal_disk.specs.declared.faults.OpenFault.TheVariants.{Disk, NotJournal, BadRecord, Memory}
 
+-- whether an opening answers that the disk failed
+abbrev pub opening_failed : {A : Type 0} → Result A OpenFault → Bool
+opening_failed (Ok opened) = false
+opening_failed (Err Disk) = true
+opening_failed (Err NotJournal) = false
+opening_failed (Err (BadRecord at ahead)) = false
+opening_failed (Err Memory) = false
+
+-- Frames one behind the other from the first gate on, and the gate behind them.
+pub record AreFramesTo (frames : List FrameAt) (gate : ℕ) : Type 0 where
+  pub bodies : List (List ℕ)
+  pub sizes : All IsBody bodies
+  pub frames_are : frames ≡ frames_from (first_gate the_heading) bodies
+  pub ends : gate ≡ end_of the_heading bodies
+
+-- the frames ahead of a bad gate are one behind the other, and that gate is behind them
+abbrev pub HasFramesAhead : OpenFault → Type 0
+HasFramesAhead Disk = Unit {0}
+HasFramesAhead NotJournal = Unit {0}
+HasFramesAhead (BadRecord at ahead) = AreFramesTo ahead.items at
+HasFramesAhead Memory = Unit {0}
+
 -- The file stood for the frames that the opening gives, and the log works and stands on the disk with them.
-pub record Opens (file : List ℕ) (log : LogState) (frames : List PlacedBody) (reads : List ℕ) (images : List ℕ → Type 0) : Type 0 where
+pub record LogOpens (file : List ℕ) (log : LogState) (frames : List FrameAt) (reads : List ℕ) (images : List ℕ → Type 0) : Type 0 where
   pub bodies : List (List ℕ)
   pub found : StandsFor file bodies
-  pub frames_are : frames ≡ placed HEADER bodies
+  pub frames_are : frames ≡ frames_from (first_gate the_heading) bodies
   pub stands : StandsOn log.gate bodies reads images
 
--- what a fault says of the file that was found
-abbrev pub Refuses : List ℕ → OpenFault → Type 0
-Refuses file NotJournal = IsForeign file
-Refuses file (BadRecord at ahead) = (bodies : List (List ℕ)) × IsBad file bodies × (at ≡ end_of bodies) × (ahead.items ≡ placed HEADER bodies)
-Refuses file Disk = Unit {0}
-Refuses file Memory = Unit {0}
+-- what a fault says of the file that was found: its standing, and with a bad one the frames ahead
+abbrev pub LogRefuses : List ℕ → OpenFault → Type 0
+LogRefuses file NotJournal = HasStanding file standing.Foreign
+LogRefuses file (BadRecord at ahead) = (bad : HasStanding file (standing.Bad at)) × (ahead.items ≡ frames_from (first_gate the_heading) bad.0)
+LogRefuses file Disk = Unit {0}
+LogRefuses file Memory = Unit {0}
 
 -- A file that is not unmade stays as it is, and each file stands for the same frames as before.
 pub record IsKept (file c : List ℕ) : Type 0 where
@@ -36,7 +58,7 @@ pub record SyncsFirst {D : Type 0} (reads : D → List ℕ) (images : D → List
   pub only : Only (reads old) (images synced)
   pub then : LeavesOnly moment since synced new (IsKept (reads old))
 
--- the first sync failed, or it was done and all that follows kept the file
-abbrev pub KeepsFrames : {D A : Type 0} → (D → List ℕ) → (D → List ℕ → Type 0) → (D → ℕ) → (D → ℕ → List ℕ → Type 0) → D → D → Result A OpenFault → Type 0
-KeepsFrames reads images moment since old new (Err Disk) = LeavesOnly moment since old new (images old) ⊎ SyncsFirst reads images moment since old new
-KeepsFrames reads images moment since old new result = SyncsFirst reads images moment since old new
+-- A sync was done ahead of the answer, and all that follows it keeps the file; only where the disk failed it may be that it was not done.
+abbrev pub AnswersSynced : {D A : Type 0} → (D → List ℕ) → (D → List ℕ → Type 0) → (D → ℕ) → (D → ℕ → List ℕ → Type 0) → D → D → Result A OpenFault → Type 0
+AnswersSynced reads images moment since old new (Err Disk) = LeavesOnly moment since old new (images old) ⊎ SyncsFirst reads images moment since old new
+AnswersSynced reads images moment since old new result = SyncsFirst reads images moment since old new

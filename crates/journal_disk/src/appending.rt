@@ -3,8 +3,8 @@ ghost use Rattle.std.specs.Prelude.{◌≡◌, ◌+◌, ◌<◌, ◌≤◌, ◌^
 ghost use Rattle.std.specs.Int.{w32, to_be_bytes};
 ghost use Rattle.gb_outside.specs.Faults.{Counts};
 ghost use Rattle.gb_outside.specs.Images.{Holds, LeavesOnly};
-ghost use Rattle.journal_disk.specs.Layout.{IsBody, measured};
-ghost use Rattle.journal_disk.specs.Appending.{StandsOn, WithOrWithout};
+ghost use Rattle.journal_disk.specs.Layout.{frame_head, file_limit, IsBody, measured, appended};
+ghost use Rattle.journal_disk.specs.Appending.{StandsOn, FramesWithOrWithout};
 
 use crate::layout::{CLOSED, FILE_LIMIT, FRAME_HEAD, LONGEST_BODY, OPEN};
 use crate::writing::put;
@@ -16,8 +16,8 @@ const MOST_BEHIND: usize = FRAME_HEAD + LONGEST_BODY;
 /// Fills what stands behind a gate: the length, the body and a closed gate.
 fn fill(behind: &mut [u8], body: &[u8])
     requires body { length body.now < 2 ^ 32 }
-    requires room { length behind.old ≡ FRAME_HEAD + length body.now }
-    ensures { behind.new ≡ measured body.now ++ CLOSED ∷ [] }
+    requires room { length behind.old ≡ frame_head + length body.now }
+    ensures { behind.new ≡ measured body.now ++ 0 ∷ [] }
 {
     let end = 4 + body.len();
     behind[..4].copy_from_slice(&(body.len() as u32).to_be_bytes());
@@ -29,13 +29,13 @@ fn fill(behind: &mut [u8], body: &[u8])
 /// it makes count is on the disk.
 pub(crate) fn write_frame<D: Disk>(disk: &mut D, gate: u64, body: &[u8]) -> Result<(), DiskFailed>
     requires body { IsBody body.now }
-    requires gate { gate < FILE_LIMIT }
-    requires place { IsTrue D.tells → gate < length (D.reads disk.old) }
+    requires gate { gate < file_limit }
+    requires within { IsTrue D.tells → gate < length (D.reads disk.old) }
     ensures appended { OnOk result (IsTrue D.tells → (bodies : List (List ℕ)) → StandsOn gate bodies (D.reads disk.old) (D.images disk.old)
-        → StandsOn (gate + FRAME_HEAD + length body.now) (bodies ++ body.now ∷ []) (D.reads disk.new) (D.images disk.new)) }
-    ensures written { OnOk result (IsTrue D.tells → Holds (D.reads disk.old) gate (OPEN ∷ (measured body.now ++ CLOSED ∷ [])) (D.reads disk.new)) }
+        → StandsOn (gate + frame_head + length body.now) (bodies ++ body.now ∷ []) (D.reads disk.new) (D.images disk.new)) }
+    ensures written { OnOk result (IsTrue D.tells → Holds (D.reads disk.old) gate (appended body.now) (D.reads disk.new)) }
     ensures any_moment { IsTrue D.tells → (bodies : List (List ℕ)) → StandsOn gate bodies (D.reads disk.old) (D.images disk.old)
-        → LeavesOnly D.moment D.since disk.old disk.new (WithOrWithout bodies body.now) }
+        → LeavesOnly D.moment D.since disk.old disk.new (FramesWithOrWithout bodies body.now) }
     ensures cause { Counts (D.faults disk.old) (D.faults disk.new) (is_err result) }
 {
     let mut room = [CLOSED; MOST_BEHIND];

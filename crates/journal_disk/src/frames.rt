@@ -1,6 +1,7 @@
+// A frame of the file.
 use std::marker::Model;
 
-/// A frame of the file: a body that was appended, and the place of its gate.
+/// A frame of the file: a body that was appended, and the offset of its gate.
 #[derive(Debug, Drop)]
 pub struct Frame {
     /// The offset of the frame's gate in the file.
@@ -10,9 +11,9 @@ pub struct Frame {
 }
 
 impl Model for Frame {
-    ghost use Rattle.journal_disk.specs.PlacedBody.{PlacedBody};
+    ghost use Rattle.journal_disk.specs.FrameAt.{FrameAt};
 
-    ghost Value = { PlacedBody };
+    ghost Value = { FrameAt };
 
     ghost view = { λ a. record { at = a.at; body = a.body.items } };
 }

@@ -1,14 +1,15 @@
 // What stands at the head of a file.
 ghost use Rattle.std.specs.Prelude.{◌≡◌, ◌<◌, ◌≤◌, ℕ, List, IsTrue, IfOk, is_err, length, take};
 ghost use Rattle.gb_outside.specs.Faults.{Counts};
-ghost use Rattle.journal_disk.specs.Reading.{OnlyReads};
-ghost use Rattle.journal_disk.specs.Heading.{FoundIn};
+ghost use Rattle.journal_disk.specs.inner.Reading.{OnlyReads};
+ghost use Rattle.journal_disk.specs.Layout.{the_heading, first_gate};
+ghost use Rattle.journal_disk.specs.inner.Heading.{FoundIn};
 
-use crate::layout::{HEADER, NAME};
+use crate::layout::{FIRST_GATE, HEADING};
 use gb_outside::{Disk, DiskFailed};
 
-/// How many bytes tell whether a file is made: the header and the first gate.
-const HEAD: usize = HEADER as usize + 1;
+/// How many bytes tell whether a file is made: those up to the first gate, and it.
+const HEAD: usize = FIRST_GATE as usize + 1;
 
 /// What stands at the head of a file.
 #[derive(Clone, Copy, Debug, PartialEq, Eq)]
@@ -25,12 +26,12 @@ pub(crate) enum Found {
 fn classify(head: &[u8], len: u64) -> Found
     requires { length head.now ≤ len }
     ensures found { (file : List ℕ) → head.now ≡ take HEAD file → len ≡ length file → FoundIn file result }
-    ensures made { (n : ℕ) → result ≡ Found.Made n → HEADER < n }
+    ensures made { (n : ℕ) → result ≡ Found.Made n → first_gate the_heading < n }
 {
     match head {
         [0, ..] => Found::Unmade { begun: true },
         [] | [_] => Found::Unmade { begun: false },
-        [_, name @ .., _] if name == NAME.as_slice() => Found::Made { len },
+        [_, heading @ .., _] if heading == HEADING.as_slice() => Found::Made { len },
         _ => Found::Foreign,
     }
 }
@@ -38,7 +39,7 @@ fn classify(head: &[u8], len: u64) -> Found
 /// Reads the length and the head of a file.
 pub(crate) fn find<D: Disk>(disk: &mut D) -> Result<Found, DiskFailed>
     ensures found { IsTrue D.tells → IfOk result (FoundIn (D.reads disk.old)) }
-    ensures made { IfOk result (λ found. (n : ℕ) → found ≡ Found.Made n → HEADER < n) }
+    ensures made { IfOk result (λ found. (n : ℕ) → found ≡ Found.Made n → first_gate the_heading < n) }
     ensures reads { IsTrue D.tells → OnlyReads D.reads D.images D.moment D.since disk.old disk.new }
     ensures cause { Counts (D.faults disk.old) (D.faults disk.new) (is_err result) }
 {

@@ -1,13 +1,14 @@
 //! Laws of the journal file.
-ghost use Rattle.std.specs.Prelude.{◌≡◌, ℕ, List};
-ghost use Rattle.journal_disk.specs.Layout.{IsForeign, IsBad, StandsFor};
+ghost use Rattle.std.specs.Prelude.{◌≡◌, ◌<◌, ℕ, List, All};
+ghost use Rattle.journal_disk.specs.Layout.{the_heading, IsBad, HasStanding, StandsFor};
+ghost use Rattle.journal_disk.specs.Standing.{Standing};
 
-/// A file has one standing: it stands for one list of frames, or is bad behind one, or is foreign.
-/// So each answer of an opening comes only where no other one could.
+/// Each file has a standing, and only one. So each answer of an opening comes only where no other
+/// one could. An unmade file and a made one without frames stand for the same, and the frames
+/// ahead of a bad gate are known too.
 pub fn one_standing()
+    ensures some { (file : List ℕ) → All (λ byte. byte < 256) file → (standing : Standing (List (List ℕ))) × HasStanding file standing }
+    ensures only_one { (file : List ℕ) (a b : Standing (List (List ℕ))) → HasStanding file a → HasStanding file b → a ≡ b }
     ensures frames { (file : List ℕ) (a b : List (List ℕ)) → StandsFor file a → StandsFor file b → a ≡ b }
-    ensures bad { (file : List ℕ) (a b : List (List ℕ)) → IsBad file a → IsBad file b → a ≡ b }
-    ensures not_both { (file : List ℕ) (a b : List (List ℕ)) → StandsFor file a → IsBad file b → ⊥ }
-    ensures foreign { (file : List ℕ) (a : List (List ℕ)) → IsForeign file → StandsFor file a → ⊥ }
-    ensures foreign_bad { (file : List ℕ) (a : List (List ℕ)) → IsForeign file → IsBad file a → ⊥ }
+    ensures ahead { (file : List ℕ) (a b : List (List ℕ)) → IsBad the_heading file a → IsBad the_heading file b → a ≡ b }
 {}

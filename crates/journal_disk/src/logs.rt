@@ -2,14 +2,13 @@
 ghost use Rattle.std.specs.Prelude.{◌≡◌, ◌↔◌, ◌+◌, ◌≤◌, ◌++◌, ◌^◌, [], ◌∷◌, ℕ, List, true, false, IsTrue, IfOk, IfErr, OnOk, length, drop};
 ghost use Rattle.gb_outside.specs.Faults.{Counts};
 ghost use Rattle.gb_outside.specs.Images.{Holds, Only, LeavesOnly};
-ghost use Rattle.journal_disk.specs.Layout.{name, IsBody, measured, IsUnmade};
-ghost use Rattle.journal_disk.specs.Reading.{disk_failed};
-ghost use Rattle.journal_disk.specs.Opening.{Opens, Refuses, IsKept, KeepsFrames};
-ghost use Rattle.journal_disk.specs.Appending.{StandsOn, WithOrWithout, append_failed, log_after};
+ghost use Rattle.journal_disk.specs.Layout.{the_heading, file_limit, frame_head, made_from, appended, IsBody, IsUnmade};
+ghost use Rattle.journal_disk.specs.Opening.{opening_failed, AreFramesTo, HasFramesAhead, LogOpens, LogRefuses, IsKept, AnswersSynced};
+ghost use Rattle.journal_disk.specs.Appending.{StandsOn, FramesWithOrWithout, append_failed, log_after};
 
 use crate::appending::write_frame;
 use crate::heading::{Found, find};
-use crate::layout::{CLOSED, FILE_LIMIT, FRAME_HEAD, HEADER, MARK, OPEN};
+use crate::layout::{FILE_LIMIT, FIRST_GATE, FRAME_HEAD};
 use crate::reading::read_frames;
 use crate::writing::make;
 use crate::{AppendFault, Frame, OpenFault};
@@ -17,7 +16,7 @@ use gb_outside::{Disk, DiskFailed};
 use std::alloc::Global;
 use std::marker::Model;
 
-/// A log of frames on a disk. It knows the place of the closed gate that ends them, and whether an
+/// A log of frames on a disk. It knows the offset of the closed gate that ends them, and whether an
 /// append has failed; the disk is lent to each call.
 #[derive(Drop)]
 pub struct Log {
@@ -35,17 +34,22 @@ impl Model for Log {
 
 impl Log {
     /// Opens the journal of a disk: the log, and the frames in order. An unmade file is made.
-    /// It begins with a sync, so that what it reads is what a stop leaves.
+    /// An answer about the file comes only after a sync, so that a stop leaves what it says.
     pub fn open<D: Disk>(alloc: Global, disk: &mut D) -> Result<(Log, Vec<Frame>), OpenFault>
-        ensures opened { IsTrue D.tells → IfOk result (λ opened. Opens (D.reads disk.old) opened.0 opened.1.items (D.reads disk.new) (D.images disk.new)) }
+        // The frames that it gives and those ahead of a bad gate stand one behind the other, on any disk.
+        ensures frames { IfOk result (λ opened. AreFramesTo opened.1.items opened.0.gate) }
+        ensures ahead { IfErr result HasFramesAhead }
+
+        // The answer is by the file's standing.
+        ensures opened { IsTrue D.tells → IfOk result (λ opened. LogOpens (D.reads disk.old) opened.0 opened.1.items (D.reads disk.new) (D.images disk.new)) }
         ensures works { IfOk result (λ opened. opened.0.failed ≡ false) }
-        ensures made { IsTrue D.tells → OnOk result (IsUnmade (D.reads disk.old) → D.reads disk.new ≡ MARK ∷ (name ++ CLOSED ∷ drop (HEADER + 1) (D.reads disk.old))) }
-        ensures refused { IsTrue D.tells → IfErr result (Refuses (D.reads disk.old)) }
+        ensures made { IsTrue D.tells → OnOk result (IsUnmade (D.reads disk.old) → D.reads disk.new ≡ made_from the_heading (D.reads disk.old)) }
+        ensures refused { IsTrue D.tells → IfErr result (LogRefuses (D.reads disk.old)) }
         ensures kept { IsTrue D.tells → IsKept (D.reads disk.old) (D.reads disk.new) }
 
-        // A stop at any moment after the first sync leaves the frames that were found.
-        ensures any_moment { IsTrue D.tells → KeepsFrames D.reads D.images D.moment D.since disk.old disk.new result }
-        ensures cause { Counts (D.faults disk.old) (D.faults disk.new) (disk_failed result) }
+        // It answers only after a sync, and a stop at any moment from then on leaves the frames that were found.
+        ensures any_moment { IsTrue D.tells → AnswersSynced D.reads D.images D.moment D.since disk.old disk.new result }
+        ensures cause { Counts (D.faults disk.old) (D.faults disk.new) (opening_failed result) }
     {
         disk.sync()?;
         open_synced(alloc, disk)
@@ -67,16 +71,16 @@ impl Log {
         // After Ok the log stands on the disk with the new frame, whose bytes alone were written.
         ensures appended { OnOk result (IsTrue D.tells → (bodies : List (List ℕ)) → StandsOn self.old.gate bodies (D.reads disk.old) (D.images disk.old)
             → StandsOn self.new.gate (bodies ++ body.now ∷ []) (D.reads disk.new) (D.images disk.new)) }
-        ensures written { OnOk result (IsTrue D.tells → Holds (D.reads disk.old) self.old.gate (OPEN ∷ (measured body.now ++ CLOSED ∷ [])) (D.reads disk.new)) }
+        ensures written { OnOk result (IsTrue D.tells → Holds (D.reads disk.old) self.old.gate (appended body.now) (D.reads disk.new)) }
         ensures log { self.new ≡ log_after self.old (length body.now) result }
 
         // A stop at any moment leaves the frames before, with the new one or without.
         ensures any_moment { IsTrue D.tells → (bodies : List (List ℕ)) → self.old.failed ≡ false → StandsOn self.old.gate bodies (D.reads disk.old) (D.images disk.old)
-            → LeavesOnly D.moment D.since disk.old disk.new (WithOrWithout bodies body.now) }
+            → LeavesOnly D.moment D.since disk.old disk.new (FramesWithOrWithout bodies body.now) }
 
         // Each fault has its cause, and two of them call no device.
         ensures must_reopen { (result ≡ Err AppendFault.MustReopen) ↔ (self.old.failed ≡ true) }
-        ensures full { (result ≡ Err AppendFault.Full) ↔ ((self.old.failed ≡ false) × (FILE_LIMIT ≤ self.old.gate + FRAME_HEAD + length body.now)) }
+        ensures full { (result ≡ Err AppendFault.Full) ↔ ((self.old.failed ≡ false) × (file_limit ≤ self.old.gate + frame_head + length body.now)) }
         ensures untouched_full { result ≡ Err AppendFault.Full → disk.new ≡ disk.old }
         ensures untouched_failed { result ≡ Err AppendFault.MustReopen → disk.new ≡ disk.old }
         ensures cause { Counts (D.faults disk.old) (D.faults disk.new) (append_failed result) }
@@ -104,17 +108,19 @@ impl Log {
 /// Opens the journal of a disk of which a stop leaves what a read gives.
 fn open_synced<D: Disk>(alloc: Global, disk: &mut D) -> Result<(Log, Vec<Frame>), OpenFault>
     requires { IsTrue D.tells → Only (D.reads disk.old) (D.images disk.old) }
-    ensures opened { IsTrue D.tells → IfOk result (λ opened. Opens (D.reads disk.old) opened.0 opened.1.items (D.reads disk.new) (D.images disk.new)) }
+    ensures frames { IfOk result (λ opened. AreFramesTo opened.1.items opened.0.gate) }
+    ensures ahead { IfErr result HasFramesAhead }
+    ensures opened { IsTrue D.tells → IfOk result (λ opened. LogOpens (D.reads disk.old) opened.0 opened.1.items (D.reads disk.new) (D.images disk.new)) }
     ensures works { IfOk result (λ opened. opened.0.failed ≡ false) }
-    ensures made { IsTrue D.tells → OnOk result (IsUnmade (D.reads disk.old) → D.reads disk.new ≡ MARK ∷ (name ++ CLOSED ∷ drop (HEADER + 1) (D.reads disk.old))) }
-    ensures refused { IsTrue D.tells → IfErr result (Refuses (D.reads disk.old)) }
+    ensures made { IsTrue D.tells → OnOk result (IsUnmade (D.reads disk.old) → D.reads disk.new ≡ made_from the_heading (D.reads disk.old)) }
+    ensures refused { IsTrue D.tells → IfErr result (LogRefuses (D.reads disk.old)) }
     ensures any_moment { IsTrue D.tells → LeavesOnly D.moment D.since disk.old disk.new (IsKept (D.reads disk.old)) }
-    ensures cause { Counts (D.faults disk.old) (D.faults disk.new) (disk_failed result) }
+    ensures cause { Counts (D.faults disk.old) (D.faults disk.new) (opening_failed result) }
 {
     match find(disk)? {
         Found::Unmade { begun } => {
             make(disk, begun)?;
-            Ok((log_at(HEADER), Vec::new(alloc)))
+            Ok((log_at(FIRST_GATE), Vec::new(alloc)))
         }
         Found::Foreign => Err(OpenFault::NotJournal),
         Found::Made { len } => {

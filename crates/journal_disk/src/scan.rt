@@ -1,6 +1,6 @@
 // Finds the frames of a journal, gate by gate.
 ghost use Rattle.std.specs.Prelude.{◌≡◌, ◌+◌, ◌<◌, ◌≤◌, ◌^◌, length, take, drop, OnOk, IfOk};
-ghost use Rattle.journal_disk.specs.Scan.{StandsAt, Scanned};
+ghost use Rattle.journal_disk.specs.inner.Scan.{StandsAt, Scanned};
 
 use crate::Frame;
 use crate::layout::{FRAME_HEAD, LONGEST_BODY, OPEN};
@@ -19,7 +19,7 @@ pub(crate) enum Ending {
 
 /// Where frames end, and why.
 #[derive(Clone, Copy)]
-pub(crate) struct Stop {
+pub(crate) struct End {
     pub(crate) at: u64,
     pub(crate) ending: Ending,
 }
@@ -51,17 +51,17 @@ pub(crate) fn scan(
     at: u64,
     bytes: &[u8],
     frames: &mut Vec<Frame>,
-) -> Result<Stop, AllocError>
+) -> Result<End, AllocError>
     requires some { 0 < length bytes.now }
-    requires place { at + length bytes.now < 2 ^ 64 }
-    ensures { IfOk result (λ stop. Scanned at bytes.now frames.old.items frames.new.items stop.at stop.ending) }
+    requires offset { at + length bytes.now < 2 ^ 64 }
+    ensures { IfOk result (λ end. Scanned at bytes.now frames.old.items frames.new.items end.at end.ending) }
 {
     let mut gate = at;
     let mut rest = bytes;
     loop {
         let size = match body_size(rest) {
             Ok(size) => size,
-            Err(ending) => return Ok(Stop { at: gate, ending }),
+            Err(ending) => return Ok(End { at: gate, ending }),
         };
         let (frame, behind) = rest.split_at(FRAME_HEAD + size);
         let body = Vec::from_slice(alloc, &frame[FRAME_HEAD..])?;

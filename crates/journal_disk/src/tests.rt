@@ -1,7 +1,7 @@
 // What no clause says: the bytes of the worked files, and an opening of each file round the edges.
 ghost use Rattle.std.specs.Prelude.{◌<◌, ◌≤◌};
 
-use crate::layout::{FILE_LIMIT, FRAME_HEAD, HEADER, LONGEST_BODY, MARK, NAME, OPEN};
+use crate::layout::{FILE_LIMIT, FIRST_GATE, FRAME_HEAD, HEADING, LONGEST_BODY, MARK, OPEN};
 use crate::{AppendFault, Log, OpenFault};
 use gb_outside::MemDisk;
 use std::alloc::{AllocError, Global};
@@ -130,9 +130,9 @@ fn each_prefix_reads_as_the_layout_says(rt: HostRuntime) -> Result<(), Fail> {
     Ok(())
 }
 
-/// What the three frames read as with another value at this place.
-fn of_change(place: usize, value: u8) -> Seen {
-    match (place, value) {
+/// What the three frames read as with another value at this index.
+fn of_change(index: usize, value: u8) -> Seen {
+    match (index, value) {
         // The mark of an unmade file, and any other mark.
         (0, 0) => Seen::Frames(0),
         (0, _) => Seen::Frames(3),
@@ -155,26 +155,26 @@ fn of_change(place: usize, value: u8) -> Seen {
     }
 }
 
-fn changed_at(rt: &impl Abort, alloc: Global, place: usize) -> Result<(), AllocError>
-    requires { place < 31 }
+fn changed_at(rt: &impl Abort, alloc: Global, index: usize) -> Result<(), AllocError>
+    requires { index < 31 }
 {
     for value in 0..=u8::MAX {
         let mut file = THREE;
-        file[place] = value;
+        file[index] = value;
         let seen = if file == THREE {
             Seen::Frames(3)
         } else {
-            of_change(place, value)
+            of_change(index, value)
         };
-        assert_eq!(rt; opened(alloc, &file)?, seen, "{value} at {place}");
+        assert_eq!(rt; opened(alloc, &file)?, seen, "{value} at {index}");
     }
     Ok(())
 }
 
 #[test]
 fn each_changed_byte_reads_as_the_layout_says(rt: HostRuntime) -> Result<(), Fail> {
-    for place in 0..THREE.len() {
-        changed_at(&rt, rt.alloc(), place)?;
+    for index in 0..THREE.len() {
+        changed_at(&rt, rt.alloc(), index)?;
     }
     Ok(())
 }
@@ -194,9 +194,9 @@ fn nearly_full(alloc: Global) -> Result<Vec<u8>, AllocError> {
     let gate = FILE_LIMIT as usize - FRAME_HEAD - 2;
     let mut file = Vec::with_capacity(alloc, gate + 1)?;
     file.push(MARK)?;
-    file.extend_from_slice(&NAME)?;
+    file.extend_from_slice(&HEADING)?;
     let longest = FRAME_HEAD + LONGEST_BODY;
-    let left = gate - HEADER as usize;
+    let left = gate - FIRST_GATE as usize;
     let whole = left / longest - 1;
     for _ in 0..whole {
         add_frame(&mut file, LONGEST_BODY)?;

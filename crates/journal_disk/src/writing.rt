@@ -2,12 +2,12 @@
 ghost use Rattle.std.specs.Prelude.{◌≡◌, ◌+◌, ◌≤◌, ◌++◌, [], ◌∷◌, IsTrue, OnOk, is_err, length, drop};
 ghost use Rattle.gb_outside.specs.Faults.{Counts};
 ghost use Rattle.gb_outside.specs.Images.{Holds, Only, LeavesOnly};
-ghost use Rattle.journal_disk.specs.Layout.{name, StandsFor};
-ghost use Rattle.journal_disk.specs.Heading.{BeginsWithZero, FoundIn};
-ghost use Rattle.journal_disk.specs.Writing.{TornFrom};
+ghost use Rattle.journal_disk.specs.Layout.{the_heading, made_from, StandsFor};
+ghost use Rattle.journal_disk.specs.inner.Heading.{BeginsWithZero, FoundIn};
+ghost use Rattle.journal_disk.specs.inner.Writing.{TornFrom};
 
 use crate::heading::Found;
-use crate::layout::{CLOSED, HEADER, MARK, NAME};
+use crate::layout::{CLOSED, FIRST_GATE, HEADING, MARK};
 use gb_outside::{Disk, DiskFailed};
 
 /// Writes a piece and brings it onto the disk.
@@ -39,13 +39,13 @@ fn begin<D: Disk>(disk: &mut D) -> Result<(), DiskFailed>
 fn finish<D: Disk>(disk: &mut D) -> Result<(), DiskFailed>
     requires begun { IsTrue D.tells → BeginsWithZero (D.reads disk.old) }
     requires settled { IsTrue D.tells → Only (D.reads disk.old) (D.images disk.old) }
-    ensures made { OnOk result (IsTrue D.tells → D.reads disk.new ≡ MARK ∷ (name ++ CLOSED ∷ drop (HEADER + 1) (D.reads disk.old))) }
+    ensures made { OnOk result (IsTrue D.tells → D.reads disk.new ≡ made_from the_heading (D.reads disk.old)) }
     ensures settled { OnOk result (IsTrue D.tells → Only (D.reads disk.new) (D.images disk.new)) }
     ensures any_moment { IsTrue D.tells → LeavesOnly D.moment D.since disk.old disk.new (λ c. StandsFor c []) }
     ensures cause { Counts (D.faults disk.old) (D.faults disk.new) (is_err result) }
 {
-    let mut fresh = [CLOSED; HEADER as usize];
-    fresh[..NAME.len()].copy_from_slice(&NAME);
+    let mut fresh = [CLOSED; FIRST_GATE as usize];
+    fresh[..HEADING.len()].copy_from_slice(&HEADING);
     put(disk, 1, &fresh)?;
     put(disk, 0, &[MARK])
 }
@@ -54,7 +54,7 @@ fn finish<D: Disk>(disk: &mut D) -> Result<(), DiskFailed>
 pub(crate) fn make<D: Disk>(disk: &mut D, begun: bool) -> Result<(), DiskFailed>
     requires unmade { IsTrue D.tells → FoundIn (D.reads disk.old) (Found.Unmade begun) }
     requires settled { IsTrue D.tells → Only (D.reads disk.old) (D.images disk.old) }
-    ensures made { OnOk result (IsTrue D.tells → D.reads disk.new ≡ MARK ∷ (name ++ CLOSED ∷ drop (HEADER + 1) (D.reads disk.old))) }
+    ensures made { OnOk result (IsTrue D.tells → D.reads disk.new ≡ made_from the_heading (D.reads disk.old)) }
     ensures settled { OnOk result (IsTrue D.tells → Only (D.reads disk.new) (D.images disk.new)) }
     ensures any_moment { IsTrue D.tells → LeavesOnly D.moment D.since disk.old disk.new (λ c. StandsFor c []) }
     ensures cause { Counts (D.faults disk.old) (D.faults disk.new) (is_err result) }

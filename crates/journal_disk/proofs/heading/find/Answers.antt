@@ -1,6 +1,6 @@
 use Rattle.std.proofs.Common.{◌≡◌, ◌≤◌, ◌++◌, ℕ, min, List, length, take, drop, ◌∙◌, ap, sym, subst, arith, length-take-le}
 use Rattle.std.proofs.lemmas.List.{take_at, take_min}
-use Rattle.journal_disk.specs.Heading.{FoundIn}
+use Rattle.journal_disk.specs.inner.Heading.{FoundIn}
 use Rattle.journal_disk.proofs.heading.find.Goals as goal
 
 read_head : (file into rest : List ℕ) (size most : ℕ) → into ≡ take (length into) (drop 0 file) → length into ≡ size → size ≡ min most (length file)

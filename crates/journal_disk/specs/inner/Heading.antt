@@ -1,6 +1,6 @@
 -- What stands at the head of a file.
 use Rattle.std.specs.Prelude.{◌≡◌, ℕ, ◌≤◌, List, ◌∷◌, length, MatchBool}
-use Rattle.journal_disk.specs.Layout.{IsUnmade, IsMade, IsForeign}
+use Rattle.journal_disk.specs.Layout.{the_heading, IsUnmade, IsMade, IsForeign}
 use Rattle.journal_disk.specs.declared.heading.Found.{Found}
 use Rattle.journal_disk.specs.declared.heading.Found.TheVariants.{Unmade, Foreign, Made}
 
@@ -8,7 +8,8 @@ use Rattle.journal_disk.specs.declared.heading.Found.TheVariants.{Unmade, Foreig
 abbrev pub BeginsWithZero : List ℕ → Type 0
 BeginsWithZero file = (rest : List ℕ) × (file ≡ 0 ∷ rest)
 
+-- what a finding says of the file
 abbrev pub FoundIn : List ℕ → Found → Type 0
 FoundIn file (Unmade begun) = IsUnmade file × MatchBool begun (BeginsWithZero file) (length file ≤ 1)
 FoundIn file Foreign = IsForeign file
-FoundIn file (Made len) = IsMade file × (len ≡ length file)
+FoundIn file (Made len) = IsMade the_heading file × (len ≡ length file)

@@ -1,20 +1,19 @@
 -- How the frames of a journal are found, gate by gate.
 use Rattle.std.specs.Prelude.{◌≡◌, ◌≢◌, ◌⊎◌, ℕ, ◌+◌, ◌<◌, ◌≤◌, List, [], ◌∷◌, ◌++◌, length, All, Result, Ok, Err}
 use Rattle.std.specs.Int.{w32, from_be_bytes}
-use Rattle.journal_disk.specs.PlacedBody.{PlacedBody}
-use Rattle.journal_disk.specs.Layout.{IsBody, measured, frames, placed}
-use Rattle.journal_disk.specs.declared.layout.TheConstants.{LONGEST_BODY}
+use Rattle.journal_disk.specs.FrameAt.{FrameAt}
+use Rattle.journal_disk.specs.Layout.{longest_body, IsBody, measured, frames, frames_from}
 use Rattle.journal_disk.specs.declared.scan.Ending.{Ending}
 use Rattle.journal_disk.specs.declared.scan.Ending.TheVariants.{Closed, Wrong, Short}
 
 -- behind an open gate: a length that no frame has
 abbrev pub IsWrong : List ℕ → Type 0
-IsWrong (a ∷ b ∷ c ∷ d ∷ rest) = let size = from_be_bytes w32 (a ∷ b ∷ c ∷ d ∷ []) in (size ≡ 0) ⊎ (LONGEST_BODY < size)
+IsWrong (a ∷ b ∷ c ∷ d ∷ rest) = let size = from_be_bytes w32 (a ∷ b ∷ c ∷ d ∷ []) in (size ≡ 0) ⊎ (longest_body < size)
 IsWrong rest = ⊥
 
 -- behind an open gate: fewer bytes than the frame and the gate behind it have
 abbrev pub IsShort : List ℕ → Type 0
-IsShort (a ∷ b ∷ c ∷ d ∷ rest) = let size = from_be_bytes w32 (a ∷ b ∷ c ∷ d ∷ []) in (size ≤ LONGEST_BODY) × (length rest ≤ size)
+IsShort (a ∷ b ∷ c ∷ d ∷ rest) = let size = from_be_bytes w32 (a ∷ b ∷ c ∷ d ∷ []) in (size ≤ longest_body) × (length rest ≤ size)
 IsShort rest = Unit {0}
 
 -- why no frame begins here
@@ -37,12 +36,12 @@ abbrev pub StandsAt : List ℕ → Result ℕ Ending → Type 0
 StandsAt bytes (Ok size) = Begins bytes size
 StandsAt bytes (Err ending) = Ends bytes ending
 
--- These bytes, the first of them a gate at this place, are whole frames, and then none begins.
-pub record Scanned (at : ℕ) (bytes : List ℕ) (before now : List PlacedBody) (end : ℕ) (ending : Ending) : Type 0 where
+-- These bytes, the first of them a gate at this offset, are whole frames, and then none begins.
+pub record Scanned (at : ℕ) (bytes : List ℕ) (before now : List FrameAt) (end : ℕ) (ending : Ending) : Type 0 where
   pub bodies : List (List ℕ)
   pub rest : List ℕ
   pub sizes : All IsBody bodies
   pub whole : bytes ≡ frames bodies ++ rest
   pub ends : Ends rest ending
   pub end_is : end ≡ at + length (frames bodies)
-  pub added : now ≡ before ++ placed at bodies
+  pub added : now ≡ before ++ frames_from at bodies
