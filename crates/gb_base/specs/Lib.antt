@@ -3,7 +3,6 @@ pub mod Limits
 pub mod RightNo
 pub mod DayMinute
 pub mod Keys
-pub mod Limits
 pub mod Calendar
 pub mod Texts
 pub mod inner
