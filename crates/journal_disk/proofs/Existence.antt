@@ -1,5 +1,5 @@
 -- Each file of bytes has a standing.
-use Rattle.std.proofs.Common.{◌≡◌, ◌≢◌, inl, inr, ℕ, zero, suc, ◌+◌, ◌<◌, ◌≤◌, List, [], ◌∷◌, ◌++◌, length, get_or, take, drop, All, refl, sym, ◌∙◌, ap, subst, arith, append_assoc, length-append, length-drop, take-append-drop}
+use Rattle.std.proofs.Common.{◌≡◌, ◌≢◌, inl, inr, ℕ, zero, suc, ◌+◌, ◌-◌, ◌<◌, ◌≤◌, List, [], ◌∷◌, ◌++◌, length, get_or, take, drop, All, refl, sym, ◌∙◌, ap, subst, arith, append_assoc, length-append, length-drop, take-append-drop}
 use Rattle.std.proofs.lemmas.Bool.{cases_eq, cases_lt, cases_Bool}
 use Rattle.std.proofs.lemmas.List.{get_or-drop}
 use Rattle.std.proofs.lemmas.List.Elements.{All-nil, All-cons}
@@ -19,6 +19,9 @@ AreBytes bytes = (i : ℕ) → get_or bytes i 0 < 256
 
 bytes_behind : (n : ℕ) (bytes behind : List ℕ) → drop n bytes ≡ behind → AreBytes bytes → AreBytes behind
 bytes_behind n bytes behind is small i = subst (λ (l : List ℕ). get_or l i 0 < 256) is (subst (λ k. k < 256) (sym (get_or-drop n bytes i 0)) (small (n + i)))
+
+fewer_behind : (n : ℕ) (bytes behind : List ℕ) → drop n bytes ≡ behind → length behind ≡ length bytes - n
+fewer_behind n bytes behind is = ap length (sym is) ∙ length-drop n bytes
 
 -- frames, and what ends them
 record ReadAs (bytes : List ℕ) : Type 0 where
@@ -73,7 +76,7 @@ read_open n (a ∷ b ∷ c ∷ d ∷ rest) read few small = elim (cases_eq size 
         let bytes : List ℕ = 1 ∷ a ∷ b ∷ c ∷ d ∷ rest in
         let begun : Begins bytes size = begins bytes size (omega arith) refl small (omega arith) (omega arith) fits within in
         let behind : drop (5 + size) bytes ≡ begun.rest = cut_behind bytes size begun in
-        let fewer : length begun.rest ≤ n = omega (arith, ap length behind, length-drop (5 + size) bytes, few) in
+        let fewer : length begun.rest ≤ n = omega (arith, fewer_behind (5 + size) bytes begun.rest behind, few) in
         let smaller : AreBytes begun.rest = bytes_behind (5 + size) bytes begun.rest behind small in
         one_more bytes size begun (read begun.rest fewer begun.gate_behind smaller)
 

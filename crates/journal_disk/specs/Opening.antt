@@ -59,6 +59,6 @@ pub record SyncsFirst {D : Type 0} (reads : D → List ℕ) (images : D → List
   pub then : LeavesOnly moment since synced new (IsKept (reads old))
 
 -- A sync was done ahead of the answer, and all that follows it keeps the file; only where the disk failed it may be that it was not done.
-abbrev pub AnswersSynced : {D A : Type 0} → (D → List ℕ) → (D → List ℕ → Type 0) → (D → ℕ) → (D → ℕ → List ℕ → Type 0) → D → D → Result A OpenFault → Type 0
-AnswersSynced reads images moment since old new (Err Disk) = LeavesOnly moment since old new (images old) ⊎ SyncsFirst reads images moment since old new
-AnswersSynced reads images moment since old new result = SyncsFirst reads images moment since old new
+abbrev pub AnswersSynced : {D : Type 0} → (D → List ℕ) → (D → List ℕ → Type 0) → (D → ℕ) → (D → ℕ → List ℕ → Type 0) → D → D → Bool → Type 0
+AnswersSynced reads images moment since old new true = LeavesOnly moment since old new (images old) ⊎ SyncsFirst reads images moment since old new
+AnswersSynced reads images moment since old new false = SyncsFirst reads images moment since old new

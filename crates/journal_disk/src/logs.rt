@@ -48,7 +48,7 @@ impl Log {
         ensures kept { IsTrue D.tells → IsKept (D.reads disk.old) (D.reads disk.new) }
 
         // It answers only after a sync, and a stop at any moment from then on leaves the frames that were found.
-        ensures any_moment { IsTrue D.tells → AnswersSynced D.reads D.images D.moment D.since disk.old disk.new result }
+        ensures any_moment { IsTrue D.tells → AnswersSynced D.reads D.images D.moment D.since disk.old disk.new (opening_failed result) }
         ensures cause { Counts (D.faults disk.old) (D.faults disk.new) (opening_failed result) }
     {
         disk.sync()?;

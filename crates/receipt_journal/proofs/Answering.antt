@@ -15,12 +15,15 @@ use Rattle.act_model.proofs.JournalLemmas.{IsJournal-push, stamp_after-last}
 use Rattle.act_codec.specs.Spelling.{spelling}
 use Rattle.act_codec.specs.Values.{IsReceipt}
 use Rattle.act_codec.proofs.Lengths.{spelling_len, spelling_some}
-use Rattle.journal_disk.specs.Layout.{IsBody, StandsFor, end_of}
+use Rattle.journal_disk.specs.Layout.{the_heading, file_limit, IsBody, StandsFor}
+use Rattle.journal_disk.specs.Layout.{frames as frames_of}
+use Rattle.journal_disk.proofs.FrameBytes.{length-frames-push}
 use Rattle.journal_disk.specs.Appending as frames
-use Rattle.receipt_journal.specs.Standing.{records, IsKeepable}
-use Rattle.receipt_journal.specs.Receiving.{file_size, longest_file, next_receipt, in_journal, on_disk, is_accepted, answer_on, Answers, WithOrWithout}
+use Rattle.receipt_journal.specs.Standing.{records, gate_behind, IsKeepable}
+use Rattle.receipt_journal.specs.Receiving.{file_size, next_receipt, in_journal, on_disk, is_accepted, answer_on, Answers, JournalWithOrWithout}
 use Rattle.receipt_journal.specs.declared.received.Received.TheVariants as received
-use Rattle.receipt_journal.proofs.Sizes.{has_room, records_size}
+use Rattle.receipt_journal.proofs.Sizes.{has_room_next, records_size}
+use Rattle.receipt_journal.proofs.Standings.{stands_by_frames}
 use Rattle.receipt_journal.proofs.Taking.{accepted_new}
 
 pub spelling_body : (r : Receipt) → IsReceipt r → IsBody (spelling r)
@@ -46,16 +49,19 @@ accepted_added old new stamp sender reference item answer accepts added =
 pub records_push : (journal : List Receipt) (r : Receipt) → records (journal ++ r ∷ []) ≡ records journal ++ spelling r ∷ []
 records_push journal r = map-append spelling journal (r ∷ [])
 
-pub with_or_without : (journal : List Receipt) (r : Receipt) (body c : List ℕ) → IsKeepable journal → IsKeepable (journal ++ r ∷ []) → body ≡ spelling r → frames.WithOrWithout (records journal) body c → WithOrWithout journal r c
-with_or_without journal r body c is is_next spelled (inl without) = inl (record { keepable = is; frames = without })
-with_or_without journal r body c is is_next spelled (inr with_it) = inr (record {
-  keepable = is_next;
-  frames = subst (StandsFor c) (ap (λ (b : List ℕ). records journal ++ b ∷ []) spelled ∙ sym (records_push journal r)) with_it;
-})
+pub with_or_without : (journal : List Receipt) (r : Receipt) (body c : List ℕ) → IsKeepable journal → IsKeepable (journal ++ r ∷ []) → body ≡ spelling r → frames.FramesWithOrWithout (records journal) body c → JournalWithOrWithout journal r c
+with_or_without journal r body c is is_next spelled (inl without) = inl (stands_by_frames c journal is without)
+with_or_without journal r body c is is_next spelled (inr with_it) =
+    inr (stands_by_frames c (journal ++ r ∷ []) is_next (subst (StandsFor c) (ap (λ (b : List ℕ). records journal ++ b ∷ []) spelled ∙ sym (records_push journal r)) with_it))
+
+-- the gate behind the frames of a journal with one receipt more
+pub gate_next : (journal : List Receipt) (r : Receipt) (gate : ℕ) (body : List ℕ) → gate ≡ gate_behind journal → body ≡ spelling r → gate + 5 + length body ≡ gate_behind (journal ++ r ∷ [])
+gate_next journal r gate body ends spelled =
+    omega (arith, ends, ap length spelled, ap (λ (l : List (List ℕ)). length (frames_of l)) (records_push journal r), length-frames-push (records journal) (spelling r))
 
 -- the disk has room for what the journal accepts
-accepted_on_disk : (size : ℕ) (expected : Added) → size ≤ longest_file → on_disk size expected ≡ in_journal expected
-accepted_on_disk size (added.Accepted n) fits = cond-false (ltb longest_file size) received.Full (received.Accepted n) (le-ltb longest_file size fits)
+accepted_on_disk : (size : ℕ) (expected : Added) → size ≤ file_limit → on_disk size expected ≡ in_journal expected
+accepted_on_disk size (added.Accepted n) fits = cond-false (ltb file_limit size) received.Full (received.Accepted n) (le-ltb file_limit size fits)
 accepted_on_disk size (added.Repeated n) fits = refl
 accepted_on_disk size (added.Differs n) fits = refl
 accepted_on_disk size added.Full fits = refl
@@ -68,21 +74,32 @@ as_accepted (added.Differs n) = refl
 as_accepted added.Full = refl
 as_accepted added.Memory = refl
 
-module _ (journal : List Receipt) (stamp : DayMinute) (sender reference : ℕ) (item : Item) (is_next : IsKeepable (journal ++ next_receipt journal stamp sender reference item ∷ [])) where
-  as_in_journal : answer_on journal stamp sender reference item ≡ in_journal (answer_to journal sender reference item)
-  as_in_journal = accepted_on_disk (file_size (journal ++ next_receipt journal stamp sender reference item ∷ [])) (answer_to journal sender reference item) (has_room (journal ++ next_receipt journal stamp sender reference item ∷ []) is_next)
+-- what a book accepts fits into the file, since its spelling is short
+pub next_fits : (journal : List Receipt) (stamp : DayMinute) (sender reference : ℕ) (item : Item) → IsKeepable journal → journals.is_accepted (answer_to journal sender reference item) ≡ true
+    → length (spelling (next_receipt journal stamp sender reference item)) ≤ 522 → file_size the_heading (journal ++ next_receipt journal stamp sender reference item ∷ []) ≤ file_limit
+next_fits journal stamp sender reference item is accepts short =
+    has_room_next journal (next_receipt journal stamp sender reference item) is (accepted_new journal item (number_of sender reference journal) accepts).1 short
 
-  pub answers_kept : (answer : Added) → answer ≡ answer_to journal sender reference item → Answers (answer_on journal stamp sender reference item) (answer_to journal sender reference item) (in_journal answer)
+module _ (journal : List Receipt) (stamp : DayMinute) (sender reference : ℕ) (item : Item) (fits : file_size the_heading (journal ++ next_receipt journal stamp sender reference item ∷ []) ≤ file_limit) where
+  as_in_journal : answer_on journal stamp sender reference item ≡ in_journal (answer_to journal sender reference item)
+  as_in_journal = accepted_on_disk (file_size the_heading (journal ++ next_receipt journal stamp sender reference item ∷ [])) (answer_to journal sender reference item) fits
+
+  pub answers_kept : (answer : Added) → answer ≡ answer_to journal sender reference item → Answers (answer_on journal stamp sender reference item) (in_journal answer)
   answers_kept answer same = inl (ap in_journal same ∙ sym as_in_journal)
 
-  pub answers_disk : journals.is_accepted (answer_to journal sender reference item) ≡ true → Answers (answer_on journal stamp sender reference item) (answer_to journal sender reference item) received.Disk
-  answers_disk accepts = inr (inr (refl, ap is_accepted as_in_journal ∙ as_accepted (answer_to journal sender reference item) ∙ accepts))
+  accepted_on : journals.is_accepted (answer_to journal sender reference item) ≡ true → is_accepted (answer_on journal stamp sender reference item) ≡ true
+  accepted_on accepts = ap is_accepted as_in_journal ∙ as_accepted (answer_to journal sender reference item) ∙ accepts
+
+  pub answers_memory : journals.is_accepted (answer_to journal sender reference item) ≡ true → Answers (answer_on journal stamp sender reference item) received.Memory
+  answers_memory accepts = inr (accepted_on accepts, inl refl)
+
+  pub answers_disk : journals.is_accepted (answer_to journal sender reference item) ≡ true → Answers (answer_on journal stamp sender reference item) received.Disk
+  answers_disk accepts = inr (accepted_on accepts, inr refl)
 
   -- so no append is refused for want of room
-  pub never_full : (gate : ℕ) (body : List ℕ) → gate ≡ end_of (records journal) → body ≡ spelling (next_receipt journal stamp sender reference item) → 134217728 ≤ gate + 5 + length body → ⊥
+  pub never_full : (gate : ℕ) (body : List ℕ) → gate ≡ gate_behind journal → body ≡ spelling (next_receipt journal stamp sender reference item) → 134217728 ≤ gate + 5 + length body → ⊥
   never_full gate body ends spelled full =
       let next = next_receipt journal stamp sender reference item in
-      let fits : file_size (journal ++ next ∷ []) ≤ longest_file = has_room (journal ++ next ∷ []) is_next in
       omega (arith, fits, sum_by_push (λ r. 5 + length (spelling r)) journal next, records_size journal, ap length spelled)
 
 -- what holds on Ok, by the test for an error

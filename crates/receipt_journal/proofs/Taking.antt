@@ -17,7 +17,7 @@ use Rattle.act_codec.specs.Spelling.{spelling}
 use Rattle.act_codec.specs.Values.{IsReceipt}
 use Rattle.act_codec.proofs.Again.{spelling_once}
 use Rattle.receipt_journal.specs.Standing.{records, IsKeepable, IsNoRecord}
-use Rattle.receipt_journal.specs.Taking.{Takes}
+use Rattle.receipt_journal.specs.inner.Taking.{Takes}
 
 module _ (journal : List Receipt) (r : Receipt) where
   -- what a journal with one receipt more says of that receipt and of each one ahead

@@ -2,4 +2,4 @@ pub mod BookState
 pub mod Opening
 pub mod Receiving
 pub mod Standing
-pub mod Taking
+pub mod inner

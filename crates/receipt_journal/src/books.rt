@@ -1,21 +1,21 @@
 // The book: a journal and the log that keeps it.
-ghost use Rattle.std.specs.Prelude.{◌≡◌, ◌↔◌, true, false, ◌||◌, IsTrue, IfOk, IfErr, OnOk, length};
+ghost use Rattle.std.specs.Prelude.{◌≡◌, ◌↔◌, ◌≤◌, true, false, ◌||◌, IsTrue, IfOk, IfErr, OnOk, length};
 ghost use Rattle.std.specs.Option.{option_copied};
 ghost use Rattle.gb_outside.specs.Faults.{Counts};
-ghost use Rattle.gb_outside.specs.Images.{LeavesOnly};
+ghost use Rattle.gb_outside.specs.Images.{Holds, LeavesOnly};
 ghost use Rattle.act_model.specs.WellFormed.{well_formed};
 ghost use Rattle.act_model.specs.Receiving.{receipt_at, answer_to};
 ghost use Rattle.act_model.specs.Receiving as journals;
 ghost use Rattle.act_model.specs.declared.items.Item.{Item};
 ghost use Rattle.act_codec.specs.Spelling.{spelling};
 ghost use Rattle.act_codec.specs.Values.{IsReceipt};
-ghost use Rattle.journal_disk.specs.Layout.{IsBody};
-ghost use Rattle.journal_disk.specs.Opening.{IsKept};
-ghost use Rattle.receipt_journal.specs.Standing.{Stands};
-ghost use Rattle.receipt_journal.specs.Opening.{Opens, Refuses, KeepsFile};
-ghost use Rattle.receipt_journal.specs.Opening as opening;
-ghost use Rattle.receipt_journal.specs.Receiving.{in_journal, answer_on, is_accepted, disk_failed, Answers, journal_after, next_receipt, WithOrWithout};
+ghost use Rattle.journal_disk.specs.Layout.{the_heading, IsBody, IsUnmade, made_from, appended};
+ghost use Rattle.journal_disk.specs.Opening.{IsKept, AnswersSynced};
+ghost use Rattle.receipt_journal.specs.Standing.{AreRecordsTo, Stands};
+ghost use Rattle.receipt_journal.specs.Opening.{BookOpens, BookRefuses, book_opening_failed};
+ghost use Rattle.receipt_journal.specs.Receiving.{in_journal, answer_on, is_accepted, receiving_failed, Answers, journal_after, next_receipt, JournalWithOrWithout};
 
+use crate::lengths::is_short;
 use crate::records::take_records;
 use crate::{BookFault, Received};
 use act_codec::encode;
@@ -35,26 +35,32 @@ pub struct Book {
 
 impl Model for Book {
     ghost use Rattle.receipt_journal.specs.BookState.{BookState};
-    ghost use Rattle.receipt_journal.specs.Standing.{IsKeepable};
+    ghost use Rattle.receipt_journal.specs.Standing.{AreRecordsTo};
 
     ghost Value = { BookState };
 
     ghost view = { λ a. record { journal = a.journal.receipts; log = a.log } };
 
-    ghost invariant = { λ a. IsKeepable a.journal.receipts };
+    ghost invariant = { λ a. AreRecordsTo a.journal.receipts a.log.gate };
 }
 
 impl Book {
     /// Opens the journal of a disk. An unmade file is made, and stands for the empty journal.
+    /// An answer about the file comes only after a sync, so that a stop leaves what it says.
     pub fn open<D: Disk>(alloc: Global, disk: &mut D) -> Result<Book, BookFault>
-        ensures opened { IsTrue D.tells → IfOk result (λ book. Opens (D.reads disk.old) book (D.reads disk.new) (D.images disk.new)) }
+        // The log's gate is the one behind the journal's frames, on any disk.
+        ensures records { IfOk result (λ book. AreRecordsTo book.journal book.log.gate) }
+
+        // The answer is by the file's standing.
+        ensures opened { IsTrue D.tells → IfOk result (λ book. BookOpens (D.reads disk.old) book (D.reads disk.new) (D.images disk.new)) }
         ensures works { IfOk result (λ book. book.log.failed ≡ false) }
-        ensures refused { IsTrue D.tells → IfErr result (Refuses (D.reads disk.old)) }
+        ensures made { IsTrue D.tells → OnOk result (IsUnmade (D.reads disk.old) → D.reads disk.new ≡ made_from the_heading (D.reads disk.old)) }
+        ensures refused { IsTrue D.tells → IfErr result (BookRefuses (D.reads disk.old)) }
         ensures kept { IsTrue D.tells → IsKept (D.reads disk.old) (D.reads disk.new) }
 
-        // A stop at any moment after the first sync leaves the journal that was found.
-        ensures any_moment { IsTrue D.tells → KeepsFile D.reads D.images D.moment D.since disk.old disk.new result }
-        ensures cause { Counts (D.faults disk.old) (D.faults disk.new) (opening.disk_failed result) }
+        // It answers only after a sync, and a stop at any moment from then on leaves the journal that was found.
+        ensures any_moment { IsTrue D.tells → AnswersSynced D.reads D.images D.moment D.since disk.old disk.new (book_opening_failed result) }
+        ensures cause { Counts (D.faults disk.old) (D.faults disk.new) (book_opening_failed result) }
     {
         let mut journal = Journal::new(alloc);
         match Log::open(alloc, disk) {
@@ -115,21 +121,21 @@ impl Book {
         requires item { IsTrue (well_formed item.now) }
         requires stands { IsTrue D.tells → self.old.log.failed ≡ false → Stands self.old (D.reads disk.old) (D.images disk.old) }
 
-        // The answer is that of the journal, and each fault has its cause.
+        // The answer is the expected one on any disk, and each fault has its cause.
         ensures must_reopen { (result ≡ Received.MustReopen) ↔ (self.old.log.failed ≡ true) }
-        ensures answer { IsTrue D.tells → self.old.log.failed ≡ false → Answers (answer_on self.old.journal stamp sender reference item.now) (answer_to self.old.journal sender reference item.now) result }
-        ensures refused { self.old.log.failed ≡ false → journals.is_accepted (answer_to self.old.journal sender reference item.now) ≡ false
-            → result ≡ in_journal (answer_to self.old.journal sender reference item.now) }
-        ensures cause { Counts (D.faults disk.old) (D.faults disk.new) (disk_failed result) }
+        ensures answer { self.old.log.failed ≡ false → Answers (answer_on self.old.journal stamp sender reference item.now) result }
+        ensures cause { Counts (D.faults disk.old) (D.faults disk.new) (receiving_failed result) }
 
-        // Only an accepted item changes the journal, and only `Disk` makes the book fail.
+        // Only an accepted item changes the journal, and only `Disk` makes the book fail. Of the file the bytes of the new frame are written, and no others.
         ensures journal { self.new.journal ≡ journal_after self.old.journal stamp sender reference item.now result }
-        ensures unchanged { is_accepted result ≡ false → disk_failed result ≡ false → self.new ≡ self.old }
-        ensures untouched { is_accepted result ≡ false → disk_failed result ≡ false → disk.new ≡ disk.old }
-        ensures failed { self.new.log.failed ≡ (self.old.log.failed || disk_failed result) }
+        ensures unchanged { is_accepted result ≡ false → receiving_failed result ≡ false → self.new ≡ self.old }
+        ensures untouched { is_accepted result ≡ false → receiving_failed result ≡ false → disk.new ≡ disk.old }
+        ensures failed { self.new.log.failed ≡ (self.old.log.failed || receiving_failed result) }
+        ensures written { IsTrue D.tells → is_accepted result ≡ true
+            → Holds (D.reads disk.old) self.old.log.gate (appended (spelling (next_receipt self.old.journal stamp sender reference item.now))) (D.reads disk.new) }
         ensures stands { IsTrue D.tells → self.new.log.failed ≡ false → Stands self.new (D.reads disk.new) (D.images disk.new) }
         ensures any_moment { IsTrue D.tells → self.old.log.failed ≡ false
-            → LeavesOnly D.moment D.since disk.old disk.new (WithOrWithout self.old.journal (next_receipt self.old.journal stamp sender reference item.now)) }
+            → LeavesOnly D.moment D.since disk.old disk.new (JournalWithOrWithout self.old.journal (next_receipt self.old.journal stamp sender reference item.now)) }
     {
         if self.log.failed() {
             return Received::MustReopen;
@@ -169,10 +175,14 @@ impl Book {
         item: &Item,
     ) -> Result<Vec<u8>, NoMemory>
         requires { IsTrue (well_formed item.now) }
+        // Also where no memory is found for it, it has room on the disk.
+        ensures short { length (spelling (next_receipt self.now.journal stamp sender reference item.now)) ≤ 522 }
         ensures body { IfOk result (λ bytes. IsBody bytes.items) }
         ensures spelled { IfOk result (λ bytes. bytes.items ≡ spelling (next_receipt self.now.journal stamp sender reference item.now)) }
         ensures is_receipt { OnOk result (IsReceipt (next_receipt self.now.journal stamp sender reference item.now)) }
     {
+        let short = is_short(item);
+        prove!(short);
         let receipt = Receipt {
             stamp: self.journal.next_stamp(stamp),
             sender,
@@ -194,4 +204,12 @@ fn answered(added: Added) -> Received
         Added::Full => Received::Full,
         Added::Memory => Received::Memory,
     }
+}
+
+/// Takes any type whose values threads may hand on and share.
+fn is_shared<T: Send + Sync>() {}
+
+/// Threads may hand on a book, and several may read one at the same time.
+fn books_are_shared() {
+    is_shared::<Book>();
 }

@@ -5,6 +5,7 @@
 mod books;
 mod faults;
 pub mod laws;
+mod lengths;
 mod received;
 mod records;
 #[cfg(test)]

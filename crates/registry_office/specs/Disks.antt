@@ -5,7 +5,7 @@ use Rattle.act_model.specs.declared.receipts.Receipt.{Receipt}
 use Rattle.journal_disk.specs.Layout.{IsForeign}
 use Rattle.journal_disk.specs.Opening.{SyncsFirst}
 use Rattle.receipt_journal.specs.Standing.{StandsForJournal, IsBadBehind, gate_behind}
-use Rattle.receipt_journal.specs.Opening.{Refuses}
+use Rattle.receipt_journal.specs.Opening.{BookRefuses}
 use Rattle.registry_office.specs.declared.stops.DiskStop.{DiskStop}
 use Rattle.registry_office.specs.declared.stops.DiskStop.TheVariants as stop
 use Rattle.registry_office.specs.declared.statuses.Status.{Status}
@@ -18,7 +18,7 @@ IsJournalFile file = (journal : List Receipt) × StandsForJournal file journal
 -- what the end of work over a disk's journal says of the file that was found
 abbrev pub Finds : {A : Type 0} → List ℕ → Result A DiskStop → Type 0
 Finds file (Ok value) = IsJournalFile file
-Finds file (Err (stop.Opening fault)) = Refuses file fault
+Finds file (Err (stop.Opening fault)) = BookRefuses file fault
 Finds file (Err (stop.Output output)) = IsJournalFile file
 
 -- what a status says of the file that was found

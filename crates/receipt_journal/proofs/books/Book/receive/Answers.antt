@@ -8,9 +8,9 @@ use Rattle.act_model.specs.Receiving as journals
 use Rattle.act_codec.specs.Spelling.{spelling}
 use Rattle.journal_disk.specs.Appending as frames
 use Rattle.journal_disk.specs.Appending.{StandsOn}
-use Rattle.receipt_journal.specs.Standing.{records, IsKeepable}
-use Rattle.receipt_journal.specs.Receiving.{next_receipt, answer_on, Answers, WithOrWithout}
-use Rattle.receipt_journal.proofs.Answering.{keepable_next, records_push, with_or_without, answers_kept, answers_disk, never_full, accepted_added, no_error}
+use Rattle.receipt_journal.specs.Standing.{records, gate_behind, IsKeepable}
+use Rattle.receipt_journal.specs.Receiving.{next_receipt, answer_on, Answers, JournalWithOrWithout}
+use Rattle.receipt_journal.proofs.Answering.{next_fits, answers_memory, keepable_next, records_push, gate_next, with_or_without, answers_kept, answers_disk, never_full, accepted_added, no_error}
 use Rattle.receipt_journal.proofs.books.Book.receive.Goals as goal
 
 -- room was kept, so the journal gives the answer expected
@@ -35,19 +35,23 @@ invariant_of-self-in-Ok-append g c =
     let journal = c.args.self.now.journal in
     let next = next_receipt journal c.args.stamp c.args.sender c.args.reference c.args.item.now in
     let accepted : journals.is_accepted (answer_to journal c.args.sender c.args.reference c.args.item.now) ≡ true = c.accepts.ensures c.args.item.now ∙ c.if-not-accepts.false in
-    let is : IsKeepable journal = subst IsKeepable (ap (λ b. b.journal) c.self.view_is) c.self.invariant in
+    let is : IsKeepable journal = subst IsKeepable (ap (λ b. b.journal) c.self.view_is) c.self.invariant.keepable in
     let is_next : IsKeepable (journal ++ next ∷ []) = keepable_next journal c.args.stamp c.args.sender c.args.reference c.args.item.now is c.in-Ok.ensures.is_receipt accepted in
-    subst IsKeepable (sym (whole g c)) is_next
+    let spelled : c.deref.result.now ≡ spelling next = c.deref.ensures.value ∙ c.in-Ok.ensures.spelled in
+    let ends : c.self.inside.log.gate ≡ gate_behind journal = c.self.invariant.ends ∙ ap gate_behind (ap (λ b. b.journal) c.self.view_is) in
+    record {
+      keepable = subst IsKeepable (sym (whole g c)) is_next;
+      ends = ap (λ l. l.gate) c.in-Ok-append.ensures.log ∙ gate_next journal next c.self.inside.log.gate c.deref.result.now ends spelled ∙ ap gate_behind (sym (whole g c));
+    }
 
 pub returns-in-Ok-append-clause-answer : goal.returns-in-Ok-append-clause-answer
-returns-in-Ok-append-clause-answer g c = λ tells works.
+returns-in-Ok-append-clause-answer g c = λ works.
     let journal = c.args.self.now.journal in
-    let next = next_receipt journal c.args.stamp c.args.sender c.args.reference c.args.item.now in
     let accepted : journals.is_accepted (answer_to journal c.args.sender c.args.reference c.args.item.now) ≡ true = c.accepts.ensures c.args.item.now ∙ c.if-not-accepts.false in
-    let is : IsKeepable journal = subst IsKeepable (ap (λ b. b.journal) c.self.view_is) c.self.invariant in
-    let is_next : IsKeepable (journal ++ next ∷ []) = keepable_next journal c.args.stamp c.args.sender c.args.reference c.args.item.now is c.in-Ok.ensures.is_receipt accepted in
-    subst (Answers (answer_on journal c.args.stamp c.args.sender c.args.reference c.args.item.now) (answer_to journal c.args.sender c.args.reference c.args.item.now)) (sym c.answered-in-Ok-append.ensures)
-    (answers_kept journal c.args.stamp c.args.sender c.args.reference c.args.item.now is_next c.add-in-Ok-append.result (added g c))
+    let is : IsKeepable journal = subst IsKeepable (ap (λ b. b.journal) c.self.view_is) c.self.invariant.keepable in
+    let fits = next_fits journal c.args.stamp c.args.sender c.args.reference c.args.item.now is accepted c.spell.ensures.short in
+    subst (Answers (answer_on journal c.args.stamp c.args.sender c.args.reference c.args.item.now)) (sym c.answered-in-Ok-append.ensures)
+    (answers_kept journal c.args.stamp c.args.sender c.args.reference c.args.item.now fits c.add-in-Ok-append.result (added g c))
 
 pub returns-in-Ok-append-clause-stands : goal.returns-in-Ok-append-clause-stands
 returns-in-Ok-append-clause-stands g c = λ tells works_now.
@@ -68,53 +72,65 @@ returns-in-Ok-append-clause-any_moment g c = λ tells works_before.
     let journal = c.args.self.now.journal in
     let next = next_receipt journal c.args.stamp c.args.sender c.args.reference c.args.item.now in
     let accepted : journals.is_accepted (answer_to journal c.args.sender c.args.reference c.args.item.now) ≡ true = c.accepts.ensures c.args.item.now ∙ c.if-not-accepts.false in
-    let is : IsKeepable journal = subst IsKeepable (ap (λ b. b.journal) c.self.view_is) c.self.invariant in
+    let is : IsKeepable journal = subst IsKeepable (ap (λ b. b.journal) c.self.view_is) c.self.invariant.keepable in
     let is_next : IsKeepable (journal ++ next ∷ []) = keepable_next journal c.args.stamp c.args.sender c.args.reference c.args.item.now is c.in-Ok.ensures.is_receipt accepted in
     let works : c.self.inside.log.failed ≡ false = sym c.failed.ensures ∙ c.if-failed.false in
     let stands : StandsOn c.self.inside.log.gate (records journal) (g.D.Disk.reads c.args.disk.now) (g.D.Disk.images c.args.disk.now) =
     subst (λ (n : ℕ). StandsOn n (records journal) (g.D.Disk.reads c.args.disk.now) (g.D.Disk.images c.args.disk.now)) (sym (ap (λ b. b.log.gate) c.self.view_is))
     (c.requires.stands tells (sym (ap (λ b. b.log.failed) c.self.view_is) ∙ works)) in
     let spelled : c.deref.result.now ≡ spelling next = c.deref.ensures.value ∙ c.in-Ok.ensures.spelled in
-    weakened g.D.Disk.moment g.D.Disk.since c.args.disk.now c.append.new.disk (frames.WithOrWithout (records journal) c.deref.result.now) (WithOrWithout journal next)
+    weakened g.D.Disk.moment g.D.Disk.since c.args.disk.now c.append.new.disk (frames.FramesWithOrWithout (records journal) c.deref.result.now) (JournalWithOrWithout journal next)
     (λ file has. with_or_without journal next c.deref.result.now file is is_next spelled has)
     (c.in-Ok-append.ensures.any_moment tells (records journal) works stands)
 
 pub returns-in-Err-Full-clause-answer : goal.returns-in-Err-Full-clause-answer
-returns-in-Err-Full-clause-answer g c = λ tells works_before.
+returns-in-Err-Full-clause-answer g c = λ works.
     let journal = c.args.self.now.journal in
     let next = next_receipt journal c.args.stamp c.args.sender c.args.reference c.args.item.now in
     let accepted : journals.is_accepted (answer_to journal c.args.sender c.args.reference c.args.item.now) ≡ true = c.accepts.ensures c.args.item.now ∙ c.if-not-accepts.false in
-    let is : IsKeepable journal = subst IsKeepable (ap (λ b. b.journal) c.self.view_is) c.self.invariant in
-    let is_next : IsKeepable (journal ++ next ∷ []) = keepable_next journal c.args.stamp c.args.sender c.args.reference c.args.item.now is c.in-Ok.ensures.is_receipt accepted in
-    let works : c.self.inside.log.failed ≡ false = sym c.failed.ensures ∙ c.if-failed.false in
-    let stands : StandsOn c.self.inside.log.gate (records journal) (g.D.Disk.reads c.args.disk.now) (g.D.Disk.images c.args.disk.now) =
-    subst (λ (n : ℕ). StandsOn n (records journal) (g.D.Disk.reads c.args.disk.now) (g.D.Disk.images c.args.disk.now)) (sym (ap (λ b. b.log.gate) c.self.view_is))
-    (c.requires.stands tells (sym (ap (λ b. b.log.failed) c.self.view_is) ∙ works)) in
+    let is : IsKeepable journal = subst IsKeepable (ap (λ b. b.journal) c.self.view_is) c.self.invariant.keepable in
+    let fits = next_fits journal c.args.stamp c.args.sender c.args.reference c.args.item.now is accepted c.spell.ensures.short in
     let spelled : c.deref.result.now ≡ spelling next = c.deref.ensures.value ∙ c.in-Ok.ensures.spelled in
-    absurd (never_full journal c.args.stamp c.args.sender c.args.reference c.args.item.now is_next c.self.inside.log.gate c.deref.result.now stands.ends spelled
+    let ends : c.self.inside.log.gate ≡ gate_behind journal = c.self.invariant.ends ∙ ap gate_behind (ap (λ b. b.journal) c.self.view_is) in
+    absurd (never_full journal c.args.stamp c.args.sender c.args.reference c.args.item.now fits c.self.inside.log.gate c.deref.result.now ends spelled
     (c.append.ensures.full.0 (c.in-Err-Full.is ∙ ap (λ fault. Err fault) c.in-Err-Full.field-0-is)).1)
 
 pub returns-in-Err-Disk-clause-answer : goal.returns-in-Err-Disk-clause-answer
-returns-in-Err-Disk-clause-answer g c = λ tells works.
+returns-in-Err-Disk-clause-answer g c = λ works.
     let journal = c.args.self.now.journal in
-    let next = next_receipt journal c.args.stamp c.args.sender c.args.reference c.args.item.now in
     let accepted : journals.is_accepted (answer_to journal c.args.sender c.args.reference c.args.item.now) ≡ true = c.accepts.ensures c.args.item.now ∙ c.if-not-accepts.false in
-    let is : IsKeepable journal = subst IsKeepable (ap (λ b. b.journal) c.self.view_is) c.self.invariant in
-    let is_next : IsKeepable (journal ++ next ∷ []) = keepable_next journal c.args.stamp c.args.sender c.args.reference c.args.item.now is c.in-Ok.ensures.is_receipt accepted in
-    answers_disk journal c.args.stamp c.args.sender c.args.reference c.args.item.now is_next accepted
+    let is : IsKeepable journal = subst IsKeepable (ap (λ b. b.journal) c.self.view_is) c.self.invariant.keepable in
+    let fits = next_fits journal c.args.stamp c.args.sender c.args.reference c.args.item.now is accepted c.spell.ensures.short in
+    answers_disk journal c.args.stamp c.args.sender c.args.reference c.args.item.now fits accepted
 
 pub returns-in-Err-Disk-clause-any_moment : goal.returns-in-Err-Disk-clause-any_moment
 returns-in-Err-Disk-clause-any_moment g c = λ tells works_before.
     let journal = c.args.self.now.journal in
     let next = next_receipt journal c.args.stamp c.args.sender c.args.reference c.args.item.now in
     let accepted : journals.is_accepted (answer_to journal c.args.sender c.args.reference c.args.item.now) ≡ true = c.accepts.ensures c.args.item.now ∙ c.if-not-accepts.false in
-    let is : IsKeepable journal = subst IsKeepable (ap (λ b. b.journal) c.self.view_is) c.self.invariant in
+    let is : IsKeepable journal = subst IsKeepable (ap (λ b. b.journal) c.self.view_is) c.self.invariant.keepable in
     let is_next : IsKeepable (journal ++ next ∷ []) = keepable_next journal c.args.stamp c.args.sender c.args.reference c.args.item.now is c.in-Ok.ensures.is_receipt accepted in
     let works : c.self.inside.log.failed ≡ false = sym c.failed.ensures ∙ c.if-failed.false in
     let stands : StandsOn c.self.inside.log.gate (records journal) (g.D.Disk.reads c.args.disk.now) (g.D.Disk.images c.args.disk.now) =
     subst (λ (n : ℕ). StandsOn n (records journal) (g.D.Disk.reads c.args.disk.now) (g.D.Disk.images c.args.disk.now)) (sym (ap (λ b. b.log.gate) c.self.view_is))
     (c.requires.stands tells (sym (ap (λ b. b.log.failed) c.self.view_is) ∙ works)) in
     let spelled : c.deref.result.now ≡ spelling next = c.deref.ensures.value ∙ c.in-Ok.ensures.spelled in
-    weakened g.D.Disk.moment g.D.Disk.since c.args.disk.now c.append.new.disk (frames.WithOrWithout (records journal) c.deref.result.now) (WithOrWithout journal next)
+    weakened g.D.Disk.moment g.D.Disk.since c.args.disk.now c.append.new.disk (frames.FramesWithOrWithout (records journal) c.deref.result.now) (JournalWithOrWithout journal next)
     (λ file has. with_or_without journal next c.deref.result.now file is is_next spelled has)
     (c.in-Err-Disk.ensures.any_moment tells (records journal) works stands)
+
+pub returns-in_default-clause-answer : goal.returns-in_default-clause-answer
+returns-in_default-clause-answer g c = λ works.
+    let journal = c.args.self.now.journal in
+    let accepted : journals.is_accepted (answer_to journal c.args.sender c.args.reference c.args.item.now) ≡ true = c.accepts.ensures c.args.item.now ∙ c.if-not-accepts.false in
+    let is : IsKeepable journal = subst IsKeepable (ap (λ b. b.journal) c.self.view_is) c.self.invariant.keepable in
+    let fits = next_fits journal c.args.stamp c.args.sender c.args.reference c.args.item.now is accepted c.spell.ensures.short in
+    answers_memory journal c.args.stamp c.args.sender c.args.reference c.args.item.now fits accepted
+
+pub returns-then-is_err-clause-answer : goal.returns-then-is_err-clause-answer
+returns-then-is_err-clause-answer g c = λ works.
+    let journal = c.args.self.now.journal in
+    let accepted : journals.is_accepted (answer_to journal c.args.sender c.args.reference c.args.item.now) ≡ true = c.accepts.ensures c.args.item.now ∙ c.if-not-accepts.false in
+    let is : IsKeepable journal = subst IsKeepable (ap (λ b. b.journal) c.self.view_is) c.self.invariant.keepable in
+    let fits = next_fits journal c.args.stamp c.args.sender c.args.reference c.args.item.now is accepted c.spell.ensures.short in
+    answers_memory journal c.args.stamp c.args.sender c.args.reference c.args.item.now fits accepted
