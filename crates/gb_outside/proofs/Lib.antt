@@ -1,2 +1,4 @@
-pub mod Record
+-- What the proofs share.
+pub mod MemDisks
 pub mod Moments
+pub mod Record

@@ -2,7 +2,9 @@
 use Rattle.std.proofs.Common.{◌≡◌, inl, inr, ⊎_elim, ℕ, ◌+◌, ◌-◌, ◌≤◌, List, [], ◌∷◌, ◌++◌, length, take, drop, refl, sym, ◌∙◌, ap, subst, arith, length-append, length-drop, append_assoc, length-take-le, take_at, drop_at, drop-drop}
 use Rattle.std.proofs.lemmas.List.{take-append-le, drop-append-le, take_all}
 use Rattle.gb_outside.specs.Images.{Torn, Follows, Elapses}
-use Rattle.gb_outside.specs.Recorded.{Event, idle, wrote, synced, events_from, events, kept_by, overwritten, file_after, IsImageAfter, IsImageSince}
+use Rattle.gb_outside.specs.Recorded.{Event, idle, wrote, synced, overwritten, file_after, IsImageAfter, IsImageSince}
+use Rattle.gb_outside.specs.MemDisks.{bytes_written}
+use Rattle.gb_outside.specs.inner.Calls.{events_from, events, kept_by}
 use Rattle.gb_outside.specs.declared.mem_disk.Call.{Call}
 use Rattle.gb_outside.specs.declared.mem_disk.Call.TheVariants.{Idle, Write, Sync}
 
@@ -46,6 +48,28 @@ kept_by-append [] more = omega arith
 kept_by-append (Idle ∷ calls) more = kept_by-append calls more
 kept_by-append (Write at size kept ∷ calls) more = omega (arith, kept_by-append calls more)
 kept_by-append (Sync ∷ calls) more = kept_by-append calls more
+
+length_events_from : (calls : List Call) (written : List ℕ) (before : List Event) → length (events_from calls written before) ≡ length calls + length before
+length_events_from [] written before = omega arith
+length_events_from (Idle ∷ calls) written before = omega (arith, length_events_from calls written (idle ∷ before))
+length_events_from (Write at size kept ∷ calls) written before = omega (arith, length_events_from calls (drop kept written) (wrote at size (take kept written) ∷ before))
+length_events_from (Sync ∷ calls) written before = omega (arith, length_events_from calls written (synced ∷ before))
+
+-- each call is an event
+pub length_events : (calls : List Call) (written : List ℕ) → length (events calls written) ≡ length calls
+length_events calls written = omega (arith, length_events_from calls written [])
+
+bytes_written_from : (calls : List Call) (written : List ℕ) (before : List Event) → kept_by calls ≤ length written
+    → bytes_written (events_from calls written before) ≡ kept_by calls + bytes_written before
+bytes_written_from [] written before all = omega arith
+bytes_written_from (Idle ∷ calls) written before all = bytes_written_from calls written (idle ∷ before) all
+bytes_written_from (Write at size kept ∷ calls) written before all =
+    omega (arith, all, length-drop kept written, length-take-le kept written (omega (arith, all)), bytes_written_from calls (drop kept written) (wrote at size (take kept written) ∷ before) (omega (arith, all, length-drop kept written)))
+bytes_written_from (Sync ∷ calls) written before all = bytes_written_from calls written (synced ∷ before) all
+
+-- the bytes written are those that the events brought
+pub bytes_written_all : (calls : List Call) (written : List ℕ) → kept_by calls ≡ length written → bytes_written (events calls written) ≡ length written
+bytes_written_all calls written all = omega (arith, all, bytes_written_from calls written [] (omega (arith, all)))
 
 -- the record after one call more
 module _ (calls more : List Call) (written : List ℕ) where

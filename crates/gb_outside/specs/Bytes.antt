@@ -18,6 +18,7 @@ Reads old new (got.Bytes n) into = Consumes old new (take n into)
 Reads old new got.End into = IsAtEnd old × (new ≡ old)
 Reads old new got.Failed into = new ≡ old
 
+-- a read failed
 abbrev pub read_failed : Got → Bool
 read_failed (got.Bytes n) = false
 read_failed got.End = false
@@ -33,6 +34,7 @@ abbrev pub Writes : Option (List ℕ) → Option (List ℕ) → Wrote → List �
 Writes old new (wrote.Took n) piece = Appends old new (take n piece)
 Writes old new wrote.Failed piece = new ≡ old
 
+-- a write failed
 abbrev pub write_failed : Wrote → Bool
 write_failed (wrote.Took n) = false
 write_failed wrote.Failed = true

@@ -9,6 +9,7 @@ TakesFirst (Some waiting) new left = (bytes : List ℕ) × (rest : List (List �
     × (waiting ≡ bytes ∷ rest) × (new ≡ Some rest) × (left ≡ Some bytes)
 TakesFirst None new left = Unit {0}
 
+-- no link is still to come, where the listener tells them
 abbrev pub NoneWaits : Option (List (List ℕ)) → Type 0
 NoneWaits (Some waiting) = waiting ≡ []
 NoneWaits None = Unit {0}
@@ -32,6 +33,7 @@ out_after out (door.Open link) = out + 1
 out_after out door.Closed = out
 out_after out door.Failed = out
 
+-- the listener failed
 abbrev pub accept_failed : {L : Type 0} → Door L → Bool
 accept_failed (door.Open link) = false
 accept_failed door.Closed = false

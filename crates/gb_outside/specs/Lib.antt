@@ -1,3 +1,4 @@
+-- What contracts cite.
 pub mod Faults
 pub mod Bytes
 pub mod Images
@@ -5,5 +6,5 @@ pub mod Ticks
 pub mod Doors
 pub mod InMemory
 pub mod Recorded
-pub mod RecordedLaws
-pub mod MemRoom
+pub mod MemDisks
+pub mod inner

@@ -1,39 +1,19 @@
--- A file with a record of the calls on it, the newest first: what a read gives, and what a stop may leave.
+-- A file with a record of the calls on it: what a read gives, and what a stop may leave.
 use Rattle.std.specs.Prelude.{◌≡◌, ◌⊎◌, ℕ, ◌+◌, ◌≤◌, List, [], ◌∷◌, ◌++◌, length, take, drop}
 use Rattle.gb_outside.specs.Images.{Torn}
-use Rattle.gb_outside.specs.declared.mem_disk.Call.{Call}
-use Rattle.gb_outside.specs.declared.mem_disk.Call.TheVariants.{Idle, Write, Sync}
 
--- a call, with what it did to the file
+-- a call, with what it did to the file: nothing, a write, or a sync that succeeded
 pub data Event : Type 0 where
   idle : Event
   -- of a write of this size at this offset these bytes came into the file, fewer where it failed
   wrote : (at size : ℕ) → (kept : List ℕ) → Event
   synced : Event
 
--- the calls of a record with the bytes written, each write's behind those of the one before
-abbrev pub events_from : List Call → List ℕ → List Event → List Event
-events_from [] written before = before
-events_from (Idle ∷ calls) written before = events_from calls written (idle ∷ before)
-events_from (Write at size kept ∷ calls) written before =
-    events_from calls (drop kept written) (wrote at size (take kept written) ∷ before)
-events_from (Sync ∷ calls) written before = events_from calls written (synced ∷ before)
-
-abbrev pub events : List Call → List ℕ → List Event
-events calls written = events_from calls written []
-
--- how many bytes came into the file
-abbrev pub kept_by : List Call → ℕ
-kept_by [] = 0
-kept_by (Idle ∷ calls) = kept_by calls
-kept_by (Write at size kept ∷ calls) = kept + kept_by calls
-kept_by (Sync ∷ calls) = kept_by calls
-
 -- the file with these bytes at this offset
 abbrev pub overwritten : ℕ → List ℕ → List ℕ → List ℕ
 overwritten at bytes file = take at file ++ bytes ++ drop (at + length bytes) file
 
--- what a read gives
+-- what a read gives after these calls, the newest first
 abbrev pub file_after : List ℕ → List Event → List ℕ
 file_after first [] = first
 file_after first (idle ∷ before) = file_after first before
@@ -58,7 +38,3 @@ abbrev pub IsImageSince : List ℕ → List Event → ℕ → List ℕ → Type 
 IsImageSince first [] t c = IsImageAfter first [] c
 IsImageSince first (event ∷ before) t c =
     IsImageAfter first (event ∷ before) c ⊎ ((t ≤ length before) × IsImageSince first before t c)
-
--- a call that does nothing: it is recorded where there is room
-abbrev pub IsIdle : List Event → List Event → Type 0
-IsIdle before now = (now ≡ idle ∷ before) ⊎ (now ≡ before)

@@ -1,3 +1,4 @@
+-- What a clock that tells its stamps gives.
 use Rattle.std.specs.Prelude.{◌≡◌, List, [], ◌∷◌, Option, Some, None}
 use Rattle.gb_base.specs.DayMinute.{DayMinute}
 

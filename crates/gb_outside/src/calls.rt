@@ -1,4 +1,6 @@
-ghost use Rattle.std.specs.Prelude.{◌≡◌};
+// The calls of objects in memory.
+ghost use Rattle.std.specs.Prelude.{◌≡◌, ◌==◌};
+ghost use Rattle.std.specs.List.{list_any};
 ghost use Rattle.gb_outside.specs.InMemory.{fails_next, after_call};
 
 use std::marker::Model;
@@ -33,7 +35,13 @@ impl<'a> Calls<'a> {
         ensures counted { self.new ≡ after_call self.old }
     {
         self.made = self.made.saturating_add(1);
-        let number = self.made;
-        self.failing.iter().any(|n| u64::from(*n) == number)
+        is_named(self.failing, self.made)
     }
+}
+
+/// Whether this number is among those.
+pub fn is_named(numbers: &[u32], number: u64) -> bool
+    ensures { result ≡ list_any (λ n. n == number) numbers.now }
+{
+    numbers.iter().any(|n| u64::from(*n) == number)
 }

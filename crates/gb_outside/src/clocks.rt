@@ -1,3 +1,4 @@
+// Clocks.
 use gb_base::Stamp;
 
 /// A clock that stamps receipts.

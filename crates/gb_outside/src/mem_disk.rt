@@ -1,14 +1,15 @@
 // A disk in memory with a record of all calls, by which tests stop it and let it fail.
-ghost use Rattle.std.specs.Prelude.{◌≡◌, ◌+◌, ◌≤◌, ◌<◌, ◌↔◌, [], ◌∷◌, ◌++◌, length, take, drop, vec_len, vec_capacity, IsTrue, IfOk, is_err, true, false};
+ghost use Rattle.std.specs.Prelude.{◌≡◌, ◌+◌, ◌≤◌, [], length, nat_le, vec_len, vec_capacity, IfOk, is_err, true, false};
 ghost use Rattle.gb_outside.specs.Faults.{Counts};
 ghost use Rattle.gb_outside.specs.Images.{Only};
-ghost use Rattle.gb_outside.specs.Recorded.{wrote, events, kept_by, overwritten, file_after, IsIdle, IsImageAfter, IsImageSince};
-ghost use Rattle.gb_outside.specs.RecordedLaws.{image_no_longer, since_counts_now, since_only_now};
-ghost use Rattle.std.proofs.Common.{inl, refl};
+ghost use Rattle.gb_outside.specs.Recorded.{idle, wrote, synced, overwritten};
+ghost use Rattle.gb_outside.specs.MemDisks.{file_of, bytes_written, is_full, is_due, fails_next, has_room, faulted, after_call, after_look};
 
+use crate::calls::is_named;
 use crate::{Disk, DiskFailed};
 use gb_base::NoMemory;
 use std::alloc::Global;
+use std::marker::Model;
 
 /// A call on the disk, as far as its file goes.
 #[derive(Clone, Copy)]
@@ -29,20 +30,40 @@ pub struct MemDisk {
     bytes: Vec<u8>,
     longest: usize,
     first: Vec<u8>,
-    // All calls so far and the bytes written. Their room is the capacity of these lists.
+    // All calls so far and the bytes written, with their limits.
     calls: Vec<Call>,
+    most_calls: usize,
     written: Vec<u8>,
+    most_written: usize,
     // The numbers, from 1, of the calls that are to fail.
     fail: Vec<u32>,
     faults: u64,
-    ghost reserved: { longest ≤ vec_capacity bytes },
-    ghost replayed: { bytes.items ≡ file_after first.items (events calls.items written.items) },
-    ghost all_written: { kept_by calls.items ≡ length written.items },
+}
+
+impl Model for MemDisk {
+    ghost use Rattle.std.specs.Prelude.{◌≤◌, vec_capacity};
+    ghost use Rattle.gb_outside.specs.MemDisks.{DiskInMemory};
+    ghost use Rattle.gb_outside.specs.inner.Calls.{events, IsReplayed};
+
+    ghost Value = { DiskInMemory };
+
+    ghost view = { λ a. record {
+      first = a.first.items;
+      done = events a.calls.items a.written.items;
+      longest = a.longest;
+      most_calls = a.most_calls;
+      most_written = a.most_written;
+      failing = a.fail.items;
+      faults = a.faults;
+    } };
+
+    ghost invariant = { λ a. (a.longest ≤ vec_capacity a.bytes)
+        × (a.most_calls ≤ vec_capacity a.calls)
+        × (a.most_written ≤ vec_capacity a.written)
+        × IsReplayed a.first.items a.bytes.items a.written.items a.calls.items };
 }
 
 impl MemDisk {
-    ghost use Rattle.gb_outside.specs.MemRoom.{Room, room_of};
-
     /// A file of up to `longest` bytes that at first is `bytes` and counts as synced, with room
     /// for `calls` calls that write `written` bytes; the calls numbered in `fail`, from 1, fail.
     pub fn new(
@@ -53,10 +74,18 @@ impl MemDisk {
         calls: usize,
         fail: &[u32],
     ) -> Result<MemDisk, NoMemory>
+        ensures made { IfOk result (λ disk. disk ≡ record {
+          first = bytes.now;
+          done = [];
+          longest = longest;
+          most_calls = calls;
+          most_written = written;
+          failing = fail.now;
+          faults = 0;
+        }) }
         ensures file { IfOk result (λ disk. ⟦<MemDisk as Disk>⟧.reads disk ≡ bytes.now) }
         ensures synced { IfOk result (λ disk. Only bytes.now (⟦<MemDisk as Disk>⟧.images disk)) }
         ensures faults { IfOk result (λ disk. ⟦<MemDisk as Disk>⟧.faults disk ≡ 0) }
-        ensures room { IfOk result (λ disk. room_of disk ≡ record { longest = longest; written = written; calls = calls; fail = fail.now }) }
     {
         let mut file = Vec::with_capacity(alloc, longest.max(bytes.len()))?;
         file.extend_from_slice(bytes)?;
@@ -65,7 +94,9 @@ impl MemDisk {
             longest,
             first: bytes.to_vec(alloc)?,
             calls: Vec::with_capacity(alloc, calls)?,
+            most_calls: calls,
             written: Vec::with_capacity(alloc, written)?,
+            most_written: written,
             fail: fail.to_vec(alloc)?,
             faults: 0,
         })
@@ -82,42 +113,45 @@ impl MemDisk {
 impl MemDisk {
     // Whether the record has no room for a call.
     fn is_full(&self) -> bool
-        ensures { result ≡ false → vec_len self.now.calls < vec_capacity self.now.calls }
+        ensures { result ≡ is_full self.now }
     {
-        self.calls.len() >= self.calls.capacity()
+        self.calls.len() >= self.most_calls
     }
 
     // Whether the next call is to fail.
-    fn is_due(&self) -> bool {
-        let number = self.calls.len() as u64 + 1;
-        self.fail.iter().any(|n| u64::from(*n) == number)
+    fn is_due(&self) -> bool
+        ensures { result ≡ is_due self.now }
+    {
+        is_named(&self.fail, self.calls.len() as u64 + 1)
     }
 
     // Whether there is room for a write of so many bytes at this offset.
     fn has_room(&self, at: usize, size: usize) -> bool
-        ensures file { result ≡ true → at + size ≤ self.now.longest }
-        ensures written { result ≡ true → vec_len self.now.written + size ≤ vec_capacity self.now.written }
+        ensures { result ≡ has_room self.now at size }
     {
-        at <= self.longest
-            && size <= self.longest - at
-            && size <= self.written.capacity() - self.written.len()
+        fits(at, size, self.longest) && fits(self.written.len(), size, self.most_written)
     }
 
     // Records a call that changes nothing, where there is room.
     fn idle(&mut self)
-        ensures first { self.new.first.items ≡ self.old.first.items }
-        ensures idle { IsIdle (events self.old.calls.items self.old.written.items) (events self.new.calls.items self.new.written.items) }
-        ensures faults { self.new.faults ≡ self.old.faults }
+        ensures { self.new ≡ after_call false idle self.old }
     {
         if !self.is_full() {
             self.calls.push_reserved(Call::Idle);
         }
     }
 
+    // Records a sync that succeeded.
+    fn synced(&mut self)
+        requires { is_full self.old ≡ false }
+        ensures { self.new ≡ after_call false synced self.old }
+    {
+        self.calls.push_reserved(Call::Sync);
+    }
+
     // Counts a fault.
     fn fault(&mut self) -> DiskFailed
-        ensures first { self.new.first.items ≡ self.old.first.items }
-        ensures events { events self.new.calls.items self.new.written.items ≡ events self.old.calls.items self.old.written.items }
+        ensures left { self.new ≡ faulted self.old }
         ensures cause { Counts self.old.faults self.new.faults true }
     {
         self.faults = self.faults.saturating_add(1);
@@ -126,8 +160,7 @@ impl MemDisk {
 
     // A call that fails and does nothing.
     fn failed(&mut self) -> DiskFailed
-        ensures first { self.new.first.items ≡ self.old.first.items }
-        ensures idle { IsIdle (events self.old.calls.items self.old.written.items) (events self.new.calls.items self.new.written.items) }
+        ensures left { self.new ≡ after_call true idle self.old }
         ensures cause { Counts self.old.faults self.new.faults true }
     {
         self.idle();
@@ -136,13 +169,11 @@ impl MemDisk {
 
     // Records a write of `size` bytes at `at`, of which this piece comes into the file.
     fn store(&mut self, at: usize, size: usize, piece: &[u8])
-        requires place { at ≤ vec_len self.old.bytes }
+        requires offset { at ≤ length (file_of self.old) }
         requires file { at + length piece.now ≤ self.old.longest }
-        requires written { vec_len self.old.written + length piece.now ≤ vec_capacity self.old.written }
-        requires calls { vec_len self.old.calls < vec_capacity self.old.calls }
-        ensures first { self.new.first.items ≡ self.old.first.items }
-        ensures wrote { events self.new.calls.items self.new.written.items ≡ wrote at size piece.now ∷ events self.old.calls.items self.old.written.items }
-        ensures faults { self.new.faults ≡ self.old.faults }
+        requires written { bytes_written self.old.done + length piece.now ≤ self.old.most_written }
+        requires calls { is_full self.old ≡ false }
+        ensures { self.new ≡ after_call false (wrote at size piece.now) self.old }
     {
         overwrite(&mut self.bytes, at, piece);
         self.written.extend_from_slice(piece).unwrap();
@@ -152,8 +183,8 @@ impl MemDisk {
 
     // A call that changes nothing.
     fn look(&mut self) -> Result<(), DiskFailed>
-        ensures first { self.new.first.items ≡ self.old.first.items }
-        ensures idle { IsIdle (events self.old.calls.items self.old.written.items) (events self.new.calls.items self.new.written.items) }
+        ensures fails { is_err result ≡ fails_next self.old }
+        ensures left { self.new ≡ after_look self.old }
         ensures cause { Counts self.old.faults self.new.faults (is_err result) }
     {
         if self.is_full() || self.is_due() {
@@ -164,9 +195,16 @@ impl MemDisk {
     }
 }
 
+// Whether so many more keep within a limit.
+fn fits(count: usize, more: usize, limit: usize) -> bool
+    ensures { result ≡ nat_le (count + more) limit }
+{
+    count <= limit && more <= limit - count
+}
+
 // Puts a piece over what is there from `at` on, and past the end.
 fn overwrite(bytes: &mut Vec<u8>, at: usize, piece: &[u8])
-    requires place { at ≤ vec_len bytes.old }
+    requires offset { at ≤ vec_len bytes.old }
     requires room { at + length piece.now ≤ vec_capacity bytes.old }
     ensures file { bytes.new.items ≡ overwritten at piece.now bytes.old.items }
     ensures room { vec_capacity bytes.old ≤ vec_capacity bytes.new }
@@ -178,39 +216,71 @@ fn overwrite(bytes: &mut Vec<u8>, at: usize, piece: &[u8])
 }
 
 impl Disk for MemDisk {
+    ghost use Rattle.std.specs.Prelude.{◌≡◌, ◌+◌, ◌≤◌, length, true, is_err};
+    ghost use Rattle.gb_outside.specs.Faults.{Counts};
+    ghost use Rattle.gb_outside.specs.Images.{Torn, Follows, NoneNew, Elapses, LenIs, ReadsAt, WritesAt, Syncs};
+    ghost use Rattle.gb_outside.specs.MemDisks.{file_of, images_of, moment_of, since_of, fails_next, write_fails, after_look, after_sync, after_write};
+    ghost use Rattle.gb_outside.specs.inner.RecordedLaws.{image_no_longer, since_counts_now, since_only_now};
+    ghost use Rattle.std.proofs.Common.{inl, refl};
+
     ghost tells = { true };
 
-    ghost reads = { λ d. file_after d.first.items (events d.calls.items d.written.items) };
+    ghost reads = { file_of };
 
-    ghost images = { λ d c. IsImageAfter d.first.items (events d.calls.items d.written.items) c };
+    ghost images = { images_of };
 
-    ghost moment = { λ d. length (events d.calls.items d.written.items) };
+    ghost moment = { moment_of };
 
-    ghost since = { λ d t c. IsImageSince d.first.items (events d.calls.items d.written.items) t c };
+    ghost since = { since_of };
 
     ghost faults = { λ d. d.faults };
 
     ghost reads_is_image = { λ d yes. inl refl };
 
-    ghost no_longer = { λ d c yes image. image_no_longer d.first.items (events d.calls.items d.written.items) c image };
+    ghost no_longer = { λ d c yes image. image_no_longer d.first d.done c image };
 
-    ghost counts_now = { λ d t c yes le image. since_counts_now d.first.items (events d.calls.items d.written.items) t c image };
+    ghost counts_now = { λ d t c yes le image. since_counts_now d.first d.done t c image };
 
-    ghost only_now = { λ d c yes left. since_only_now d.first.items (events d.calls.items d.written.items) c left };
+    ghost only_now = { λ d c yes left. since_only_now d.first d.done c left };
 
-    fn len(&mut self) -> Result<u64, DiskFailed> {
+    fn len(&mut self) -> Result<u64, DiskFailed>
+        ensures len { LenIs (file_of self.old) result }
+        ensures fails { is_err result ≡ fails_next self.old }
+        ensures left { self.new ≡ after_look self.old }
+        ensures same { file_of self.new ≡ file_of self.old }
+        ensures crash { NoneNew (images_of self.old) (images_of self.new) }
+        ensures time { Elapses (moment_of self.old) (moment_of self.new) (since_of self.old) (since_of self.new) (images_of self.new) }
+        ensures cause { Counts self.old.faults self.new.faults (is_err result) }
+    {
         self.look()?;
         Ok(self.bytes.len() as u64)
     }
 
-    fn read_at(&mut self, at: u64, into: &mut [u8]) -> Result<(), DiskFailed> {
+    fn read_at(&mut self, at: u64, into: &mut [u8]) -> Result<(), DiskFailed>
+        requires { at + length into.old ≤ length (file_of self.old) }
+        ensures bytes { ReadsAt (file_of self.old) at result into.new }
+        ensures fails { is_err result ≡ fails_next self.old }
+        ensures left { self.new ≡ after_look self.old }
+        ensures same { file_of self.new ≡ file_of self.old }
+        ensures crash { NoneNew (images_of self.old) (images_of self.new) }
+        ensures time { Elapses (moment_of self.old) (moment_of self.new) (since_of self.old) (since_of self.new) (images_of self.new) }
+        ensures cause { Counts self.old.faults self.new.faults (is_err result) }
+    {
         self.look()?;
         let at = at as usize;
         into.copy_from_slice(&self.bytes[at..at + into.len()]);
         Ok(())
     }
 
-    fn write_at(&mut self, at: u64, bytes: &[u8]) -> Result<(), DiskFailed> {
+    fn write_at(&mut self, at: u64, bytes: &[u8]) -> Result<(), DiskFailed>
+        requires { at ≤ length (file_of self.old) }
+        ensures written { WritesAt (file_of self.old) (file_of self.new) at result bytes.now }
+        ensures fails { is_err result ≡ write_fails self.old at (length bytes.now) }
+        ensures left { self.new ≡ after_write at bytes.now self.old }
+        ensures crash { Follows (Torn at (length bytes.now)) (images_of self.old) (images_of self.new) }
+        ensures time { Elapses (moment_of self.old) (moment_of self.new) (since_of self.old) (since_of self.new) (images_of self.new) }
+        ensures cause { Counts self.old.faults self.new.faults (is_err result) }
+    {
         let at = at as usize;
         let size = bytes.len();
         if self.is_full() || !self.has_room(at, size) {
@@ -224,11 +294,19 @@ impl Disk for MemDisk {
         Ok(())
     }
 
-    fn sync(&mut self) -> Result<(), DiskFailed> {
+    fn sync(&mut self) -> Result<(), DiskFailed>
+        ensures durable { Syncs (file_of self.new) result (images_of self.new) }
+        ensures fails { is_err result ≡ fails_next self.old }
+        ensures left { self.new ≡ after_sync self.old }
+        ensures same { file_of self.new ≡ file_of self.old }
+        ensures crash { NoneNew (images_of self.old) (images_of self.new) }
+        ensures time { Elapses (moment_of self.old) (moment_of self.new) (since_of self.old) (since_of self.new) (images_of self.new) }
+        ensures cause { Counts self.old.faults self.new.faults (is_err result) }
+    {
         if self.is_full() || self.is_due() {
             return Err(self.failed());
         }
-        self.calls.push_reserved(Call::Sync);
+        self.synced();
         Ok(())
     }
 }

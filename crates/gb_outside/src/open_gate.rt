@@ -1,3 +1,4 @@
+// A gate that is always open.
 use crate::DeskGate;
 use gb_base::ReceiptNo;
 

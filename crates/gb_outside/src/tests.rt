@@ -1,12 +1,15 @@
-ghost use Rattle.std.specs.Prelude.{◌≡◌, ◌<◌, length, false};
+// Tests of the objects in memory, and of those that never fail.
+ghost use Rattle.std.specs.Prelude.{◌≡◌, ◌<◌, length, false, IfOk, is_err};
 ghost use Rattle.gb_outside.specs.Bytes.{read_failed};
 ghost use Rattle.gb_outside.specs.Faults.{Counts};
 
 use crate::{
-    Clock, DeskGate, Disk, Door, Got, Link, ListClock, Listener, MemSink, MemSource, OpenGate,
-    Sink, Source, SureDisk, SureLink, SureListener, SureSink, SureSource, Wrote,
+    Clock, DeskGate, Disk, DiskFailed, Door, Got, Link, ListClock, Listener, MemDisk, MemSink,
+    MemSource, OpenGate, Sink, Source, SureDisk, SureLink, SureListener, SureSink, SureSource,
+    Wrote,
 };
-use gb_base::{Day, ReceiptNo, Stamp};
+use gb_base::{Day, NoMemory, ReceiptNo, Stamp};
+use std::alloc::Global;
 use std::test::Fail;
 
 // A call through the bound, as the office makes it.
@@ -31,6 +34,20 @@ fn read_unplanned(bytes: &[u8], into: &mut [u8]) -> Got
     ensures { read_failed result ≡ false }
 {
     MemSource::new(bytes, &[]).read(into)
+}
+
+// A disk in memory that has room and of which no call is to fail does not fail either.
+fn sync_unplanned(alloc: Global) -> Result<Result<(), DiskFailed>, NoMemory>
+    ensures { IfOk result (λ answer. is_err answer ≡ false) }
+{
+    let mut disk = MemDisk::new(alloc, b"abc", 3, 0, 1, &[])?;
+    Ok(disk.sync())
+}
+
+#[test]
+fn a_disk_without_planned_faults_syncs(rt: HostRuntime) -> Result<(), Fail> {
+    assert_eq!(rt; sync_unplanned(rt.alloc())?, Ok(()));
+    Ok(())
 }
 
 #[test]

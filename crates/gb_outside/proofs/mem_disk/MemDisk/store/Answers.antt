@@ -1,20 +1,36 @@
-use Rattle.std.proofs.Common.{◌≡◌, ◌++◌, length, sym, ◌∙◌, ap, arith, rules, length-append}
-use Rattle.gb_outside.specs.Recorded.{file_after, overwritten}
-use Rattle.gb_outside.proofs.Record.{write_more, kept_more}
+-- Answers on a disk in memory.
+use Rattle.std.proofs.Common.{◌≡◌, ◌+◌, ◌≤◌, ◌++◌, false, length, vec_capacity, ap, ◌∙◌, arith, rules}
+use Rattle.gb_outside.specs.Recorded.{wrote}
+use Rattle.gb_outside.specs.MemDisks.{is_full, after_call, bytes_written}
+use Rattle.gb_outside.proofs.Record.{write_more, bytes_written_all}
+use Rattle.gb_outside.proofs.MemDisks.{has_place, replayed_write, recorded}
 use Rattle.gb_outside.proofs.mem_disk.MemDisk.store.Goals as goal
+
+pub unwrap-requires : goal.unwrap-requires
+unwrap-requires c =
+    let inside = c.self.inside in
+    let room : length inside.written.items + length c.args.piece.now ≤ vec_capacity inside.written
+    = omega (arith, ap (λ d. bytes_written d.done) c.self.view_is, ap (λ d. d.most_written) c.self.view_is, bytes_written_all inside.calls.items inside.written.items c.self.invariant.3.all_written, c.requires.written, c.self.invariant.2) in
+    search (rules, room)
+
+pub push_reserved-requires : goal.push_reserved-requires
+push_reserved-requires c =
+    let place = has_place c.self.inside.calls.items c.self.inside.written.items c.self.inside.most_calls _ (ap is_full c.self.view_is ∙ c.requires.calls) c.self.invariant.1 in
+    omega (arith, place)
 
 pub invariant_of-self : goal.invariant_of-self
 invariant_of-self c =
-    let longer : c.extend_from_slice.new.self.items ≡ c.args.self.now.written.items ++ c.args.piece.now = search rules in
-    let pushed = c.push_reserved.ensures.items in
-    let is = write_more _ _ _ _ c.args.piece.now c.args.at c.args.size pushed longer c.args.self.now.all_written in
-    record {
-      reserved = omega (arith, c.args.self.now.reserved, c.overwrite.ensures.room);
-      replayed = c.overwrite.ensures.file ∙ ap (overwritten c.args.at c.args.piece.now) c.args.self.now.replayed ∙ sym (ap (file_after c.args.self.now.first.items) is);
-      all_written = omega (arith, kept_more _ _ c.args.self.now.written.items _ pushed, c.args.self.now.all_written, ap length longer, length-append c.args.self.now.written.items c.args.piece.now);
-    }
+    let h = c.self.invariant in
+    let longer : c.extend_from_slice.new.self.items ≡ c.self.inside.written.items ++ c.args.piece.now = search rules in (
+      omega (arith, h.0, c.overwrite.ensures.room),
+      rw c.push_reserved.ensures.capacity h.1,
+      omega (arith, h.2, c.extend_from_slice.ensures.capacity),
+      rw c.overwrite.ensures.file (replayed_write _ _ _ _ _ h.3 _ c.args.piece.now c.args.at c.args.size c.push_reserved.ensures.items longer),
+    )
 
-pub returns-clause-wrote : goal.returns-clause-wrote
-returns-clause-wrote c =
-    let longer : c.extend_from_slice.new.self.items ≡ c.args.self.now.written.items ++ c.args.piece.now = search rules in
-    write_more _ _ _ _ c.args.piece.now c.args.at c.args.size c.push_reserved.ensures.items longer c.args.self.now.all_written
+pub returns : goal.returns
+returns c =
+    let longer : c.extend_from_slice.new.self.items ≡ c.self.inside.written.items ++ c.args.piece.now = search rules in
+    recorded (wrote c.args.at c.args.size c.args.piece.now) _ _ (ap is_full c.self.view_is ∙ c.requires.calls)
+    (write_more _ _ _ _ c.args.piece.now c.args.at c.args.size c.push_reserved.ensures.items longer c.self.invariant.3.all_written)
+    ∙ ap (after_call false (wrote c.args.at c.args.size c.args.piece.now)) c.self.view_is

@@ -1,11 +1,14 @@
-use Rattle.std.proofs.Common.{◌/◌, length, ◌∙◌, arith, length-take}
-use Rattle.gb_outside.proofs.Record.{wrote_torn}
+-- Answers on a disk in memory.
+use Rattle.std.proofs.Common.{◌/◌, length, sym, ap, ◌∙◌, arith, length-take}
+use Rattle.gb_outside.proofs.MemDisks.{write_torn}
 use Rattle.gb_outside.proofs.mem_disk.MemDiskDisk.write_at.Goals as goal
 
 pub returns-then-is_due-clause-crash : goal.returns-then-is_due-clause-crash
-returns-then-is_due-clause-crash c = λ yes.
-    wrote_torn _ _ _ _ c.args.at (length c.args.bytes.now) _ (c.fault.ensures.first ∙ c.store.ensures.first) (c.fault.ensures.events ∙ c.store.ensures.wrote) (c.requires yes) (omega (arith, length-take (length c.args.bytes.now / 2) c.args.bytes.now))
+returns-then-is_due-clause-crash c =
+    write_torn c.args.self.now c.fault.new.self c.args.at (length c.args.bytes.now) _ (sym c.is_full.ensures ∙ c.if-is_full.false) (ap (λ d. d.first) (c.fault.ensures.left) ∙ ap (λ d. d.first) c.store.ensures)
+    (ap (λ d. d.done) (c.fault.ensures.left) ∙ ap (λ d. d.done) c.store.ensures) c.requires (omega (arith, length-take (length c.args.bytes.now / 2) c.args.bytes.now))
 
 pub returns-clause-crash : goal.returns-clause-crash
-returns-clause-crash c = λ yes.
-    wrote_torn _ _ _ _ c.args.at (length c.args.bytes.now) _ c.store-2.ensures.first c.store-2.ensures.wrote (c.requires yes) (omega arith)
+returns-clause-crash c =
+    write_torn c.args.self.now c.store-2.new.self c.args.at (length c.args.bytes.now) _ (sym c.is_full.ensures ∙ c.if-is_full.false) (ap (λ d. d.first) c.store-2.ensures)
+    (ap (λ d. d.done) c.store-2.ensures) c.requires (omega arith)

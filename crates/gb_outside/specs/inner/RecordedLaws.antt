@@ -1,4 +1,4 @@
--- The laws of a disk, for a file with a record of the calls on it.
+-- Proofs of the laws of a disk, for a file with a record of the calls on it.
 use Rattle.std.specs.Prelude.{ℕ, ◌≤◌, List, [], ◌∷◌, length}
 use Rattle.std.proofs.Common.{inl, inr, ap, arith}
 use Rattle.gb_outside.specs.Recorded.{Event, idle, wrote, synced, file_after, IsTornAfter, IsImageAfter, IsImageSince}
@@ -9,6 +9,7 @@ torn_no_longer first (idle ∷ before) c torn = torn_no_longer first before c to
 torn_no_longer first (wrote at size kept ∷ before) c torn = torn.0
 torn_no_longer first (synced ∷ before) c torn = absurd torn
 
+-- no image is longer than what a read gives
 pub image_no_longer : (first : List ℕ) (done : List Event) (c : List ℕ) → IsImageAfter first done c → length c ≤ length (file_after first done)
 image_no_longer first done c (inl reads) = omega (arith, ap length reads)
 image_no_longer first done c (inr torn) = torn_no_longer first done c torn
