@@ -1,6 +1,6 @@
 """The bytes of a receipt, from the value of its stamped line.
 
-The table is that of docs/formats.md, 'Receipts as bytes'; nothing here is taken from a program.
+The table is that of docs/formats/receipts.md; nothing here is taken from a program.
 """
 
 import datetime
@@ -11,7 +11,7 @@ DOCS = ["consent", "agreement", "clearance", "expiry"]
 FORMS = ["certified", "plain"]
 RIGHTS = ["personal-easement", "usufruct", "mortgage", "land-charge"]
 BASES = ["personal", "right"]
-CLAIMS = ["advance", "charge", "arrears"]
+REGISTRATIONS = ["advance", "charge", "arrears"]
 
 
 def u8(value):
@@ -92,13 +92,13 @@ def basis(value):
     return tag(BASES, value["type"]) + what()
 
 
-def claim(value):
+def registration(value):
     what = {
         "advance": lambda: u32(value["person"]) + u64(value["amount"]),
         "charge": lambda: u32(value["person"]) + u64(value["amount"]) + day(value["due"]),
         "arrears": lambda: right(value["right"]) + day(value["from"]) + day(value["until"]),
     }[value["type"]]
-    return tag(CLAIMS, value["type"]) + what()
+    return tag(REGISTRATIONS, value["type"]) + what()
 
 
 def filing(value):
@@ -112,7 +112,7 @@ def item(value):
         "cure": lambda: u32(value["filing"]) + counted(document, value["docs"]),
         "lapse": lambda: u32(value["filing"]),
         "seize": lambda: u32(value["folio"]) + basis(value["basis"]) + day(value["served"]),
-        "register": lambda: u32(value["folio"]) + claim(value["what"]),
+        "register": lambda: u32(value["folio"]) + registration(value["what"]),
         "open-bids": lambda: u32(value["folio"]) + u64(value["costs"]),
         "award": lambda: u32(value["folio"]) + u32(value["buyer"]) + u64(value["bid"]),
         "distribute": lambda: u32(value["folio"]),

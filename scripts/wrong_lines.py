@@ -1,8 +1,8 @@
 """Lines of JSON that are no items, each with the path of its first wrong place.
 
-For each kind of item, act, document, basis and claim there is one line that is an item, and for
+For each kind of item, act, document, basis and registration there is one line that is an item, and for
 each member of it the values that it must not have: absent, of another kind, below its range, above
-it. The tables are those of docs/formats.md, 'Items as JSON'; nothing here is taken from a program.
+it. The tables are those of docs/formats/lines.md; nothing here is taken from a program.
 
     scripts/wrong_lines.py             prints 'PATH<tab>LINE' for each wrong line
     scripts/wrong_lines.py --good      prints the lines that are items
@@ -75,7 +75,7 @@ BASES = {
     "personal": {"type": word("public"), "creditor": SERIAL, "claim": AMOUNT},
     "right": {"type": word("public"), "right": OBJECT},
 }
-CLAIMS = {
+REGISTRATIONS = {
     "advance": {"type": word("costs"), "person": SERIAL, "amount": AMOUNT},
     "charge": {"type": word("costs"), "person": SERIAL, "amount": AMOUNT, "due": DATE},
     "arrears": {"type": word("costs"), "right": OBJECT, "from": DATE, "until": DATE},
@@ -123,7 +123,7 @@ A_BASIS = {
     "personal": {"type": "personal", "creditor": 20, "claim": 1},
     "right": {"type": "right", "right": A_RIGHT},
 }
-A_CLAIM = {
+A_REGISTRATION = {
     "advance": {"type": "advance", "person": 20, "amount": 1},
     "charge": {"type": "charge", "person": 20, "amount": 1, "due": "2024-02-29"},
     "arrears": {"type": "arrears", "right": A_RIGHT, "from": "2023-01-01", "until": "2024-01-01"},
@@ -139,7 +139,7 @@ AN_ITEM = {
     "cure": {"kind": "cure", "filing": 1, "docs": [A_DOC["consent"]]},
     "lapse": {"kind": "lapse", "filing": 1},
     "seize": {"kind": "seize", "folio": 7, "basis": A_BASIS["personal"], "served": "2024-03-01"},
-    "register": {"kind": "register", "folio": 7, "what": A_CLAIM["advance"]},
+    "register": {"kind": "register", "folio": 7, "what": A_REGISTRATION["advance"]},
     "open-bids": {"kind": "open-bids", "folio": 7, "costs": 1},
     "award": {"kind": "award", "folio": 7, "buyer": 30, "bid": 1},
     "distribute": {"kind": "distribute", "folio": 7},
@@ -206,8 +206,8 @@ def good_lines():
     yield line({"kind": "cure", "filing": 1, "docs": docs}), ["item", "docs", 31], DOCS["consent"]
     for name, basis in A_BASIS.items():
         yield line({**AN_ITEM["seize"], "basis": basis}), ["item", "basis"], BASES[name]
-    for name, claim in A_CLAIM.items():
-        yield line({**AN_ITEM["register"], "what": claim}), ["item", "what"], CLAIMS[name]
+    for name, registration in A_REGISTRATION.items():
+        yield line({**AN_ITEM["register"], "what": registration}), ["item", "what"], REGISTRATIONS[name]
     for act, name in [("convert", "right"), ("exchange", "recede"), ("exchange", "rise"), ("exercise", "behind")]:
         yield line(filing([AN_ACT[act]], [])), ["item", "acts", 0, name], RIGHT
     yield line(AN_ITEM["lapse"]), [], LINE
