@@ -1,20 +1,20 @@
 -- The pieces of a cent line that is read claim by claim.
 use Rattle.std.proofs.Common.{◌≡◌, ℕ, zero, suc, ◌+◌, ◌<◌, Bool, true, false, cond, List, [], ◌∷◌, ◌++◌, length, get_or, set, replicate, refl, sym, ap, ◌∙◌, arith, add-one, add_comm}
 use Rattle.std.proofs.lemmas.Bool.Decides.{nat_tests}
-use Rattle.registry_office.specs.Ranks.{Standing, Piece, has_same_place, one_more_cent, pieces_of}
+use Rattle.registry_office.specs.Ranks.{LiveRight, Piece, has_same_place, one_more_cent, pieces_of}
 
-has_same_place_self : (x : Standing) → has_same_place x x ≡ true
+has_same_place_self : (x : LiveRight) → has_same_place x x ≡ true
 has_same_place_self x = grind (arith, nat_tests)
 
 -- a right of y's place has the place of whatever y has the place of
-has_same_place_like : (x y z : Standing) → has_same_place x y ≡ true → has_same_place x z ≡ has_same_place y z
+has_same_place_like : (x y z : LiveRight) → has_same_place x y ≡ true → has_same_place x z ≡ has_same_place y z
 has_same_place_like x y z same = grind (arith, nat_tests)
 
-abbrev pub piece : Standing → ℕ → Piece
+abbrev pub piece : LiveRight → ℕ → Piece
 piece x n = record { owner = x; cents = n }
 
 -- pieces with so many cents of x before them
-abbrev after_cents : Standing → ℕ → List Piece → List Piece
+abbrev after_cents : LiveRight → ℕ → List Piece → List Piece
 after_cents x n [] = piece x n ∷ []
 after_cents x n (p ∷ ps) = cond (has_same_place x p.owner) (piece x (n + p.cents) ∷ ps) (piece x n ∷ p ∷ ps)
 
@@ -24,11 +24,11 @@ joined [] qs = qs
 joined (p ∷ []) qs = after_cents p.owner p.cents qs
 joined (p ∷ q ∷ ps) qs = p ∷ joined (q ∷ ps) qs
 
-one_more_first : (x : Standing) (qs : List Piece) → one_more_cent x qs ≡ after_cents x 1 qs
+one_more_first : (x : LiveRight) (qs : List Piece) → one_more_cent x qs ≡ after_cents x 1 qs
 one_more_first x [] = refl
 one_more_first x (q ∷ qs) = rw (add_comm 1 q.cents) refl
 
-one_more_alike : (x y : Standing) (n : ℕ) (qs : List Piece) → has_same_place x y ≡ true
+one_more_alike : (x y : LiveRight) (n : ℕ) (qs : List Piece) → has_same_place x y ≡ true
     → one_more_cent x (after_cents y n qs) ≡ after_cents x (n + 1) qs
 one_more_alike x y n [] same = rw same refl
 one_more_alike x y n (q ∷ qs) same =
@@ -38,7 +38,7 @@ one_more_alike x y n (q ∷ qs) same =
     ≡ cond b (piece x (n + 1 + q.cents) ∷ qs) (piece x (n + 1) ∷ q ∷ qs))
     [ true ↦ rw same (ap (λ k. piece x k ∷ qs) (omega arith)) | false ↦ rw same refl ])
 
-one_more_apart : (x y : Standing) (n : ℕ) (qs : List Piece) → has_same_place x y ≡ false
+one_more_apart : (x y : LiveRight) (n : ℕ) (qs : List Piece) → has_same_place x y ≡ false
     → one_more_cent x (after_cents y n qs) ≡ piece x 1 ∷ after_cents y n qs
 one_more_apart x y n [] differs = rw differs refl
 one_more_apart x y n (q ∷ qs) differs =
@@ -47,7 +47,7 @@ one_more_apart x y n (q ∷ qs) differs =
     ≡ piece x 1 ∷ cond b (piece y (n + q.cents) ∷ qs) (piece y n ∷ q ∷ qs))
     [ true ↦ rw differs refl | false ↦ rw differs refl ]
 
-one_more_joined : (x : Standing) (ps qs : List Piece) → one_more_cent x (joined ps qs) ≡ joined (one_more_cent x ps) qs
+one_more_joined : (x : LiveRight) (ps qs : List Piece) → one_more_cent x (joined ps qs) ≡ joined (one_more_cent x ps) qs
 one_more_joined x [] qs = one_more_first x qs
 one_more_joined x (p ∷ []) qs =
     let P : Bool → Type 0 = λ b. has_same_place x p.owner ≡ b
@@ -63,17 +63,17 @@ one_more_joined x (p ∷ r ∷ ps) qs =
     [ true ↦ refl | false ↦ refl ]
 
 -- the pieces of two lines, one behind the other
-pub pieces_of-append : (xs ys : List Standing) → pieces_of (xs ++ ys) ≡ joined (pieces_of xs) (pieces_of ys)
+pub pieces_of-append : (xs ys : List LiveRight) → pieces_of (xs ++ ys) ≡ joined (pieces_of xs) (pieces_of ys)
 pieces_of-append [] ys = refl
 pieces_of-append (x ∷ xs) ys = ap (λ ps. one_more_cent x ps) (pieces_of-append xs ys) ∙ one_more_joined x (pieces_of xs) (pieces_of ys)
 
 -- a claim is one piece
-pub pieces_of-replicate : (n : ℕ) (x : Standing) → pieces_of (replicate (suc n) x) ≡ piece x (suc n) ∷ []
+pub pieces_of-replicate : (n : ℕ) (x : LiveRight) → pieces_of (replicate (suc n) x) ≡ piece x (suc n) ∷ []
 pieces_of-replicate zero x = refl
 pieces_of-replicate (suc n) x = rw (pieces_of-replicate n x, has_same_place_self x) (ap (λ k. piece x k ∷ []) (add-one (suc n)))
 
 -- a claim of the last piece's place lengthens that piece
-joined_alike : (ps : List Piece) (i : ℕ) (d : Piece) (x : Standing) (n : ℕ) → length ps ≡ suc i
+joined_alike : (ps : List Piece) (i : ℕ) (d : Piece) (x : LiveRight) (n : ℕ) → length ps ≡ suc i
     → has_same_place (get_or ps i d).owner x ≡ true
     → joined ps (piece x n ∷ []) ≡ set ps i (piece (get_or ps i d).owner ((get_or ps i d).cents + n))
 joined_alike [] i d x n is same = absurd (omega arith)
@@ -82,7 +82,7 @@ joined_alike (p ∷ []) (suc i) d x n is same = absurd (omega arith)
 joined_alike (p ∷ q ∷ ps) zero d x n is same = absurd (omega arith)
 joined_alike (p ∷ q ∷ ps) (suc i) d x n is same = ap (λ rs. p ∷ rs) (joined_alike (q ∷ ps) i d x n (omega arith) same)
 
-pub pieces_with_alike : (line : List Standing) (ps : List Piece) (p : Piece) (x : Standing) (n i : ℕ) → ps ≡ pieces_of line
+pub pieces_with_alike : (line : List LiveRight) (ps : List Piece) (p : Piece) (x : LiveRight) (n i : ℕ) → ps ≡ pieces_of line
     → length ps ≡ suc i → p ≡ get_or ps i p → has_same_place p.owner x ≡ true → 0 < n
     → set ps i (piece p.owner (p.cents + n)) ≡ pieces_of (line ++ replicate n x)
 pieces_with_alike line ps p x zero i are len last same some = absurd (omega arith)
@@ -92,7 +92,7 @@ pieces_with_alike line ps p x (suc n) i are len last same some =
     ∙ sym (joined_alike ps i p x (suc n) len (rw last at same)))
 
 -- a claim of another place is a piece of its own
-joined_apart : (ps : List Piece) (i : ℕ) (d : Piece) (x : Standing) (n : ℕ) → length ps ≡ suc i
+joined_apart : (ps : List Piece) (i : ℕ) (d : Piece) (x : LiveRight) (n : ℕ) → length ps ≡ suc i
     → has_same_place (get_or ps i d).owner x ≡ false → joined ps (piece x n ∷ []) ≡ ps ++ piece x n ∷ []
 joined_apart [] i d x n is differs = absurd (omega arith)
 joined_apart (p ∷ []) zero d x n is differs = rw differs refl
@@ -100,7 +100,7 @@ joined_apart (p ∷ []) (suc i) d x n is differs = absurd (omega arith)
 joined_apart (p ∷ q ∷ ps) zero d x n is differs = absurd (omega arith)
 joined_apart (p ∷ q ∷ ps) (suc i) d x n is differs = ap (λ rs. p ∷ rs) (joined_apart (q ∷ ps) i d x n (omega arith) differs)
 
-pub pieces_with_apart : (line : List Standing) (ps : List Piece) (p : Piece) (x : Standing) (n i : ℕ) → ps ≡ pieces_of line
+pub pieces_with_apart : (line : List LiveRight) (ps : List Piece) (p : Piece) (x : LiveRight) (n i : ℕ) → ps ≡ pieces_of line
     → length ps ≡ suc i → p ≡ get_or ps i p → has_same_place p.owner x ≡ false → 0 < n
     → ps ++ piece x n ∷ [] ≡ pieces_of (line ++ replicate n x)
 pieces_with_apart line ps p x zero i are len last differs some = absurd (omega arith)
@@ -108,7 +108,7 @@ pieces_with_apart line ps p x (suc n) i are len last differs some =
     rw (pieces_of-append line (replicate (suc n) x), pieces_of-replicate n x, ← are)
     (sym (joined_apart ps i p x (suc n) len (rw last at differs)))
 
-pub pieces_with_first : (line : List Standing) (ps : List Piece) (x : Standing) (n : ℕ) → ps ≡ pieces_of line
+pub pieces_with_first : (line : List LiveRight) (ps : List Piece) (x : LiveRight) (n : ℕ) → ps ≡ pieces_of line
     → length ps ≡ 0 → 0 < n → ps ++ piece x n ∷ [] ≡ pieces_of (line ++ replicate n x)
 pieces_with_first line ps x zero are none some = absurd (omega arith)
 pieces_with_first line (p ∷ ps) x (suc n) are none some = absurd (omega arith)

@@ -10,7 +10,7 @@ use Rattle.act_model.specs.declared.filing_acts.Act.TheVariants.{Open, Transfer,
 use Rattle.gb_base.specs.declared.keys.Key.TheVariants.{Title, Right}
 use Rattle.registry_office.specs.Entering.{entered}
 use Rattle.registry_office.specs.Entries.{at, created_from}
-use Rattle.registry_office.specs.Ranks.{one_to, of_group, right_of, rights_of_filing, rights_in, rights_entered, standing_by}
+use Rattle.registry_office.specs.Ranks.{one_to, of_group, right_of, rights_of_filing, rights_in, rights_entered, live_right_by}
 use Rattle.registry_office.specs.declared.entries.Created.{Created}
 use Rattle.registry_office.specs.declared.entries.Entry.{Entry}
 use Rattle.registry_office.specs.declared.entries.What.{What}
@@ -50,7 +50,7 @@ in_order_more entries new n before now = record {
       (same_rights (entries ++ new) new folio (suc n)
       (λ k. at-append entries new _ ∙ ap (λ es. es ++ at new (Right folio (record { receipt = suc n; act = k }))) (before.later folio (suc n) k (omega arith)))
       ∙ now.rights folio)
-      ∙ sym (filter_map-append (λ e. standing_by folio e e.what) entries new);
+      ∙ sym (filter_map-append (λ e. live_right_by folio e e.what) entries new);
 }
 
 -- ---- what one act brings
@@ -59,7 +59,7 @@ pub nothing_in_order : (n : ℕ) → BroughtInOrder n []
 nothing_in_order n = record { few = omega arith; elsewhere = λ folio m k ne. refl; rights = λ folio. refl }
 
 -- an entry at a title, which creates no right
-title_in_order : (n receipt day f : ℕ) (w : What) (new : List Entry) → ((folio : ℕ) (e : Entry) → standing_by folio e w ≡ None)
+title_in_order : (n receipt day f : ℕ) (w : What) (new : List Entry) → ((folio : ℕ) (e : Entry) → live_right_by folio e w ≡ None)
     → length new ≤ 1 → BroughtInOrder n new
     → BroughtInOrder n (record { receipt = receipt; day = day; key = Title f; what = w } ∷ new)
 title_in_order n receipt day f w new no_right short rest =

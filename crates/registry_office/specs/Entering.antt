@@ -2,7 +2,7 @@
 use Rattle.std.specs.Prelude.{ℕ, Bool, true, false, not, ◌&&◌, ◌==◌, nat_lt, if◌then◌else◌, List, [], ◌∷◌, ◌++◌, map, Option, Some, None}
 use Rattle.std.specs.List.{list_any, filter_map, flat_map, enumerate_from}
 use Rattle.gb_base.specs.declared.keys.Key.TheVariants.{Title, Right}
-use Rattle.act_model.specs.Acts.{folio_of, right_created, is_section_three}
+use Rattle.act_model.specs.Acts.{folio_of, right_created, is_in_division_three}
 use Rattle.act_model.specs.WellFormed.{share_group}
 use Rattle.act_model.specs.declared.filing_acts.Act.{Act}
 use Rattle.act_model.specs.declared.filing_acts.Act.TheVariants.{Open, Create}
@@ -32,25 +32,25 @@ ascending (f ∷ fs) = insert_folio f (ascending fs)
 abbrev pub folios_of_creations : List Act → List ℕ
 folios_of_creations acts = ascending (filter_map (λ act. folio_where (folio_of act) (right_created act)) acts)
 
-abbrev pub is_in_section : Bool → Option RightSpec → Bool
-is_in_section third (Some spec) = if third then is_section_three spec.kind else not (is_section_three spec.kind)
-is_in_section third None = false
+abbrev pub is_in_division : Bool → Option RightSpec → Bool
+is_in_division third (Some spec) = if third then is_in_division_three spec.kind else not (is_in_division_three spec.kind)
+is_in_division third None = false
 
--- the acts create a right of section III, or else of section II, in the folio
-abbrev pub create_in_section : Bool → ℕ → List Act → Bool
-create_in_section third folio acts = list_any (λ act. folio_of act == folio && is_in_section third (right_created act)) acts
+-- the acts create a right of division III, or else of division II, in the folio
+abbrev pub create_in_division : Bool → ℕ → List Act → Bool
+create_in_division third folio acts = list_any (λ act. folio_of act == folio && is_in_division third (right_created act)) acts
 
 abbrev pub place : ℕ → ℕ → ℕ → List Act → ℕ → Entry
 place m receipt day acts folio = record {
   receipt = receipt;
   day = day;
   key = Title folio;
-  what = what.Placed m (create_in_section false folio acts) (create_in_section true folio acts);
+  what = what.Placed m (create_in_division false folio acts) (create_in_division true folio acts);
 }
 
 -- ---- the contents of the acts
 
--- the filing of the last place of the other section that was set on this day (GBO § 45(2))
+-- the filing of the last place of the other division that was set on this day (GBO § 45(2))
 abbrev pub behind_by : Bool → ℕ → Entry → What → Option ℕ → Option ℕ
 behind_by third day e (what.Opened inventory owners) before = before
 behind_by third day e (what.Placed filing has_second has_third) before =
@@ -80,7 +80,7 @@ content m receipt day entries acts k (Create folio spec reserve) =
         reserve = reserve;
         ahead_of = None;
         placed = day;
-        behind = behind_from (is_section_three spec.kind) day None (at entries (Title folio));
+        behind = behind_from (is_in_division_three spec.kind) day None (at entries (Title folio));
         equal = has_equal acts k (Create folio spec reserve);
       });
     } ∷ []

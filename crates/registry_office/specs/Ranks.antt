@@ -4,7 +4,7 @@ use Rattle.std.specs.List.{list_any, filter_map, flat_map}
 use Rattle.gb_base.specs.RightNo.{RightNo}
 use Rattle.gb_base.specs.declared.keys.Key.{Key}
 use Rattle.gb_base.specs.declared.keys.Key.TheVariants.{Title, Right, Case}
-use Rattle.act_model.specs.Acts.{is_section_three}
+use Rattle.act_model.specs.Acts.{is_in_division_three}
 use Rattle.registry_office.specs.Entries.{at, created_from}
 use Rattle.registry_office.specs.declared.entries.Created.{Created}
 use Rattle.registry_office.specs.declared.entries.Entry.{Entry}
@@ -12,7 +12,7 @@ use Rattle.registry_office.specs.declared.entries.What.{What}
 use Rattle.registry_office.specs.declared.entries.What.TheVariants as what
 
 -- a right that stands in a folio
-pub record Standing : Type 0 where
+pub record LiveRight : Type 0 where
   pub id : RightNo
   pub created : Created
 
@@ -22,21 +22,21 @@ abbrev pub one_to : ℕ → List ℕ
 one_to zero = []
 one_to (suc n) = one_to n ++ suc n ∷ []
 
-abbrev pub of_group : ℕ → RightNo → Option Created → List Standing
+abbrev pub of_group : ℕ → RightNo → Option Created → List LiveRight
 of_group group id (Some created) =
     if created.spec.group == group then record { id = id; created = created } ∷ [] else []
 of_group group id None = []
 
 -- the right that act k of filing m created, where it stands and is of this group
-abbrev pub right_of : List Entry → ℕ → ℕ → ℕ → ℕ → List Standing
+abbrev pub right_of : List Entry → ℕ → ℕ → ℕ → ℕ → List LiveRight
 right_of entries folio m group k =
     of_group group (record { receipt = m; act = k }) (created_from None (at entries (Right folio (record { receipt = m; act = k }))))
 
-abbrev pub rights_of_filing : List Entry → ℕ → ℕ → List Standing
+abbrev pub rights_of_filing : List Entry → ℕ → ℕ → List LiveRight
 rights_of_filing entries folio m = flat_map (λ group. flat_map (right_of entries folio m group) (one_to 8)) (one_to 8)
 
 -- the rights that stand in the folio, of the filings up to number n
-abbrev pub rights_in : List Entry → ℕ → ℕ → List Standing
+abbrev pub rights_in : List Entry → ℕ → ℕ → List LiveRight
 rights_in entries n folio = flat_map (rights_of_filing entries folio) (one_to n)
 
 -- ---- places (BGB § 879, GBO § 45)
@@ -59,62 +59,62 @@ abbrev pub is_behind : ℕ → Option ℕ → Bool
 is_behind m (Some filing) = nat_le m filing
 is_behind m None = false
 
-abbrev pub in_one_section : Created → Created → Bool
-in_one_section a b = if is_section_three a.spec.kind then is_section_three b.spec.kind else not (is_section_three b.spec.kind)
+abbrev pub in_one_division : Created → Created → Bool
+in_one_division a b = if is_in_division_three a.spec.kind then is_in_division_three b.spec.kind else not (is_in_division_three b.spec.kind)
 
--- Right x is ahead of right y. Within one filing the smaller group is (GBO § 45(3)). In one section the earlier place
+-- Right x is ahead of right y. Within one filing the smaller group is (GBO § 45(3)). In one division the earlier place
 -- decides (BGB § 879(1)), in different sections the earlier day, and on one day x is ahead where y stands behind its filing.
-abbrev pub is_ahead : List ℕ → Standing → Standing → Bool
+abbrev pub is_ahead : List ℕ → LiveRight → LiveRight → Bool
 is_ahead places x y =
     if x.id.receipt == y.id.receipt then nat_lt x.created.spec.group y.created.spec.group
-    else (if in_one_section x.created y.created then has_earlier_place x.id.receipt y.id.receipt places
+    else (if in_one_division x.created y.created then has_earlier_place x.id.receipt y.id.receipt places
     else nat_lt x.created.placed y.created.placed || (x.created.placed == y.created.placed && is_behind x.id.receipt y.created.behind))
 
 -- rights of one filing and group have one place
-abbrev pub has_same_place : Standing → Standing → Bool
+abbrev pub has_same_place : LiveRight → LiveRight → Bool
 has_same_place x y = x.id.receipt == y.id.receipt && x.created.spec.group == y.created.spec.group
 
-abbrev pub different_places : List Standing → ℕ
+abbrev pub different_places : List LiveRight → ℕ
 different_places [] = 0
 different_places (x ∷ xs) = if list_any (has_same_place x) xs then different_places xs else different_places xs + 1
 
 -- one more than the number of different places ahead
-abbrev pub rank_of : List ℕ → List Standing → Standing → ℕ
+abbrev pub rank_of : List ℕ → List LiveRight → LiveRight → ℕ
 rank_of places rights y = 1 + different_places (filter (λ x. is_ahead places x y) rights)
 
 -- ---- the cent line
 
 -- the claims written cent by cent in order of place, each cent as a right of its place
-abbrev pub cent_line : List Standing → List Standing
+abbrev pub cent_line : List LiveRight → List LiveRight
 cent_line rights = flat_map (λ x. replicate x.created.spec.capital x) rights
 
 -- so many cents on end of one place
 pub record Piece : Type 0 where
-  pub owner : Standing
+  pub owner : LiveRight
   pub cents : ℕ
 
-abbrev pub one_more_cent : Standing → List Piece → List Piece
+abbrev pub one_more_cent : LiveRight → List Piece → List Piece
 one_more_cent x [] = record { owner = x; cents = 1 } ∷ []
 one_more_cent x (p ∷ ps) =
     if has_same_place x p.owner then record { owner = x; cents = p.cents + 1 } ∷ ps else record { owner = x; cents = 1 } ∷ p ∷ ps
 
 -- the pieces of a cent line
-abbrev pub pieces_of : List Standing → List Piece
+abbrev pub pieces_of : List LiveRight → List Piece
 pieces_of [] = []
 pieces_of (x ∷ xs) = one_more_cent x (pieces_of xs)
 
 -- ---- a register in which rights stand in the order of their entries
 
-abbrev pub standing_at : ℕ → Created → Key → Option Standing
-standing_at folio created (Title f) = None
-standing_at folio created (Right f id) = if f == folio then Some (record { id = id; created = created }) else None
-standing_at folio created (Case f) = None
+abbrev pub live_right_at : ℕ → Created → Key → Option LiveRight
+live_right_at folio created (Title f) = None
+live_right_at folio created (Right f id) = if f == folio then Some (record { id = id; created = created }) else None
+live_right_at folio created (Case f) = None
 
-abbrev pub standing_by : ℕ → Entry → What → Option Standing
-standing_by folio e (what.Opened inventory owners) = None
-standing_by folio e (what.Placed filing second third) = None
-standing_by folio e (what.Created created) = standing_at folio created e.key
+abbrev pub live_right_by : ℕ → Entry → What → Option LiveRight
+live_right_by folio e (what.Opened inventory owners) = None
+live_right_by folio e (what.Placed filing second third) = None
+live_right_by folio e (what.Created created) = live_right_at folio created e.key
 
 -- the rights that entries of the folio created, in the order of the entries
-abbrev pub rights_entered : List Entry → ℕ → List Standing
-rights_entered entries folio = filter_map (λ e. standing_by folio e e.what) entries
+abbrev pub rights_entered : List Entry → ℕ → List LiveRight
+rights_entered entries folio = filter_map (λ e. live_right_by folio e e.what) entries

@@ -5,13 +5,13 @@ use Rattle.std.specs.Fmt.{decimal}
 use Rattle.gb_base.specs.Texts.{euro, right_text, date_text, section_text}
 use Rattle.gb_base.specs.declared.keys.Key.{Key}
 use Rattle.gb_base.specs.declared.keys.Key.TheVariants.{Title, Right, Case}
-use Rattle.act_model.specs.Acts.{is_section_three}
+use Rattle.act_model.specs.Acts.{is_in_division_three}
 use Rattle.act_model.specs.declared.land.Inventory.{Inventory}
 use Rattle.act_model.specs.declared.rights.RightKind.{RightKind}
 use Rattle.act_model.specs.declared.rights.RightKind.TheVariants as kind
 use Rattle.registry_office.specs.Entering.{ascending}
 use Rattle.registry_office.specs.Entries.{inventory_of, is_opening, owners_of}
-use Rattle.registry_office.specs.Ranks.{Standing, Piece, rights_in, places_in, rank_of, has_same_place, cent_line, pieces_of}
+use Rattle.registry_office.specs.Ranks.{LiveRight, Piece, rights_in, places_in, rank_of, has_same_place, cent_line, pieces_of}
 use Rattle.registry_office.specs.Settling.{Settled}
 use Rattle.registry_office.specs.declared.entries.Entry.{Entry}
 use Rattle.registry_office.specs.declared.entries.RightForm.{RightForm}
@@ -51,8 +51,8 @@ kind_text kind.Usufruct = codes "usufruct"
 kind_text (kind.Mortgage rate) = codes "mortgage"
 kind_text (kind.LandCharge rate) = codes "land-charge"
 
-abbrev pub section_of : RightKind → List ℕ
-section_of k = if is_section_three k then codes "III" else codes "II"
+abbrev pub division_of : RightKind → List ℕ
+division_of k = if is_in_division_three k then codes "III" else codes "II"
 
 abbrev pub rate_part : RightKind → List ℕ
 rate_part kind.PersonalEasement = []
@@ -76,9 +76,9 @@ abbrev pub reserve_part : Option ℕ → List ℕ
 reserve_part None = []
 reserve_part (Some cents) = codes " reserve " ++ euro cents
 
-abbrev pub right_line : Standing → List ℕ
+abbrev pub right_line : LiveRight → List ℕ
 right_line x =
-    codes "right " ++ (right_text x.id ++ (codes " " ++ (section_of x.created.spec.kind ++ (codes " " ++ (form_text x.created.form
+    codes "right " ++ (right_text x.id ++ (codes " " ++ (division_of x.created.spec.kind ++ (codes " " ++ (form_text x.created.form
     ++ (codes " " ++ (kind_text x.created.spec.kind ++ (codes " " ++ (euro x.created.spec.capital ++ (rate_part x.created.spec.kind
     ++ (codes " holder " ++ (decimal x.created.spec.holder ++ (codes " placed " ++ (date_text x.created.placed
     ++ (behind_part x.created.behind ++ (equal_part x.created.equal ++ (reserve_part x.created.reserve ++ codes "\n")))))))))))))))))
@@ -91,24 +91,24 @@ extract entries n folio =
 
 -- ---- the rank table of a folio
 
-abbrev pub rank_line : List ℕ → List Standing → Standing → List ℕ
+abbrev pub rank_line : List ℕ → List LiveRight → LiveRight → List ℕ
 rank_line places rights x =
     codes "rank " ++ (decimal (rank_of places rights x) ++ (codes " " ++ (right_text x.id ++ codes "\n")))
 
 -- a right by its number, and rights of one place as a group
-abbrev pub owner_text : List Standing → List ℕ
+abbrev pub owner_text : List LiveRight → List ℕ
 owner_text [] = []
 owner_text (x ∷ []) = right_text x.id
 owner_text xs = codes "group" ++ flat_map (λ x. codes " " ++ right_text x.id) xs
 
 -- the first of these pieces begins with cent `from`
-abbrev pub cent_lines : List Standing → ℕ → List Piece → List ℕ
+abbrev pub cent_lines : List LiveRight → ℕ → List Piece → List ℕ
 cent_lines rights from [] = []
 cent_lines rights from (p ∷ ps) =
     codes "cents " ++ (decimal from ++ (codes "-" ++ (decimal (from + p.cents - 1) ++ (codes " "
     ++ (owner_text (filter (has_same_place p.owner) rights) ++ (codes "\n" ++ cent_lines rights (from + p.cents) ps))))))
 
-abbrev pub rank_table_of : List ℕ → List Standing → ℕ → List ℕ
+abbrev pub rank_table_of : List ℕ → List LiveRight → ℕ → List ℕ
 rank_table_of places rights folio =
     codes "ranks " ++ (decimal folio ++ (codes "\n" ++ (flat_map (rank_line places rights) rights
     ++ cent_lines rights 1 (pieces_of (cent_line rights)))))

@@ -1,9 +1,9 @@
 // The cents that the rights of a folio take in turn.
 ghost use Rattle.std.specs.Prelude.{◌≡◌, ◌+◌, ◌*◌, ◌≤◌, ◌++◌, List, IfOk, OnOk, length, sum_by, replicate};
-ghost use Rattle.registry_office.specs.Ranks.{Standing, cent_line, pieces_of};
+ghost use Rattle.registry_office.specs.Ranks.{LiveRight, cent_line, pieces_of};
 
 use crate::ranks::has_same_place;
-use crate::standing_rights::Standing;
+use crate::live_rights::LiveRight;
 use gb_base::NoMemory;
 use std::alloc::Global;
 use std::marker::Model;
@@ -12,7 +12,7 @@ use std::marker::Model;
 #[derive(Clone, Copy, Debug)]
 pub struct Piece {
     /// The first right of the place.
-    pub owner: Standing,
+    pub owner: LiveRight,
     pub cents: u64,
 }
 
@@ -27,7 +27,7 @@ impl Model for Piece {
 }
 
 /// The pieces of the cent line of these rights.
-pub fn pieces(alloc: Global, rights: &[Standing]) -> Result<Vec<Piece>, NoMemory>
+pub fn pieces(alloc: Global, rights: &[LiveRight]) -> Result<Vec<Piece>, NoMemory>
     requires few { length rights.now ≤ 400000 }
     ensures value { IfOk result (λ pieces. pieces.items ≡ pieces_of (cent_line rights.now)) }
     ensures bound { IfOk result (λ pieces. sum_by (λ p. p.cents) pieces.items ≤ 10000000000000 * length rights.now) }
@@ -40,9 +40,9 @@ pub fn pieces(alloc: Global, rights: &[Standing]) -> Result<Vec<Piece>, NoMemory
 }
 
 /// Adds a right's cents to the pieces of the cents before them.
-fn add_claim(pieces: &mut Vec<Piece>, right: &Standing) -> Result<(), NoMemory>
+fn add_claim(pieces: &mut Vec<Piece>, right: &LiveRight) -> Result<(), NoMemory>
     requires few { sum_by (λ p. p.cents) pieces.old.items ≤ 10000000000000 * 400000 }
-    ensures joined { OnOk result ((line : List Standing) → pieces.old.items ≡ pieces_of line
+    ensures joined { OnOk result ((line : List LiveRight) → pieces.old.items ≡ pieces_of line
         → pieces.new.items ≡ pieces_of (line ++ replicate right.now.created.spec.capital right.now)) }
     ensures bound { OnOk result (sum_by (λ p. p.cents) pieces.new.items
         ≤ sum_by (λ p. p.cents) pieces.old.items + 10000000000000) }

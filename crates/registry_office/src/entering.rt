@@ -4,9 +4,9 @@ ghost use Rattle.std.specs.List.{flat_map, enumerate_from};
 ghost use Rattle.gb_base.specs.declared.keys.Key.TheVariants.{Title};
 ghost use Rattle.act_model.specs.WellFormed.{same_group, share_group};
 ghost use Rattle.registry_office.specs.Entries.{at};
-ghost use Rattle.registry_office.specs.Entering.{folios_of_creations, is_in_section, create_in_section, place, behind_by, behind_from, has_equal, content, entered};
+ghost use Rattle.registry_office.specs.Entering.{folios_of_creations, is_in_division, create_in_division, place, behind_by, behind_from, has_equal, content, entered};
 
-use crate::acts::{folio_of, is_section_three, right_created};
+use crate::acts::{folio_of, is_in_division_three, right_created};
 use crate::entries::{Created, Entry, RightForm, What};
 use crate::folios::insert_folio;
 use act_model::{Act, Filing, RightSpec};
@@ -74,24 +74,24 @@ fn place(number: ReceiptNo, receipt: ReceiptNo, day: Day, acts: &[Act], folio: F
         key: Key::Title(folio),
         what: What::Placed {
             filing: number,
-            second: create_in_section(false, folio, acts),
-            third: create_in_section(true, folio, acts),
+            second: create_in_division(false, folio, acts),
+            third: create_in_division(true, folio, acts),
         },
     }
 }
 
-/// Whether the acts create a right of section III, or else of section II, in the folio.
-fn create_in_section(third: bool, folio: FolioId, acts: &[Act]) -> bool
-    ensures { result ≡ create_in_section third folio acts.now }
+/// Whether the acts create a right of division III, or else of division II, in the folio.
+fn create_in_division(third: bool, folio: FolioId, acts: &[Act]) -> bool
+    ensures { result ≡ create_in_division third folio acts.now }
 {
-    acts.iter().any(|act| folio_of(act) == folio && is_in_section(third, right_created(act)))
+    acts.iter().any(|act| folio_of(act) == folio && is_in_division(third, right_created(act)))
 }
 
-fn is_in_section(third: bool, right: Option<RightSpec>) -> bool
-    ensures { result ≡ is_in_section third right }
+fn is_in_division(third: bool, right: Option<RightSpec>) -> bool
+    ensures { result ≡ is_in_division third right }
 {
     match right {
-        Some(spec) => is_section_three(spec.kind) == third,
+        Some(spec) => is_in_division_three(spec.kind) == third,
         None => false,
     }
 }
@@ -142,7 +142,7 @@ fn content(
             key: Key::Title(*folio),
             what: What::Opened {
                 inventory: *inventory,
-                owners: owners.copy(),
+                owners: owners.clone(),
             },
         }),
         Act::Create {
@@ -159,7 +159,7 @@ fn content(
                 reserve: *reserve,
                 ahead_of: None,
                 placed: day,
-                behind: behind(entries, *folio, day, is_section_three(spec.kind)),
+                behind: behind(entries, *folio, day, is_in_division_three(spec.kind)),
                 equal: has_equal(acts, id.act(), act),
             }),
         }),
@@ -167,8 +167,8 @@ fn content(
     }
 }
 
-/// The filing of the last place of the other section that was set in the folio on this day (GBO
-/// § 45(2)), for a right of section III, or else of section II.
+/// The filing of the last place of the other division that was set in the folio on this day (GBO
+/// § 45(2)), for a right of division III, or else of division II.
 fn behind(entries: &[Entry], folio: FolioId, day: Day, third: bool) -> Option<ReceiptNo>
     ensures { result ≡ behind_from third day None (at entries.now (Title folio)) }
 {

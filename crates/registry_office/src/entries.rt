@@ -22,7 +22,7 @@ pub struct Created {
     pub ahead_of: Option<RightId>,
     /// The day of the entry that gives the right its place (BGB § 879).
     pub placed: Day,
-    /// The filing of the last earlier place of the other section on that day (GBO § 45(2)).
+    /// The filing of the last earlier place of the other division on that day (GBO § 45(2)).
     pub behind: Option<ReceiptNo>,
     /// Whether another right of the filing and folio has the same group (GBO § 45(3)).
     pub equal: bool,
@@ -36,7 +36,7 @@ pub enum What {
         inventory: Inventory,
         owners: Owners,
     },
-    /// A filing has its place, for rights of section II and of section III.
+    /// A filing has its place, for rights of division II and of division III.
     Placed {
         filing: ReceiptNo,
         second: bool,

@@ -3,13 +3,13 @@ ghost use Rattle.std.specs.Prelude.{◌≡◌, ◌++◌, ℕ, IfOk, OnOk, Option
 ghost use Rattle.std.specs.List.{flat_map};
 ghost use Rattle.std.specs.String.{string_bytes};
 ghost use Rattle.registry_office.specs.Ranks.{rights_in, rights_entered};
-ghost use Rattle.registry_office.specs.Reports.{inventory_line, owners_line, kind_text, section_of, rate_part, form_text, behind_part, equal_part, reserve_part, right_line, extract};
+ghost use Rattle.registry_office.specs.Reports.{inventory_line, owners_line, kind_text, division_of, rate_part, form_text, behind_part, equal_part, reserve_part, right_line, extract};
 
-use crate::acts::is_section_three;
+use crate::acts::is_in_division_three;
 use crate::entries::{Created, RightForm};
 use crate::reading::{inventory_of, owners_of};
 use crate::register::Register;
-use crate::standing_rights::{Standing, rights_entered};
+use crate::live_rights::{LiveRight, rights_entered};
 use act_model::{Inventory, RightKind};
 use gb_base::{Cents, FolioId, NoMemory, Person, ReceiptNo};
 use std::alloc::Global;
@@ -54,7 +54,7 @@ fn add_owners_line(text: &mut String, owners: &[Person]) -> Result<(), NoMemory>
     text.push_str("\n")
 }
 
-fn add_right_lines(text: &mut String, rights: &[Standing]) -> Result<(), NoMemory>
+fn add_right_lines(text: &mut String, rights: &[LiveRight]) -> Result<(), NoMemory>
     ensures { OnOk result (string_bytes text.new ≡ string_bytes text.old ++ flat_map right_line rights.now) }
 {
     for right in rights {
@@ -63,16 +63,16 @@ fn add_right_lines(text: &mut String, rights: &[Standing]) -> Result<(), NoMemor
     Ok(())
 }
 
-fn add_right_line(text: &mut String, right: &Standing) -> Result<(), NoMemory>
+fn add_right_line(text: &mut String, right: &LiveRight) -> Result<(), NoMemory>
     ensures { OnOk result (string_bytes text.new ≡ string_bytes text.old ++ right_line right.now) }
 {
     let created = right.created;
     let spec = created.spec;
-    let section = section_of(spec.kind);
+    let division = division_of(spec.kind);
     let kind = kind_name(spec.kind);
     write!(
         text,
-        "right {} {section} {} {kind} {}",
+        "right {} {division} {} {kind} {}",
         right.id, created.form, spec.capital
     )?;
     add_rate(text, spec.kind)?;
@@ -91,11 +91,11 @@ fn add_notes(text: &mut String, right: &Created) -> Result<(), NoMemory>
     add_reserve(text, right.reserve)
 }
 
-/// The section of the folio that a right of this kind stands in.
-fn section_of(kind: RightKind) -> &'static str
-    ensures { result.now ≡ section_of kind }
+/// The division of the folio that a right of this kind stands in.
+fn division_of(kind: RightKind) -> &'static str
+    ensures { result.now ≡ division_of kind }
 {
-    if is_section_three(kind) { "III" } else { "II" }
+    if is_in_division_three(kind) { "III" } else { "II" }
 }
 
 fn kind_name(kind: RightKind) -> &'static str

@@ -21,7 +21,7 @@ mod registrar;
 mod reports;
 mod session;
 mod settling;
-mod standing_rights;
+mod live_rights;
 mod statuses;
 mod stops;
 #[cfg(test)]

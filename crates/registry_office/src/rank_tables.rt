@@ -9,7 +9,7 @@ ghost use Rattle.registry_office.specs.Reports.{rank_line, owner_text, cent_line
 use crate::cent_line::{Piece, pieces};
 use crate::ranks::{has_same_place, rank_of};
 use crate::register::Register;
-use crate::standing_rights::{Standing, places_in, rights_entered};
+use crate::live_rights::{LiveRight, places_in, rights_entered};
 use gb_base::{FolioId, NoMemory, ReceiptNo};
 use std::alloc::Global;
 
@@ -31,7 +31,7 @@ pub fn rank_table(alloc: Global, register: &Register, folio: FolioId) -> Result<
 fn rank_table_of(
     alloc: Global,
     places: &[ReceiptNo],
-    rights: &[Standing],
+    rights: &[LiveRight],
     folio: FolioId,
 ) -> Result<String, NoMemory>
     requires few { length rights.now ≤ 400000 }
@@ -47,7 +47,7 @@ fn add_rank_lines(
     alloc: Global,
     text: &mut String,
     places: &[ReceiptNo],
-    rights: &[Standing],
+    rights: &[LiveRight],
 ) -> Result<(), NoMemory>
     ensures { OnOk result (string_bytes text.new
         ≡ string_bytes text.old ++ flat_map (rank_line places.now rights.now) rights.now) }
@@ -59,7 +59,7 @@ fn add_rank_lines(
     Ok(())
 }
 
-fn add_cent_lines(alloc: Global, text: &mut String, rights: &[Standing]) -> Result<(), NoMemory>
+fn add_cent_lines(alloc: Global, text: &mut String, rights: &[LiveRight]) -> Result<(), NoMemory>
     requires few { length rights.now ≤ 400000 }
     ensures { OnOk result (string_bytes text.new
         ≡ string_bytes text.old ++ cent_lines rights.now 1 (pieces_of (cent_line rights.now))) }
@@ -72,7 +72,7 @@ fn add_cent_lines(alloc: Global, text: &mut String, rights: &[Standing]) -> Resu
 fn add_pieces(
     alloc: Global,
     text: &mut String,
-    rights: &[Standing],
+    rights: &[LiveRight],
     pieces: &[Piece],
 ) -> Result<(), NoMemory>
     requires few { sum_by (λ p. p.cents) pieces.now ≤ 10000000000000 * 400000 }
@@ -93,13 +93,13 @@ fn add_pieces(
 fn add_owner(
     alloc: Global,
     text: &mut String,
-    rights: &[Standing],
-    owner: &Standing,
+    rights: &[LiveRight],
+    owner: &LiveRight,
 ) -> Result<(), NoMemory>
     ensures { OnOk result (string_bytes text.new
         ≡ string_bytes text.old ++ owner_text (filter (has_same_place owner.now) rights.now)) }
 {
-    let of_place: Vec<Standing> = rights
+    let of_place: Vec<LiveRight> = rights
         .iter()
         .copied()
         .filter(|right| has_same_place(owner, right))
@@ -111,7 +111,7 @@ fn add_owner(
     }
 }
 
-fn add_group(text: &mut String, rights: &[Standing]) -> Result<(), NoMemory>
+fn add_group(text: &mut String, rights: &[LiveRight]) -> Result<(), NoMemory>
     ensures { OnOk result (string_bytes text.new
         ≡ string_bytes text.old ++ (codes "group" ++ flat_map (λ x. codes " " ++ right_text x.id) rights.now)) }
 {

@@ -1,11 +1,11 @@
 // Which rights are ahead of which (BGB § 879, GBO § 45).
 ghost use Rattle.std.specs.Prelude.{◌≡◌, ◌≤◌, IfOk, length};
 ghost use Rattle.std.specs.List.{list_any};
-ghost use Rattle.registry_office.specs.Ranks.{has_earlier_place, is_behind, in_one_section, is_ahead, has_same_place, different_places, rank_of};
+ghost use Rattle.registry_office.specs.Ranks.{has_earlier_place, is_behind, in_one_division, is_ahead, has_same_place, different_places, rank_of};
 
-use crate::acts::is_section_three;
+use crate::acts::is_in_division_three;
 use crate::entries::Created;
-use crate::standing_rights::Standing;
+use crate::live_rights::LiveRight;
 use gb_base::{NoMemory, ReceiptNo};
 use std::alloc::Global;
 
@@ -14,12 +14,12 @@ use std::alloc::Global;
 pub fn rank_of(
     alloc: Global,
     places: &[ReceiptNo],
-    rights: &[Standing],
-    right: &Standing,
+    rights: &[LiveRight],
+    right: &LiveRight,
 ) -> Result<usize, NoMemory>
     ensures { IfOk result (λ rank. rank ≡ rank_of places.now rights.now right.now) }
 {
-    let ahead: Vec<Standing> = rights
+    let ahead: Vec<LiveRight> = rights
         .iter()
         .copied()
         .filter(|other| is_ahead(places, other, right))
@@ -28,7 +28,7 @@ pub fn rank_of(
 }
 
 /// How many different places these rights have.
-fn different_places(rights: &[Standing]) -> usize
+fn different_places(rights: &[LiveRight]) -> usize
     ensures value { result ≡ different_places rights.now }
     ensures bound { result ≤ length rights.now }
 {
@@ -42,19 +42,19 @@ fn different_places(rights: &[Standing]) -> usize
 }
 
 /// Whether one of these rights has the place of this right.
-fn is_place_among(right: &Standing, rights: &[Standing]) -> bool
+fn is_place_among(right: &LiveRight, rights: &[LiveRight]) -> bool
     ensures { result ≡ list_any (has_same_place right.now) rights.now }
 {
     rights.iter().any(|other| has_same_place(right, other))
 }
 
 /// Whether right `a` is ahead of right `b` of the same folio.
-fn is_ahead(places: &[ReceiptNo], a: &Standing, b: &Standing) -> bool
+fn is_ahead(places: &[ReceiptNo], a: &LiveRight, b: &LiveRight) -> bool
     ensures { result ≡ is_ahead places.now a.now b.now }
 {
     if a.id.receipt() == b.id.receipt() {
         a.created.spec.group < b.created.spec.group
-    } else if in_one_section(&a.created, &b.created) {
+    } else if in_one_division(&a.created, &b.created) {
         has_earlier_place(places, a.id.receipt(), b.id.receipt())
     } else {
         a.created.placed < b.created.placed
@@ -86,14 +86,14 @@ fn is_behind(filing: ReceiptNo, behind: Option<ReceiptNo>) -> bool
     }
 }
 
-fn in_one_section(a: &Created, b: &Created) -> bool
-    ensures { result ≡ in_one_section a.now b.now }
+fn in_one_division(a: &Created, b: &Created) -> bool
+    ensures { result ≡ in_one_division a.now b.now }
 {
-    is_section_three(a.spec.kind) == is_section_three(b.spec.kind)
+    is_in_division_three(a.spec.kind) == is_in_division_three(b.spec.kind)
 }
 
 /// Whether two rights of a folio have one place: they are of one filing and group.
-pub fn has_same_place(a: &Standing, b: &Standing) -> bool
+pub fn has_same_place(a: &LiveRight, b: &LiveRight) -> bool
     ensures { result ≡ has_same_place a.now b.now }
 {
     a.id.receipt() == b.id.receipt() && a.created.spec.group == b.created.spec.group

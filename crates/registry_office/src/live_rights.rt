@@ -1,23 +1,23 @@
-// The rights that stand in a folio.
+// The rights that are live in a folio.
 ghost use Rattle.std.specs.Prelude.{◌≡◌, IfOk, length, ◌≤◌};
-ghost use Rattle.registry_office.specs.Ranks.{rights_entered, standing_by, standing_at, places_in, placed_by};
+ghost use Rattle.registry_office.specs.Ranks.{rights_entered, live_right_by, live_right_at, places_in, placed_by};
 
 use crate::entries::{Created, Entry, What};
 use gb_base::{FolioId, Key, NoMemory, ReceiptNo, RightId};
 use std::alloc::Global;
 use std::marker::Model;
 
-/// A right that stands in a folio.
+/// A right that is live in a folio.
 #[derive(Clone, Copy, Debug)]
-pub struct Standing {
+pub struct LiveRight {
     pub id: RightId,
     pub created: Created,
 }
 
-impl Model for Standing {
-    ghost use Rattle.registry_office.specs.Ranks.{Standing};
+impl Model for LiveRight {
+    ghost use Rattle.registry_office.specs.Ranks.{LiveRight};
 
-    ghost Value = { Standing };
+    ghost Value = { LiveRight };
 
     ghost view = { λ a. record { id = a.id; created = a.created } };
 
@@ -29,7 +29,7 @@ pub fn rights_entered(
     alloc: Global,
     entries: &[Entry],
     folio: FolioId,
-) -> Result<Vec<Standing>, NoMemory>
+) -> Result<Vec<LiveRight>, NoMemory>
     ensures value { IfOk result (λ rights. rights.items ≡ rights_entered entries.now folio) }
     ensures bound { IfOk result (λ rights. length rights.items ≤ length entries.now) }
 {
@@ -40,8 +40,8 @@ pub fn rights_entered(
 }
 
 /// The right that an entry created in the folio.
-fn right_by(entry: &Entry, folio: FolioId) -> Option<Standing>
-    ensures { result ≡ standing_by folio entry.now entry.now.what }
+fn right_by(entry: &Entry, folio: FolioId) -> Option<LiveRight>
+    ensures { result ≡ live_right_by folio entry.now entry.now.what }
 {
     match &entry.what {
         What::Opened { .. } => None,
@@ -50,12 +50,12 @@ fn right_by(entry: &Entry, folio: FolioId) -> Option<Standing>
     }
 }
 
-fn right_at(key: &Key, of: FolioId, created: &Created) -> Option<Standing>
-    ensures { result ≡ standing_at of created.now key.now }
+fn right_at(key: &Key, of: FolioId, created: &Created) -> Option<LiveRight>
+    ensures { result ≡ live_right_at of created.now key.now }
 {
     match key {
         Key::Title(_) => None,
-        Key::Right(folio, id) if *folio == of => Some(Standing {
+        Key::Right(folio, id) if *folio == of => Some(LiveRight {
             id: *id,
             created: *created,
         }),
