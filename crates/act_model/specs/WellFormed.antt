@@ -2,6 +2,7 @@
 -- What the types hold by themselves is not repeated here: numbers from 1, owners, the length of lists.
 use Rattle.std.specs.Prelude.{ℕ, ◌+◌, Bool, true, false, not, ◌&&◌, ◌||◌, ◌==◌, nat_le, if◌then◌else◌, List, [], ◌∷◌, map, length, Option, Some, None}
 use Rattle.std.specs.List.{list_any, list_all, filter_map, flat_map}
+pub use Rattle.gb_base.specs.Limits.{is_between}
 use Rattle.gb_base.specs.RightNo.{RightNo, same_right}
 use Rattle.act_model.specs.Persons.{is_distinct}
 use Rattle.act_model.specs.declared.land.Inventory.{Inventory}
@@ -20,9 +21,6 @@ use Rattle.act_model.specs.declared.items.Filing.{Filing}
 use Rattle.act_model.specs.declared.items.Item.{Item}
 use Rattle.act_model.specs.declared.items.Item.TheVariants as item
 use Rattle.act_model.specs.Acts.{folio_of, right_created, is_section_three}
-
-abbrev pub is_between : ℕ → ℕ → ℕ → Bool
-is_between low high n = nat_le low n && nat_le n high
 
 -- an amount that is claimed, bid or secured: from one cent to 10^13
 abbrev pub is_amount : ℕ → Bool
