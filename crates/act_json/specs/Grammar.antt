@@ -33,7 +33,7 @@ use Rattle.act_json.specs.declared.words.RegistrationWord.{RegistrationWord}
 use Rattle.act_json.specs.declared.words.RegistrationWord.TheVariants as registration_word
 use Rattle.act_json.specs.declared.words.ItemWord.{ItemWord}
 use Rattle.act_json.specs.declared.words.ItemWord.TheVariants as item_word
-use Rattle.act_json.specs.Reading.{Read, ◌>>=◌, ◌>>◌, within, wants, an_object, member, optional, only, array_of, read_whole, truth, word_of}
+use Rattle.act_json.specs.Reading.{Read, ◌>>=◌, ◌>>◌, within, wants, an_object, member, optional, only, array_of, read_whole, truth, word_of, kind_word}
 use Rattle.act_json.specs.Dates.{read_day}
 
 -- a person, a folio or a receipt
@@ -219,8 +219,7 @@ act_called act_word.Exercise = read_exercise
 -- an act
 unfoldable pub read_act : Data → Read Act
 read_act d = do
-  an_object d
-  word ← member (codes "act") (word_of act_words) d
+  word ← kind_word (codes "act") (word_of act_words) d
   folio ← member (codes "folio") serial d
   act_called word folio d
 
@@ -261,8 +260,7 @@ doc_called doc_word.Expiry act d = bare (doc.ExpiryProof act) d
 -- a document
 unfoldable pub read_doc : Data → Read Doc
 read_doc d = do
-  an_object d
-  word ← member (codes "doc") (word_of doc_words) d
+  word ← kind_word (codes "doc") (word_of doc_words) d
   act ← member (codes "act") (read_whole 1 most_acts) d
   doc_called word act d
 
@@ -295,8 +293,7 @@ basis_called basis_word.Right = read_from_right
 -- what a seizure rests on
 unfoldable pub read_basis : Data → Read Basis
 read_basis d = do
-  an_object d
-  word ← member (codes "type") (word_of basis_words) d
+  word ← kind_word (codes "type") (word_of basis_words) d
   basis_called word d
 
 -- the words for what is registered for a sale
@@ -338,8 +335,7 @@ registration_called registration_word.Arrears = read_arrears
 -- a registration
 unfoldable pub read_registration : Data → Read Registration
 read_registration d = do
-  an_object d
-  word ← member (codes "type") (word_of registration_words) d
+  word ← kind_word (codes "type") (word_of registration_words) d
   registration_called word d
 
 -- ---- items
@@ -446,6 +442,5 @@ item_called item_word.Distribute = read_distribute
 -- an item
 unfoldable pub any_item : Data → Read Item
 any_item d = do
-  an_object d
-  word ← member (codes "kind") (word_of item_words) d
+  word ← kind_word (codes "kind") (word_of item_words) d
   item_called word d

@@ -105,3 +105,7 @@ look_up ((word, x) ∷ words) text = if bytes_eq text word then Some x else look
 -- one of these words
 abbrev pub word_of : {A : Type 0} → List (List ℕ × A) → Data → Read A
 word_of words d = wanted (option_and_then (look_up words) (as_str d))
+
+-- the word by which an object says its kind, in the member of this name
+abbrev pub kind_word : {A : Type 0} → List ℕ → (Data → Read A) → Data → Read A
+kind_word name read d = an_object d >> member name read d

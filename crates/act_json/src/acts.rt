@@ -6,7 +6,7 @@ ghost use Rattle.act_json.specs.inner.Helpers.{widest};
 ghost use Rattle.serde_json.specs.View.{view};
 
 use crate::Path;
-use crate::reading::{FromJson, an_object, member, number, only, only_of_both, optional};
+use crate::reading::{FromJson, kind_word, member, number, only, only_of_both, optional};
 use crate::rights::{is_charge, spec, spec_names};
 use crate::words::{ActWord, RightWord, act_word};
 use act_model::{Act, Inventory};
@@ -38,8 +38,7 @@ impl FromJson for Act {
 
     #[tactic(auto, unfolding(crate::specs::Grammar::read_act))]
     fn read(value: &Value) -> Result<Act, Path> {
-        an_object(value)?;
-        let word = member(value, "act")?;
+        let word = kind_word(value, "act")?;
         let folio = member(value, "folio")?;
         act(value, word, folio)
     }

@@ -6,7 +6,7 @@ ghost use Rattle.act_json.specs.inner.Helpers.{widest};
 ghost use Rattle.serde_json.specs.View.{view};
 
 use crate::Path;
-use crate::reading::{FromJson, an_object, member, only};
+use crate::reading::{FromJson, kind_word, member, only};
 use crate::words::{BasisWord, RegistrationWord, basis_word, registration_word};
 use act_model::{Basis, Registration};
 use serde_json::Value;
@@ -36,8 +36,7 @@ impl FromJson for Basis {
 
     #[tactic(auto, unfolding(crate::specs::Grammar::read_basis))]
     fn read(value: &Value) -> Result<Basis, Path> {
-        an_object(value)?;
-        match member(value, "type")? {
+        match kind_word(value, "type")? {
             BasisWord::Personal => personal(value),
             BasisWord::Right => from_right(value),
         }
@@ -97,8 +96,7 @@ impl FromJson for Registration {
 
     #[tactic(auto, unfolding(crate::specs::Grammar::read_registration))]
     fn read(value: &Value) -> Result<Registration, Path> {
-        an_object(value)?;
-        match member(value, "type")? {
+        match kind_word(value, "type")? {
             RegistrationWord::Advance => advance(value),
             RegistrationWord::Charge => charge(value),
             RegistrationWord::Arrears => arrears(value),

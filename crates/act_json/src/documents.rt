@@ -6,7 +6,7 @@ ghost use Rattle.act_json.specs.inner.Helpers.{widest};
 ghost use Rattle.serde_json.specs.View.{view};
 
 use crate::Path;
-use crate::reading::{FromJson, an_object, member, number, only};
+use crate::reading::{FromJson, kind_word, member, number, only};
 use crate::words::{DocWord, doc_word, form};
 use act_model::{Doc, Form};
 use serde_json::Value;
@@ -49,8 +49,7 @@ impl FromJson for Doc {
 
     #[tactic(auto, unfolding(crate::specs::Grammar::read_doc))]
     fn read(value: &Value) -> Result<Doc, Path> {
-        an_object(value)?;
-        let word = member(value, "doc")?;
+        let word = kind_word(value, "doc")?;
         let act = number(value, "act", 1, 8)?;
         doc(value, word, act as u8)
     }

@@ -7,7 +7,7 @@ ghost use Rattle.serde_json.specs.View.{view};
 
 use crate::Path;
 use crate::arrays::array;
-use crate::reading::{FromJson, an_object, member, only};
+use crate::reading::{FromJson, kind_word, member, only};
 use crate::words::{ItemWord, item_word};
 use act_model::{Acts, Docs, Filing, Item, keeps_rules};
 use serde_json::Value;
@@ -72,8 +72,7 @@ impl FromJson for Item {
 
     #[tactic(auto, unfolding(crate::specs::Grammar::any_item))]
     fn read(value: &Value) -> Result<Item, Path> {
-        an_object(value)?;
-        match member(value, "kind")? {
+        match kind_word(value, "kind")? {
             ItemWord::Filing => filing(value),
             ItemWord::Cure => cure(value),
             ItemWord::Lapse => lapse(value),

@@ -4,7 +4,7 @@ ghost use Rattle.std.specs.List.{list_all};
 ghost use Rattle.std.specs.BTreeMap.{keys};
 ghost use Rattle.serde_json.specs.Find.{get};
 ghost use Rattle.serde_json.specs.View.{view};
-ghost use Rattle.act_json.specs.Reading.{within, an_object, member, optional, only, read_whole, truth};
+ghost use Rattle.act_json.specs.Reading.{within, an_object, member, optional, only, read_whole, truth, kind_word};
 ghost use Rattle.act_json.specs.inner.Helpers.{widest, among};
 
 use crate::Path;
@@ -125,6 +125,17 @@ pub(crate) fn an_object(value: &Value) -> Result<(), Path>
     } else {
         Err(Path::here())
     }
+}
+
+/// The word by which an object says its kind, in the member of this name.
+pub(crate) fn kind_word<W: FromJson>(value: &Value, name: &str) -> Result<W, Path>
+    requires narrow { widest (view value.now) ≤ 99999 }
+    requires short { length name.now + W.longest < 32 }
+    ensures exact { result ≡ kind_word name.now W.reads (view value.now) }
+    ensures short { IfErr result (λ path. length path ≤ length name.now + 1 + W.longest) }
+{
+    an_object(value)?;
+    member(value, name)
 }
 
 /// The object has no member of another name.
