@@ -1,13 +1,13 @@
 -- Which names the members of an object have.
-use Rattle.std.proofs.Common.{◌≡◌, ℕ, List, [], ◌∷◌, map, Bool, Bor, String, BTreeMap, Global, string_bytes, bytes_eq, ◌&&◌, ◌||◌, refl, ap, ◌∙◌, rules, arith, ◌<◌, ◌≤◌, length, decimal, ◌+◌, ◌++◌, codes, length-append}
+use Rattle.std.proofs.Common.{◌≡◌, ℕ, List, [], ◌∷◌, map, Bor, String, BTreeMap, Global, string_bytes, bytes_eq, ◌||◌, refl, ap, arith, ◌<◌, ◌≤◌, length, decimal, ◌+◌, ◌++◌, length-append}
 use Rattle.std.proofs.lemmas.Fmt.{length-decimal-le}
 use Rattle.std.specs.List.{list_any, list_all}
 use Rattle.std.specs.BTreeMap.{keys}
 use Rattle.std.proofs.lemmas.List.Folds.{list_any-append}
 use Rattle.std.proofs.lemmas.List.{append-nil}
-use Rattle.serde_json.specs.View.{view, members_view}
+use Rattle.serde_json.specs.View.{members_view}
 use Rattle.serde_json.specs.declared.value.Value.{Value}
-use Rattle.act_json.specs.Helpers.{among}
+use Rattle.act_json.specs.inner.Helpers.{among}
 use Rattle.act_json.specs.Reading.{are_named, below}
 
 abbrev texts : List (Bor (List ℕ)) → List (List ℕ)
@@ -38,9 +38,9 @@ are_named_by_keys members names others = named_by_entries names others members.e
 pub no_more : (names : List (List ℕ)) → names ++ [] ≡ names
 no_more names = append-nil names
 
--- a place below 100,000 has at most five digits
-pub digits_of_place : (place : ℕ) → place < 100000 → length (decimal place) ≤ 5
-digits_of_place place few = length-decimal-le 5 place (omega arith) (omega arith) (omega arith)
+-- an index below 100,000 has at most five digits
+pub digits_of_index : (index : ℕ) → index < 100000 → length (decimal index) ≤ 5
+digits_of_index index few = length-decimal-le 5 index (omega arith) (omega arith) (omega arith)
 
 pub length_below : (name path : List ℕ) → length (below name path) ≤ length name + 1 + length path
 length_below name [] = omega arith

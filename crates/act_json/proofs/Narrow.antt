@@ -1,11 +1,11 @@
 -- A part of a value has no longer arrays than the value.
-use Rattle.std.proofs.Common.{◌≡◌, ℕ, zero, suc, ◌<◌, ◌≤◌, max, List, [], ◌∷◌, length, get_or, Option, Some, None, Ordering, Less, Equal, Greater, refl, ap, arith}
+use Rattle.std.proofs.Common.{◌≡◌, ℕ, zero, suc, ◌<◌, ◌≤◌, List, [], ◌∷◌, length, get_or, Option, Some, Ordering, Less, Equal, Greater, refl, ap, arith}
 use Rattle.std.specs.Ordering.{match_ordering}
-use Rattle.serde_json.specs.Data.{Data, null, boolean, number, string, array, object, Items, no_items, item, Members, no_members, member}
+use Rattle.serde_json.specs.Data.{Data, null, boolean, number, string, array, object, Items, Members, no_members, member}
 use Rattle.serde_json.specs.Find.{get, get_member, as_array}
 use Rattle.serde_json.specs.View.{view, items_view}
 use Rattle.serde_json.specs.declared.value.Value.{Value}
-use Rattle.act_json.specs.Helpers.{widest, items_widest, members_widest, count_of}
+use Rattle.act_json.specs.inner.Helpers.{widest, items_widest, members_widest, count_of}
 
 pub count_of-items_view : (vs : List Value) → count_of (items_view vs) ≡ length vs
 count_of-items_view [] = refl

@@ -1,10 +1,10 @@
 -- The elements of an array, read by a loop.
 use Rattle.std.proofs.Common.{◌≡◌, ℕ, ◌+◌, ◌<◌, ◌≤◌, List, [], ◌∷◌, ◌++◌, length, drop, get_or, Result, Ok, Err, decimal, refl, sym, ap, ◌∙◌, append_assoc, arith}
 use Rattle.std.proofs.lemmas.List.{append-nil, length_push, drop_more, drop_all}
-use Rattle.std.specs.Prelude.{IsOk, OnOk, OnErr, Bool, true, ◌&&◌, IsTrue}
+use Rattle.std.specs.Prelude.{IsOk, OnOk, OnErr, Bool, IsTrue}
 use Rattle.std.specs.List.{list_all}
 use Rattle.std.proofs.lemmas.List.Folds.{list_all-append}
-use Rattle.serde_json.specs.Data.{Data, Items, no_items, item}
+use Rattle.serde_json.specs.Data.{Data}
 use Rattle.serde_json.specs.View.{view, items_view}
 use Rattle.serde_json.specs.declared.value.Value.{Value}
 use Rattle.act_json.specs.Reading.{Read, ◌>>=◌, within, elements}

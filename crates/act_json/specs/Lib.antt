@@ -1,5 +1,6 @@
+-- What contracts cite.
 pub mod Reading
-pub mod Helpers
 pub mod Dates
 pub mod Grammar
 pub mod Lines
+pub mod inner

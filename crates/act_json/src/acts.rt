@@ -1,12 +1,12 @@
 // The acts of a filing. A reader of an act takes the whole object, and its folio, which is read.
 ghost use Rattle.std.specs.Prelude.{◌≡◌, ◌≤◌, length, IfErr, IfOk, IsTrue};
 ghost use Rattle.act_model.specs.WellFormed.{is_act, is_inventory};
-ghost use Rattle.act_json.specs.Grammar.{act_called, inventory_of, open_of, transfer_of, create_of, notice_of, convert_of, assign_of, cancel_of, exchange_of, exercise_of};
-ghost use Rattle.act_json.specs.Helpers.{widest};
+ghost use Rattle.act_json.specs.Grammar.{act_called, read_inventory, read_open, read_transfer, read_create, read_notice, read_convert, read_assign, read_cancel, read_exchange, read_exercise};
+ghost use Rattle.act_json.specs.inner.Helpers.{widest};
 ghost use Rattle.serde_json.specs.View.{view};
 
 use crate::Path;
-use crate::reading::{FromJson, an_object, member, number, only, only_of_both, optional};
+use crate::reading::{FromJson, kind_word, member, number, only, only_of_both, optional};
 use crate::rights::{is_charge, spec, spec_names};
 use crate::words::{ActWord, RightWord, act_word};
 use act_model::{Act, Inventory};
@@ -27,19 +27,18 @@ impl FromJson for ActWord {
 }
 
 impl FromJson for Act {
-    ghost use Rattle.act_json.specs.Grammar.{act_of};
+    ghost use Rattle.act_json.specs.Grammar.{read_act};
     ghost use Rattle.act_model.specs.WellFormed.{is_act};
 
-    ghost reads = { act_of };
+    ghost reads = { read_act };
 
     ghost longest = { 15 };
 
     ghost keeps = { is_act };
 
-    #[tactic(auto, unfolding(crate::specs::Grammar::act_of))]
+    #[tactic(auto, unfolding(crate::specs::Grammar::read_act))]
     fn read(value: &Value) -> Result<Act, Path> {
-        an_object(value)?;
-        let word = member(value, "act")?;
+        let word = kind_word(value, "act")?;
         let folio = member(value, "folio")?;
         act(value, word, folio)
     }
@@ -65,10 +64,10 @@ fn act(value: &Value, word: ActWord, folio: FolioId) -> Result<Act, Path>
     }
 }
 
-#[tactic(auto, unfolding(crate::specs::Grammar::open_of))]
+#[tactic(auto, unfolding(crate::specs::Grammar::read_open))]
 fn open(value: &Value, folio: FolioId) -> Result<Act, Path>
     requires { widest (view value.now) ≤ 99999 }
-    ensures exact { result ≡ open_of folio (view value.now) }
+    ensures exact { result ≡ read_open folio (view value.now) }
     ensures short { IfErr result (λ path. length path ≤ 15) }
     ensures good { IfOk result (λ act. IsTrue (is_act act)) }
 {
@@ -88,7 +87,7 @@ fn open(value: &Value, folio: FolioId) -> Result<Act, Path>
 }
 
 fn inventory(value: &Value) -> Result<Inventory, Path>
-    ensures exact { result ≡ inventory_of (view value.now) }
+    ensures exact { result ≡ read_inventory (view value.now) }
     ensures short { IfErr result (λ path. length path ≤ 8) }
     ensures good { IfOk result (λ inventory. IsTrue (is_inventory inventory)) }
 {
@@ -104,10 +103,10 @@ fn inventory(value: &Value) -> Result<Inventory, Path>
     })
 }
 
-#[tactic(auto, unfolding(crate::specs::Grammar::transfer_of))]
+#[tactic(auto, unfolding(crate::specs::Grammar::read_transfer))]
 fn transfer(value: &Value, folio: FolioId) -> Result<Act, Path>
     requires { widest (view value.now) ≤ 99999 }
-    ensures exact { result ≡ transfer_of folio (view value.now) }
+    ensures exact { result ≡ read_transfer folio (view value.now) }
     ensures short { IfErr result (λ path. length path ≤ 15) }
     ensures good { IfOk result (λ act. IsTrue (is_act act)) }
 {
@@ -116,10 +115,10 @@ fn transfer(value: &Value, folio: FolioId) -> Result<Act, Path>
     Ok(Act::Transfer { folio, owners })
 }
 
-#[tactic(auto, unfolding(crate::specs::Grammar::create_of))]
+#[tactic(auto, unfolding(crate::specs::Grammar::read_create))]
 fn create(value: &Value, folio: FolioId) -> Result<Act, Path>
     requires { widest (view value.now) ≤ 99999 }
-    ensures exact { result ≡ create_of folio (view value.now) }
+    ensures exact { result ≡ read_create folio (view value.now) }
     ensures short { IfErr result (λ path. length path ≤ 15) }
     ensures good { IfOk result (λ act. IsTrue (is_act act)) }
 {
@@ -134,10 +133,10 @@ fn create(value: &Value, folio: FolioId) -> Result<Act, Path>
     })
 }
 
-#[tactic(auto, unfolding(crate::specs::Grammar::notice_of))]
+#[tactic(auto, unfolding(crate::specs::Grammar::read_notice))]
 fn notice(value: &Value, folio: FolioId) -> Result<Act, Path>
     requires { widest (view value.now) ≤ 99999 }
-    ensures exact { result ≡ notice_of folio (view value.now) }
+    ensures exact { result ≡ read_notice folio (view value.now) }
     ensures short { IfErr result (λ path. length path ≤ 15) }
     ensures good { IfOk result (λ act. IsTrue (is_act act)) }
 {
@@ -147,10 +146,10 @@ fn notice(value: &Value, folio: FolioId) -> Result<Act, Path>
     Ok(Act::NoticeFor { folio, spec })
 }
 
-#[tactic(auto, unfolding(crate::specs::Grammar::convert_of))]
+#[tactic(auto, unfolding(crate::specs::Grammar::read_convert))]
 fn convert(value: &Value, folio: FolioId) -> Result<Act, Path>
     requires { widest (view value.now) ≤ 99999 }
-    ensures exact { result ≡ convert_of folio (view value.now) }
+    ensures exact { result ≡ read_convert folio (view value.now) }
     ensures short { IfErr result (λ path. length path ≤ 15) }
     ensures good { IfOk result (λ act. IsTrue (is_act act)) }
 {
@@ -159,10 +158,10 @@ fn convert(value: &Value, folio: FolioId) -> Result<Act, Path>
     Ok(Act::Convert { folio, right })
 }
 
-#[tactic(auto, unfolding(crate::specs::Grammar::assign_of))]
+#[tactic(auto, unfolding(crate::specs::Grammar::read_assign))]
 fn assign(value: &Value, folio: FolioId) -> Result<Act, Path>
     requires { widest (view value.now) ≤ 99999 }
-    ensures exact { result ≡ assign_of folio (view value.now) }
+    ensures exact { result ≡ read_assign folio (view value.now) }
     ensures short { IfErr result (λ path. length path ≤ 15) }
     ensures good { IfOk result (λ act. IsTrue (is_act act)) }
 {
@@ -176,10 +175,10 @@ fn assign(value: &Value, folio: FolioId) -> Result<Act, Path>
     })
 }
 
-#[tactic(auto, unfolding(crate::specs::Grammar::cancel_of))]
+#[tactic(auto, unfolding(crate::specs::Grammar::read_cancel))]
 fn cancel(value: &Value, folio: FolioId) -> Result<Act, Path>
     requires { widest (view value.now) ≤ 99999 }
-    ensures exact { result ≡ cancel_of folio (view value.now) }
+    ensures exact { result ≡ read_cancel folio (view value.now) }
     ensures short { IfErr result (λ path. length path ≤ 15) }
     ensures good { IfOk result (λ act. IsTrue (is_act act)) }
 {
@@ -188,10 +187,10 @@ fn cancel(value: &Value, folio: FolioId) -> Result<Act, Path>
     Ok(Act::Cancel { folio, right })
 }
 
-#[tactic(auto, unfolding(crate::specs::Grammar::exchange_of))]
+#[tactic(auto, unfolding(crate::specs::Grammar::read_exchange))]
 fn exchange(value: &Value, folio: FolioId) -> Result<Act, Path>
     requires { widest (view value.now) ≤ 99999 }
-    ensures exact { result ≡ exchange_of folio (view value.now) }
+    ensures exact { result ≡ read_exchange folio (view value.now) }
     ensures short { IfErr result (λ path. length path ≤ 15) }
     ensures good { IfOk result (λ act. IsTrue (is_act act)) }
 {
@@ -205,10 +204,10 @@ fn exchange(value: &Value, folio: FolioId) -> Result<Act, Path>
     })
 }
 
-#[tactic(auto, unfolding(crate::specs::Grammar::exercise_of))]
+#[tactic(auto, unfolding(crate::specs::Grammar::read_exercise))]
 fn exercise(value: &Value, folio: FolioId) -> Result<Act, Path>
     requires { widest (view value.now) ≤ 99999 }
-    ensures exact { result ≡ exercise_of folio (view value.now) }
+    ensures exact { result ≡ read_exercise folio (view value.now) }
     ensures short { IfErr result (λ path. length path ≤ 15) }
     ensures good { IfOk result (λ act. IsTrue (is_act act)) }
 {

@@ -1,7 +1,8 @@
+// Arrays and their elements.
 ghost use Rattle.std.specs.Prelude.{◌≡◌, ◌+◌, ◌<◌, ◌≤◌, List, length, IfErr, IfOk, MatchResult, Ok, Err, IsTrue};
 ghost use Rattle.std.specs.List.{list_all};
 ghost use Rattle.act_json.specs.Reading.{within, elements, array_of};
-ghost use Rattle.act_json.specs.Helpers.{widest};
+ghost use Rattle.act_json.specs.inner.Helpers.{widest};
 ghost use Rattle.serde_json.specs.Data.{array};
 ghost use Rattle.serde_json.specs.View.{view, items_view};
 ghost use Rattle.std.specs.Prelude.{decimal};
@@ -54,13 +55,13 @@ fn elements<T: FromJson + Default, const N: usize>(values: &[Value]) -> Result<A
     Ok(list)
 }
 
-/// The element at this place of an array.
-#[tactic(auto, using(crate::proofs::Names::digits_of_place))]
-fn element<T: FromJson>(value: &Value, place: usize) -> Result<T, Path>
+/// The element at this index of an array.
+#[tactic(auto, using(crate::proofs::Names::digits_of_index))]
+fn element<T: FromJson>(value: &Value, index: usize) -> Result<T, Path>
     requires narrow { widest (view value.now) ≤ 99999 }
     requires short { T.longest < 26 }
-    requires few { place < 100000 }
-    ensures exact { result ≡ within (decimal place) (T.reads (view value.now)) }
+    requires few { index < 100000 }
+    ensures exact { result ≡ within (decimal index) (T.reads (view value.now)) }
     ensures short { IfErr result (λ path. length path ≤ 6 + T.longest) }
     ensures good { IfOk result (λ x. IsTrue (T.keeps x)) }
 {
@@ -68,7 +69,7 @@ fn element<T: FromJson>(value: &Value, place: usize) -> Result<T, Path>
         Ok(x) => Ok(x),
         Err(path) => {
             let mut digits = itoa::Buffer::new();
-            Err(path.below(digits.format(place)))
+            Err(path.below(digits.format(index)))
         }
     }
 }

@@ -1,13 +1,13 @@
-// The basis of a seizure, and the claims that are registered for a forced sale.
+// What a seizure rests on, and what is registered for a forced sale.
 ghost use Rattle.std.specs.Prelude.{◌≡◌, ◌≤◌, length, IfErr, IfOk, IsTrue};
 ghost use Rattle.act_model.specs.WellFormed.{is_basis, is_registration};
-ghost use Rattle.act_json.specs.Grammar.{basis_called, personal_of, from_right_of, claim_called, advance_of, charge_of, arrears_of};
-ghost use Rattle.act_json.specs.Helpers.{widest};
+ghost use Rattle.act_json.specs.Grammar.{basis_called, read_personal, read_from_right, registration_called, read_advance, read_charge, read_arrears};
+ghost use Rattle.act_json.specs.inner.Helpers.{widest};
 ghost use Rattle.serde_json.specs.View.{view};
 
 use crate::Path;
-use crate::reading::{FromJson, an_object, member, only};
-use crate::words::{BasisWord, ClaimWord, basis_word, claim_word};
+use crate::reading::{FromJson, kind_word, member, only};
+use crate::words::{BasisWord, RegistrationWord, basis_word, registration_word};
 use act_model::{Basis, Registration};
 use serde_json::Value;
 
@@ -25,29 +25,28 @@ impl FromJson for BasisWord {
 }
 
 impl FromJson for Basis {
-    ghost use Rattle.act_json.specs.Grammar.{basis_of};
+    ghost use Rattle.act_json.specs.Grammar.{read_basis};
     ghost use Rattle.act_model.specs.WellFormed.{is_basis};
 
-    ghost reads = { basis_of };
+    ghost reads = { read_basis };
 
     ghost longest = { 14 };
 
     ghost keeps = { is_basis };
 
-    #[tactic(auto, unfolding(crate::specs::Grammar::basis_of))]
+    #[tactic(auto, unfolding(crate::specs::Grammar::read_basis))]
     fn read(value: &Value) -> Result<Basis, Path> {
-        an_object(value)?;
-        match member(value, "type")? {
+        match kind_word(value, "type")? {
             BasisWord::Personal => personal(value),
             BasisWord::Right => from_right(value),
         }
     }
 }
 
-#[tactic(auto, unfolding(crate::specs::Grammar::personal_of))]
+#[tactic(auto, unfolding(crate::specs::Grammar::read_personal))]
 fn personal(value: &Value) -> Result<Basis, Path>
     requires { widest (view value.now) ≤ 99999 }
-    ensures exact { result ≡ personal_of (view value.now) }
+    ensures exact { result ≡ read_personal (view value.now) }
     ensures short { IfErr result (λ path. length path ≤ 14) }
     ensures good { IfOk result (λ basis. IsTrue (is_basis basis)) }
 {
@@ -57,10 +56,10 @@ fn personal(value: &Value) -> Result<Basis, Path>
     Ok(Basis::Personal { creditor, claim })
 }
 
-#[tactic(auto, unfolding(crate::specs::Grammar::from_right_of))]
+#[tactic(auto, unfolding(crate::specs::Grammar::read_from_right))]
 fn from_right(value: &Value) -> Result<Basis, Path>
     requires { widest (view value.now) ≤ 99999 }
-    ensures exact { result ≡ from_right_of (view value.now) }
+    ensures exact { result ≡ read_from_right (view value.now) }
     ensures short { IfErr result (λ path. length path ≤ 14) }
     ensures good { IfOk result (λ basis. IsTrue (is_basis basis)) }
 {
@@ -69,46 +68,48 @@ fn from_right(value: &Value) -> Result<Basis, Path>
     Ok(Basis::FromRight { right })
 }
 
-impl FromJson for ClaimWord {
+impl FromJson for RegistrationWord {
     ghost use Rattle.act_json.specs.Reading.{word_of};
-    ghost use Rattle.act_json.specs.Grammar.{claim_words};
+    ghost use Rattle.act_json.specs.Grammar.{registration_words};
 
-    ghost reads = { word_of claim_words };
+    ghost reads = { word_of registration_words };
 
     ghost longest = { 0 };
 
-    fn read(value: &Value) -> Result<ClaimWord, Path> {
-        value.as_str().and_then(claim_word).ok_or(Path::here())
+    fn read(value: &Value) -> Result<RegistrationWord, Path> {
+        value
+            .as_str()
+            .and_then(registration_word)
+            .ok_or(Path::here())
     }
 }
 
 impl FromJson for Registration {
-    ghost use Rattle.act_json.specs.Grammar.{claim_of};
+    ghost use Rattle.act_json.specs.Grammar.{read_registration};
     ghost use Rattle.act_model.specs.WellFormed.{is_registration};
 
-    ghost reads = { claim_of };
+    ghost reads = { read_registration };
 
     ghost longest = { 14 };
 
     ghost keeps = { is_registration };
 
-    #[tactic(auto, unfolding(crate::specs::Grammar::claim_of))]
+    #[tactic(auto, unfolding(crate::specs::Grammar::read_registration))]
     fn read(value: &Value) -> Result<Registration, Path> {
-        an_object(value)?;
-        match member(value, "type")? {
-            ClaimWord::Advance => advance(value),
-            ClaimWord::Charge => charge(value),
-            ClaimWord::Arrears => arrears(value),
+        match kind_word(value, "type")? {
+            RegistrationWord::Advance => advance(value),
+            RegistrationWord::Charge => charge(value),
+            RegistrationWord::Arrears => arrears(value),
         }
     }
 }
 
-#[tactic(auto, unfolding(crate::specs::Grammar::advance_of))]
+#[tactic(auto, unfolding(crate::specs::Grammar::read_advance))]
 fn advance(value: &Value) -> Result<Registration, Path>
     requires { widest (view value.now) ≤ 99999 }
-    ensures exact { result ≡ advance_of (view value.now) }
+    ensures exact { result ≡ read_advance (view value.now) }
     ensures short { IfErr result (λ path. length path ≤ 14) }
-    ensures good { IfOk result (λ what. IsTrue (is_registration what)) }
+    ensures good { IfOk result (λ registration. IsTrue (is_registration registration)) }
 {
     let person = member(value, "person")?;
     let amount = member(value, "amount")?;
@@ -116,12 +117,12 @@ fn advance(value: &Value) -> Result<Registration, Path>
     Ok(Registration::Advance { person, amount })
 }
 
-#[tactic(auto, unfolding(crate::specs::Grammar::charge_of))]
+#[tactic(auto, unfolding(crate::specs::Grammar::read_charge))]
 fn charge(value: &Value) -> Result<Registration, Path>
     requires { widest (view value.now) ≤ 99999 }
-    ensures exact { result ≡ charge_of (view value.now) }
+    ensures exact { result ≡ read_charge (view value.now) }
     ensures short { IfErr result (λ path. length path ≤ 14) }
-    ensures good { IfOk result (λ what. IsTrue (is_registration what)) }
+    ensures good { IfOk result (λ registration. IsTrue (is_registration registration)) }
 {
     let person = member(value, "person")?;
     let amount = member(value, "amount")?;
@@ -134,12 +135,12 @@ fn charge(value: &Value) -> Result<Registration, Path>
     })
 }
 
-#[tactic(auto, unfolding(crate::specs::Grammar::arrears_of))]
+#[tactic(auto, unfolding(crate::specs::Grammar::read_arrears))]
 fn arrears(value: &Value) -> Result<Registration, Path>
     requires { widest (view value.now) ≤ 99999 }
-    ensures exact { result ≡ arrears_of (view value.now) }
+    ensures exact { result ≡ read_arrears (view value.now) }
     ensures short { IfErr result (λ path. length path ≤ 14) }
-    ensures good { IfOk result (λ what. IsTrue (is_registration what)) }
+    ensures good { IfOk result (λ registration. IsTrue (is_registration registration)) }
 {
     let right = member(value, "right")?;
     let from = member(value, "from")?;

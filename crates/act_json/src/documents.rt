@@ -1,12 +1,12 @@
 // The documents of a filing or a cure.
 ghost use Rattle.std.specs.Prelude.{◌≡◌, ◌≤◌, length, IfErr, IfOk, IsTrue};
 ghost use Rattle.act_model.specs.WellFormed.{is_doc, is_between};
-ghost use Rattle.act_json.specs.Grammar.{doc_called, consent_of, bare};
-ghost use Rattle.act_json.specs.Helpers.{widest};
+ghost use Rattle.act_json.specs.Grammar.{doc_called, read_consent, bare};
+ghost use Rattle.act_json.specs.inner.Helpers.{widest};
 ghost use Rattle.serde_json.specs.View.{view};
 
 use crate::Path;
-use crate::reading::{FromJson, an_object, member, number, only};
+use crate::reading::{FromJson, kind_word, member, number, only};
 use crate::words::{DocWord, doc_word, form};
 use act_model::{Doc, Form};
 use serde_json::Value;
@@ -38,19 +38,18 @@ impl FromJson for Form {
 }
 
 impl FromJson for Doc {
-    ghost use Rattle.act_json.specs.Grammar.{doc_of};
+    ghost use Rattle.act_json.specs.Grammar.{read_doc};
     ghost use Rattle.act_model.specs.WellFormed.{is_doc};
 
-    ghost reads = { doc_of };
+    ghost reads = { read_doc };
 
     ghost longest = { 7 };
 
     ghost keeps = { is_doc };
 
-    #[tactic(auto, unfolding(crate::specs::Grammar::doc_of))]
+    #[tactic(auto, unfolding(crate::specs::Grammar::read_doc))]
     fn read(value: &Value) -> Result<Doc, Path> {
-        an_object(value)?;
-        let word = member(value, "doc")?;
+        let word = kind_word(value, "doc")?;
         let act = number(value, "act", 1, 8)?;
         doc(value, word, act as u8)
     }
@@ -72,11 +71,11 @@ fn doc(value: &Value, word: DocWord, act: u8) -> Result<Doc, Path>
     }
 }
 
-#[tactic(auto, unfolding(crate::specs::Grammar::consent_of))]
+#[tactic(auto, unfolding(crate::specs::Grammar::read_consent))]
 fn consent(value: &Value, act: u8) -> Result<Doc, Path>
     requires narrow { widest (view value.now) ≤ 99999 }
     requires act { IsTrue (is_between 1 8 act) }
-    ensures exact { result ≡ consent_of act (view value.now) }
+    ensures exact { result ≡ read_consent act (view value.now) }
     ensures short { IfErr result (λ path. length path ≤ 7) }
     ensures good { IfOk result (λ doc. IsTrue (is_doc doc)) }
 {

@@ -1,13 +1,13 @@
 // The items. A reader of an item takes the whole object.
 ghost use Rattle.std.specs.Prelude.{◌≡◌, ◌≤◌, length, IfErr, IfOk, IsTrue};
 ghost use Rattle.act_model.specs.WellFormed.{well_formed, keeps_rules, is_doc, is_act};
-ghost use Rattle.act_json.specs.Grammar.{filing_of, cure_of, lapse_of, seize_of, register_of, open_bids_of, award_of, distribute_of};
-ghost use Rattle.act_json.specs.Helpers.{widest};
+ghost use Rattle.act_json.specs.Grammar.{read_filing, read_cure, read_lapse, read_seize, read_register, read_open_bids, read_award, read_distribute};
+ghost use Rattle.act_json.specs.inner.Helpers.{widest};
 ghost use Rattle.serde_json.specs.View.{view};
 
 use crate::Path;
 use crate::arrays::array;
-use crate::reading::{FromJson, an_object, member, only};
+use crate::reading::{FromJson, kind_word, member, only};
 use crate::words::{ItemWord, item_word};
 use act_model::{Acts, Docs, Filing, Item, keeps_rules};
 use serde_json::Value;
@@ -27,10 +27,10 @@ impl FromJson for ItemWord {
 
 impl FromJson for Docs {
     ghost use Rattle.std.specs.List.{list_all};
-    ghost use Rattle.act_json.specs.Grammar.{docs_of};
+    ghost use Rattle.act_json.specs.Grammar.{read_docs};
     ghost use Rattle.act_model.specs.WellFormed.{is_doc};
 
-    ghost reads = { docs_of };
+    ghost reads = { read_docs };
 
     ghost longest = { 13 };
 
@@ -45,10 +45,10 @@ impl FromJson for Docs {
 impl FromJson for Acts {
     ghost use Rattle.std.specs.Prelude.{◌&&◌, length};
     ghost use Rattle.std.specs.List.{list_all};
-    ghost use Rattle.act_json.specs.Grammar.{acts_of};
+    ghost use Rattle.act_json.specs.Grammar.{read_acts};
     ghost use Rattle.act_model.specs.WellFormed.{is_act, is_between};
 
-    ghost reads = { acts_of };
+    ghost reads = { read_acts };
 
     ghost longest = { 21 };
 
@@ -72,8 +72,7 @@ impl FromJson for Item {
 
     #[tactic(auto, unfolding(crate::specs::Grammar::any_item))]
     fn read(value: &Value) -> Result<Item, Path> {
-        an_object(value)?;
-        match member(value, "kind")? {
+        match kind_word(value, "kind")? {
             ItemWord::Filing => filing(value),
             ItemWord::Cure => cure(value),
             ItemWord::Lapse => lapse(value),
@@ -86,10 +85,10 @@ impl FromJson for Item {
     }
 }
 
-#[tactic(auto, unfolding(crate::specs::Grammar::filing_of))]
+#[tactic(auto, unfolding(crate::specs::Grammar::read_filing))]
 fn filing(value: &Value) -> Result<Item, Path>
     requires { widest (view value.now) ≤ 99999 }
-    ensures exact { result ≡ filing_of (view value.now) }
+    ensures exact { result ≡ read_filing (view value.now) }
     ensures short { IfErr result (λ path. length path ≤ 26) }
     ensures good { IfOk result (λ item. IsTrue (well_formed item)) }
 {
@@ -109,10 +108,10 @@ fn filing(value: &Value) -> Result<Item, Path>
     }))
 }
 
-#[tactic(auto, unfolding(crate::specs::Grammar::cure_of))]
+#[tactic(auto, unfolding(crate::specs::Grammar::read_cure))]
 fn cure(value: &Value) -> Result<Item, Path>
     requires { widest (view value.now) ≤ 99999 }
-    ensures exact { result ≡ cure_of (view value.now) }
+    ensures exact { result ≡ read_cure (view value.now) }
     ensures short { IfErr result (λ path. length path ≤ 26) }
     ensures good { IfOk result (λ item. IsTrue (well_formed item)) }
 {
@@ -122,10 +121,10 @@ fn cure(value: &Value) -> Result<Item, Path>
     Ok(Item::Cure { filing, docs })
 }
 
-#[tactic(auto, unfolding(crate::specs::Grammar::lapse_of))]
+#[tactic(auto, unfolding(crate::specs::Grammar::read_lapse))]
 fn lapse(value: &Value) -> Result<Item, Path>
     requires { widest (view value.now) ≤ 99999 }
-    ensures exact { result ≡ lapse_of (view value.now) }
+    ensures exact { result ≡ read_lapse (view value.now) }
     ensures short { IfErr result (λ path. length path ≤ 26) }
     ensures good { IfOk result (λ item. IsTrue (well_formed item)) }
 {
@@ -134,10 +133,10 @@ fn lapse(value: &Value) -> Result<Item, Path>
     Ok(Item::Lapse { filing })
 }
 
-#[tactic(auto, unfolding(crate::specs::Grammar::seize_of))]
+#[tactic(auto, unfolding(crate::specs::Grammar::read_seize))]
 fn seize(value: &Value) -> Result<Item, Path>
     requires { widest (view value.now) ≤ 99999 }
-    ensures exact { result ≡ seize_of (view value.now) }
+    ensures exact { result ≡ read_seize (view value.now) }
     ensures short { IfErr result (λ path. length path ≤ 26) }
     ensures good { IfOk result (λ item. IsTrue (well_formed item)) }
 {
@@ -152,23 +151,26 @@ fn seize(value: &Value) -> Result<Item, Path>
     })
 }
 
-#[tactic(auto, unfolding(crate::specs::Grammar::register_of))]
+#[tactic(auto, unfolding(crate::specs::Grammar::read_register))]
 fn register(value: &Value) -> Result<Item, Path>
     requires { widest (view value.now) ≤ 99999 }
-    ensures exact { result ≡ register_of (view value.now) }
+    ensures exact { result ≡ read_register (view value.now) }
     ensures short { IfErr result (λ path. length path ≤ 26) }
     ensures good { IfOk result (λ item. IsTrue (well_formed item)) }
 {
     let folio = member(value, "folio")?;
-    let what = member(value, "what")?;
+    let registration = member(value, "what")?;
     only(value, &["kind", "folio", "what"])?;
-    Ok(Item::Register { folio, what })
+    Ok(Item::Register {
+        folio,
+        what: registration,
+    })
 }
 
-#[tactic(auto, unfolding(crate::specs::Grammar::open_bids_of))]
+#[tactic(auto, unfolding(crate::specs::Grammar::read_open_bids))]
 fn open_bids(value: &Value) -> Result<Item, Path>
     requires { widest (view value.now) ≤ 99999 }
-    ensures exact { result ≡ open_bids_of (view value.now) }
+    ensures exact { result ≡ read_open_bids (view value.now) }
     ensures short { IfErr result (λ path. length path ≤ 26) }
     ensures good { IfOk result (λ item. IsTrue (well_formed item)) }
 {
@@ -178,10 +180,10 @@ fn open_bids(value: &Value) -> Result<Item, Path>
     Ok(Item::OpenBids { folio, costs })
 }
 
-#[tactic(auto, unfolding(crate::specs::Grammar::award_of))]
+#[tactic(auto, unfolding(crate::specs::Grammar::read_award))]
 fn award(value: &Value) -> Result<Item, Path>
     requires { widest (view value.now) ≤ 99999 }
-    ensures exact { result ≡ award_of (view value.now) }
+    ensures exact { result ≡ read_award (view value.now) }
     ensures short { IfErr result (λ path. length path ≤ 26) }
     ensures good { IfOk result (λ item. IsTrue (well_formed item)) }
 {
@@ -192,10 +194,10 @@ fn award(value: &Value) -> Result<Item, Path>
     Ok(Item::Award { folio, buyer, bid })
 }
 
-#[tactic(auto, unfolding(crate::specs::Grammar::distribute_of))]
+#[tactic(auto, unfolding(crate::specs::Grammar::read_distribute))]
 fn distribute(value: &Value) -> Result<Item, Path>
     requires { widest (view value.now) ≤ 99999 }
-    ensures exact { result ≡ distribute_of (view value.now) }
+    ensures exact { result ≡ read_distribute (view value.now) }
     ensures short { IfErr result (λ path. length path ≤ 26) }
     ensures good { IfOk result (λ item. IsTrue (well_formed item)) }
 {

@@ -1,4 +1,4 @@
-//! Items as lines of JSON: a line is an item, or it has a first wrong place, which is named.
+//! Items as lines of JSON: a line is an item, or its first wrong path is named.
 #![tactic(auto)]
 
 mod acts;

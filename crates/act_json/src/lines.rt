@@ -1,9 +1,10 @@
 // Lines of JSON, with or without the stamp of their receipt.
 ghost use Rattle.std.specs.Prelude.{◌≡◌, ◌≤◌, length, codes, IfOk, IsTrue};
 ghost use Rattle.act_model.specs.WellFormed.{well_formed};
-ghost use Rattle.act_json.specs.Helpers.{widest};
+ghost use Rattle.act_json.specs.inner.Helpers.{widest};
 ghost use Rattle.act_json.specs.Reading.{within, an_object};
-ghost use Rattle.act_json.specs.Lines.{stamp, sender, reference, item_line, stamped_line, json_of, item_of, stamped_of, Answers, Parses};
+ghost use Rattle.act_json.specs.Lines.{longest_line, stamp, sender, reference, item_line, stamped_line, json_of, item_of, stamped_of, ReadsAs};
+ghost use Rattle.act_json.specs.inner.Parsing.{Parses};
 ghost use Rattle.serde_json.specs.View.{view};
 
 use crate::Path;
@@ -18,7 +19,7 @@ use std::alloc::Global;
 pub enum LineFault {
     /// The line is no JSON.
     NotJson,
-    /// The line is JSON outside the grammar of items; the path of its first wrong place.
+    /// The line is JSON outside the grammar of items; its first wrong path.
     NotItem(Path),
     /// No memory was found for the line's value.
     Memory,
@@ -30,11 +31,20 @@ const FIRST_STAMP_DAY: u32 = 10_957;
 /// The last day on which receipts are stamped, 2149-12-31.
 const LAST_STAMP_DAY: u32 = 65_743;
 
-/// The sender, the reference and the item of a line as it is handed in.
+/// The sender, the reference and the item of a line as it is handed in, of at most 65,536 bytes.
+/// The fault says that the line is no JSON, that it is no item and where it is wrong, or that
+/// memory ran out.
+///
+/// ```
+/// let line = br#"{"sender":1,"reference":2,"item":{"kind":"distribute","folio":7}}"#;
+/// let (sender, reference, item) = read_item(alloc, line)?;
+/// assert_eq!((sender, reference), (1, 2));
+/// assert!(matches!(item, Item::Distribute { .. }));
+/// ```
 #[tactic(auto, unfolding(crate::specs::Lines::item_of))]
 pub fn read_item(alloc: Global, line: &[u8]) -> Result<(u32, u64, Item), LineFault>
-    requires { length line.now ≤ 65536 }
-    ensures exact { Answers result (item_of line.now) }
+    requires { length line.now ≤ longest_line }
+    ensures exact { ReadsAs result (item_of line.now) }
     ensures well_formed { IfOk result (λ found. IsTrue (well_formed found.2)) }
 {
     let value = parse(alloc, line)?;
@@ -44,11 +54,20 @@ pub fn read_item(alloc: Global, line: &[u8]) -> Result<(u32, u64, Item), LineFau
     }
 }
 
-/// The stamp, the sender, the reference and the item of a stamped line.
+/// The stamp, the sender, the reference and the item of a stamped line, of at most 65,536 bytes.
+/// The faults are those of [`read_item`].
+///
+/// ```
+/// let line = br#"{"day":"2024-03-01","minute":540,"sender":1,"reference":2,"item":{"kind":"distribute","folio":0}}"#;
+/// match read_stamped(alloc, line) {
+///     Err(LineFault::NotItem(path)) => assert_eq!(path.text(), b"item.folio"),
+///     _ => unreachable!(),
+/// }
+/// ```
 #[tactic(auto, unfolding(crate::specs::Lines::stamped_of))]
 pub fn read_stamped(alloc: Global, line: &[u8]) -> Result<(Stamp, u32, u64, Item), LineFault>
-    requires { length line.now ≤ 65536 }
-    ensures exact { Answers result (stamped_of line.now) }
+    requires { length line.now ≤ longest_line }
+    ensures exact { ReadsAs result (stamped_of line.now) }
     ensures well_formed { IfOk result (λ found. IsTrue (well_formed found.3)) }
 {
     let value = parse(alloc, line)?;
@@ -61,7 +80,7 @@ pub fn read_stamped(alloc: Global, line: &[u8]) -> Result<(Stamp, u32, u64, Item
 /// The JSON value that the bytes are.
 #[tactic(auto, using(crate::proofs::WidestRead::widest_read, crate::proofs::WidestRead::utf8_tests))]
 fn parse(alloc: Global, line: &[u8]) -> Result<Value, LineFault>
-    requires { length line.now ≤ 65536 }
+    requires { length line.now ≤ longest_line }
     ensures exact { Parses view result (json_of line.now) }
     ensures narrow { IfOk result (λ value. widest (view value) ≤ 99999) }
 {

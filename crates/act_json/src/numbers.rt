@@ -4,7 +4,7 @@ ghost use Rattle.act_json.specs.Grammar.{serial};
 ghost use Rattle.serde_json.specs.View.{view};
 
 use crate::Path;
-use crate::reading::{FromJson, whole};
+use crate::reading::{FromJson, read_whole};
 use gb_base::{Cents, FolioId, Person, ReceiptNo};
 use serde_json::Value;
 
@@ -17,7 +17,7 @@ fn serial(value: &Value) -> Result<u32, Path>
     ensures short { IfErr result (λ path. path ≡ []) }
     ensures positive { IfOk result (λ n. 0 < n) }
 {
-    let n = whole(value, 1, LAST_SERIAL)?;
+    let n = read_whole(value, 1, LAST_SERIAL)?;
     Ok(n as u32)
 }
 
@@ -71,7 +71,7 @@ impl FromJson for Cents {
     ghost keeps = { is_amount };
 
     fn read(value: &Value) -> Result<Cents, Path> {
-        let n = whole(value, 1, Cents::MAX)?;
+        let n = read_whole(value, 1, Cents::MAX)?;
         Ok(Cents::new(n).unwrap())
     }
 }

@@ -1,3 +1,4 @@
+// Paths in a line.
 ghost use Rattle.std.specs.Prelude.{◌≡◌, ◌+◌, ◌<◌, ◌≤◌, [], length};
 ghost use Rattle.std.specs.Prelude.{codes, decimal, IfErr, IfOk};
 ghost use Rattle.act_json.specs.Reading.{below};
@@ -5,7 +6,7 @@ ghost use Rattle.act_json.specs.Reading.{below};
 use arrayvec::ArrayVec;
 use std::marker::Model;
 
-/// The way to a place in a line: names of members and places in arrays, joined by points.
+/// The way to a value in a line: names of members and indexes in arrays, joined by points.
 #[derive(Debug, Drop)]
 pub struct Path {
     bytes: ArrayVec<u8, 32>,
@@ -30,7 +31,7 @@ impl Path {
         self.bytes.as_slice()
     }
 
-    /// The place where reading began.
+    /// The empty path, of the value where reading began.
     pub(crate) fn here() -> Path
         ensures { result ≡ [] }
     {
@@ -39,7 +40,7 @@ impl Path {
         }
     }
 
-    /// The place of this name.
+    /// The path of the part of this name.
     pub(crate) fn of(name: &str) -> Path
         requires { length name.now ≤ 32 }
         ensures { result ≡ name.now }
@@ -49,7 +50,7 @@ impl Path {
         Path { bytes }
     }
 
-    /// The path seen from the place that has the part of this name.
+    /// The path seen from the value that has the part of this name.
     #[tactic(auto, using(crate::proofs::Names::length_below))]
     pub(crate) fn below(&self, name: &str) -> Path
         requires { length name.now + length self.now < 32 }

@@ -4,8 +4,8 @@ ghost use Rattle.std.specs.List.{list_all};
 ghost use Rattle.std.specs.BTreeMap.{keys};
 ghost use Rattle.serde_json.specs.Find.{get};
 ghost use Rattle.serde_json.specs.View.{view};
-ghost use Rattle.act_json.specs.Reading.{within, an_object, member, optional, only, whole, truth};
-ghost use Rattle.act_json.specs.Helpers.{widest, among};
+ghost use Rattle.act_json.specs.Reading.{within, an_object, member, optional, only, read_whole, truth, kind_word};
+ghost use Rattle.act_json.specs.inner.Helpers.{widest, among};
 
 use crate::Path;
 use serde_json::{Map, Value};
@@ -15,12 +15,12 @@ pub(crate) trait FromJson: Drop {
     ghost use Rattle.std.specs.Prelude.{◌≡◌, ◌≤◌, ℕ, List, Bool, true, length, Result, IfErr, IfOk, IsTrue};
     ghost use Rattle.serde_json.specs.Data.{Data};
     ghost use Rattle.serde_json.specs.View.{view};
-    ghost use Rattle.act_json.specs.Helpers.{widest};
+    ghost use Rattle.act_json.specs.inner.Helpers.{widest};
 
     // What the grammar reads.
     ghost reads: { Data → Result Self (List ℕ) };
 
-    // No path of a wrong place inside is longer.
+    // No wrong path inside is longer.
     ghost longest: { ℕ };
 
     // The ranges and rules that each value read keeps.
@@ -69,20 +69,20 @@ pub(crate) fn optional<T: FromJson>(value: &Value, name: &str) -> Result<Option<
 /// The member of this name, a whole number from `low` to `high`.
 pub(crate) fn number(value: &Value, name: &str, low: u64, high: u64) -> Result<u64, Path>
     requires { length name.now < 32 }
-    ensures exact { result ≡ member name.now (whole low high) (view value.now) }
+    ensures exact { result ≡ member name.now (read_whole low high) (view value.now) }
     ensures short { IfErr result (λ path. length path ≤ length name.now) }
     ensures in_range { IfOk result (λ n. (low ≤ n) × (n ≤ high)) }
 {
     let number = found(value, name)?;
-    match whole(number, low, high) {
+    match read_whole(number, low, high) {
         Ok(n) => Ok(n),
         Err(_) => Err(Path::of(name)),
     }
 }
 
 /// A whole number from `low` to `high`.
-pub(crate) fn whole(value: &Value, low: u64, high: u64) -> Result<u64, Path>
-    ensures exact { result ≡ whole low high (view value.now) }
+pub(crate) fn read_whole(value: &Value, low: u64, high: u64) -> Result<u64, Path>
+    ensures exact { result ≡ read_whole low high (view value.now) }
     ensures short { IfErr result (λ path. path ≡ []) }
     ensures in_range { IfOk result (λ n. (low ≤ n) × (n ≤ high)) }
 {
@@ -125,6 +125,17 @@ pub(crate) fn an_object(value: &Value) -> Result<(), Path>
     } else {
         Err(Path::here())
     }
+}
+
+/// The word by which an object says its kind, in the member of this name.
+pub(crate) fn kind_word<W: FromJson>(value: &Value, name: &str) -> Result<W, Path>
+    requires narrow { widest (view value.now) ≤ 99999 }
+    requires short { length name.now + W.longest < 32 }
+    ensures exact { result ≡ kind_word name.now W.reads (view value.now) }
+    ensures short { IfErr result (λ path. length path ≤ length name.now + 1 + W.longest) }
+{
+    an_object(value)?;
+    member(value, name)
 }
 
 /// The object has no member of another name.

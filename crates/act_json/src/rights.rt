@@ -2,8 +2,8 @@
 ghost use Rattle.std.specs.Prelude.{◌≡◌, ◌≤◌, List, ◌∷◌, [], length, map, codes, IfErr, IfOk, IsTrue};
 ghost use Rattle.act_model.specs.Acts.{is_section_three};
 ghost use Rattle.act_model.specs.WellFormed.{is_right_spec, is_right_kind};
-ghost use Rattle.act_json.specs.Grammar.{rate, kind_of, spec_of, spec_names, is_charge};
-ghost use Rattle.act_json.specs.Helpers.{widest};
+ghost use Rattle.act_json.specs.Grammar.{rate, read_kind, read_spec, spec_names, is_charge};
+ghost use Rattle.act_json.specs.inner.Helpers.{widest};
 ghost use Rattle.serde_json.specs.View.{view};
 
 use crate::Path;
@@ -15,13 +15,13 @@ use gb_base::RightId;
 use serde_json::Value;
 
 impl FromJson for RightId {
-    ghost use Rattle.act_json.specs.Grammar.{right_of};
+    ghost use Rattle.act_json.specs.Grammar.{read_right};
 
-    ghost reads = { right_of };
+    ghost reads = { read_right };
 
     ghost longest = { 8 };
 
-    #[tactic(auto, unfolding(crate::specs::Grammar::right_of))]
+    #[tactic(auto, unfolding(crate::specs::Grammar::read_right))]
     fn read(value: &Value) -> Result<RightId, Path> {
         an_object(value)?;
         let receipt = member(value, "receipt")?;
@@ -32,13 +32,13 @@ impl FromJson for RightId {
 }
 
 impl FromJson for Owners {
-    ghost use Rattle.act_json.specs.Grammar.{owners_of};
+    ghost use Rattle.act_json.specs.Grammar.{read_owners};
 
-    ghost reads = { owners_of };
+    ghost reads = { read_owners };
 
     ghost longest = { 6 };
 
-    #[tactic(auto, unfolding(crate::specs::Grammar::owners_of))]
+    #[tactic(auto, unfolding(crate::specs::Grammar::read_owners))]
     fn read(value: &Value) -> Result<Owners, Path> {
         let persons = array(value, 1)?;
         Owners::new(persons).ok_or(Path::here())
@@ -58,7 +58,7 @@ impl FromJson for RightWord {
     }
 }
 
-/// Whether rights of this kind stand in section III.
+/// Whether rights of this kind stand in division III.
 pub(crate) fn is_charge(word: RightWord) -> bool
     ensures { result ≡ is_charge word }
 {
@@ -69,10 +69,10 @@ pub(crate) fn is_charge(word: RightWord) -> bool
 }
 
 /// The right that an act describes, of the kind that is called so.
-#[tactic(auto, unfolding(crate::specs::Grammar::spec_of))]
+#[tactic(auto, unfolding(crate::specs::Grammar::read_spec))]
 pub(crate) fn spec(value: &Value, word: RightWord) -> Result<RightSpec, Path>
     requires { widest (view value.now) ≤ 99999 }
-    ensures exact { result ≡ spec_of word (view value.now) }
+    ensures exact { result ≡ read_spec word (view value.now) }
     ensures short { IfErr result (λ path. length path ≤ 9) }
     ensures good { IfOk result (λ spec. IsTrue (is_right_spec spec)) }
     ensures section { IfOk result (λ spec. is_section_three spec.kind ≡ is_charge word) }
@@ -89,9 +89,9 @@ pub(crate) fn spec(value: &Value, word: RightWord) -> Result<RightSpec, Path>
     })
 }
 
-#[tactic(auto, unfolding(crate::specs::Grammar::kind_of))]
+#[tactic(auto, unfolding(crate::specs::Grammar::read_kind))]
 fn kind(value: &Value, word: RightWord) -> Result<RightKind, Path>
-    ensures exact { result ≡ kind_of word (view value.now) }
+    ensures exact { result ≡ read_kind word (view value.now) }
     ensures short { IfErr result (λ path. length path ≤ 4) }
     ensures good { IfOk result (λ kind. IsTrue (is_right_kind kind)) }
     ensures section { IfOk result (λ kind. is_section_three kind ≡ is_charge word) }

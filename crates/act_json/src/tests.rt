@@ -1,3 +1,4 @@
+// Tests of lines that are items, and of those that are none.
 use crate::{LineFault, read_item, read_stamped};
 use act_model::{Act, Doc, Filing, Form, Item, RightKind};
 use std::alloc::Global;
@@ -16,8 +17,8 @@ fn changed(alloc: Global, line: &str, old: &str, new: &str) -> Result<String, Fa
     Ok(format!(in alloc; "{front}{new}{back}")?)
 }
 
-/// The first wrong place of a stamped line.
-fn assert_wrong_place(rt: &(impl Abort + AllocGlobal), line: &str, path: &str) {
+/// The first wrong path of a stamped line.
+fn assert_wrong_path(rt: &(impl Abort + AllocGlobal), line: &str, path: &str) {
     assert!(rt; line.len() <= 65_536);
     match read_stamped(rt.alloc(), line.as_bytes()) {
         Err(LineFault::NotItem(found)) => {
@@ -87,7 +88,7 @@ fn a_line_creates_a_land_charge(rt: HostRuntime) {
 }
 
 #[test]
-fn the_first_wrong_place_is_named(rt: HostRuntime) -> Result<(), Fail> {
+fn the_first_wrong_path_is_named(rt: HostRuntime) -> Result<(), Fail> {
     for (old, new, path) in [
         (r#""folio":7"#, r#""folio":0"#, "item.acts.0.folio"),
         ("[10]", "[10,10]", "item.acts.0.owners"),
@@ -101,10 +102,10 @@ fn the_first_wrong_place_is_named(rt: HostRuntime) -> Result<(), Fail> {
         (r#""act":1"#, r#""act":9"#, "item.docs.0.act"),
     ] {
         let line = changed(rt.alloc(), OPENING, old, new)?;
-        assert_wrong_place(&rt, line.as_str(), path);
+        assert_wrong_path(&rt, line.as_str(), path);
     }
-    assert_wrong_place(&rt, "[1]", "line");
-    assert_wrong_place(&rt, "{}", "day");
+    assert_wrong_path(&rt, "[1]", "line");
+    assert_wrong_path(&rt, "{}", "day");
     Ok(())
 }
 
@@ -120,7 +121,7 @@ fn a_rate_and_a_reserve_stand_where_they_belong(rt: HostRuntime) -> Result<(), F
         ),
     ] {
         let line = changed(rt.alloc(), LAND_CHARGE, old, new)?;
-        assert_wrong_place(&rt, line.as_str(), path);
+        assert_wrong_path(&rt, line.as_str(), path);
     }
     Ok(())
 }

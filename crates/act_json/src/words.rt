@@ -1,7 +1,7 @@
 // The words that tell apart the kinds of an object.
 ghost use Rattle.std.specs.Prelude.{◌≡◌};
 ghost use Rattle.act_json.specs.Reading.{look_up};
-ghost use Rattle.act_json.specs.Grammar.{right_words, act_words, doc_words, forms, basis_words, claim_words, item_words};
+ghost use Rattle.act_json.specs.Grammar.{right_words, act_words, doc_words, forms, basis_words, registration_words, item_words};
 
 use act_model::Form;
 
@@ -107,19 +107,19 @@ pub(crate) fn basis_word(text: &str) -> Option<BasisWord>
 
 /// What is registered for a sale.
 #[derive(Clone, Copy, Debug)]
-pub(crate) enum ClaimWord {
+pub(crate) enum RegistrationWord {
     Advance,
     Charge,
     Arrears,
 }
 
-pub(crate) fn claim_word(text: &str) -> Option<ClaimWord>
-    ensures { result ≡ look_up claim_words text.now }
+pub(crate) fn registration_word(text: &str) -> Option<RegistrationWord>
+    ensures { result ≡ look_up registration_words text.now }
 {
     match text {
-        "advance" => Some(ClaimWord::Advance),
-        "charge" => Some(ClaimWord::Charge),
-        "arrears" => Some(ClaimWord::Arrears),
+        "advance" => Some(RegistrationWord::Advance),
+        "charge" => Some(RegistrationWord::Charge),
+        "arrears" => Some(RegistrationWord::Arrears),
         _ => None,
     }
 }

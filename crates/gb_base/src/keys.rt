@@ -21,11 +21,11 @@ pub enum Key {
 }
 
 impl Key {
-    ghost use Rattle.gb_base.specs.Keys.{folio_of, part_of, right_of};
+    ghost use Rattle.gb_base.specs.Keys.{folio_of_key, part_of_key, right_of_key};
 
     /// The folio.
     pub fn folio(self) -> FolioId
-        ensures { result ≡ folio_of self }
+        ensures { result ≡ folio_of_key self }
     {
         match self {
             Key::Title(folio) => folio,
@@ -36,7 +36,7 @@ impl Key {
 
     /// Where the key stands among the parts of its folio.
     fn part(self) -> u8
-        ensures { result ≡ part_of self }
+        ensures { result ≡ part_of_key self }
     {
         match self {
             Key::Title(_) => 0,
@@ -47,8 +47,8 @@ impl Key {
 
     /// The receipt and the act of the right; zeros where the key is of none.
     fn right(self) -> (u32, u8)
-        ensures receipt { result.0 ≡ (right_of self).receipt }
-        ensures act { result.1 ≡ (right_of self).act }
+        ensures receipt { result.0 ≡ (right_of_key self).receipt }
+        ensures act { result.1 ≡ (right_of_key self).act }
     {
         match self {
             Key::Right(_, right) => (right.receipt().get(), right.act()),

@@ -3,7 +3,7 @@ use Rattle.std.proofs.Common.{◌≡◌, ℕ, ◌<◌, ◌≤◌, false, List, [
 use Rattle.std.proofs.lemmas.Bool.{leb-false}
 use Rattle.gb_outside.specs.Images.{Torn, Follows}
 use Rattle.gb_outside.specs.Recorded.{Event, wrote, overwritten, file_after}
-use Rattle.gb_outside.specs.MemDisks.{DiskInMemory, file_of, images_of, is_full, after_call}
+use Rattle.gb_outside.specs.MemDisks.{DiskInMemory, file_of, images_of, is_full, disk_after}
 use Rattle.gb_outside.specs.inner.Calls.{events, IsReplayed}
 use Rattle.gb_outside.specs.declared.mem_disk.Call.{Call}
 use Rattle.gb_outside.specs.declared.mem_disk.Call.TheVariants.{Idle, Write, Sync}
@@ -36,7 +36,7 @@ module _ (first file written : List ℕ) (calls more : List Call) (is : IsReplay
 
 -- a call that has room is recorded
 pub recorded : (event : Event) (disk : DiskInMemory) (done : List Event) → is_full disk ≡ false → done ≡ event ∷ disk.done
-    → record disk { done = done } ≡ after_call false event disk
+    → record disk { done = done } ≡ disk_after false event disk
 recorded event disk done room is =
     let same : done ≡ (if is_full disk then disk.done else event ∷ disk.done) = rw room is in
     ap (λ l. record disk { done = l }) same

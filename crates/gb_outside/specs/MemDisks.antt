@@ -44,8 +44,8 @@ abbrev pub is_due : DiskInMemory → Bool
 is_due disk = list_any (λ n. n == length disk.done + 1) disk.failing
 
 -- the next call fails, whatever it is
-abbrev pub fails_next : DiskInMemory → Bool
-fails_next disk = is_full disk || is_due disk
+abbrev pub call_fails : DiskInMemory → Bool
+call_fails disk = is_full disk || is_due disk
 
 -- how many bytes the calls have brought into the file
 abbrev pub bytes_written : List Event → ℕ
@@ -55,18 +55,18 @@ bytes_written (wrote at size kept ∷ before) = bytes_written before + length ke
 bytes_written (synced ∷ before) = bytes_written before
 
 -- a write of so many bytes at this offset has room
-abbrev pub has_room : DiskInMemory → ℕ → ℕ → Bool
-has_room disk at size =
+abbrev pub has_room_at : DiskInMemory → ℕ → ℕ → Bool
+has_room_at disk at size =
     nat_le (at + size) disk.longest && nat_le (bytes_written disk.done + size) disk.most_written
 
 -- a write of so many bytes at this offset fails
 abbrev pub write_fails : DiskInMemory → ℕ → ℕ → Bool
-write_fails disk at size = fails_next disk || not (has_room disk at size)
+write_fails disk at size = call_fails disk || not (has_room_at disk at size)
 
 -- what a write does to the file: nothing without room; where it is to fail, half of its bytes come
 abbrev pub write_event : DiskInMemory → ℕ → List ℕ → Event
 write_event disk at bytes =
-    if has_room disk at (length bytes)
+    if has_room_at disk at (length bytes)
     then wrote at (length bytes) (if is_due disk then take (length bytes / 2) bytes else bytes) else idle
 
 -- the disk with a fault counted
@@ -74,18 +74,18 @@ abbrev pub faulted : DiskInMemory → DiskInMemory
 faulted disk = record disk { faults = min (disk.faults + 1) (2 ^ 64 - 1) }
 
 -- the disk after a call: it is recorded where it has room, and a failure is counted
-abbrev pub after_call : Bool → Event → DiskInMemory → DiskInMemory
-after_call failed event disk =
+abbrev pub disk_after : Bool → Event → DiskInMemory → DiskInMemory
+disk_after failed event disk =
     record (if failed then faulted disk else disk) { done = if is_full disk then disk.done else event ∷ disk.done }
 
 -- the disk after its length was asked, or bytes were read
 abbrev pub after_look : DiskInMemory → DiskInMemory
-after_look disk = after_call (fails_next disk) idle disk
+after_look disk = disk_after (call_fails disk) idle disk
 
 -- the disk after a sync
 abbrev pub after_sync : DiskInMemory → DiskInMemory
-after_sync disk = after_call (fails_next disk) (if fails_next disk then idle else synced) disk
+after_sync disk = disk_after (call_fails disk) (if call_fails disk then idle else synced) disk
 
 -- the disk after a write
 abbrev pub after_write : ℕ → List ℕ → DiskInMemory → DiskInMemory
-after_write at bytes disk = after_call (write_fails disk at (length bytes)) (write_event disk at bytes) disk
+after_write at bytes disk = disk_after (write_fails disk at (length bytes)) (write_event disk at bytes) disk

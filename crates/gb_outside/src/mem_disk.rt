@@ -3,7 +3,7 @@ ghost use Rattle.std.specs.Prelude.{◌≡◌, ◌+◌, ◌≤◌, [], length, n
 ghost use Rattle.gb_outside.specs.Faults.{Counts};
 ghost use Rattle.gb_outside.specs.Images.{Only};
 ghost use Rattle.gb_outside.specs.Recorded.{idle, wrote, synced, overwritten};
-ghost use Rattle.gb_outside.specs.MemDisks.{file_of, bytes_written, is_full, is_due, fails_next, has_room, faulted, after_call, after_look};
+ghost use Rattle.gb_outside.specs.MemDisks.{file_of, bytes_written, is_full, is_due, call_fails, has_room_at, faulted, disk_after, after_look};
 
 use crate::calls::is_named;
 use crate::{Disk, DiskFailed};
@@ -127,14 +127,14 @@ impl MemDisk {
 
     // Whether there is room for a write of so many bytes at this offset.
     fn has_room(&self, at: usize, size: usize) -> bool
-        ensures { result ≡ has_room self.now at size }
+        ensures { result ≡ has_room_at self.now at size }
     {
         fits(at, size, self.longest) && fits(self.written.len(), size, self.most_written)
     }
 
     // Records a call that changes nothing, where there is room.
     fn idle(&mut self)
-        ensures { self.new ≡ after_call false idle self.old }
+        ensures { self.new ≡ disk_after false idle self.old }
     {
         if !self.is_full() {
             self.calls.push_reserved(Call::Idle);
@@ -144,7 +144,7 @@ impl MemDisk {
     // Records a sync that succeeded.
     fn synced(&mut self)
         requires { is_full self.old ≡ false }
-        ensures { self.new ≡ after_call false synced self.old }
+        ensures { self.new ≡ disk_after false synced self.old }
     {
         self.calls.push_reserved(Call::Sync);
     }
@@ -160,7 +160,7 @@ impl MemDisk {
 
     // A call that fails and does nothing.
     fn failed(&mut self) -> DiskFailed
-        ensures left { self.new ≡ after_call true idle self.old }
+        ensures left { self.new ≡ disk_after true idle self.old }
         ensures cause { Counts self.old.faults self.new.faults true }
     {
         self.idle();
@@ -173,7 +173,7 @@ impl MemDisk {
         requires file { at + length piece.now ≤ self.old.longest }
         requires written { bytes_written self.old.done + length piece.now ≤ self.old.most_written }
         requires calls { is_full self.old ≡ false }
-        ensures { self.new ≡ after_call false (wrote at size piece.now) self.old }
+        ensures { self.new ≡ disk_after false (wrote at size piece.now) self.old }
     {
         overwrite(&mut self.bytes, at, piece);
         self.written.extend_from_slice(piece).unwrap();
@@ -183,7 +183,7 @@ impl MemDisk {
 
     // A call that changes nothing.
     fn look(&mut self) -> Result<(), DiskFailed>
-        ensures fails { is_err result ≡ fails_next self.old }
+        ensures fails { is_err result ≡ call_fails self.old }
         ensures left { self.new ≡ after_look self.old }
         ensures cause { Counts self.old.faults self.new.faults (is_err result) }
     {
@@ -219,7 +219,7 @@ impl Disk for MemDisk {
     ghost use Rattle.std.specs.Prelude.{◌≡◌, ◌+◌, ◌≤◌, length, true, is_err};
     ghost use Rattle.gb_outside.specs.Faults.{Counts};
     ghost use Rattle.gb_outside.specs.Images.{Torn, Follows, NoneNew, Elapses, LenIs, ReadsAt, WritesAt, Syncs};
-    ghost use Rattle.gb_outside.specs.MemDisks.{file_of, images_of, moment_of, since_of, fails_next, write_fails, after_look, after_sync, after_write};
+    ghost use Rattle.gb_outside.specs.MemDisks.{file_of, images_of, moment_of, since_of, call_fails, write_fails, after_look, after_sync, after_write};
     ghost use Rattle.gb_outside.specs.inner.RecordedLaws.{image_no_longer, since_counts_now, since_only_now};
     ghost use Rattle.std.proofs.Common.{inl, refl};
 
@@ -245,7 +245,7 @@ impl Disk for MemDisk {
 
     fn len(&mut self) -> Result<u64, DiskFailed>
         ensures len { LenIs (file_of self.old) result }
-        ensures fails { is_err result ≡ fails_next self.old }
+        ensures fails { is_err result ≡ call_fails self.old }
         ensures left { self.new ≡ after_look self.old }
         ensures same { file_of self.new ≡ file_of self.old }
         ensures crash { NoneNew (images_of self.old) (images_of self.new) }
@@ -259,7 +259,7 @@ impl Disk for MemDisk {
     fn read_at(&mut self, at: u64, into: &mut [u8]) -> Result<(), DiskFailed>
         requires { at + length into.old ≤ length (file_of self.old) }
         ensures bytes { ReadsAt (file_of self.old) at result into.new }
-        ensures fails { is_err result ≡ fails_next self.old }
+        ensures fails { is_err result ≡ call_fails self.old }
         ensures left { self.new ≡ after_look self.old }
         ensures same { file_of self.new ≡ file_of self.old }
         ensures crash { NoneNew (images_of self.old) (images_of self.new) }
@@ -296,7 +296,7 @@ impl Disk for MemDisk {
 
     fn sync(&mut self) -> Result<(), DiskFailed>
         ensures durable { Syncs (file_of self.new) result (images_of self.new) }
-        ensures fails { is_err result ≡ fails_next self.old }
+        ensures fails { is_err result ≡ call_fails self.old }
         ensures left { self.new ≡ after_sync self.old }
         ensures same { file_of self.new ≡ file_of self.old }
         ensures crash { NoneNew (images_of self.old) (images_of self.new) }

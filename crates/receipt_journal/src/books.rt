@@ -19,7 +19,7 @@ use crate::lengths::is_short;
 use crate::records::take_records;
 use crate::{BookFault, Received};
 use act_codec::encode;
-use act_model::{Added, Item, Journal, Receipt, copy_item};
+use act_model::{Added, Item, Journal, Receipt};
 use gb_base::{NoMemory, ReceiptNo, Stamp};
 use gb_outside::Disk;
 use journal_disk::{AppendFault, Log, OpenFault};
@@ -187,7 +187,7 @@ impl Book {
             stamp: self.journal.next_stamp(stamp),
             sender,
             reference,
-            item: copy_item(item),
+            item: item.clone(),
         };
         encode(alloc, &receipt)
     }

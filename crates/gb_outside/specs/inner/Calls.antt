@@ -12,6 +12,7 @@ events_from (Write at size kept ∷ calls) written before =
     events_from calls (drop kept written) (wrote at size (take kept written) ∷ before)
 events_from (Sync ∷ calls) written before = events_from calls written (synced ∷ before)
 
+-- the calls of a record as events, the newest first
 abbrev pub events : List Call → List ℕ → List Event
 events calls written = events_from calls written []
 

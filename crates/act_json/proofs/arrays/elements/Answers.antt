@@ -1,4 +1,5 @@
-use Rattle.std.proofs.Common.{◌≡◌, ◌+◌, ◌<◌, ◌≤◌, List, length, decimal, sym, ap, ◌∙◌, arith}
+-- Answers on the elements of an array.
+use Rattle.std.proofs.Common.{sym, ap, arith}
 use Rattle.std.proofs.lemmas.Result.{on_err_weaker}
 use Rattle.act_json.proofs.Turns.{read_more, holds_at_ok, all_after_try_push}
 use Rattle.act_json.proofs.Narrow.{widest_element, count_in_array}

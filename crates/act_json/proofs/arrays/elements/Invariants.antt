@@ -1,3 +1,4 @@
+-- What the loop over the elements of an array keeps.
 use Rattle.std.specs.Prelude.{IsTrue}
 use Rattle.std.specs.List.{list_all}
 use Rattle.act_json.proofs.Turns.{ReadSoFar}

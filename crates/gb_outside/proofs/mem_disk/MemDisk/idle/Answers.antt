@@ -1,7 +1,7 @@
 -- Answers on a disk in memory.
 use Rattle.std.proofs.Common.{false, ap, sym, ◌∙◌, arith}
 use Rattle.gb_outside.specs.Recorded.{idle}
-use Rattle.gb_outside.specs.MemDisks.{is_full, after_call}
+use Rattle.gb_outside.specs.MemDisks.{is_full, disk_after}
 use Rattle.gb_outside.proofs.Record.{idle_more}
 use Rattle.gb_outside.proofs.MemDisks.{has_place, replayed_idle, recorded}
 use Rattle.gb_outside.proofs.mem_disk.MemDisk.idle.Goals as goal
@@ -19,4 +19,4 @@ invariant_of-self c =
 pub returns-then-not-is_full : goal.returns-then-not-is_full
 returns-then-not-is_full c =
     recorded idle _ _ (ap is_full c.self.view_is ∙ sym c.is_full.ensures ∙ c.if-not-is_full.true) (idle_more _ _ _ c.push_reserved.ensures.items)
-    ∙ ap (after_call false idle) c.self.view_is
+    ∙ ap (disk_after false idle) c.self.view_is

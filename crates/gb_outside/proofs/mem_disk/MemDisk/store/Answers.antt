@@ -1,7 +1,7 @@
 -- Answers on a disk in memory.
 use Rattle.std.proofs.Common.{◌≡◌, ◌+◌, ◌≤◌, ◌++◌, false, length, vec_capacity, ap, ◌∙◌, arith, rules}
 use Rattle.gb_outside.specs.Recorded.{wrote}
-use Rattle.gb_outside.specs.MemDisks.{is_full, after_call, bytes_written}
+use Rattle.gb_outside.specs.MemDisks.{is_full, disk_after, bytes_written}
 use Rattle.gb_outside.proofs.Record.{write_more, bytes_written_all}
 use Rattle.gb_outside.proofs.MemDisks.{has_place, replayed_write, recorded}
 use Rattle.gb_outside.proofs.mem_disk.MemDisk.store.Goals as goal
@@ -33,4 +33,4 @@ returns c =
     let longer : c.extend_from_slice.new.self.items ≡ c.self.inside.written.items ++ c.args.piece.now = search rules in
     recorded (wrote c.args.at c.args.size c.args.piece.now) _ _ (ap is_full c.self.view_is ∙ c.requires.calls)
     (write_more _ _ _ _ c.args.piece.now c.args.at c.args.size c.push_reserved.ensures.items longer c.self.invariant.3.all_written)
-    ∙ ap (after_call false (wrote c.args.at c.args.size c.args.piece.now)) c.self.view_is
+    ∙ ap (disk_after false (wrote c.args.at c.args.size c.args.piece.now)) c.self.view_is

@@ -1,7 +1,7 @@
 -- Answers on a disk in memory.
 use Rattle.std.proofs.Common.{false, ap, ◌∙◌, arith}
 use Rattle.gb_outside.specs.Recorded.{synced}
-use Rattle.gb_outside.specs.MemDisks.{is_full, after_call}
+use Rattle.gb_outside.specs.MemDisks.{is_full, disk_after}
 use Rattle.gb_outside.proofs.Record.{sync_more}
 use Rattle.gb_outside.proofs.MemDisks.{has_place, replayed_sync, recorded}
 use Rattle.gb_outside.proofs.mem_disk.MemDisk.synced.Goals as goal
@@ -19,4 +19,4 @@ invariant_of-self c =
 pub returns : goal.returns
 returns c =
     recorded synced _ _ (ap is_full c.self.view_is ∙ c.requires) (sync_more _ _ _ c.push_reserved.ensures.items)
-    ∙ ap (after_call false synced) c.self.view_is
+    ∙ ap (disk_after false synced) c.self.view_is

@@ -1,4 +1,4 @@
--- Words of private clauses.
+-- Names and sizes of JSON values.
 use Rattle.std.specs.Prelude.{ℕ, suc, max, List, Bool, bytes_eq}
 use Rattle.std.specs.List.{list_any}
 use Rattle.std.specs.Borrow.{Bor}
