@@ -4,7 +4,7 @@ use Rattle.std.specs.Char.{is_ascii_digit}
 use Rattle.jiff_core.specs.Calendar.{days_in_month, days_from_civil}
 use Rattle.serde_json.specs.Data.{Data}
 use Rattle.serde_json.specs.Find.{as_str}
-use Rattle.act_model.specs.WellFormed.{is_between}
+use Rattle.gb_base.specs.Limits.{is_between}
 use Rattle.act_json.specs.Reading.{Read, ◌>>=◌, ◌>>◌, wanted, wants}
 
 -- the number of this date, where the Gregorian calendar has it, from 1970-01-01 to 2199-12-31

@@ -4,7 +4,7 @@ use Rattle.std.specs.Str.{is_utf8}
 use Rattle.serde_json.specs.Data.{Data}
 use Rattle.serde_json.specs.Read.{read}
 use Rattle.gb_base.specs.DayMinute.{DayMinute}
-use Rattle.act_model.specs.WellFormed.{is_between}
+use Rattle.gb_base.specs.Limits.{is_between}
 use Rattle.act_model.specs.declared.items.Item.{Item}
 use Rattle.act_json.specs.declared.lines.LineFault.{LineFault}
 use Rattle.act_json.specs.declared.lines.LineFault.TheVariants.{NotJson, NotItem, Memory}

@@ -4,7 +4,7 @@ use Rattle.std.specs.List.{list_any}
 use Rattle.serde_json.specs.Data.{Data, Items, no_items, item, Members}
 use Rattle.serde_json.specs.Data as json
 use Rattle.serde_json.specs.Find.{get, as_number, as_u64, as_bool, as_str, as_array, as_object}
-use Rattle.act_model.specs.WellFormed.{is_between}
+use Rattle.gb_base.specs.Limits.{is_between}
 
 -- A value, or a path that leads on from where reading began: empty where that place itself is wrong.
 abbrev pub Read : Type 0 → Type 0

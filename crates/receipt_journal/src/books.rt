@@ -19,7 +19,7 @@ ghost use Rattle.receipt_journal.specs.Receiving.{in_journal, answer_on, is_acce
 use crate::records::take_records;
 use crate::{BookFault, Received};
 use act_codec::encode;
-use act_model::{Added, Item, Journal, Receipt, copy_item};
+use act_model::{Added, Item, Journal, Receipt};
 use gb_base::{NoMemory, ReceiptNo, Stamp};
 use gb_outside::Disk;
 use journal_disk::{AppendFault, Log, OpenFault};
@@ -177,7 +177,7 @@ impl Book {
             stamp: self.journal.next_stamp(stamp),
             sender,
             reference,
-            item: copy_item(item),
+            item: item.copy(),
         };
         encode(alloc, &receipt)
     }

@@ -6,7 +6,8 @@ use Rattle.std.proofs.lemmas.List.{length_push}
 use Rattle.std.proofs.lemmas.List.Sums.{AllPass-from_list_all}
 use Rattle.std.proofs.lemmas.Option.{get_or_from_slice_get}
 use Rattle.act_model.specs.Receiving.{IsJournal, receipt_at}
-use Rattle.act_model.specs.WellFormed.{is_act, is_doc, is_between, keeps_rules, well_formed}
+use Rattle.gb_base.specs.Limits.{is_between}
+use Rattle.act_model.specs.WellFormed.{is_act, is_doc, keeps_rules, well_formed}
 use Rattle.act_model.specs.declared.filing_acts.Act.{Act}
 use Rattle.act_model.specs.declared.items.Item.{Item}
 use Rattle.act_model.specs.declared.items.Item.TheVariants as item

@@ -2,7 +2,7 @@
 use Rattle.std.specs.Prelude.{ℕ, Bool, true, false, not, ◌&&◌, ◌==◌, nat_lt, if◌then◌else◌, List, [], ◌∷◌, ◌++◌, map, Option, Some, None}
 use Rattle.std.specs.List.{list_any, filter_map, flat_map, enumerate_from}
 use Rattle.gb_base.specs.declared.keys.Key.TheVariants.{Title, Right}
-use Rattle.act_model.specs.Acts.{folio_of, right_created, is_section_three}
+use Rattle.act_model.specs.Acts.{folio_of, right_created, is_in_division_three}
 use Rattle.act_model.specs.WellFormed.{share_group}
 use Rattle.act_model.specs.declared.filing_acts.Act.{Act}
 use Rattle.act_model.specs.declared.filing_acts.Act.TheVariants.{Open, Create}
@@ -33,7 +33,7 @@ abbrev pub folios_of_creations : List Act → List ℕ
 folios_of_creations acts = ascending (filter_map (λ act. folio_where (folio_of act) (right_created act)) acts)
 
 abbrev pub is_in_section : Bool → Option RightSpec → Bool
-is_in_section third (Some spec) = if third then is_section_three spec.kind else not (is_section_three spec.kind)
+is_in_section third (Some spec) = if third then is_in_division_three spec.kind else not (is_in_division_three spec.kind)
 is_in_section third None = false
 
 -- the acts create a right of section III, or else of section II, in the folio
@@ -80,7 +80,7 @@ content m receipt day entries acts k (Create folio spec reserve) =
         reserve = reserve;
         ahead_of = None;
         placed = day;
-        behind = behind_from (is_section_three spec.kind) day None (at entries (Title folio));
+        behind = behind_from (is_in_division_three spec.kind) day None (at entries (Title folio));
         equal = has_equal acts k (Create folio spec reserve);
       });
     } ∷ []

@@ -4,7 +4,7 @@ use Rattle.std.specs.List.{list_any, filter_map, flat_map}
 use Rattle.gb_base.specs.RightNo.{RightNo}
 use Rattle.gb_base.specs.declared.keys.Key.{Key}
 use Rattle.gb_base.specs.declared.keys.Key.TheVariants.{Title, Right, Case}
-use Rattle.act_model.specs.Acts.{is_section_three}
+use Rattle.act_model.specs.Acts.{is_in_division_three}
 use Rattle.registry_office.specs.Entries.{at, created_from}
 use Rattle.registry_office.specs.declared.entries.Created.{Created}
 use Rattle.registry_office.specs.declared.entries.Entry.{Entry}
@@ -60,7 +60,7 @@ is_behind m (Some filing) = nat_le m filing
 is_behind m None = false
 
 abbrev pub in_one_section : Created → Created → Bool
-in_one_section a b = if is_section_three a.spec.kind then is_section_three b.spec.kind else not (is_section_three b.spec.kind)
+in_one_section a b = if is_in_division_three a.spec.kind then is_in_division_three b.spec.kind else not (is_in_division_three b.spec.kind)
 
 -- Right x is ahead of right y. Within one filing the smaller group is (GBO § 45(3)). In one section the earlier place
 -- decides (BGB § 879(1)), in different sections the earlier day, and on one day x is ahead where y stands behind its filing.

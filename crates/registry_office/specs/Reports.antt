@@ -5,7 +5,7 @@ use Rattle.std.specs.Fmt.{decimal}
 use Rattle.gb_base.specs.Texts.{euro, right_text, date_text, section_text}
 use Rattle.gb_base.specs.declared.keys.Key.{Key}
 use Rattle.gb_base.specs.declared.keys.Key.TheVariants.{Title, Right, Case}
-use Rattle.act_model.specs.Acts.{is_section_three}
+use Rattle.act_model.specs.Acts.{is_in_division_three}
 use Rattle.act_model.specs.declared.land.Inventory.{Inventory}
 use Rattle.act_model.specs.declared.rights.RightKind.{RightKind}
 use Rattle.act_model.specs.declared.rights.RightKind.TheVariants as kind
@@ -52,7 +52,7 @@ kind_text (kind.Mortgage rate) = codes "mortgage"
 kind_text (kind.LandCharge rate) = codes "land-charge"
 
 abbrev pub section_of : RightKind → List ℕ
-section_of k = if is_section_three k then codes "III" else codes "II"
+section_of k = if is_in_division_three k then codes "III" else codes "II"
 
 abbrev pub rate_part : RightKind → List ℕ
 rate_part kind.PersonalEasement = []

@@ -2,7 +2,7 @@
 use Rattle.std.specs.Prelude.{ℕ, ◌+◌, ◌-◌, ◌*◌, Bool, ◌&&◌, if◌then◌else◌, List, [], ◌∷◌, length, codes, Option, Some, None}
 use Rattle.std.specs.List.{list_all}
 use Rattle.std.specs.Str.{bytes_eq}
-use Rattle.act_model.specs.WellFormed.{is_between}
+use Rattle.gb_base.specs.Limits.{is_between}
 use Rattle.registry_office.specs.declared.words.Command.{Command}
 use Rattle.registry_office.specs.declared.words.Command.TheVariants.{Settle, SettleLines}
 

@@ -1,6 +1,6 @@
 // What an act is about.
 ghost use Rattle.std.specs.Prelude.{◌≡◌};
-ghost use Rattle.act_model.specs.Acts.{folio_of, right_created, is_section_three};
+ghost use Rattle.act_model.specs.Acts.{folio_of, right_created, is_in_division_three};
 
 use act_model::{Act, RightKind, RightSpec};
 use gb_base::FolioId;
@@ -41,7 +41,7 @@ pub fn right_created(act: &Act) -> Option<RightSpec>
 
 /// Whether rights of this kind stand in section III of a folio, and not in section II.
 pub fn is_section_three(kind: RightKind) -> bool
-    ensures { result ≡ is_section_three kind }
+    ensures { result ≡ is_in_division_three kind }
 {
     match kind {
         RightKind::PersonalEasement => false,
