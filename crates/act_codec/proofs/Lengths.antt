@@ -18,7 +18,7 @@ use Rattle.act_model.specs.declared.items.Filing.{Filing}
 use Rattle.act_model.specs.declared.items.Item.{Item}
 use Rattle.act_model.specs.declared.items.Item.TheVariants as item
 use Rattle.act_model.specs.declared.receipts.Receipt.{Receipt}
-use Rattle.act_codec.specs.Spelling.{u16_bytes, u32_bytes, u64_bytes, counted, kind_bytes, reserve_bytes, act_bytes, form_bytes, doc_bytes, condition_bytes, filing_bytes, basis_bytes, what_bytes, item_bytes, spelling}
+use Rattle.act_codec.specs.Spelling.{u16_bytes, u32_bytes, u64_bytes, counted, kind_bytes, reserve_bytes, act_bytes, form_bytes, doc_bytes, condition_bytes, filing_bytes, basis_bytes, registration_bytes, item_bytes, spelling}
 use Rattle.act_codec.specs.Values.{IsAct, IsDoc, AreDocs, AreActs, IsFiling, IsItem, IsReceipt}
 
 u16_len : (n : ℕ) → length (u16_bytes n) ≡ 2
@@ -90,17 +90,17 @@ basis_len : (b : Basis) → length (basis_bytes b) ≤ 13
 basis_len (basis.Personal p c) = simp (length-append, u32_len, u64_len) (omega arith)
 basis_len (basis.FromRight r) = simp (length-append, u32_len) (omega arith)
 
-what_len : (w : Registration) → length (what_bytes w) ≤ 17
-what_len (registration.Advance p a) = simp (length-append, u32_len, u64_len) (omega arith)
-what_len (registration.PublicCharge p a d) = simp (length-append, u32_len, u64_len) (omega arith)
-what_len (registration.Arrears r f u) = simp (length-append, u32_len) (omega arith)
+registration_len : (w : Registration) → length (registration_bytes w) ≤ 17
+registration_len (registration.Advance p a) = simp (length-append, u32_len, u64_len) (omega arith)
+registration_len (registration.PublicCharge p a d) = simp (length-append, u32_len, u64_len) (omega arith)
+registration_len (registration.Arrears r f u) = simp (length-append, u32_len) (omega arith)
 
 item_len : (i : Item) → IsItem i → length (item_bytes i) ≤ 504
 item_len (item.Filing f) h = omega (arith, filing_len f h)
 item_len (item.Cure n ds) h = simp (length-append, u32_len) (omega (arith, docs_len ds h.1))
 item_len (item.Lapse n) h = omega (arith, u32_len n)
 item_len (item.Seize f b d) h = simp (length-append, u32_len) (omega (arith, basis_len b))
-item_len (item.Register f w) h = simp (length-append, u32_len) (omega (arith, what_len w))
+item_len (item.Register f w) h = simp (length-append, u32_len) (omega (arith, registration_len w))
 item_len (item.OpenBids f c) h = simp (length-append, u32_len, u64_len) (omega arith)
 item_len (item.Award f p b) h = simp (length-append, u32_len, u64_len) (omega arith)
 item_len (item.Distribute f) h = omega (arith, u32_len f)

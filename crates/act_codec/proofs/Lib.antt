@@ -1,3 +1,4 @@
+-- Lemmas.
 pub mod Again
 pub mod Lengths
 mod Loop

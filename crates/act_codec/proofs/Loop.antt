@@ -2,7 +2,7 @@
 use Rattle.std.proofs.Common.{◌≡◌, ℕ, suc, ◌+◌, ◌-◌, ◌<◌, List, [], ◌∷◌, ◌++◌, length, Option, Some, None, refl, sym, ap, ◌∙◌, append_assoc, arith}
 use Rattle.std.specs.List.{AllByRecursion, flat_map}
 use Rattle.std.proofs.lemmas.List.{append-nil, length_push}
-use Rattle.act_codec.specs.Reading.{◌>>=◌, times}
+use Rattle.act_codec.specs.inner.Reading.{◌>>=◌, read_times}
 
 -- what was read before, and what is still read
 abbrev pub with_front : {X : Type 0} → List X → Option (List X × List ℕ) → Option (List X × List ℕ)
@@ -10,7 +10,7 @@ with_front front read = read >>= λ x. Some (front ++ x.0, x.1)
 
 -- i of so many parts are read, and these bytes are left
 pub record SoFar {X : Type 0} (part_at : List ℕ → Option (X × List ℕ)) (spelled : X → List ℕ) (IsX : X → Type 0) (count i : ℕ) (start left : List ℕ) (xs : List X) : Type 0 where
-  pub read : with_front xs (times part_at (count - i) left) ≡ times part_at count start
+  pub read : with_front xs (read_times part_at (count - i) left) ≡ read_times part_at count start
   pub found : start ≡ flat_map spelled xs ++ left
   pub size : length xs ≡ i
   pub each : AllByRecursion IsX xs
@@ -31,8 +31,8 @@ module _ {X : Type 0} (part_at : List ℕ → Option (X × List ℕ)) (spelled :
   pub so_far_more : (count i : ℕ) (start left after : List ℕ) (xs : List X) (x : X) → SoFar part_at spelled IsX count i start left xs → i < count → part_at left ≡ Some (x, after) → left ≡ spelled x ++ after → IsX x → SoFar part_at spelled IsX count (i + 1) start after (xs ++ x ∷ [])
   so_far_more count i start left after xs x so_far within read text fits =
       let k : count - i ≡ suc (count - (i + 1)) = omega arith in
-      let one : with_front xs (times part_at (count - i) left) ≡ with_front (xs ++ x ∷ []) (times part_at (count - (i + 1)) after) =
-      rw (k, read) (regroup xs x (times part_at (count - (i + 1)) after)) in
+      let one : with_front xs (read_times part_at (count - i) left) ≡ with_front (xs ++ x ∷ []) (read_times part_at (count - (i + 1)) after) =
+      rw (k, read) (regroup xs x (read_times part_at (count - (i + 1)) after)) in
       record {
         read = sym one ∙ so_far.read;
         found = so_far.found ∙ ap (λ bs. flat_map spelled xs ++ bs) text ∙ sym (append_assoc (flat_map spelled xs) (spelled x) after) ∙ ap (λ bs. bs ++ after) (sym (spelled_push xs x));
@@ -40,8 +40,8 @@ module _ {X : Type 0} (part_at : List ℕ → Option (X × List ℕ)) (spelled :
         each = each_push xs x so_far.each fits;
       }
 
-  pub so_far_fails : (count i : ℕ) (start left : List ℕ) (xs : List X) → SoFar part_at spelled IsX count i start left xs → i < count → part_at left ≡ None → times part_at count start ≡ None
+  pub so_far_fails : (count i : ℕ) (start left : List ℕ) (xs : List X) → SoFar part_at spelled IsX count i start left xs → i < count → part_at left ≡ None → read_times part_at count start ≡ None
   so_far_fails count i start left xs so_far within read =
       let k : count - i ≡ suc (count - (i + 1)) = omega arith in
-      let one : with_front xs (times part_at (count - i) left) ≡ None = rw (k, read) refl in
+      let one : with_front xs (read_times part_at (count - i) left) ≡ None = rw (k, read) refl in
       sym so_far.read ∙ one

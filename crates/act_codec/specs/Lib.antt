@@ -1,3 +1,4 @@
-pub mod Reading
+-- What contracts cite.
 pub mod Spelling
 pub mod Values
+pub mod inner

@@ -2,20 +2,22 @@
 ghost use Rattle.std.specs.Prelude.{◌≡◌, ◌≤◌, length, ◌++◌, OnOk};
 ghost use Rattle.std.specs.List.{AllByRecursion, flat_map};
 ghost use Rattle.std.specs.Option.{option_map};
+ghost use Rattle.gb_base.specs.Limits.{most_acts};
+ghost use Rattle.act_model.specs.Limits.{most_owners};
 ghost use Rattle.act_codec.specs.Spelling.{counted, u32_bytes, inventory_bytes, owners_bytes, act_bytes};
 ghost use Rattle.act_codec.specs.Values.{IsNumber, IsInventory, IsOwners, IsAct, AreActs};
-ghost use Rattle.act_codec.specs.Reading.{Gives, Found, FoundAct, times, counted_at, id_at, inventory_at, owners_at, open_at, transfer_at, create_at, notice_at, convert_at, assign_at, cancel_at, exchange_at, exercise_at, act_at};
+ghost use Rattle.act_codec.specs.inner.Reading.{Gives, Found, FoundAct, read_times, read_counted, read_id, read_inventory, read_owners, read_open, read_transfer, read_create, read_notice, read_convert, read_assign, read_cancel, read_exchange, read_exercise, read_act};
 
 use crate::reader::Reader;
-use crate::rights::{put_reserve, put_right, put_spec, reserve, right, spec};
+use crate::rights::{put_reserve, put_right, put_spec, read_reserve, read_right, read_spec};
 use crate::writer::Writer;
 use act_model::{Act, Acts, Inventory, Owners};
 use arrayvec::ArrayVec;
 use gb_base::{FolioId, NoMemory, Person};
 
-#[tactic(auto, unfolding(crate::specs::Reading::inventory_at))]
-fn inventory(from: &mut Reader) -> Option<Inventory>
-    ensures read { Gives result from.new (inventory_at from.old) }
+#[tactic(auto, unfolding(crate::specs::inner::Reading::read_inventory))]
+fn read_inventory(from: &mut Reader) -> Option<Inventory>
+    ensures read { Gives result from.new (read_inventory from.old) }
     ensures found { Found result from.old from.new inventory_bytes IsInventory }
 {
     Some(Inventory {
@@ -26,9 +28,10 @@ fn inventory(from: &mut Reader) -> Option<Inventory>
     })
 }
 
-fn persons(count: u8, from: &mut Reader) -> Option<ArrayVec<Person, 4>>
-    requires { count ≤ 4 }
-    ensures read { Gives (option_map (λ v. v.items) result) from.new (times id_at count from.old) }
+/// So many persons.
+fn read_persons(count: u8, from: &mut Reader) -> Option<ArrayVec<Person, 4>>
+    requires { count ≤ most_owners }
+    ensures read { Gives (option_map (λ v. v.items) result) from.new (read_times read_id count from.old) }
     ensures found { Found (option_map (λ v. v.items) result) from.old from.new (flat_map u32_bytes)
         (λ ps. (length ps ≡ count) × AllByRecursion IsNumber ps) }
 {
@@ -39,165 +42,167 @@ fn persons(count: u8, from: &mut Reader) -> Option<ArrayVec<Person, 4>>
     Some(persons)
 }
 
-#[tactic(auto, unfolding(crate::specs::Reading::owners_at))]
-fn owners(from: &mut Reader) -> Option<Owners>
-    ensures read { Gives result from.new (owners_at from.old) }
+#[tactic(auto, unfolding(crate::specs::inner::Reading::read_owners))]
+fn read_owners(from: &mut Reader) -> Option<Owners>
+    ensures read { Gives result from.new (read_owners from.old) }
     ensures found { Found result from.old from.new owners_bytes IsOwners }
 {
     let count = from.u8()?;
     if count > 4 {
         return None;
     }
-    Owners::new(persons(count, from)?)
+    Owners::new(read_persons(count, from)?)
 }
 
-#[tactic(auto, unfolding(crate::specs::Reading::open_at))]
-fn open(folio: FolioId, from: &mut Reader) -> Option<Act>
-    ensures read { Gives result from.new (open_at folio from.old) }
+#[tactic(auto, unfolding(crate::specs::inner::Reading::read_open))]
+fn read_open(folio: FolioId, from: &mut Reader) -> Option<Act>
+    ensures read { Gives result from.new (read_open folio from.old) }
     ensures found { FoundAct 1 folio result from.old from.new }
 {
     Some(Act::Open {
         folio,
-        inventory: inventory(from)?,
-        owners: owners(from)?,
+        inventory: read_inventory(from)?,
+        owners: read_owners(from)?,
     })
 }
 
-#[tactic(auto, unfolding(crate::specs::Reading::transfer_at))]
-fn transfer(folio: FolioId, from: &mut Reader) -> Option<Act>
-    ensures read { Gives result from.new (transfer_at folio from.old) }
+#[tactic(auto, unfolding(crate::specs::inner::Reading::read_transfer))]
+fn read_transfer(folio: FolioId, from: &mut Reader) -> Option<Act>
+    ensures read { Gives result from.new (read_transfer folio from.old) }
     ensures found { FoundAct 2 folio result from.old from.new }
 {
     Some(Act::Transfer {
         folio,
-        owners: owners(from)?,
+        owners: read_owners(from)?,
     })
 }
 
-#[tactic(auto, unfolding(crate::specs::Reading::create_at))]
-fn create(folio: FolioId, from: &mut Reader) -> Option<Act>
-    ensures read { Gives result from.new (create_at folio from.old) }
+#[tactic(auto, unfolding(crate::specs::inner::Reading::read_create))]
+fn read_create(folio: FolioId, from: &mut Reader) -> Option<Act>
+    ensures read { Gives result from.new (read_create folio from.old) }
     ensures found { FoundAct 3 folio result from.old from.new }
 {
     Some(Act::Create {
         folio,
-        spec: spec(from)?,
-        reserve: reserve(from)?,
+        spec: read_spec(from)?,
+        reserve: read_reserve(from)?,
     })
 }
 
-#[tactic(auto, unfolding(crate::specs::Reading::notice_at))]
-fn notice(folio: FolioId, from: &mut Reader) -> Option<Act>
-    ensures read { Gives result from.new (notice_at folio from.old) }
+#[tactic(auto, unfolding(crate::specs::inner::Reading::read_notice))]
+fn read_notice(folio: FolioId, from: &mut Reader) -> Option<Act>
+    ensures read { Gives result from.new (read_notice folio from.old) }
     ensures found { FoundAct 4 folio result from.old from.new }
 {
     Some(Act::NoticeFor {
         folio,
-        spec: spec(from)?,
+        spec: read_spec(from)?,
     })
 }
 
-#[tactic(auto, unfolding(crate::specs::Reading::convert_at))]
-fn convert(folio: FolioId, from: &mut Reader) -> Option<Act>
-    ensures read { Gives result from.new (convert_at folio from.old) }
+#[tactic(auto, unfolding(crate::specs::inner::Reading::read_convert))]
+fn read_convert(folio: FolioId, from: &mut Reader) -> Option<Act>
+    ensures read { Gives result from.new (read_convert folio from.old) }
     ensures found { FoundAct 5 folio result from.old from.new }
 {
     Some(Act::Convert {
         folio,
-        right: right(from)?,
+        right: read_right(from)?,
     })
 }
 
-#[tactic(auto, unfolding(crate::specs::Reading::assign_at))]
-fn assign(folio: FolioId, from: &mut Reader) -> Option<Act>
-    ensures read { Gives result from.new (assign_at folio from.old) }
+#[tactic(auto, unfolding(crate::specs::inner::Reading::read_assign))]
+fn read_assign(folio: FolioId, from: &mut Reader) -> Option<Act>
+    ensures read { Gives result from.new (read_assign folio from.old) }
     ensures found { FoundAct 6 folio result from.old from.new }
 {
     Some(Act::Assign {
         folio,
-        right: right(from)?,
+        right: read_right(from)?,
         holder: from.person()?,
     })
 }
 
-#[tactic(auto, unfolding(crate::specs::Reading::cancel_at))]
-fn cancel(folio: FolioId, from: &mut Reader) -> Option<Act>
-    ensures read { Gives result from.new (cancel_at folio from.old) }
+#[tactic(auto, unfolding(crate::specs::inner::Reading::read_cancel))]
+fn read_cancel(folio: FolioId, from: &mut Reader) -> Option<Act>
+    ensures read { Gives result from.new (read_cancel folio from.old) }
     ensures found { FoundAct 7 folio result from.old from.new }
 {
     Some(Act::Cancel {
         folio,
-        right: right(from)?,
+        right: read_right(from)?,
     })
 }
 
-#[tactic(auto, unfolding(crate::specs::Reading::exchange_at))]
-fn exchange(folio: FolioId, from: &mut Reader) -> Option<Act>
-    ensures read { Gives result from.new (exchange_at folio from.old) }
+#[tactic(auto, unfolding(crate::specs::inner::Reading::read_exchange))]
+fn read_exchange(folio: FolioId, from: &mut Reader) -> Option<Act>
+    ensures read { Gives result from.new (read_exchange folio from.old) }
     ensures found { FoundAct 8 folio result from.old from.new }
 {
     Some(Act::Exchange {
         folio,
-        recede: right(from)?,
-        rise: right(from)?,
+        recede: read_right(from)?,
+        rise: read_right(from)?,
     })
 }
 
-#[tactic(auto, unfolding(crate::specs::Reading::exercise_at))]
-fn exercise(folio: FolioId, from: &mut Reader) -> Option<Act>
-    ensures read { Gives result from.new (exercise_at folio from.old) }
+#[tactic(auto, unfolding(crate::specs::inner::Reading::read_exercise))]
+fn read_exercise(folio: FolioId, from: &mut Reader) -> Option<Act>
+    ensures read { Gives result from.new (read_exercise folio from.old) }
     ensures found { FoundAct 9 folio result from.old from.new }
 {
     Some(Act::Exercise {
         folio,
-        behind: right(from)?,
-        spec: spec(from)?,
+        behind: read_right(from)?,
+        spec: read_spec(from)?,
     })
 }
 
-#[tactic(auto, unfolding(crate::specs::Reading::act_at))]
-fn act(from: &mut Reader) -> Option<Act>
-    ensures read { Gives result from.new (act_at from.old) }
+#[tactic(auto, unfolding(crate::specs::inner::Reading::read_act))]
+fn read_act(from: &mut Reader) -> Option<Act>
+    ensures read { Gives result from.new (read_act from.old) }
     ensures found { Found result from.old from.new act_bytes IsAct }
 {
     let tag = from.u8()?;
     let folio = from.folio()?;
     match tag {
-        1 => open(folio, from),
-        2 => transfer(folio, from),
-        3 => create(folio, from),
-        4 => notice(folio, from),
-        5 => convert(folio, from),
-        6 => assign(folio, from),
-        7 => cancel(folio, from),
-        8 => exchange(folio, from),
-        9 => exercise(folio, from),
+        1 => read_open(folio, from),
+        2 => read_transfer(folio, from),
+        3 => read_create(folio, from),
+        4 => read_notice(folio, from),
+        5 => read_convert(folio, from),
+        6 => read_assign(folio, from),
+        7 => read_cancel(folio, from),
+        8 => read_exchange(folio, from),
+        9 => read_exercise(folio, from),
         _ => None,
     }
 }
 
-fn list(count: u8, from: &mut Reader) -> Option<ArrayVec<Act, 8>>
-    requires { count ≤ 8 }
-    ensures read { Gives (option_map (λ v. v.items) result) from.new (times act_at count from.old) }
+/// So many acts.
+fn read_list(count: u8, from: &mut Reader) -> Option<ArrayVec<Act, 8>>
+    requires { count ≤ most_acts }
+    ensures read { Gives (option_map (λ v. v.items) result) from.new (read_times read_act count from.old) }
     ensures found { Found (option_map (λ v. v.items) result) from.old from.new (flat_map act_bytes)
         (λ acts. (length acts ≡ count) × AllByRecursion IsAct acts) }
 {
     let mut acts = ArrayVec::new();
     for _ in 0..count {
-        acts.push(act(from)?);
+        acts.push(read_act(from)?);
     }
     Some(acts)
 }
 
-pub fn acts(from: &mut Reader) -> Option<Acts>
-    ensures read { Gives result from.new (counted_at 8 act_at from.old) }
+/// A count of at most eight, and so many acts.
+pub fn read_acts(from: &mut Reader) -> Option<Acts>
+    ensures read { Gives result from.new (read_counted most_acts read_act from.old) }
     ensures found { Found result from.old from.new (counted act_bytes) AreActs }
 {
     let count = from.u8()?;
     if count > 8 {
         return None;
     }
-    Some(Acts::new(list(count, from)?))
+    Some(Acts::new(read_list(count, from)?))
 }
 
 fn put_inventory(to: &mut Writer, inventory: Inventory) -> Result<(), NoMemory>
@@ -328,6 +333,7 @@ fn put_list(to: &mut Writer, acts: &[Act]) -> Result<(), NoMemory>
     Ok(())
 }
 
+/// Writes the count of the acts, and each.
 pub fn put_acts(to: &mut Writer, acts: &Acts) -> Result<(), NoMemory>
     ensures wrote { OnOk result (to.new ≡ to.old ++ counted act_bytes acts.now) }
     ensures held { OnOk result (AreActs acts.now) }

@@ -1,18 +1,18 @@
 // What a seizure rests on, and what is registered.
 ghost use Rattle.std.specs.Prelude.{◌≡◌, ◌++◌, OnOk};
-ghost use Rattle.act_codec.specs.Spelling.{basis_bytes, what_bytes};
+ghost use Rattle.act_codec.specs.Spelling.{basis_bytes, registration_bytes};
 ghost use Rattle.act_codec.specs.Values.{IsBasis, IsRegistration};
-ghost use Rattle.act_codec.specs.Reading.{Gives, Found, FoundTagged, personal_at, from_right_at, basis_at, advance_at, charge_at, arrears_at, what_at};
+ghost use Rattle.act_codec.specs.inner.Reading.{Gives, Found, FoundTagged, read_personal, read_from_right, read_basis, read_advance, read_charge, read_arrears, read_registration};
 
 use crate::reader::Reader;
-use crate::rights::{put_right, right};
+use crate::rights::{put_right, read_right};
 use crate::writer::Writer;
 use act_model::{Basis, Registration};
 use gb_base::NoMemory;
 
-#[tactic(auto, unfolding(crate::specs::Reading::personal_at))]
-fn personal(from: &mut Reader) -> Option<Basis>
-    ensures read { Gives result from.new (personal_at from.old) }
+#[tactic(auto, unfolding(crate::specs::inner::Reading::read_personal))]
+fn read_personal(from: &mut Reader) -> Option<Basis>
+    ensures read { Gives result from.new (read_personal from.old) }
     ensures found { FoundTagged 1 result from.old from.new basis_bytes IsBasis }
 {
     Some(Basis::Personal {
@@ -21,32 +21,33 @@ fn personal(from: &mut Reader) -> Option<Basis>
     })
 }
 
-#[tactic(auto, unfolding(crate::specs::Reading::from_right_at))]
-fn from_right(from: &mut Reader) -> Option<Basis>
-    ensures read { Gives result from.new (from_right_at from.old) }
+#[tactic(auto, unfolding(crate::specs::inner::Reading::read_from_right))]
+fn read_from_right(from: &mut Reader) -> Option<Basis>
+    ensures read { Gives result from.new (read_from_right from.old) }
     ensures found { FoundTagged 2 result from.old from.new basis_bytes IsBasis }
 {
     Some(Basis::FromRight {
-        right: right(from)?,
+        right: read_right(from)?,
     })
 }
 
-#[tactic(auto, unfolding(crate::specs::Reading::basis_at))]
-pub fn basis(from: &mut Reader) -> Option<Basis>
-    ensures read { Gives result from.new (basis_at from.old) }
+/// What a seizure rests on; None where none begins here.
+#[tactic(auto, unfolding(crate::specs::inner::Reading::read_basis))]
+pub fn read_basis(from: &mut Reader) -> Option<Basis>
+    ensures read { Gives result from.new (read_basis from.old) }
     ensures found { Found result from.old from.new basis_bytes IsBasis }
 {
     match from.u8()? {
-        1 => personal(from),
-        2 => from_right(from),
+        1 => read_personal(from),
+        2 => read_from_right(from),
         _ => None,
     }
 }
 
-#[tactic(auto, unfolding(crate::specs::Reading::advance_at))]
-fn advance(from: &mut Reader) -> Option<Registration>
-    ensures read { Gives result from.new (advance_at from.old) }
-    ensures found { FoundTagged 1 result from.old from.new what_bytes IsRegistration }
+#[tactic(auto, unfolding(crate::specs::inner::Reading::read_advance))]
+fn read_advance(from: &mut Reader) -> Option<Registration>
+    ensures read { Gives result from.new (read_advance from.old) }
+    ensures found { FoundTagged 1 result from.old from.new registration_bytes IsRegistration }
 {
     Some(Registration::Advance {
         person: from.person()?,
@@ -54,10 +55,10 @@ fn advance(from: &mut Reader) -> Option<Registration>
     })
 }
 
-#[tactic(auto, unfolding(crate::specs::Reading::charge_at))]
-fn charge(from: &mut Reader) -> Option<Registration>
-    ensures read { Gives result from.new (charge_at from.old) }
-    ensures found { FoundTagged 2 result from.old from.new what_bytes IsRegistration }
+#[tactic(auto, unfolding(crate::specs::inner::Reading::read_charge))]
+fn read_charge(from: &mut Reader) -> Option<Registration>
+    ensures read { Gives result from.new (read_charge from.old) }
+    ensures found { FoundTagged 2 result from.old from.new registration_bytes IsRegistration }
 {
     Some(Registration::PublicCharge {
         person: from.person()?,
@@ -66,31 +67,33 @@ fn charge(from: &mut Reader) -> Option<Registration>
     })
 }
 
-#[tactic(auto, unfolding(crate::specs::Reading::arrears_at))]
-fn arrears(from: &mut Reader) -> Option<Registration>
-    ensures read { Gives result from.new (arrears_at from.old) }
-    ensures found { FoundTagged 3 result from.old from.new what_bytes IsRegistration }
+#[tactic(auto, unfolding(crate::specs::inner::Reading::read_arrears))]
+fn read_arrears(from: &mut Reader) -> Option<Registration>
+    ensures read { Gives result from.new (read_arrears from.old) }
+    ensures found { FoundTagged 3 result from.old from.new registration_bytes IsRegistration }
 {
     Some(Registration::Arrears {
-        right: right(from)?,
+        right: read_right(from)?,
         from: from.day()?,
         until: from.day()?,
     })
 }
 
-#[tactic(auto, unfolding(crate::specs::Reading::what_at))]
-pub fn what(from: &mut Reader) -> Option<Registration>
-    ensures read { Gives result from.new (what_at from.old) }
-    ensures found { Found result from.old from.new what_bytes IsRegistration }
+/// What is registered; None where none begins here.
+#[tactic(auto, unfolding(crate::specs::inner::Reading::read_registration))]
+pub fn read_registration(from: &mut Reader) -> Option<Registration>
+    ensures read { Gives result from.new (read_registration from.old) }
+    ensures found { Found result from.old from.new registration_bytes IsRegistration }
 {
     match from.u8()? {
-        1 => advance(from),
-        2 => charge(from),
-        3 => arrears(from),
+        1 => read_advance(from),
+        2 => read_charge(from),
+        3 => read_arrears(from),
         _ => None,
     }
 }
 
+/// Writes what a seizure rests on.
 pub fn put_basis(to: &mut Writer, basis: Basis) -> Result<(), NoMemory>
     ensures wrote { OnOk result (to.new ≡ to.old ++ basis_bytes basis) }
     ensures held { OnOk result (IsBasis basis) }
@@ -110,11 +113,12 @@ pub fn put_basis(to: &mut Writer, basis: Basis) -> Result<(), NoMemory>
     }
 }
 
-pub fn put_what(to: &mut Writer, what: Registration) -> Result<(), NoMemory>
-    ensures wrote { OnOk result (to.new ≡ to.old ++ what_bytes what) }
-    ensures held { OnOk result (IsRegistration what) }
+/// Writes what is registered.
+pub fn put_registration(to: &mut Writer, registration: Registration) -> Result<(), NoMemory>
+    ensures wrote { OnOk result (to.new ≡ to.old ++ registration_bytes registration) }
+    ensures held { OnOk result (IsRegistration registration) }
 {
-    match what {
+    match registration {
         Registration::Advance { person, amount } => {
             to.u8(1)?;
             to.person(person)?;

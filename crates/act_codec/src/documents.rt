@@ -2,9 +2,10 @@
 ghost use Rattle.std.specs.Prelude.{◌≡◌, ◌≤◌, length, ◌++◌, OnOk};
 ghost use Rattle.std.specs.List.{AllByRecursion, flat_map};
 ghost use Rattle.std.specs.Option.{option_map};
+ghost use Rattle.act_model.specs.Limits.{most_docs};
 ghost use Rattle.act_codec.specs.Spelling.{counted, form_bytes, doc_bytes};
-ghost use Rattle.act_codec.specs.Values.{IsForm, IsDoc, AreDocs};
-ghost use Rattle.act_codec.specs.Reading.{Gives, Found, FoundDoc, times, counted_at, form_at, consent_at, doc_at};
+ghost use Rattle.act_codec.specs.Values.{IsDoc, AreDocs};
+ghost use Rattle.act_codec.specs.inner.Reading.{Gives, Found, FoundDoc, IsAny, read_times, read_counted, read_form, read_consent, read_doc};
 
 use crate::reader::Reader;
 use crate::writer::Writer;
@@ -12,10 +13,10 @@ use act_model::{Doc, Docs, Form};
 use arrayvec::ArrayVec;
 use gb_base::NoMemory;
 
-#[tactic(auto, unfolding(crate::specs::Reading::form_at))]
-fn form(from: &mut Reader) -> Option<Form>
-    ensures read { Gives result from.new (form_at from.old) }
-    ensures found { Found result from.old from.new form_bytes IsForm }
+#[tactic(auto, unfolding(crate::specs::inner::Reading::read_form))]
+fn read_form(from: &mut Reader) -> Option<Form>
+    ensures read { Gives result from.new (read_form from.old) }
+    ensures found { Found result from.old from.new form_bytes IsAny }
 {
     match from.u8()? {
         1 => Some(Form::Certified),
@@ -24,27 +25,27 @@ fn form(from: &mut Reader) -> Option<Form>
     }
 }
 
-#[tactic(auto, unfolding(crate::specs::Reading::consent_at))]
-fn consent(act: u8, from: &mut Reader) -> Option<Doc>
-    ensures read { Gives result from.new (consent_at act from.old) }
+#[tactic(auto, unfolding(crate::specs::inner::Reading::read_consent))]
+fn read_consent(act: u8, from: &mut Reader) -> Option<Doc>
+    ensures read { Gives result from.new (read_consent act from.old) }
     ensures found { FoundDoc 1 act result from.old from.new }
 {
     Some(Doc::Consent {
         act,
         person: from.person()?,
-        form: form(from)?,
+        form: read_form(from)?,
     })
 }
 
-#[tactic(auto, unfolding(crate::specs::Reading::doc_at))]
-fn doc(from: &mut Reader) -> Option<Doc>
-    ensures read { Gives result from.new (doc_at from.old) }
+#[tactic(auto, unfolding(crate::specs::inner::Reading::read_doc))]
+fn read_doc(from: &mut Reader) -> Option<Doc>
+    ensures read { Gives result from.new (read_doc from.old) }
     ensures found { Found result from.old from.new doc_bytes IsDoc }
 {
     let tag = from.u8()?;
     let act = from.u8()?;
     match tag {
-        1 => consent(act, from),
+        1 => read_consent(act, from),
         2 => Some(Doc::Agreement { act }),
         3 => Some(Doc::TaxClearance { act }),
         4 => Some(Doc::ExpiryProof { act }),
@@ -52,33 +53,34 @@ fn doc(from: &mut Reader) -> Option<Doc>
     }
 }
 
-fn list(count: u8, from: &mut Reader) -> Option<ArrayVec<Doc, 32>>
-    requires { count ≤ 32 }
-    ensures read { Gives (option_map (λ v. v.items) result) from.new (times doc_at count from.old) }
+/// So many documents.
+fn read_list(count: u8, from: &mut Reader) -> Option<ArrayVec<Doc, 32>>
+    requires { count ≤ most_docs }
+    ensures read { Gives (option_map (λ v. v.items) result) from.new (read_times read_doc count from.old) }
     ensures found { Found (option_map (λ v. v.items) result) from.old from.new (flat_map doc_bytes)
         (λ docs. (length docs ≡ count) × AllByRecursion IsDoc docs) }
 {
     let mut docs = ArrayVec::new();
     for _ in 0..count {
-        docs.push(doc(from)?);
+        docs.push(read_doc(from)?);
     }
     Some(docs)
 }
 
-pub fn docs(from: &mut Reader) -> Option<Docs>
-    ensures read { Gives result from.new (counted_at 32 doc_at from.old) }
+/// A count of at most 32, and so many documents.
+pub fn read_docs(from: &mut Reader) -> Option<Docs>
+    ensures read { Gives result from.new (read_counted most_docs read_doc from.old) }
     ensures found { Found result from.old from.new (counted doc_bytes) AreDocs }
 {
     let count = from.u8()?;
     if count > 32 {
         return None;
     }
-    Some(Docs::new(list(count, from)?))
+    Some(Docs::new(read_list(count, from)?))
 }
 
 fn put_form(to: &mut Writer, form: Form) -> Result<(), NoMemory>
     ensures wrote { OnOk result (to.new ≡ to.old ++ form_bytes form) }
-    ensures held { OnOk result (IsForm form) }
 {
     match form {
         Form::Certified => to.u8(1),
@@ -126,6 +128,7 @@ fn put_list(to: &mut Writer, docs: &[Doc]) -> Result<(), NoMemory>
     Ok(())
 }
 
+/// Writes the count of the documents, and each.
 pub fn put_docs(to: &mut Writer, docs: &Docs) -> Result<(), NoMemory>
     ensures wrote { OnOk result (to.new ≡ to.old ++ counted doc_bytes docs.now) }
     ensures held { OnOk result (AreDocs docs.now) }

@@ -1,21 +1,21 @@
 // Items.
 ghost use Rattle.std.specs.Prelude.{◌≡◌, ◌++◌, OnOk};
 ghost use Rattle.act_codec.specs.Spelling.{condition_bytes, filing_bytes, item_bytes};
-ghost use Rattle.act_codec.specs.Values.{IsCondition, IsFiling, IsItem};
-ghost use Rattle.act_codec.specs.Reading.{Gives, Found, FoundTagged, condition_at, filing_at, filing_item_at, cure_at, lapse_at, seize_at, register_at, open_bids_at, award_at, distribute_at, item_at};
+ghost use Rattle.act_codec.specs.Values.{IsFiling, IsItem};
+ghost use Rattle.act_codec.specs.inner.Reading.{Gives, Found, FoundTagged, IsAny, read_condition, read_filing, read_filing_item, read_cure, read_lapse, read_seize, read_register, read_open_bids, read_award, read_distribute, read_item};
 
-use crate::acts::{acts, put_acts};
-use crate::auctions::{basis, put_basis, put_what, what};
-use crate::documents::{docs, put_docs};
+use crate::acts::{put_acts, read_acts};
+use crate::auctions::{put_basis, put_registration, read_basis, read_registration};
+use crate::documents::{put_docs, read_docs};
 use crate::reader::Reader;
 use crate::writer::Writer;
 use act_model::{Filing, Item};
 use gb_base::NoMemory;
 
-#[tactic(auto, unfolding(crate::specs::Reading::condition_at))]
-fn condition(from: &mut Reader) -> Option<bool>
-    ensures read { Gives result from.new (condition_at from.old) }
-    ensures found { Found result from.old from.new condition_bytes IsCondition }
+#[tactic(auto, unfolding(crate::specs::inner::Reading::read_condition))]
+fn read_condition(from: &mut Reader) -> Option<bool>
+    ensures read { Gives result from.new (read_condition from.old) }
+    ensures found { Found result from.old from.new condition_bytes IsAny }
 {
     match from.u8()? {
         0 => Some(false),
@@ -24,41 +24,41 @@ fn condition(from: &mut Reader) -> Option<bool>
     }
 }
 
-#[tactic(auto, unfolding(crate::specs::Reading::filing_at))]
-fn filing(from: &mut Reader) -> Option<Filing>
-    ensures read { Gives result from.new (filing_at from.old) }
+#[tactic(auto, unfolding(crate::specs::inner::Reading::read_filing))]
+fn read_filing(from: &mut Reader) -> Option<Filing>
+    ensures read { Gives result from.new (read_filing from.old) }
     ensures found { Found result from.old from.new filing_bytes IsFiling }
 {
     Some(Filing {
         applicant: from.person()?,
-        conditional: condition(from)?,
-        acts: acts(from)?,
-        docs: docs(from)?,
+        conditional: read_condition(from)?,
+        acts: read_acts(from)?,
+        docs: read_docs(from)?,
     })
 }
 
-#[tactic(auto, unfolding(crate::specs::Reading::filing_item_at))]
-fn filing_item(from: &mut Reader) -> Option<Item>
-    ensures read { Gives result from.new (filing_item_at from.old) }
+#[tactic(auto, unfolding(crate::specs::inner::Reading::read_filing_item))]
+fn read_filing_item(from: &mut Reader) -> Option<Item>
+    ensures read { Gives result from.new (read_filing_item from.old) }
     ensures found { FoundTagged 1 result from.old from.new item_bytes IsItem }
 {
-    Some(Item::Filing(filing(from)?))
+    Some(Item::Filing(read_filing(from)?))
 }
 
-#[tactic(auto, unfolding(crate::specs::Reading::cure_at))]
-fn cure(from: &mut Reader) -> Option<Item>
-    ensures read { Gives result from.new (cure_at from.old) }
+#[tactic(auto, unfolding(crate::specs::inner::Reading::read_cure))]
+fn read_cure(from: &mut Reader) -> Option<Item>
+    ensures read { Gives result from.new (read_cure from.old) }
     ensures found { FoundTagged 2 result from.old from.new item_bytes IsItem }
 {
     Some(Item::Cure {
         filing: from.receipt()?,
-        docs: docs(from)?,
+        docs: read_docs(from)?,
     })
 }
 
-#[tactic(auto, unfolding(crate::specs::Reading::lapse_at))]
-fn lapse(from: &mut Reader) -> Option<Item>
-    ensures read { Gives result from.new (lapse_at from.old) }
+#[tactic(auto, unfolding(crate::specs::inner::Reading::read_lapse))]
+fn read_lapse(from: &mut Reader) -> Option<Item>
+    ensures read { Gives result from.new (read_lapse from.old) }
     ensures found { FoundTagged 3 result from.old from.new item_bytes IsItem }
 {
     Some(Item::Lapse {
@@ -66,32 +66,32 @@ fn lapse(from: &mut Reader) -> Option<Item>
     })
 }
 
-#[tactic(auto, unfolding(crate::specs::Reading::seize_at))]
-fn seize(from: &mut Reader) -> Option<Item>
-    ensures read { Gives result from.new (seize_at from.old) }
+#[tactic(auto, unfolding(crate::specs::inner::Reading::read_seize))]
+fn read_seize(from: &mut Reader) -> Option<Item>
+    ensures read { Gives result from.new (read_seize from.old) }
     ensures found { FoundTagged 4 result from.old from.new item_bytes IsItem }
 {
     Some(Item::Seize {
         folio: from.folio()?,
-        basis: basis(from)?,
+        basis: read_basis(from)?,
         served: from.day()?,
     })
 }
 
-#[tactic(auto, unfolding(crate::specs::Reading::register_at))]
-fn register(from: &mut Reader) -> Option<Item>
-    ensures read { Gives result from.new (register_at from.old) }
+#[tactic(auto, unfolding(crate::specs::inner::Reading::read_register))]
+fn read_register(from: &mut Reader) -> Option<Item>
+    ensures read { Gives result from.new (read_register from.old) }
     ensures found { FoundTagged 5 result from.old from.new item_bytes IsItem }
 {
     Some(Item::Register {
         folio: from.folio()?,
-        what: what(from)?,
+        what: read_registration(from)?,
     })
 }
 
-#[tactic(auto, unfolding(crate::specs::Reading::open_bids_at))]
-fn open_bids(from: &mut Reader) -> Option<Item>
-    ensures read { Gives result from.new (open_bids_at from.old) }
+#[tactic(auto, unfolding(crate::specs::inner::Reading::read_open_bids))]
+fn read_open_bids(from: &mut Reader) -> Option<Item>
+    ensures read { Gives result from.new (read_open_bids from.old) }
     ensures found { FoundTagged 6 result from.old from.new item_bytes IsItem }
 {
     Some(Item::OpenBids {
@@ -100,9 +100,9 @@ fn open_bids(from: &mut Reader) -> Option<Item>
     })
 }
 
-#[tactic(auto, unfolding(crate::specs::Reading::award_at))]
-fn award(from: &mut Reader) -> Option<Item>
-    ensures read { Gives result from.new (award_at from.old) }
+#[tactic(auto, unfolding(crate::specs::inner::Reading::read_award))]
+fn read_award(from: &mut Reader) -> Option<Item>
+    ensures read { Gives result from.new (read_award from.old) }
     ensures found { FoundTagged 7 result from.old from.new item_bytes IsItem }
 {
     Some(Item::Award {
@@ -112,9 +112,9 @@ fn award(from: &mut Reader) -> Option<Item>
     })
 }
 
-#[tactic(auto, unfolding(crate::specs::Reading::distribute_at))]
-fn distribute(from: &mut Reader) -> Option<Item>
-    ensures read { Gives result from.new (distribute_at from.old) }
+#[tactic(auto, unfolding(crate::specs::inner::Reading::read_distribute))]
+fn read_distribute(from: &mut Reader) -> Option<Item>
+    ensures read { Gives result from.new (read_distribute from.old) }
     ensures found { FoundTagged 8 result from.old from.new item_bytes IsItem }
 {
     Some(Item::Distribute {
@@ -122,27 +122,27 @@ fn distribute(from: &mut Reader) -> Option<Item>
     })
 }
 
-#[tactic(auto, unfolding(crate::specs::Reading::item_at))]
-pub fn item(from: &mut Reader) -> Option<Item>
-    ensures read { Gives result from.new (item_at from.old) }
+/// An item; None where none begins here.
+#[tactic(auto, unfolding(crate::specs::inner::Reading::read_item))]
+pub fn read_item(from: &mut Reader) -> Option<Item>
+    ensures read { Gives result from.new (read_item from.old) }
     ensures found { Found result from.old from.new item_bytes IsItem }
 {
     match from.u8()? {
-        1 => filing_item(from),
-        2 => cure(from),
-        3 => lapse(from),
-        4 => seize(from),
-        5 => register(from),
-        6 => open_bids(from),
-        7 => award(from),
-        8 => distribute(from),
+        1 => read_filing_item(from),
+        2 => read_cure(from),
+        3 => read_lapse(from),
+        4 => read_seize(from),
+        5 => read_register(from),
+        6 => read_open_bids(from),
+        7 => read_award(from),
+        8 => read_distribute(from),
         _ => None,
     }
 }
 
 fn put_condition(to: &mut Writer, conditional: bool) -> Result<(), NoMemory>
     ensures wrote { OnOk result (to.new ≡ to.old ++ condition_bytes conditional) }
-    ensures held { OnOk result (IsCondition conditional) }
 {
     if conditional { to.u8(1) } else { to.u8(0) }
 }
@@ -158,6 +158,7 @@ fn put_filing(to: &mut Writer, filing: &Filing) -> Result<(), NoMemory>
     Ok(())
 }
 
+/// Writes an item.
 pub fn put_item(to: &mut Writer, item: &Item) -> Result<(), NoMemory>
     ensures wrote { OnOk result (to.new ≡ to.old ++ item_bytes item.now) }
     ensures held { OnOk result (IsItem item.now) }
@@ -193,7 +194,7 @@ pub fn put_item(to: &mut Writer, item: &Item) -> Result<(), NoMemory>
         Item::Register { folio, what } => {
             to.u8(5)?;
             to.folio(*folio)?;
-            put_what(to, *what)?;
+            put_registration(to, *what)?;
             Ok(())
         }
         Item::OpenBids { folio, costs } => {

@@ -1,8 +1,9 @@
+// Bytes that are read.
 ghost use Rattle.std.specs.Prelude.{◌≡◌, ◌==◌, ◌<◌, ◌^◌, length};
 ghost use Rattle.std.specs.Int.{w16, w32, w64};
 ghost use Rattle.act_codec.specs.Spelling.{u8_bytes, u16_bytes, u32_bytes, u64_bytes};
 ghost use Rattle.act_codec.specs.Values.{IsNumber, IsDay, IsCents};
-ghost use Rattle.act_codec.specs.Reading.{Gives, Found, u8_at, number_at, id_at, day_at, cents_at};
+ghost use Rattle.act_codec.specs.inner.Reading.{Gives, Found, read_u8, read_number, read_id, read_day, read_cents};
 
 use gb_base::{Cents, Day, FolioId, Person, ReceiptNo};
 use std::marker::Model;
@@ -36,8 +37,9 @@ impl<'a> Reader<'a> {
         self.left.is_empty()
     }
 
+    /// The next byte; None at the end.
     pub fn u8(&mut self) -> Option<u8>
-        ensures read { Gives result self.new (u8_at self.old) }
+        ensures read { Gives result self.new (read_u8 self.old) }
         ensures found { Found result self.old self.new u8_bytes (λ n. n < 2 ^ 8) }
     {
         let (first, rest) = self.left.split_first()?;
@@ -45,9 +47,10 @@ impl<'a> Reader<'a> {
         Some(*first)
     }
 
-    #[tactic(auto, unfolding(crate::specs::Reading::number_at, crate::specs::Spelling::u16_bytes))]
+    /// The number of the next two bytes; None where fewer are left.
+    #[tactic(auto, unfolding(crate::specs::inner::Reading::read_number, crate::specs::Spelling::u16_bytes))]
     pub fn u16(&mut self) -> Option<u16>
-        ensures read { Gives result self.new (number_at w16 self.old) }
+        ensures read { Gives result self.new (read_number w16 self.old) }
         ensures found { Found result self.old self.new u16_bytes (λ n. n < 2 ^ 16) }
     {
         match self.left {
@@ -59,9 +62,10 @@ impl<'a> Reader<'a> {
         }
     }
 
-    #[tactic(auto, unfolding(crate::specs::Reading::number_at, crate::specs::Spelling::u32_bytes))]
+    /// The number of the next four bytes; None where fewer are left.
+    #[tactic(auto, unfolding(crate::specs::inner::Reading::read_number, crate::specs::Spelling::u32_bytes))]
     pub fn u32(&mut self) -> Option<u32>
-        ensures read { Gives result self.new (number_at w32 self.old) }
+        ensures read { Gives result self.new (read_number w32 self.old) }
         ensures found { Found result self.old self.new u32_bytes (λ n. n < 2 ^ 32) }
     {
         match self.left {
@@ -73,9 +77,10 @@ impl<'a> Reader<'a> {
         }
     }
 
-    #[tactic(auto, unfolding(crate::specs::Reading::number_at, crate::specs::Spelling::u64_bytes))]
+    /// The number of the next eight bytes; None where fewer are left.
+    #[tactic(auto, unfolding(crate::specs::inner::Reading::read_number, crate::specs::Spelling::u64_bytes))]
     pub fn u64(&mut self) -> Option<u64>
-        ensures read { Gives result self.new (number_at w64 self.old) }
+        ensures read { Gives result self.new (read_number w64 self.old) }
         ensures found { Found result self.old self.new u64_bytes (λ n. n < 2 ^ 64) }
     {
         match self.left {
@@ -87,41 +92,46 @@ impl<'a> Reader<'a> {
         }
     }
 
-    #[tactic(auto, unfolding(crate::specs::Reading::id_at))]
+    /// A folio; None where none begins here.
+    #[tactic(auto, unfolding(crate::specs::inner::Reading::read_id))]
     pub fn folio(&mut self) -> Option<FolioId>
-        ensures read { Gives result self.new (id_at self.old) }
+        ensures read { Gives result self.new (read_id self.old) }
         ensures found { Found result self.old self.new u32_bytes IsNumber }
     {
         FolioId::new(self.u32()?)
     }
 
-    #[tactic(auto, unfolding(crate::specs::Reading::id_at))]
+    /// A person; None where none begins here.
+    #[tactic(auto, unfolding(crate::specs::inner::Reading::read_id))]
     pub fn person(&mut self) -> Option<Person>
-        ensures read { Gives result self.new (id_at self.old) }
+        ensures read { Gives result self.new (read_id self.old) }
         ensures found { Found result self.old self.new u32_bytes IsNumber }
     {
         Person::new(self.u32()?)
     }
 
-    #[tactic(auto, unfolding(crate::specs::Reading::id_at))]
+    /// The number of a receipt; None where none begins here.
+    #[tactic(auto, unfolding(crate::specs::inner::Reading::read_id))]
     pub fn receipt(&mut self) -> Option<ReceiptNo>
-        ensures read { Gives result self.new (id_at self.old) }
+        ensures read { Gives result self.new (read_id self.old) }
         ensures found { Found result self.old self.new u32_bytes IsNumber }
     {
         ReceiptNo::new(self.u32()?)
     }
 
-    #[tactic(auto, unfolding(crate::specs::Reading::day_at))]
+    /// A day; None where none begins here.
+    #[tactic(auto, unfolding(crate::specs::inner::Reading::read_day))]
     pub fn day(&mut self) -> Option<Day>
-        ensures read { Gives result self.new (day_at self.old) }
+        ensures read { Gives result self.new (read_day self.old) }
         ensures found { Found result self.old self.new u32_bytes IsDay }
     {
         Day::new(self.u32()?)
     }
 
-    #[tactic(auto, unfolding(crate::specs::Reading::cents_at))]
+    /// An amount; None where none begins here.
+    #[tactic(auto, unfolding(crate::specs::inner::Reading::read_cents))]
     pub fn cents(&mut self) -> Option<Cents>
-        ensures read { Gives result self.new (cents_at self.old) }
+        ensures read { Gives result self.new (read_cents self.old) }
         ensures found { Found result self.old self.new u64_bytes IsCents }
     {
         Cents::new(self.u64()?)

@@ -2,25 +2,26 @@
 ghost use Rattle.std.specs.Prelude.{◌≡◌, ◌++◌, OnOk};
 ghost use Rattle.act_codec.specs.Spelling.{right_bytes, kind_bytes, spec_bytes, reserve_bytes};
 ghost use Rattle.act_codec.specs.Values.{IsRight, IsKind, IsSpec, IsReserve};
-ghost use Rattle.act_codec.specs.Reading.{Gives, Found, right_at, kind_at, spec_at, reserve_at};
+ghost use Rattle.act_codec.specs.inner.Reading.{Gives, Found, read_right, read_kind, read_spec, read_reserve};
 
 use crate::reader::Reader;
 use crate::writer::Writer;
 use act_model::{RightKind, RightSpec};
 use gb_base::{Cents, NoMemory, RightId};
 
-#[tactic(auto, unfolding(crate::specs::Reading::right_at))]
-pub fn right(from: &mut Reader) -> Option<RightId>
-    ensures read { Gives result from.new (right_at from.old) }
+/// A right's number; None where none begins here.
+#[tactic(auto, unfolding(crate::specs::inner::Reading::read_right))]
+pub fn read_right(from: &mut Reader) -> Option<RightId>
+    ensures read { Gives result from.new (read_right from.old) }
     ensures found { Found result from.old from.new right_bytes IsRight }
 {
     let receipt = from.receipt()?;
     RightId::new(receipt, from.u8()?)
 }
 
-#[tactic(auto, unfolding(crate::specs::Reading::kind_at))]
-fn kind(from: &mut Reader) -> Option<RightKind>
-    ensures read { Gives result from.new (kind_at from.old) }
+#[tactic(auto, unfolding(crate::specs::inner::Reading::read_kind))]
+fn read_kind(from: &mut Reader) -> Option<RightKind>
+    ensures read { Gives result from.new (read_kind from.old) }
     ensures found { Found result from.old from.new kind_bytes IsKind }
 {
     match from.u8()? {
@@ -36,22 +37,24 @@ fn kind(from: &mut Reader) -> Option<RightKind>
     }
 }
 
-#[tactic(auto, unfolding(crate::specs::Reading::spec_at))]
-pub fn spec(from: &mut Reader) -> Option<RightSpec>
-    ensures read { Gives result from.new (spec_at from.old) }
+/// A right as an act describes it; None where none begins here.
+#[tactic(auto, unfolding(crate::specs::inner::Reading::read_spec))]
+pub fn read_spec(from: &mut Reader) -> Option<RightSpec>
+    ensures read { Gives result from.new (read_spec from.old) }
     ensures found { Found result from.old from.new spec_bytes IsSpec }
 {
     Some(RightSpec {
-        kind: kind(from)?,
+        kind: read_kind(from)?,
         capital: from.cents()?,
         holder: from.person()?,
         group: from.u8()?,
     })
 }
 
-#[tactic(auto, unfolding(crate::specs::Reading::reserve_at))]
-pub fn reserve(from: &mut Reader) -> Option<Option<Cents>>
-    ensures read { Gives result from.new (reserve_at from.old) }
+/// A reservation, or none; None where neither begins here.
+#[tactic(auto, unfolding(crate::specs::inner::Reading::read_reserve))]
+pub fn read_reserve(from: &mut Reader) -> Option<Option<Cents>>
+    ensures read { Gives result from.new (read_reserve from.old) }
     ensures found { Found result from.old from.new reserve_bytes IsReserve }
 {
     match from.u8()? {
@@ -61,6 +64,7 @@ pub fn reserve(from: &mut Reader) -> Option<Option<Cents>>
     }
 }
 
+/// Writes a right's number.
 pub fn put_right(to: &mut Writer, right: RightId) -> Result<(), NoMemory>
     ensures wrote { OnOk result (to.new ≡ to.old ++ right_bytes right) }
     ensures held { OnOk result (IsRight right) }
@@ -90,6 +94,7 @@ fn put_kind(to: &mut Writer, kind: RightKind) -> Result<(), NoMemory>
     }
 }
 
+/// Writes a right as an act describes it.
 pub fn put_spec(to: &mut Writer, spec: RightSpec) -> Result<(), NoMemory>
     ensures wrote { OnOk result (to.new ≡ to.old ++ spec_bytes spec) }
     ensures held { OnOk result (IsSpec spec) }
@@ -101,6 +106,7 @@ pub fn put_spec(to: &mut Writer, spec: RightSpec) -> Result<(), NoMemory>
     Ok(())
 }
 
+/// Writes a reservation, or that there is none.
 pub fn put_reserve(to: &mut Writer, reserve: Option<Cents>) -> Result<(), NoMemory>
     ensures wrote { OnOk result (to.new ≡ to.old ++ reserve_bytes reserve) }
     ensures held { OnOk result (IsReserve reserve) }

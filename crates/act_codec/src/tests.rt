@@ -2,7 +2,7 @@
 use crate::{decode, encode};
 use act_model::{
     Act, Acts, Basis, Doc, Docs, Filing, Form, Inventory, Item, Owners, Receipt, Registration,
-    RightKind, RightSpec, same_item, well_formed,
+    RightKind, RightSpec, well_formed,
 };
 use arrayvec::ArrayVec;
 use gb_base::{Cents, Day, FolioId, NoMemory, Person, ReceiptNo, RightId, Stamp};
@@ -83,7 +83,7 @@ fn is_spelled(stamp: Stamp, alloc: Global, item: Item, body: &[u8]) -> Result<bo
     };
     let bytes = encode(alloc, &receipt)?;
     let again = match decode(&bytes) {
-        Some(again) => again.stamp == stamp && same_item(&again.item, &receipt.item),
+        Some(again) => again.stamp == stamp && again.item == receipt.item,
         None => false,
     };
     let (head, rest) = match bytes.as_slice().split_first_chunk::<18>() {
@@ -111,7 +111,7 @@ fn a_lapse_of_23_bytes(rt: HostRuntime) -> Result<(), Fail> {
     };
     let found = decode(&bytes).ok_or("a receipt")?;
     assert!(rt; found.stamp == stamp(&rt) && found.sender == 1 && found.reference == 5);
-    assert!(rt; same_item(&found.item, &lapse));
+    assert!(rt; found.item == lapse);
     assert!(rt; decode(&bytes[..22]).is_none());
     bytes.push(0)?;
     assert!(rt; decode(&bytes).is_none());

@@ -1,3 +1,4 @@
+// Bytes that are written.
 ghost use Rattle.std.specs.Prelude.{◌≡◌, ◌<◌, ◌^◌, [], IfOk, ◌++◌, OnOk};
 ghost use Rattle.act_codec.specs.Spelling.{u8_bytes, u16_bytes, u32_bytes, u64_bytes};
 ghost use Rattle.act_codec.specs.Values.{IsNumber, IsDay, IsCents};
@@ -38,6 +39,7 @@ impl Writer {
         bytes
     }
 
+    /// Writes one byte.
     pub fn u8(&mut self, n: u8) -> Result<(), NoMemory>
         ensures wrote { OnOk result (self.new ≡ self.old ++ u8_bytes n) }
         ensures held { OnOk result (n < 2 ^ 8) }
@@ -46,6 +48,7 @@ impl Writer {
         Ok(())
     }
 
+    /// Writes two bytes.
     #[tactic(auto, unfolding(crate::specs::Spelling::u16_bytes))]
     pub fn u16(&mut self, n: u16) -> Result<(), NoMemory>
         ensures wrote { OnOk result (self.new ≡ self.old ++ u16_bytes n) }
@@ -54,6 +57,7 @@ impl Writer {
         self.bytes.extend_from_slice(&n.to_be_bytes())
     }
 
+    /// Writes four bytes.
     #[tactic(auto, unfolding(crate::specs::Spelling::u32_bytes))]
     pub fn u32(&mut self, n: u32) -> Result<(), NoMemory>
         ensures wrote { OnOk result (self.new ≡ self.old ++ u32_bytes n) }
@@ -62,6 +66,7 @@ impl Writer {
         self.bytes.extend_from_slice(&n.to_be_bytes())
     }
 
+    /// Writes eight bytes.
     #[tactic(auto, unfolding(crate::specs::Spelling::u64_bytes))]
     pub fn u64(&mut self, n: u64) -> Result<(), NoMemory>
         ensures wrote { OnOk result (self.new ≡ self.old ++ u64_bytes n) }
@@ -70,6 +75,7 @@ impl Writer {
         self.bytes.extend_from_slice(&n.to_be_bytes())
     }
 
+    /// Writes a folio.
     pub fn folio(&mut self, folio: FolioId) -> Result<(), NoMemory>
         ensures wrote { OnOk result (self.new ≡ self.old ++ u32_bytes folio) }
         ensures held { OnOk result (IsNumber folio) }
@@ -77,6 +83,7 @@ impl Writer {
         self.u32(folio.get())
     }
 
+    /// Writes a person.
     pub fn person(&mut self, person: Person) -> Result<(), NoMemory>
         ensures wrote { OnOk result (self.new ≡ self.old ++ u32_bytes person) }
         ensures held { OnOk result (IsNumber person) }
@@ -84,6 +91,7 @@ impl Writer {
         self.u32(person.get())
     }
 
+    /// Writes the number of a receipt.
     pub fn receipt(&mut self, receipt: ReceiptNo) -> Result<(), NoMemory>
         ensures wrote { OnOk result (self.new ≡ self.old ++ u32_bytes receipt) }
         ensures held { OnOk result (IsNumber receipt) }
@@ -91,6 +99,7 @@ impl Writer {
         self.u32(receipt.get())
     }
 
+    /// Writes a day.
     pub fn day(&mut self, day: Day) -> Result<(), NoMemory>
         ensures wrote { OnOk result (self.new ≡ self.old ++ u32_bytes day) }
         ensures held { OnOk result (IsDay day) }
@@ -98,6 +107,7 @@ impl Writer {
         self.u32(day.number())
     }
 
+    /// Writes an amount.
     pub fn cents(&mut self, cents: Cents) -> Result<(), NoMemory>
         ensures wrote { OnOk result (self.new ≡ self.old ++ u64_bytes cents) }
         ensures held { OnOk result (IsCents cents) }

@@ -1,6 +1,7 @@
 // The documents of a filing or a cure.
 ghost use Rattle.std.specs.Prelude.{◌≡◌, ◌≤◌, length, IfErr, IfOk, IsTrue};
-ghost use Rattle.act_model.specs.WellFormed.{is_doc, is_between};
+ghost use Rattle.gb_base.specs.Limits.{is_between};
+ghost use Rattle.act_model.specs.WellFormed.{is_doc};
 ghost use Rattle.act_json.specs.Grammar.{doc_called, read_consent, bare};
 ghost use Rattle.act_json.specs.inner.Helpers.{widest};
 ghost use Rattle.serde_json.specs.View.{view};

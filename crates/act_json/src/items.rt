@@ -46,7 +46,8 @@ impl FromJson for Acts {
     ghost use Rattle.std.specs.Prelude.{◌&&◌, length};
     ghost use Rattle.std.specs.List.{list_all};
     ghost use Rattle.act_json.specs.Grammar.{read_acts};
-    ghost use Rattle.act_model.specs.WellFormed.{is_act, is_between};
+    ghost use Rattle.gb_base.specs.Limits.{is_between};
+    ghost use Rattle.act_model.specs.WellFormed.{is_act};
 
     ghost reads = { read_acts };
 

@@ -1,6 +1,6 @@
 // Rights and owners.
 ghost use Rattle.std.specs.Prelude.{◌≡◌, ◌≤◌, List, ◌∷◌, [], length, map, codes, IfErr, IfOk, IsTrue};
-ghost use Rattle.act_model.specs.Acts.{is_section_three};
+ghost use Rattle.act_model.specs.Acts.{is_in_division_three};
 ghost use Rattle.act_model.specs.WellFormed.{is_right_spec, is_right_kind};
 ghost use Rattle.act_json.specs.Grammar.{rate, read_kind, read_spec, spec_names, is_charge};
 ghost use Rattle.act_json.specs.inner.Helpers.{widest};
@@ -75,7 +75,7 @@ pub(crate) fn spec(value: &Value, word: RightWord) -> Result<RightSpec, Path>
     ensures exact { result ≡ read_spec word (view value.now) }
     ensures short { IfErr result (λ path. length path ≤ 9) }
     ensures good { IfOk result (λ spec. IsTrue (is_right_spec spec)) }
-    ensures section { IfOk result (λ spec. is_section_three spec.kind ≡ is_charge word) }
+    ensures section { IfOk result (λ spec. is_in_division_three spec.kind ≡ is_charge word) }
 {
     let kind = kind(value, word)?;
     let capital = member(value, "capital")?;
@@ -94,7 +94,7 @@ fn kind(value: &Value, word: RightWord) -> Result<RightKind, Path>
     ensures exact { result ≡ read_kind word (view value.now) }
     ensures short { IfErr result (λ path. length path ≤ 4) }
     ensures good { IfOk result (λ kind. IsTrue (is_right_kind kind)) }
-    ensures section { IfOk result (λ kind. is_section_three kind ≡ is_charge word) }
+    ensures section { IfOk result (λ kind. is_in_division_three kind ≡ is_charge word) }
 {
     match word {
         RightWord::PersonalEasement => Ok(RightKind::PersonalEasement),

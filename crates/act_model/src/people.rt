@@ -62,6 +62,13 @@ impl Owners {
     {
         self.list.as_slice()
     }
+
+    /// A copy. Unlike `clone` of most types it takes no memory, and cannot fail.
+    pub fn copy(&self) -> Owners
+        ensures { result ≡ self.now }
+    {
+        self.clone().unwrap()
+    }
 }
 
 /// Whether no person is named twice.

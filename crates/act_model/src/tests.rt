@@ -1,3 +1,4 @@
+// Numbers, stamps, room and keys of small journals.
 use crate::{
     Act, Acts, Added, Docs, Filing, Inventory, Item, Journal, Owners, RightKind, RightSpec,
     filing_keys, well_formed,
@@ -74,6 +75,7 @@ fn one_number_acts_once(rt: HostRuntime) -> Result<(), Fail> {
     let item = lapse(&rt, 2);
     let other = lapse(&rt, 3);
     assert!(rt; well_formed(&item) && well_formed(&other));
+    assert!(rt; item.copy() == item && item != other);
     assert_eq!(rt;
         journal.add(stamp(&rt, 540), 1, 5, &item),
         Added::Accepted(receipt(&rt, 1))

@@ -2,7 +2,7 @@
 use crate::receipts::{MAX_LINE, receipt_of};
 use act_codec::{decode, encode};
 use act_json::{LineFault, read_item};
-use act_model::{Receipt, same_item};
+use act_model::Receipt;
 use anyhow::{Result, bail};
 use std::alloc::Global;
 use std::io::{self, BufWriter, Write};
@@ -70,5 +70,5 @@ fn is_same(a: &Receipt, b: &Receipt) -> bool {
     a.stamp == b.stamp
         && a.sender == b.sender
         && a.reference == b.reference
-        && same_item(&a.item, &b.item)
+        && a.item == b.item
 }

@@ -1,8 +1,6 @@
--- What is spelled so is read.
-use Rattle.std.proofs.Common.{ap, ◌∙◌}
-use Rattle.act_codec.specs.Reading.{whole}
-use Rattle.act_codec.proofs.Again.{whole_again}
+-- What is spelled so is read, so where nothing is read the bytes are no spelling.
+use Rattle.act_codec.proofs.Again.{none_spelled}
 use Rattle.act_codec.proofs.receipts.decode.Goals as goal
 
-pub returns-clause-only : goal.returns-clause-only
-returns-clause-only c = λ r is_receipt spelled. c.whole.ensures.read ∙ ap whole spelled ∙ whole_again r is_receipt
+pub returns-clause-none : goal.returns-clause-none
+returns-clause-none c = none_spelled c.args.bytes.now c.read_whole.result c.read_whole.ensures.read c.read_whole.ensures.found

@@ -1,8 +1,0 @@
-use Rattle.act_codec.specs.Spelling.{act_bytes}
-use Rattle.act_codec.specs.Values.{IsAct}
-use Rattle.act_codec.specs.Reading.{act_at}
-use Rattle.act_codec.proofs.Loop.{SoFar}
-use Rattle.act_codec.proofs.acts.list.Given as goal
-
-abbrev pub invariant-loop : goal.invariant-loop
-invariant-loop l = SoFar act_at act_bytes IsAct l.count l.counter l.fn.from l.from l.acts.items

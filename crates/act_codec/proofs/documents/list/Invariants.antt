@@ -1,8 +1,0 @@
-use Rattle.act_codec.specs.Spelling.{doc_bytes}
-use Rattle.act_codec.specs.Values.{IsDoc}
-use Rattle.act_codec.specs.Reading.{doc_at}
-use Rattle.act_codec.proofs.Loop.{SoFar}
-use Rattle.act_codec.proofs.documents.list.Given as goal
-
-abbrev pub invariant-loop : goal.invariant-loop
-invariant-loop l = SoFar doc_at doc_bytes IsDoc l.count l.counter l.fn.from l.from l.docs.items
