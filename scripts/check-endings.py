@@ -42,7 +42,7 @@ def check_length(look):
 def check_memory(look):
     """Where the system gives no memory for the report, the program says so."""
     before, _ = checks.journal_of_openings(20_000)
-    room = 8 * 2**20
+    room = 24 * 2**20
 
     def limit():
         resource.setrlimit(resource.RLIMIT_AS, (room, room))
@@ -51,7 +51,7 @@ def check_memory(look):
         with open(f"{folder}/{checks.JOURNAL}", "wb") as file:
             file.write(before)
         ran = checks.run(["settle", "--desks", "1"], folder, preexec_fn=limit)
-    look.same("a long journal in 8 MiB of memory", ran, (6, b"", b"out of memory\n"))
+    look.same("a long journal in 24 MiB of memory", ran, (6, b"", b"out of memory\n"))
 
 
 def main():

@@ -1,5 +1,5 @@
 -- Known bytes that a call keeps, and what a later call does to them.
-use Rattle.std.proofs.Common.{◌≡◌, ℕ, List, [], ◌∷◌, ◌++◌, ◌∙◌, refl, sym, ap}
+use Rattle.std.proofs.Common.{ℕ, List, [], ◌++◌, ◌∙◌, refl, sym, ap}
 use Rattle.std.proofs.lemmas.List.{append-nil}
 use Rattle.std.specs.Prelude.{Option, None, Some}
 use Rattle.std.specs.Io.KnownBytes.{Appends, Consumes, Keeps}

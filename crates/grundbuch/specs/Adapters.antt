@@ -1,5 +1,5 @@
 -- What the adapters of standard input and output do, over what their reader or writer tells.
-use Rattle.std.specs.Prelude.{◌≡◌, ℕ, ◌+◌, ◌-◌, ◌^◌, min, List, take, Option, Bool, true, false}
+use Rattle.std.specs.Prelude.{ℕ, ◌+◌, ◌-◌, ◌^◌, min, List, take, Option, Bool, true, false}
 use Rattle.std.specs.Io.KnownBytes.{Appends, Consumes, IsAtEnd, Keeps}
 use Rattle.gb_outside.specs.declared.streams.Got.{Got}
 use Rattle.gb_outside.specs.declared.streams.Got.TheVariants as got

@@ -1,3 +1,4 @@
+-- What holds between two frames.
 use Rattle.std.proofs.Common.{◌≡◌, ℕ, List, IsTrue, false}
 use Rattle.journal_disk.specs.Appending.{StandsOn}
 use Rattle.fill_journal.proofs.filling.fill.Given as goal
