@@ -11,6 +11,7 @@ use Rattle.act_model.specs.declared.items.Item.TheVariants as item
 use Rattle.act_model.specs.declared.rights.RightKind.{RightKind}
 use Rattle.act_model.specs.declared.rights.RightKind.TheVariants as kind
 
+-- the kind is a land charge
 abbrev pub is_land_charge : RightKind → Bool
 is_land_charge kind.PersonalEasement = false
 is_land_charge kind.Usufruct = false
@@ -23,14 +24,17 @@ is_built_act applicant (Open folio inventory (owner ∷ [])) = true
 is_built_act applicant (Create folio spec None) = is_land_charge spec.kind && not (spec.holder == applicant)
 is_built_act applicant act = false
 
+-- there is one act, and the office takes it today
 abbrev pub has_one_built_act : ℕ → List Act → Bool
 has_one_built_act applicant (act ∷ []) = is_built_act applicant act
 has_one_built_act applicant acts = false
 
+-- the form that is certified (GBO § 29)
 abbrev pub is_certified : Form → Bool
 is_certified Certified = true
 is_certified Plain = false
 
+-- the applicant's certified consent for act 1
 abbrev pub is_own_consent : ℕ → Doc → Bool
 is_own_consent applicant (Consent act person form) = act == 1 && person == applicant && is_certified form
 is_own_consent applicant doc = false
@@ -41,6 +45,7 @@ has_own_consent_at_most applicant [] = true
 has_own_consent_at_most applicant (doc ∷ []) = is_own_consent applicant doc
 has_own_consent_at_most applicant docs = false
 
+-- the office takes the item today
 abbrev pub is_built : Item → Bool
 is_built (item.Filing f) =
     not f.conditional && has_one_built_act f.applicant f.acts && has_own_consent_at_most f.applicant f.docs

@@ -15,10 +15,12 @@ use Rattle.registry_office.specs.declared.entries.What.TheVariants as what
 
 -- ---- the places of a filing, one a folio in which it creates (BGB § 879)
 
+-- the folio, where the act in it creates a right
 abbrev pub folio_where : ℕ → Option RightSpec → Option ℕ
 folio_where folio (Some spec) = Some folio
 folio_where folio None = None
 
+-- a folio in its place among ascending ones, once
 abbrev pub insert_folio : ℕ → List ℕ → List ℕ
 insert_folio f [] = f ∷ []
 insert_folio f (g ∷ gs) = if nat_lt f g then f ∷ g ∷ gs else (if f == g then g ∷ gs else g ∷ insert_folio f gs)
@@ -32,6 +34,7 @@ ascending (f ∷ fs) = insert_folio f (ascending fs)
 abbrev pub folios_of_creations : List Act → List ℕ
 folios_of_creations acts = ascending (filter_map (λ act. folio_where (folio_of act) (right_created act)) acts)
 
+-- a right that is created in division III, or else in division II
 abbrev pub is_in_division : Bool → Option RightSpec → Bool
 is_in_division third (Some spec) = if third then is_in_division_three spec.kind else not (is_in_division_three spec.kind)
 is_in_division third None = false
@@ -40,6 +43,7 @@ is_in_division third None = false
 abbrev pub create_in_division : Bool → ℕ → List Act → Bool
 create_in_division third folio acts = list_any (λ act. folio_of act == folio && is_in_division third (right_created act)) acts
 
+-- the place that filing m gets in a folio by this receipt on this day
 abbrev pub place : ℕ → ℕ → ℕ → List Act → ℕ → Entry
 place m receipt day acts folio = record {
   receipt = receipt;
@@ -57,6 +61,7 @@ behind_by third day e (what.Placed filing has_second has_third) before =
     if e.day == day && (if third then has_second else has_third) then Some filing else before
 behind_by third day e (what.Created created) before = before
 
+-- the filing that the last of these entries leaves as the one behind which a right stands
 abbrev pub behind_from : Bool → ℕ → Option ℕ → List Entry → Option ℕ
 behind_from third day before [] = before
 behind_from third day before (e ∷ es) = behind_from third day (behind_by third day e e.what before) es

@@ -23,11 +23,13 @@ abbrev pub some_act_from : List Act → (List Act → Act → Bool) → List Act
 some_act_from before test [] = false
 some_act_from before test (a ∷ acts) = test before a || some_act_from (before ++ a ∷ []) test acts
 
+-- the test holds for some act, given the acts before it
 abbrev pub some_act : (List Act → Act → Bool) → List Act → Bool
 some_act test acts = some_act_from [] test acts
 
 -- ---- the limit of 256 creating acts a folio
 
+-- the act creates a right in the folio
 abbrev pub creates_in : ℕ → Act → Bool
 creates_in folio act = is_some (right_created act) && folio_of act == folio
 
@@ -48,11 +50,13 @@ creating_place journal m before act =
     sum_by (λ r. creations_in (folio_of act) r.item) (take (m - 1) journal)
     + count_by (creates_in (folio_of act)) before + 1
 
+-- a creating act beyond the 256th of its folio
 abbrev pub is_beyond_limit : List Receipt → ℕ → List Act → Act → Bool
 is_beyond_limit journal m before act = is_some (right_created act) && nat_lt 256 (creating_place journal m before act)
 
 -- ---- GBO § 3: a folio is opened once, and before all else
 
+-- the act opens the folio
 abbrev pub opens : ℕ → Act → Bool
 opens folio (Open f inventory owners) = f == folio
 opens folio (Transfer f owners) = false
@@ -64,9 +68,11 @@ opens folio (Cancel f right) = false
 opens folio (Exchange f recede rise) = false
 opens folio (Exercise f behind spec) = false
 
+-- the folio is open, or opened by one of the acts before
 abbrev pub is_open_as_of : List Entry → List Act → ℕ → Bool
 is_open_as_of entries before folio = is_open entries folio || list_any (opens folio) before
 
+-- the act opens an open folio, or names one that is not open as of the act
 abbrev pub lacks_folio : List Entry → List Act → Act → Bool
 lacks_folio entries before (Open folio inventory owners) = is_open entries folio
 lacks_folio entries before (Transfer folio owners) = not (is_open_as_of entries before folio)
@@ -80,6 +86,7 @@ lacks_folio entries before (Exercise folio behind spec) = not (is_open_as_of ent
 
 -- ---- who is concerned by an act: by an opening and by the creation of a right, today
 
+-- the owners of a folio behind an act: those that it names, else those before
 abbrev pub owners_named : ℕ → Act → List ℕ → List ℕ
 owners_named folio (Open f inventory owners) before = if f == folio then owners else before
 owners_named folio (Transfer f owners) before = if f == folio then owners else before
@@ -114,11 +121,13 @@ applicants entries before (Create folio spec reserve) =
     owners_as_of (owners_of entries folio) before folio ++ spec.holder ∷ []
 applicants entries before act = []
 
+-- the applicant may not apply for the act (GBO § 13)
 abbrev pub may_not_apply : List Entry → ℕ → List Act → Act → Bool
 may_not_apply entries applicant before act = not (list_any (λ p. p == applicant) (applicants entries before act))
 
 -- ---- consents (GBO § 19); a document of an act that the filing does not have counts for none
 
+-- a consent of this person for act k, in either form
 abbrev pub is_consent_of : ℕ → ℕ → Doc → Bool
 is_consent_of k person (Consent act p form) = act == k && p == person
 is_consent_of k person (Agreement act) = false

@@ -1,4 +1,4 @@
--- The rights that stand in a folio, their order and rank, and the cents that they take in turn.
+-- The rights that are live in a folio, their order and rank, and the cents that they take in turn.
 use Rattle.std.specs.Prelude.{ℕ, zero, suc, ◌+◌, Bool, true, false, not, ◌&&◌, ◌||◌, ◌==◌, nat_lt, nat_le, if◌then◌else◌, List, [], ◌∷◌, ◌++◌, filter, replicate, Option, Some, None}
 use Rattle.std.specs.List.{list_any, filter_map, flat_map}
 use Rattle.gb_base.specs.RightNo.{RightNo}
@@ -11,36 +11,40 @@ use Rattle.registry_office.specs.declared.entries.Entry.{Entry}
 use Rattle.registry_office.specs.declared.entries.What.{What}
 use Rattle.registry_office.specs.declared.entries.What.TheVariants as what
 
--- a right that stands in a folio
+-- a right that is live in a folio
 pub record LiveRight : Type 0 where
   pub id : RightNo
   pub created : Created
 
 -- ---- in order of filing, group and act
 
+-- the numbers from 1 to n
 abbrev pub one_to : ℕ → List ℕ
 one_to zero = []
 one_to (suc n) = one_to n ++ suc n ∷ []
 
+-- the right of this number, where it was created and is of this group
 abbrev pub of_group : ℕ → RightNo → Option Created → List LiveRight
 of_group group id (Some created) =
     if created.spec.group == group then record { id = id; created = created } ∷ [] else []
 of_group group id None = []
 
--- the right that act k of filing m created, where it stands and is of this group
+-- the right that act k of filing m created, where it is live and of this group
 abbrev pub right_of : List Entry → ℕ → ℕ → ℕ → ℕ → List LiveRight
 right_of entries folio m group k =
     of_group group (record { receipt = m; act = k }) (created_from None (at entries (Right folio (record { receipt = m; act = k }))))
 
+-- the rights that filing m created in the folio, by group and act
 abbrev pub rights_of_filing : List Entry → ℕ → ℕ → List LiveRight
 rights_of_filing entries folio m = flat_map (λ group. flat_map (right_of entries folio m group) (one_to 8)) (one_to 8)
 
--- the rights that stand in the folio, of the filings up to number n
+-- the rights that are live in the folio, of the filings up to number n
 abbrev pub rights_in : List Entry → ℕ → ℕ → List LiveRight
 rights_in entries n folio = flat_map (rights_of_filing entries folio) (one_to n)
 
 -- ---- places (BGB § 879, GBO § 45)
 
+-- the filing whose place a content sets, if it sets one
 abbrev pub placed_by : What → List ℕ
 placed_by (what.Opened inventory owners) = []
 placed_by (what.Placed filing second third) = filing ∷ []
@@ -55,15 +59,17 @@ abbrev pub has_earlier_place : ℕ → ℕ → List ℕ → Bool
 has_earlier_place m n [] = false
 has_earlier_place m n (p ∷ ps) = if p == n then false else (if p == m then true else has_earlier_place m n ps)
 
+-- the right stands behind the place of filing m, or of a later one
 abbrev pub is_behind : ℕ → Option ℕ → Bool
 is_behind m (Some filing) = nat_le m filing
 is_behind m None = false
 
+-- both rights are of division II, or both of division III
 abbrev pub in_one_division : Created → Created → Bool
 in_one_division a b = if is_in_division_three a.spec.kind then is_in_division_three b.spec.kind else not (is_in_division_three b.spec.kind)
 
 -- Right x is ahead of right y. Within one filing the smaller group is (GBO § 45(3)). In one division the earlier place
--- decides (BGB § 879(1)), in different sections the earlier day, and on one day x is ahead where y stands behind its filing.
+-- decides (BGB § 879(1)), in different divisions the earlier day, and on one day x is ahead where y stands behind its filing.
 abbrev pub is_ahead : List ℕ → LiveRight → LiveRight → Bool
 is_ahead places x y =
     if x.id.receipt == y.id.receipt then nat_lt x.created.spec.group y.created.spec.group
@@ -74,6 +80,7 @@ is_ahead places x y =
 abbrev pub has_same_place : LiveRight → LiveRight → Bool
 has_same_place x y = x.id.receipt == y.id.receipt && x.created.spec.group == y.created.spec.group
 
+-- how many different places these rights have
 abbrev pub different_places : List LiveRight → ℕ
 different_places [] = 0
 different_places (x ∷ xs) = if list_any (has_same_place x) xs then different_places xs else different_places xs + 1
@@ -93,6 +100,7 @@ pub record Piece : Type 0 where
   pub owner : LiveRight
   pub cents : ℕ
 
+-- the pieces with one cent more at their front
 abbrev pub one_more_cent : LiveRight → List Piece → List Piece
 one_more_cent x [] = record { owner = x; cents = 1 } ∷ []
 one_more_cent x (p ∷ ps) =
@@ -103,13 +111,15 @@ abbrev pub pieces_of : List LiveRight → List Piece
 pieces_of [] = []
 pieces_of (x ∷ xs) = one_more_cent x (pieces_of xs)
 
--- ---- a register in which rights stand in the order of their entries
+-- ---- a register in which rights are entered in the order of their entries
 
+-- the right that a Created at this key creates in the folio
 abbrev pub live_right_at : ℕ → Created → Key → Option LiveRight
 live_right_at folio created (Title f) = None
 live_right_at folio created (Right f id) = if f == folio then Some (record { id = id; created = created }) else None
 live_right_at folio created (Case f) = None
 
+-- the right that an entry with this content creates in the folio
 abbrev pub live_right_by : ℕ → Entry → What → Option LiveRight
 live_right_by folio e (what.Opened inventory owners) = None
 live_right_by folio e (what.Placed filing second third) = None

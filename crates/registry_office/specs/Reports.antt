@@ -21,11 +21,13 @@ use Rattle.registry_office.specs.declared.verdicts.Verdict.TheVariants as verdic
 
 -- ---- verdict lines
 
+-- the words of a verdict
 abbrev pub verdict_text : Verdict → List ℕ
 verdict_text verdict.Entered = codes "entered"
 verdict_text (verdict.Rejected section) = codes "rejected " ++ section_text section
 verdict_text verdict.NotPending = codes "not pending"
 
+-- the verdict on receipt n, as a line
 abbrev pub verdict_line : ℕ → Verdict → List ℕ
 verdict_line n v = codes "receipt " ++ (decimal n ++ (codes " " ++ (verdict_text v ++ codes "\n")))
 
@@ -36,46 +38,56 @@ verdict_lines n (v ∷ vs) = verdict_line n v ++ verdict_lines (n + 1) vs
 
 -- ---- the extract of a folio
 
+-- the parcel, as a line; none where the folio is not open
 abbrev pub inventory_line : Option Inventory → List ℕ
 inventory_line None = []
 inventory_line (Some i) =
     codes "inventory district " ++ (decimal i.district ++ (codes " parcel " ++ (decimal i.parcel ++ (codes "/" ++ (decimal i.sub
     ++ (codes " area " ++ (decimal i.area ++ codes "\n")))))))
 
+-- the owners in the order of naming, as a line
 abbrev pub owners_line : List ℕ → List ℕ
 owners_line owners = codes "owners" ++ (flat_map (λ p. codes " " ++ decimal p) owners ++ codes "\n")
 
+-- the word for a kind of right
 abbrev pub kind_text : RightKind → List ℕ
 kind_text kind.PersonalEasement = codes "personal-easement"
 kind_text kind.Usufruct = codes "usufruct"
 kind_text (kind.Mortgage rate) = codes "mortgage"
 kind_text (kind.LandCharge rate) = codes "land-charge"
 
+-- the division of a folio in which rights of this kind stand
 abbrev pub division_of : RightKind → List ℕ
 division_of k = if is_in_division_three k then codes "III" else codes "II"
 
+-- the interest of a mortgage or a land charge, in hundredths of a percent a year
 abbrev pub rate_part : RightKind → List ℕ
 rate_part kind.PersonalEasement = []
 rate_part kind.Usufruct = []
 rate_part (kind.Mortgage rate) = codes " rate " ++ decimal rate
 rate_part (kind.LandCharge rate) = codes " rate " ++ decimal rate
 
+-- a right as such, or the priority notice for one (BGB § 883)
 abbrev pub form_text : RightForm → List ℕ
 form_text Full = codes "right"
 form_text Notice = codes "notice"
 
+-- the filing of the other division's place that the right stands behind, if any
 abbrev pub behind_part : Option ℕ → List ℕ
 behind_part None = []
 behind_part (Some filing) = codes " behind " ++ decimal filing
 
+-- another right of the filing and folio has the same group
 abbrev pub equal_part : Bool → List ℕ
 equal_part false = []
 equal_part true = codes " equal"
 
+-- the reservation of a better rank for a later right (BGB § 881), if any
 abbrev pub reserve_part : Option ℕ → List ℕ
 reserve_part None = []
 reserve_part (Some cents) = codes " reserve " ++ euro cents
 
+-- a right, as a line
 abbrev pub right_line : LiveRight → List ℕ
 right_line x =
     codes "right " ++ (right_text x.id ++ (codes " " ++ (division_of x.created.spec.kind ++ (codes " " ++ (form_text x.created.form
@@ -83,7 +95,7 @@ right_line x =
     ++ (codes " holder " ++ (decimal x.created.spec.holder ++ (codes " placed " ++ (date_text x.created.placed
     ++ (behind_part x.created.behind ++ (equal_part x.created.equal ++ (reserve_part x.created.reserve ++ codes "\n")))))))))))))))))
 
--- n is the number of receipts settled
+-- the extract of a folio, where n receipts are settled
 abbrev pub extract : List Entry → ℕ → ℕ → List ℕ
 extract entries n folio =
     codes "folio " ++ (decimal folio ++ (codes "\n" ++ (inventory_line (inventory_of entries folio)
@@ -91,6 +103,7 @@ extract entries n folio =
 
 -- ---- the rank table of a folio
 
+-- a right with its rank, as a line
 abbrev pub rank_line : List ℕ → List LiveRight → LiveRight → List ℕ
 rank_line places rights x =
     codes "rank " ++ (decimal (rank_of places rights x) ++ (codes " " ++ (right_text x.id ++ codes "\n")))
@@ -108,16 +121,19 @@ cent_lines rights from (p ∷ ps) =
     codes "cents " ++ (decimal from ++ (codes "-" ++ (decimal (from + p.cents - 1) ++ (codes " "
     ++ (owner_text (filter (has_same_place p.owner) rights) ++ (codes "\n" ++ cent_lines rights (from + p.cents) ps))))))
 
+-- the rank table of a folio with these places and rights
 abbrev pub rank_table_of : List ℕ → List LiveRight → ℕ → List ℕ
 rank_table_of places rights folio =
     codes "ranks " ++ (decimal folio ++ (codes "\n" ++ (flat_map (rank_line places rights) rights
     ++ cent_lines rights 1 (pieces_of (cent_line rights)))))
 
+-- the rank table of a folio, where n receipts are settled
 abbrev pub rank_table : List Entry → ℕ → ℕ → List ℕ
 rank_table entries n folio = rank_table_of (places_in entries folio) (rights_in entries n folio) folio
 
 -- ---- the report
 
+-- the folio that an opening entry stands in
 abbrev pub folio_of_title : Bool → Key → Option ℕ
 folio_of_title true (Title folio) = Some folio
 folio_of_title true (Right folio right) = None
@@ -128,6 +144,7 @@ folio_of_title false key = None
 abbrev pub open_folios : List Entry → List ℕ
 open_folios entries = ascending (filter_map (λ e. folio_of_title (is_opening e.what) e.key) entries)
 
+-- the extract and the rank table of each of these folios
 abbrev pub folio_texts : List Entry → ℕ → List ℕ → List ℕ
 folio_texts entries n folios = flat_map (λ folio. extract entries n folio ++ rank_table entries n folio) folios
 

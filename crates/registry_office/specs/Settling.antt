@@ -17,6 +17,7 @@ pub record Brought : Type 0 where
   pub entries : List Entry
   pub verdict : Verdict
 
+-- what a judgement brings: the entries of an entered filing, or none
 abbrev pub brought_by : Judgement → List Entry → Brought
 brought_by Enter entries = record { entries = entries; verdict = verdict.Entered }
 brought_by (Reject section) entries = record { entries = []; verdict = verdict.Rejected section }
@@ -32,12 +33,15 @@ pub record Settled : Type 0 where
   pub entries : List Entry
   pub verdicts : List Verdict
 
+-- no entry and no verdict
 abbrev pub nothing_settled : Settled
 nothing_settled = record { entries = []; verdicts = [] }
 
+-- the register and the verdicts with what one item more brings
 abbrev pub with_brought : Settled → Brought → Settled
 with_brought s b = record { entries = s.entries ++ b.entries; verdicts = s.verdicts ++ b.verdict ∷ [] }
 
+-- receipt i settled behind what stood before, where there is one
 abbrev pub settled_by : List Receipt → ℕ → Settled → Option Receipt → Settled
 settled_by journal i before (Some r) = with_brought before (brought journal i r.stamp.day before.entries r.item)
 settled_by journal i before None = before
