@@ -1,3 +1,4 @@
+-- Lemmas.
 pub mod Appends
 pub mod Blocks
 pub mod Existence

@@ -1,3 +1,4 @@
+-- What contracts cite.
 pub mod Appending
 pub mod FrameAt
 pub mod Layout

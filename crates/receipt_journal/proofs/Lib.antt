@@ -1,3 +1,4 @@
+-- Lemmas.
 pub mod Answering
 pub mod Fronts
 pub mod Openings

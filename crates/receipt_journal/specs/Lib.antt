@@ -1,3 +1,4 @@
+-- What contracts cite.
 pub mod BookState
 pub mod Opening
 pub mod Receiving

@@ -1,3 +1,4 @@
+-- Facts about the grounds for rejection.
 use Rattle.std.proofs.Common.{◌≡◌, ℕ, ◌+◌, ◌<◌, Bool, false, List, length, get_or, drop, refl, add-one, drop-cons}
 use Rattle.gb_base.specs.declared.sections.Section.{Section}
 use Rattle.registry_office.specs.Judging.{first_ground}

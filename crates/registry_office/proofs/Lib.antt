@@ -1,3 +1,4 @@
+-- Lemmas.
 pub mod Ascending
 pub mod AtKeys
 pub mod Brought

@@ -1,3 +1,4 @@
+-- What contracts cite.
 pub mod Entries
 pub mod Judging
 pub mod Entering

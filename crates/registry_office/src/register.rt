@@ -1,3 +1,4 @@
+// The register: the entries, and the verdict on each item settled.
 ghost use Rattle.std.specs.Prelude.{◌≡◌};
 
 use crate::entries::Entry;

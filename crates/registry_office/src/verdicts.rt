@@ -1,3 +1,4 @@
+// What becomes of an item.
 use gb_base::Section;
 
 /// What became of an item.
