@@ -20,7 +20,7 @@ use Rattle.journal_disk.specs.Layout.{frames as frames_of}
 use Rattle.journal_disk.proofs.FrameBytes.{length-frames-push}
 use Rattle.journal_disk.specs.Appending as frames
 use Rattle.receipt_journal.specs.Standing.{records, gate_behind, IsKeepable}
-use Rattle.receipt_journal.specs.Receiving.{file_size, next_receipt, in_journal, on_disk, is_accepted, answer_on, Answers, JournalWithOrWithout}
+use Rattle.receipt_journal.specs.Receiving.{file_size, next_receipt, in_journal, on_disk, is_received, answer_on, Answers, JournalWithOrWithout}
 use Rattle.receipt_journal.specs.declared.received.Received.TheVariants as received
 use Rattle.receipt_journal.proofs.Sizes.{has_room_next, records_size}
 use Rattle.receipt_journal.proofs.Standings.{stands_by_frames}
@@ -67,7 +67,7 @@ accepted_on_disk size (added.Differs n) fits = refl
 accepted_on_disk size added.Full fits = refl
 accepted_on_disk size added.Memory fits = refl
 
-as_accepted : (answer : Added) → is_accepted (in_journal answer) ≡ journals.is_accepted answer
+as_accepted : (answer : Added) → is_received (in_journal answer) ≡ journals.is_accepted answer
 as_accepted (added.Accepted n) = refl
 as_accepted (added.Repeated n) = refl
 as_accepted (added.Differs n) = refl
@@ -87,8 +87,8 @@ module _ (journal : List Receipt) (stamp : DayMinute) (sender reference : ℕ) (
   pub answers_kept : (answer : Added) → answer ≡ answer_to journal sender reference item → Answers (answer_on journal stamp sender reference item) (in_journal answer)
   answers_kept answer same = inl (ap in_journal same ∙ sym as_in_journal)
 
-  accepted_on : journals.is_accepted (answer_to journal sender reference item) ≡ true → is_accepted (answer_on journal stamp sender reference item) ≡ true
-  accepted_on accepts = ap is_accepted as_in_journal ∙ as_accepted (answer_to journal sender reference item) ∙ accepts
+  accepted_on : journals.is_accepted (answer_to journal sender reference item) ≡ true → is_received (answer_on journal stamp sender reference item) ≡ true
+  accepted_on accepts = ap is_received as_in_journal ∙ as_accepted (answer_to journal sender reference item) ∙ accepts
 
   pub answers_memory : journals.is_accepted (answer_to journal sender reference item) ≡ true → Answers (answer_on journal stamp sender reference item) received.Memory
   answers_memory accepts = inr (accepted_on accepts, inl refl)

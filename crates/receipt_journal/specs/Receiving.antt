@@ -40,14 +40,14 @@ answer_on journal stamp sender reference item =
     on_disk (file_size the_heading (journal ++ next_receipt journal stamp sender reference item ∷ [])) (answer_to journal sender reference item)
 
 -- whether the item was received
-abbrev pub is_accepted : Received → Bool
-is_accepted (received.Accepted n) = true
-is_accepted (received.Repeated n) = false
-is_accepted (received.Differs n) = false
-is_accepted received.Full = false
-is_accepted received.Disk = false
-is_accepted received.MustReopen = false
-is_accepted received.Memory = false
+abbrev pub is_received : Received → Bool
+is_received (received.Accepted n) = true
+is_received (received.Repeated n) = false
+is_received (received.Differs n) = false
+is_received received.Full = false
+is_received received.Disk = false
+is_received received.MustReopen = false
+is_received received.Memory = false
 
 -- whether a book answers that the disk failed
 abbrev pub receiving_failed : Received → Bool
@@ -61,12 +61,12 @@ receiving_failed received.Memory = false
 
 -- A book gives the answer expected; but where that accepts the item, want of memory may come instead, or a failure of the disk.
 abbrev pub Answers : Received → Received → Type 0
-Answers expected result = (result ≡ expected) ⊎ ((is_accepted expected ≡ true) × ((result ≡ received.Memory) ⊎ (result ≡ received.Disk)))
+Answers expected result = (result ≡ expected) ⊎ ((is_received expected ≡ true) × ((result ≡ received.Memory) ⊎ (result ≡ received.Disk)))
 
 -- the journal after this answer
 abbrev pub journal_after : List Receipt → DayMinute → ℕ → ℕ → Item → Received → List Receipt
 journal_after journal stamp sender reference item answer =
-    if is_accepted answer then journal ++ next_receipt journal stamp sender reference item ∷ [] else journal
+    if is_received answer then journal ++ next_receipt journal stamp sender reference item ∷ [] else journal
 
 -- the journal before, or it and the new receipt
 abbrev pub JournalWithOrWithout : List Receipt → Receipt → List ℕ → Type 0

@@ -13,7 +13,7 @@ ghost use Rattle.journal_disk.specs.Layout.{the_heading, IsBody, IsUnmade, made_
 ghost use Rattle.journal_disk.specs.Opening.{IsKept, AnswersSynced};
 ghost use Rattle.receipt_journal.specs.Standing.{AreRecordsTo, Stands};
 ghost use Rattle.receipt_journal.specs.Opening.{BookOpens, BookRefuses, book_opening_failed};
-ghost use Rattle.receipt_journal.specs.Receiving.{in_journal, answer_on, is_accepted, receiving_failed, Answers, journal_after, next_receipt, JournalWithOrWithout};
+ghost use Rattle.receipt_journal.specs.Receiving.{in_journal, answer_on, is_received, receiving_failed, Answers, journal_after, next_receipt, JournalWithOrWithout};
 
 use crate::lengths::is_short;
 use crate::records::take_records;
@@ -128,10 +128,10 @@ impl Book {
 
         // Only an accepted item changes the journal, and only `Disk` makes the book fail. Of the file the bytes of the new frame are written, and no others.
         ensures journal { self.new.journal ≡ journal_after self.old.journal stamp sender reference item.now result }
-        ensures unchanged { is_accepted result ≡ false → receiving_failed result ≡ false → self.new ≡ self.old }
-        ensures untouched { is_accepted result ≡ false → receiving_failed result ≡ false → disk.new ≡ disk.old }
+        ensures unchanged { is_received result ≡ false → receiving_failed result ≡ false → self.new ≡ self.old }
+        ensures untouched { is_received result ≡ false → receiving_failed result ≡ false → disk.new ≡ disk.old }
         ensures failed { self.new.log.failed ≡ (self.old.log.failed || receiving_failed result) }
-        ensures written { IsTrue D.tells → is_accepted result ≡ true
+        ensures written { IsTrue D.tells → is_received result ≡ true
             → Holds (D.reads disk.old) self.old.log.gate (appended (spelling (next_receipt self.old.journal stamp sender reference item.now))) (D.reads disk.new) }
         ensures stands { IsTrue D.tells → self.new.log.failed ≡ false → Stands self.new (D.reads disk.new) (D.images disk.new) }
         ensures any_moment { IsTrue D.tells → self.old.log.failed ≡ false
