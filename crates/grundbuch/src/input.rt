@@ -1,11 +1,13 @@
 // Standard input as the office's source.
+ghost use Rattle.std.specs.Prelude.{◌≢◌, IfErr};
 ghost use Rattle.std.specs.Io.{ReadsAtMost};
+ghost use Rattle.std.specs.IoError.{error_kind};
 ghost use Rattle.std.specs.Io.KnownBytes.{ReadConsumes};
 
 use crate::faults::counted;
 use gb_outside::{Got, Source};
 use std::io;
-use std::io::Read;
+use std::io::{ErrorKind, Read};
 
 /// Standard input, or any other reader, as the office's source. It does not tell the office its
 /// bytes, since standard input tells none; what a reader tells, it hands on.
@@ -57,14 +59,15 @@ impl<R: Read + Drop> Source for Input<R> {
 fn read_some<R: Read>(reader: &mut R, into: &mut [u8]) -> io::Result<usize>
     ensures bound { ReadsAtMost result into.new }
     ensures bytes { ReadConsumes (R.remaining reader.old) (R.remaining reader.new) result into.new }
+    ensures again { IfErr result (λ error. error_kind error ≢ ErrorKind.Interrupted) }
 {
     for _ in 0..u64::MAX {
         match reader.read(into) {
-            Err(error) if error.kind() == io::ErrorKind::Interrupted => {}
+            Err(error) if error.kind() == ErrorKind::Interrupted => {}
             answer => return answer,
         }
     }
-    Err(io::Error::from(io::ErrorKind::Interrupted))
+    Err(io::Error::from(ErrorKind::Other))
 }
 
 #[cfg(test)]

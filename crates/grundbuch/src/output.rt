@@ -1,12 +1,13 @@
 // Standard output as the office's sink.
-ghost use Rattle.std.specs.Prelude.{◌<◌, IfOk, length};
+ghost use Rattle.std.specs.Prelude.{◌<◌, ◌≢◌, IfErr, IfOk, length};
+ghost use Rattle.std.specs.IoError.{error_kind};
 ghost use Rattle.std.specs.Io.{WritesAtMost};
 ghost use Rattle.std.specs.Io.KnownBytes.{WriteAppends};
 
 use crate::faults::counted;
 use gb_outside::{Sink, Wrote};
 use std::io;
-use std::io::Write;
+use std::io::{ErrorKind, Write};
 
 /// Standard output, or any other writer, as the office's sink. It does not tell the office its
 /// bytes, since standard output tells none; what a writer tells, it holds.
@@ -58,15 +59,16 @@ fn write_some<W: Write>(writer: &mut W, piece: &[u8]) -> io::Result<usize>
     ensures bound { WritesAtMost result piece.now }
     ensures some { IfOk result (λ count. 0 < length piece.now → 0 < count) }
     ensures bytes { WriteAppends (W.contents writer.old) (W.contents writer.new) result piece.now }
+    ensures again { IfErr result (λ error. error_kind error ≢ ErrorKind.Interrupted) }
 {
     for _ in 0..u64::MAX {
         match writer.write(piece) {
-            Ok(0) if !piece.is_empty() => return Err(io::Error::from(io::ErrorKind::WriteZero)),
-            Err(error) if error.kind() == io::ErrorKind::Interrupted => {}
+            Ok(0) if !piece.is_empty() => return Err(io::Error::from(ErrorKind::WriteZero)),
+            Err(error) if error.kind() == ErrorKind::Interrupted => {}
             answer => return answer,
         }
     }
-    Err(io::Error::from(io::ErrorKind::Interrupted))
+    Err(io::Error::from(ErrorKind::Other))
 }
 
 #[cfg(test)]

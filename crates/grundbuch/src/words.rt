@@ -1,8 +1,10 @@
 // The words of the command line.
-ghost use Rattle.std.specs.Prelude.{◌≡◌, ◌⊎◌, IfErr};
+ghost use Rattle.std.specs.Prelude.{◌≡◌, ◌≢◌, ◌⊎◌, IfErr};
+ghost use Rattle.std.specs.IoError.{error_kind};
 ghost use Rattle.registry_office.specs.declared.statuses.Status.TheVariants.{Usage, Memory};
 
 use registry_office::Status;
+use std::io::ErrorKind;
 use std::rc::RcStr;
 use std::rt::Env;
 use std::{env, io};
@@ -30,10 +32,12 @@ pub fn words<R: Env + AllocGlobal>(rt: &R) -> Result<Vec<RcStr>, Status>
 }
 
 fn status_of(error: &io::Error) -> Status
-    ensures { (result ≡ Usage) ⊎ (result ≡ Memory) }
+    ensures either { (result ≡ Usage) ⊎ (result ≡ Memory) }
+    ensures usage { result ≡ Usage → error_kind error.now ≡ ErrorKind.InvalidData }
+    ensures memory { result ≡ Memory → error_kind error.now ≢ ErrorKind.InvalidData }
 {
     match error.kind() {
-        io::ErrorKind::InvalidData => Status::Usage,
+        ErrorKind::InvalidData => Status::Usage,
         _ => Status::Memory,
     }
 }
