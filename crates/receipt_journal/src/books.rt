@@ -187,7 +187,7 @@ impl Book {
             stamp: self.journal.next_stamp(stamp),
             sender,
             reference,
-            item: item.clone(),
+            item: item.copy(),
         };
         encode(alloc, &receipt)
     }

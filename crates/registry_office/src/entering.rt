@@ -142,7 +142,7 @@ fn content(
             key: Key::Title(*folio),
             what: What::Opened {
                 inventory: *inventory,
-                owners: owners.clone(),
+                owners: owners.copy(),
             },
         }),
         Act::Create {
