@@ -1,14 +1,19 @@
 -- Lemmas.
+pub mod Acknowledged
 pub mod Ascending
 pub mod AtKeys
+pub mod Blocks
 pub mod Brought
+pub mod BuiltJournals
 pub mod CentPieces
+pub mod Durable
 pub mod Grounds
 pub mod InOrder
-pub mod Inputs
-pub mod Pieces
-pub mod Settled
-pub mod Written
-pub mod BuiltJournals
-pub mod Whole
+pub mod LineRequests
 pub mod OnDisk
+pub mod OneRequest
+pub mod Replies
+pub mod SessionInputs
+pub mod Settled
+pub mod Whole
+pub mod Written

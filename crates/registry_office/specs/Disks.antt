@@ -6,8 +6,8 @@ use Rattle.journal_disk.specs.Layout.{IsForeign}
 use Rattle.journal_disk.specs.Opening.{SyncsFirst}
 use Rattle.receipt_journal.specs.Standing.{StandsForJournal, IsBadBehind, gate_behind}
 use Rattle.receipt_journal.specs.Opening.{BookRefuses}
-use Rattle.registry_office.specs.declared.stops.DiskStop.{DiskStop}
-use Rattle.registry_office.specs.declared.stops.DiskStop.TheVariants as stop
+use Rattle.registry_office.specs.declared.faults.SettlingFault.{SettlingFault}
+use Rattle.registry_office.specs.declared.faults.SettlingFault.TheVariants as settling
 use Rattle.registry_office.specs.declared.statuses.Status.{Status}
 use Rattle.registry_office.specs.declared.statuses.Status.TheVariants as status
 
@@ -16,10 +16,10 @@ abbrev pub IsJournalFile : List ℕ → Type 0
 IsJournalFile file = (journal : List Receipt) × StandsForJournal file journal
 
 -- what the end of work over a disk's journal says of the file that was found
-abbrev pub Finds : {A : Type 0} → List ℕ → Result A DiskStop → Type 0
+abbrev pub Finds : {A : Type 0} → List ℕ → Result A SettlingFault → Type 0
 Finds file (Ok value) = IsJournalFile file
-Finds file (Err (stop.Opening fault)) = BookRefuses file fault
-Finds file (Err (stop.Output output)) = IsJournalFile file
+Finds file (Err (settling.Opening fault)) = BookRefuses file fault
+Finds file (Err (settling.Output output)) = IsJournalFile file
 
 -- what a status says of the file that was found
 abbrev pub FindsBy : List ℕ → Status → Type 0

@@ -1,15 +1,18 @@
 -- What contracts cite.
-pub mod Entries
-pub mod Judging
-pub mod Entering
 pub mod Built
-pub mod Stops
+pub mod Disks
+pub mod Entering
+pub mod Entries
+pub mod Faults
+pub mod Grown
+pub mod Judging
 pub mod Lines
-pub mod Sessions
-pub mod Settling
+pub mod Outcomes
 pub mod Ranks
 pub mod Reports
-pub mod Words
-pub mod Outcomes
+pub mod Requests
+pub mod Sessions
+pub mod Settling
 pub mod Statuses
-pub mod Disks
+pub mod Words
+pub mod inner

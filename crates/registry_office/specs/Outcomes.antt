@@ -5,8 +5,10 @@ use Rattle.act_model.specs.declared.receipts.Receipt.{Receipt}
 use Rattle.receipt_journal.specs.Standing.{StandsForJournal}
 use Rattle.registry_office.specs.Built.{is_built}
 use Rattle.registry_office.specs.Reports.{report}
-use Rattle.registry_office.specs.Sessions.{lines_of, replies, journal_after}
+use Rattle.registry_office.specs.Requests.{InMemory, holding, replies, held_after}
+use Rattle.registry_office.specs.Sessions.{line_requests}
 use Rattle.registry_office.specs.Settling.{registrar}
+use Rattle.registry_office.specs.declared.lines.LineKind.TheVariants.{Stamped}
 use Rattle.registry_office.specs.declared.words.Command.{Command}
 use Rattle.registry_office.specs.declared.words.Command.TheVariants.{Settle, SettleLines}
 
@@ -20,7 +22,8 @@ settle_output journal = if list_all (λ r. is_built r.item) journal then report_
 
 -- the replies of the session over this input, from the empty journal, and then the report of the journal that it leaves
 abbrev pub settle_lines_output : List ℕ → List ℕ
-settle_lines_output input = replies [] (lines_of input) ++ report_of (journal_after [] (lines_of input))
+settle_lines_output input =
+    replies InMemory (holding [] []) (line_requests Stamped input) ++ report_of (held_after InMemory (holding [] []) (line_requests Stamped input)).journal
 
 -- what is written to the sink for these words, this journal of the disk and this input; words that are no command give nothing
 abbrev pub output_of : Option Command → List Receipt → List ℕ → List ℕ

@@ -1,8 +1,9 @@
--- An input as lines, each answered by a reply line and received into the journal.
-use Rattle.std.specs.Prelude.{◌≡◌, ℕ, ◌==◌, if◌then◌else◌, List, [], ◌∷◌, ◌++◌, length, Option}
-use Rattle.std.specs.Io.KnownBytes.{Appends, Consumes}
-use Rattle.act_model.specs.declared.receipts.Receipt.{Receipt}
-use Rattle.registry_office.specs.Lines.{reply_to, kept_after}
+-- An input as lines, and the requests of its lines.
+use Rattle.std.specs.Prelude.{ℕ, ◌==◌, if◌then◌else◌, List, [], ◌∷◌, ◌++◌, map, Option}
+use Rattle.std.specs.Io.KnownBytes.{Consumes}
+use Rattle.registry_office.specs.Lines.{request_of_line}
+use Rattle.registry_office.specs.declared.lines.LineKind.{LineKind}
+use Rattle.registry_office.specs.declared.requests.Request.{Request}
 
 -- the lines that an LF ends, where `line` stands before these bytes
 abbrev pub ended : List ℕ → List ℕ → List (List ℕ)
@@ -18,31 +19,20 @@ behind line (b ∷ bs) = if b == 10 then behind [] bs else behind (line ++ b ∷
 abbrev pub lines_of : List ℕ → List (List ℕ)
 lines_of input = ended [] input ++ behind [] input ∷ []
 
--- the reply lines, each to the journal that the lines before leave
-abbrev pub replies : List Receipt → List (List ℕ) → List ℕ
-replies journal [] = []
-replies journal (line ∷ lines) = reply_to journal line ++ replies (kept_after journal line) lines
+-- the requests of the lines that an LF ends, where `line` stands before these bytes
+abbrev pub ended_requests : LineKind → List ℕ → List ℕ → List Request
+ended_requests kind line bytes = map (request_of_line kind) (ended line bytes)
 
--- the journal that the lines leave
-abbrev pub journal_after : List Receipt → List (List ℕ) → List Receipt
-journal_after journal [] = journal
-journal_after journal (line ∷ lines) = journal_after (kept_after journal line) lines
+-- the requests of all lines
+abbrev pub line_requests : LineKind → List ℕ → List Request
+line_requests kind input = map (request_of_line kind) (lines_of input)
 
--- The lines that these bytes end are answered, and what stands behind them is kept.
-pub record Answered (written0 written1 : Option (List ℕ)) (journal0 journal1 : List Receipt) (line0 line1 bytes : List ℕ) : Type 0 where
-  pub wrote : Appends written0 written1 (replies journal0 (ended line0 bytes))
-  pub journal : journal1 ≡ journal_after journal0 (ended line0 bytes)
-  pub line : line1 ≡ behind line0 bytes
+-- the most bytes of an input, 64 MiB
+abbrev pub most_input : ℕ
+most_input = 67108864
 
--- So many bytes were read, and their lines are answered.
-pub record Session (left0 left1 written0 written1 : Option (List ℕ)) (journal0 journal1 : List Receipt) (line : List ℕ) (count : ℕ) : Type 0 where
+-- These bytes were taken from the source, and this was done with them.
+pub record Took (left0 left1 : Option (List ℕ)) (Did : List ℕ → Type 0) : Type 0 where
   pub read : List ℕ
   pub consumed : Consumes left0 left1 read
-  pub answered : Answered written0 written1 journal0 journal1 [] line read
-  pub size : length read ≡ count
-
--- Some bytes were read, and just the lines that an LF ends in them are answered.
-pub record AnsweredRead (left0 left1 written0 written1 : Option (List ℕ)) : Type 0 where
-  pub read : List ℕ
-  pub consumed : Consumes left0 left1 read
-  pub wrote : Appends written0 written1 (replies [] (ended [] read))
+  pub did : Did read

@@ -2,12 +2,12 @@
 use Rattle.std.specs.Prelude.{Bool, true, false, Result, Ok, Err}
 use Rattle.registry_office.specs.declared.statuses.Status.{Status}
 use Rattle.registry_office.specs.declared.statuses.Status.TheVariants as status
-use Rattle.registry_office.specs.declared.stops.Stop.{Stop}
-use Rattle.registry_office.specs.declared.stops.Stop.TheVariants as stop
-use Rattle.registry_office.specs.declared.stops.OutputStop.{OutputStop}
-use Rattle.registry_office.specs.declared.stops.OutputStop.TheVariants as output
-use Rattle.registry_office.specs.declared.stops.DiskStop.{DiskStop}
-use Rattle.registry_office.specs.declared.stops.DiskStop.TheVariants as disk
+use Rattle.registry_office.specs.declared.faults.SessionFault.{SessionFault}
+use Rattle.registry_office.specs.declared.faults.SessionFault.TheVariants as session
+use Rattle.registry_office.specs.declared.faults.OutputFault.{OutputFault}
+use Rattle.registry_office.specs.declared.faults.OutputFault.TheVariants as output
+use Rattle.registry_office.specs.declared.faults.SettlingFault.{SettlingFault}
+use Rattle.registry_office.specs.declared.faults.SettlingFault.TheVariants as settling
 use Rattle.receipt_journal.specs.declared.faults.BookFault.{BookFault}
 use Rattle.receipt_journal.specs.declared.faults.BookFault.TheVariants as fault
 
@@ -72,16 +72,17 @@ is_no_journal (status.BadRecord at) = true
 is_no_journal status.InputTooLong = false
 is_no_journal status.DoorFault = false
 
-abbrev pub status_of_stop : Stop → Status
-status_of_stop stop.Read = status.ReadFault
-status_of_stop stop.Write = status.WriteFault
-status_of_stop stop.Memory = status.Memory
-status_of_stop stop.TooLong = status.InputTooLong
+abbrev pub status_of_session : SessionFault → Status
+status_of_session session.Read = status.ReadFault
+status_of_session session.Write = status.WriteFault
+status_of_session session.Disk = status.DiskFault
+status_of_session session.Memory = status.Memory
+status_of_session session.TooLong = status.InputTooLong
 
--- the status of work over an input
-abbrev pub status_of : {A : Type 0} → Result A Stop → Status
+-- the status of a session over an input
+abbrev pub status_of : {A : Type 0} → Result A SessionFault → Status
 status_of (Ok value) = status.Ok
-status_of (Err stop) = status_of_stop stop
+status_of (Err fault) = status_of_session fault
 
 abbrev pub status_of_fault : BookFault → Status
 status_of_fault fault.Disk = status.DiskFault
@@ -89,12 +90,12 @@ status_of_fault fault.NotJournal = status.NotJournal
 status_of_fault (fault.BadRecord at) = status.BadRecord at
 status_of_fault fault.Memory = status.Memory
 
-abbrev pub status_of_output : OutputStop → Status
+abbrev pub status_of_output : OutputFault → Status
 status_of_output output.Write = status.WriteFault
 status_of_output output.Memory = status.Memory
 
 -- the status of work over the disk's journal
-abbrev pub status_of_disk : {A : Type 0} → Result A DiskStop → Status
-status_of_disk (Ok value) = status.Ok
-status_of_disk (Err (disk.Opening fault)) = status_of_fault fault
-status_of_disk (Err (disk.Output stop)) = status_of_output stop
+abbrev pub status_of_settling : {A : Type 0} → Result A SettlingFault → Status
+status_of_settling (Ok value) = status.Ok
+status_of_settling (Err (settling.Opening fault)) = status_of_fault fault
+status_of_settling (Err (settling.Output fault)) = status_of_output fault

@@ -11,12 +11,12 @@ ghost use Rattle.receipt_journal.specs.declared.faults.BookFault.{BookFault};
 ghost use Rattle.registry_office.specs.Built.{is_built};
 ghost use Rattle.registry_office.specs.Disks.{Finds, KeepsDisk};
 ghost use Rattle.registry_office.specs.Outcomes.{settle_output};
-ghost use Rattle.registry_office.specs.Stops.{output_failed, disk_failed, disk_output_failed};
-ghost use Rattle.registry_office.specs.declared.stops.DiskStop.TheVariants.{Opening};
+ghost use Rattle.registry_office.specs.Faults.{output_failed, settling_disk_failed, settling_output_failed};
+ghost use Rattle.registry_office.specs.declared.faults.SettlingFault.TheVariants.{Opening};
 
 use crate::built::is_built;
+use crate::faults::{OutputFault, SettlingFault};
 use crate::settling::write_report;
-use crate::stops::{DiskStop, OutputStop};
 use crate::writing::write_all;
 use act_model::{Journal, Receipt};
 use gb_outside::{Disk, Sink};
@@ -29,7 +29,7 @@ pub fn settle_disk<D: Disk, K: Sink>(
     alloc: Global,
     disk: &mut D,
     sink: &mut K,
-) -> Result<(), DiskStop>
+) -> Result<(), SettlingFault>
     ensures output { IsTrue D.tells → (journal : List Receipt) → StandsForJournal (D.reads disk.old) journal
         → OnOk result (Appends (K.written sink.old) (K.written sink.new) (settle_output journal)) }
     ensures part { IsTrue D.tells → (journal : List Receipt) → StandsForJournal (D.reads disk.old) journal
@@ -37,9 +37,9 @@ pub fn settle_disk<D: Disk, K: Sink>(
     ensures unopened { (fault : BookFault) → result ≡ Err (Opening fault) → sink.new ≡ sink.old }
     ensures found { IsTrue D.tells → Finds (D.reads disk.old) result }
     ensures kept { IsTrue D.tells → IsKept (D.reads disk.old) (D.reads disk.new) }
-    ensures any_moment { IsTrue D.tells → KeepsDisk D.reads D.images D.moment D.since disk.old disk.new (disk_failed result) }
-    ensures disk_cause { Counts (D.faults disk.old) (D.faults disk.new) (disk_failed result) }
-    ensures write_cause { Counts (K.faults sink.old) (K.faults sink.new) (disk_output_failed result) }
+    ensures any_moment { IsTrue D.tells → KeepsDisk D.reads D.images D.moment D.since disk.old disk.new (settling_disk_failed result) }
+    ensures disk_cause { Counts (D.faults disk.old) (D.faults disk.new) (settling_disk_failed result) }
+    ensures write_cause { Counts (K.faults sink.old) (K.faults sink.new) (settling_output_failed result) }
 {
     let book = Book::open(alloc, disk)?;
     write_settled(alloc, book.journal(), sink)?;
@@ -47,7 +47,7 @@ pub fn settle_disk<D: Disk, K: Sink>(
 }
 
 /// Writes the report of a journal, or the line that says that an item of it is not built.
-fn write_settled<K: Sink>(alloc: Global, journal: &Journal, sink: &mut K) -> Result<(), OutputStop>
+fn write_settled<K: Sink>(alloc: Global, journal: &Journal, sink: &mut K) -> Result<(), OutputFault>
     ensures whole { OnOk result (Appends (K.written sink.old) (K.written sink.new) (settle_output journal.now.receipts)) }
     ensures part { OnErr result (AppendsFront (K.written sink.old) (K.written sink.new) (settle_output journal.now.receipts)) }
     ensures cause { Counts (K.faults sink.old) (K.faults sink.new) (output_failed result) }

@@ -2,6 +2,7 @@
 #![tactic(auto)]
 
 mod acts;
+mod answering;
 mod built;
 mod cent_line;
 mod disk_settling;
@@ -10,20 +11,22 @@ mod disk_tests;
 mod entering;
 mod entries;
 mod extracts;
+mod faults;
 mod folios;
 mod judging;
 mod lines;
+mod live_rights;
 mod rank_tables;
 mod ranks;
 mod reading;
+mod receivers;
 mod register;
 mod registrar;
 mod reports;
+mod requests;
 mod session;
 mod settling;
-mod live_rights;
 mod statuses;
-mod stops;
 #[cfg(test)]
 mod tests;
 mod top;

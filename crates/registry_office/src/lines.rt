@@ -1,42 +1,46 @@
-// One line of an input: what it is answered, and what the journal keeps of it.
+// One line of an input: what it asks.
 ghost use Rattle.std.specs.Prelude.{◌≡◌, ◌≤◌, ◌==◌, ◌||◌, ◌++◌, ◌≢◌, true, false, codes, length, IfOk, OnOk, IsTrue};
 ghost use Rattle.std.specs.List.{list_all};
-ghost use Rattle.act_model.specs.Receiving.{answer_to, journal_with};
 ghost use Rattle.act_model.specs.WellFormed.{well_formed};
-ghost use Rattle.act_json.specs.Lines.{stamped_of};
+ghost use Rattle.act_json.specs.Lines.{item_of, stamped_of};
 ghost use Rattle.registry_office.specs.Built.{is_built};
-ghost use Rattle.registry_office.specs.Lines.{is_blank, added_text, fault_text, reply_to, kept_after};
+ghost use Rattle.registry_office.specs.Lines.{is_blank, fault_text, request_of_line, request_of_item, request_of_stamped, request_of_plain, request_read};
+ghost use Rattle.registry_office.specs.inner.Asking.{asks_well};
 
 use crate::built::is_built;
-use act_json::{LineFault, read_stamped};
-use act_model::{Added, Item, Journal};
+use crate::requests::{Reply, Request};
+use act_json::{LineFault, read_item, read_stamped};
+use act_model::Item;
 use gb_base::{NoMemory, Stamp};
 use std::alloc::{AllocError, Global};
 
 /// The most bytes of a line.
 const MAX_LINE: usize = 1 << 16;
 
-/// Receives a stamped line; the text of its reply, which is empty for a blank line.
-#[tactic(auto, unfolding(crate::specs::Lines::reply_to, crate::specs::Lines::kept_after))]
-pub fn receive_stamped(
-    alloc: Global,
-    journal: &mut Journal,
-    line: &[u8],
-) -> Result<Vec<u8>, NoMemory>
-    ensures reply { IfOk result (λ text. text.items ≡ reply_to journal.old.receipts line.now) }
-    ensures journal { OnOk result (journal.new.receipts ≡ kept_after journal.old.receipts line.now) }
+/// Whether the lines of an input have their stamps.
+#[derive(Clone, Copy, Debug, PartialEq, Eq)]
+pub enum LineKind {
+    /// Each item has its stamp.
+    Stamped,
+    /// The clock stamps the items.
+    Plain,
+}
+
+/// What a line asks.
+#[tactic(auto, unfolding(crate::specs::Lines::request_of_line))]
+pub fn request_of_line(alloc: Global, kind: LineKind, line: &[u8]) -> Result<Request, NoMemory>
+    ensures value { IfOk result (λ request. request ≡ request_of_line kind line.now) }
+    ensures well_formed { IfOk result (λ request. IsTrue (asks_well request)) }
 {
     if is_blank(line) {
-        return Ok(Vec::new(alloc));
+        return Ok(Request::Nothing);
     }
     if line.len() > MAX_LINE {
-        return Vec::from_slice(alloc, b"malformed length\n");
+        return refused(alloc, b"malformed length\n");
     }
-    match read_stamped(alloc, line) {
-        Ok((stamp, sender, reference, item)) => {
-            receive(alloc, journal, stamp, sender, reference, &item)
-        }
-        Err(fault) => fault_line(alloc, &fault),
+    match kind {
+        LineKind::Stamped => request_of_stamped(alloc, line),
+        LineKind::Plain => request_of_plain(alloc, line),
     }
 }
 
@@ -48,54 +52,74 @@ fn is_blank(line: &[u8]) -> bool
         .all(|byte| *byte == b' ' || *byte == b'\t' || *byte == b'\r')
 }
 
-/// Receives an item that the office takes; the text of the reply.
-fn receive(
+/// What a line asks that has its stamp.
+fn request_of_stamped(alloc: Global, line: &[u8]) -> Result<Request, NoMemory>
+    requires { length line.now ≤ 65536 }
+    ensures value { IfOk result (λ request. request ≡ request_of_stamped (stamped_of line.now)) }
+    ensures well_formed { IfOk result (λ request. IsTrue (asks_well request)) }
+{
+    match read_stamped(alloc, line) {
+        Ok((stamp, sender, reference, item)) => {
+            request_of_item(alloc, Some(stamp), sender, reference, item)
+        }
+        Err(fault) => fault_line(alloc, &fault),
+    }
+}
+
+/// What a line asks that the clock stamps.
+fn request_of_plain(alloc: Global, line: &[u8]) -> Result<Request, NoMemory>
+    requires { length line.now ≤ 65536 }
+    ensures value { IfOk result (λ request. request ≡ request_of_plain (item_of line.now)) }
+    ensures well_formed { IfOk result (λ request. IsTrue (asks_well request)) }
+{
+    match read_item(alloc, line) {
+        Ok((sender, reference, item)) => request_of_item(alloc, None, sender, reference, item),
+        Err(fault) => fault_line(alloc, &fault),
+    }
+}
+
+/// An item is to be received where the office takes it.
+fn request_of_item(
     alloc: Global,
-    journal: &mut Journal,
-    stamp: Stamp,
+    stamp: Option<Stamp>,
     sender: u32,
     reference: u64,
-    item: &Item,
-) -> Result<Vec<u8>, NoMemory>
-    requires { IsTrue (well_formed item.now) }
-    ensures built { is_built item.now ≡ true → IfOk result (λ text.
-        text.items ≡ added_text (answer_to journal.old.receipts sender reference item.now) ++ codes "\n") }
-    ensures received { is_built item.now ≡ true → OnOk result
-        (journal.new.receipts ≡ journal_with journal.old.receipts stamp sender reference item.now (answer_to journal.old.receipts sender reference item.now)) }
-    ensures not_built { is_built item.now ≡ false → IfOk result (λ text. text.items ≡ codes "not built\n") }
-    ensures kept { is_built item.now ≡ false → journal.new ≡ journal.old }
+    item: Item,
+) -> Result<Request, NoMemory>
+    requires { IsTrue (well_formed item) }
+    ensures value { IfOk result (λ request. request ≡ request_of_item stamp sender reference item) }
+    ensures well_formed { IfOk result (λ request. IsTrue (asks_well request)) }
 {
-    if !is_built(item) {
-        return Vec::from_slice(alloc, b"not built\n");
+    if is_built(&item) {
+        return Ok(Request::Receive {
+            stamp,
+            sender,
+            reference,
+            item,
+        });
     }
-    added_line(alloc, journal.add(stamp, sender, reference, item))
+    refused(alloc, b"not built\n")
 }
 
-/// The reply to an item that was received.
-fn added_line(alloc: Global, added: Added) -> Result<Vec<u8>, NoMemory>
-    ensures { IfOk result (λ text. (text.items ≡ added_text added ++ codes "\n") × (added ≢ Added.Memory)) }
-{
-    match added {
-        Added::Accepted(n) => Ok(format!(in alloc; "accepted {n}\n")?.into_bytes()),
-        Added::Repeated(n) => Ok(format!(in alloc; "repeated {n}\n")?.into_bytes()),
-        Added::Differs(n) => Ok(format!(in alloc; "differs {n}\n")?.into_bytes()),
-        Added::Full => Vec::from_slice(alloc, b"full\n"),
-        Added::Memory => Err(AllocError),
-    }
-}
-
-/// The reply to a line that is no item.
-fn fault_line(alloc: Global, fault: &LineFault) -> Result<Vec<u8>, NoMemory>
-    ensures { IfOk result (λ text. (text.items ≡ fault_text fault.now ++ codes "\n") × (fault.now ≢ LineFault.Memory)) }
+/// A line that is no item is refused.
+fn fault_line(alloc: Global, fault: &LineFault) -> Result<Request, NoMemory>
+    ensures value { IfOk result (λ request. (request ≡ Request.Refused (fault_text fault.now ++ codes "\n")) × (fault.now ≢ LineFault.Memory)) }
 {
     match fault {
-        LineFault::NotJson => Vec::from_slice(alloc, b"malformed json\n"),
+        LineFault::NotJson => refused(alloc, b"malformed json\n"),
         LineFault::NotItem(path) => {
             let mut text = Vec::from_slice(alloc, b"malformed ")?;
             text.extend_from_slice(path.text())?;
             text.push(b'\n')?;
-            Ok(text)
+            Ok(Request::Refused(Reply::new(text)))
         }
         LineFault::Memory => Err(AllocError),
     }
+}
+
+/// A text that is refused with these bytes.
+fn refused(alloc: Global, text: &[u8]) -> Result<Request, NoMemory>
+    ensures { IfOk result (λ request. request ≡ Request.Refused text.now) }
+{
+    Ok(Request::Refused(Reply::new(Vec::from_slice(alloc, text)?)))
 }

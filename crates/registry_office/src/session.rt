@@ -1,20 +1,26 @@
-// The session of an input: each line is answered as it comes.
-ghost use Rattle.std.specs.Prelude.{◌≡◌, ◌⊎◌, ◌≤◌, ◌<◌, ◌+◌, ◌^◌, ◌++◌, ◌∷◌, [], ◌==◌, false, length, take, Some, OnOk, OnErr, IfOk, IfSome, IfNone, IsTrue, Err, vec_len};
-ghost use Rattle.std.specs.List.{list_all, list_any};
-ghost use Rattle.std.specs.Io.KnownBytes.{Appends};
-ghost use Rattle.gb_outside.specs.Bytes.{AppendsFront, IsGot, Reads, read_failed as read_of_source_failed};
+// The session of an input of lines: each is answered as it comes.
+ghost use Rattle.std.specs.Prelude.{◌≡◌, ◌⊎◌, ◌≤◌, ◌<◌, ◌+◌, ◌^◌, ◌++◌, ◌∷◌, [], ◌==◌, true, false, List, length, take, Some, OnOk, OnErr, IfOk, IfSome, IfNone, IsTrue, Err, vec_len};
+ghost use Rattle.std.specs.List.{list_any};
+ghost use Rattle.std.specs.Io.KnownBytes.{IsAtEnd};
+ghost use Rattle.gb_base.specs.DayMinute.{DayMinute};
+ghost use Rattle.gb_outside.specs.Bytes.{IsGot, Reads, read_failed as read_of_source_failed};
 ghost use Rattle.gb_outside.specs.Faults.{Counts};
-ghost use Rattle.registry_office.specs.Built.{is_built};
-ghost use Rattle.registry_office.specs.Lines.{reply_to, kept_after};
-ghost use Rattle.registry_office.specs.Sessions.{ended, lines_of, replies, journal_after, Answered, AnsweredRead};
-ghost use Rattle.registry_office.specs.Stops.{output_failed, read_failed, write_failed};
+ghost use Rattle.gb_outside.specs.Images.{LeavesOnly};
+ghost use Rattle.registry_office.specs.Faults.{answer_output_failed, answer_disk_failed, session_input_failed, session_output_failed, session_disk_failed};
+ghost use Rattle.registry_office.specs.Grown.{GrownFrom};
+ghost use Rattle.registry_office.specs.Lines.{request_of_line, is_stamped_by_clock};
+ghost use Rattle.registry_office.specs.Requests.{InMemory, OnDisk, holding, held_after};
+ghost use Rattle.registry_office.specs.Sessions.{behind, ended_requests, line_requests, Took};
+ghost use Rattle.registry_office.specs.declared.requests.Request.{Request};
+ghost use Rattle.registry_office.specs.inner.Inputs.{AllAnswered, PartAnswered, LeavesGrown, AreOf};
+ghost use Rattle.registry_office.specs.inner.Sessions.{IsReady, Knows, Answered, Broken};
 
-use crate::lines::receive_stamped;
-use crate::stops::{OutputStop, Stop};
-use crate::writing::write_all;
-use act_model::Journal;
+use crate::answering::answer_request;
+use crate::faults::{AnswerFault, SessionFault};
+use crate::lines::{LineKind, request_of_line};
+use crate::receivers::Receiver;
 use gb_base::NoMemory;
-use gb_outside::{Got, Sink, Source};
+use gb_outside::{Clock, Disk, Got, Sink, Source};
 use std::alloc::Global;
 
 /// The most bytes of input that the office takes, 64 MiB.
@@ -24,38 +30,68 @@ const MAX_INPUT: usize = 1 << 26;
 const BLOCK: usize = 1 << 16;
 
 /// Answers one line.
-fn answer_line<K: Sink>(
+fn answer_line<J: Receiver, D: Disk, C: Clock, K: Sink>(
     alloc: Global,
-    journal: &mut Journal,
+    kind: LineKind,
+    receiver: &mut J,
+    disk: &mut D,
+    clock: &mut C,
     line: &[u8],
     sink: &mut K,
-) -> Result<(), OutputStop>
-    ensures reply { OnOk result (Appends (K.written sink.old) (K.written sink.new) (reply_to journal.old.receipts line.now)) }
-    ensures journal { OnOk result (journal.new.receipts ≡ kept_after journal.old.receipts line.now) }
-    ensures part { OnErr result (AppendsFront (K.written sink.old) (K.written sink.new) (reply_to journal.old.receipts line.now)) }
-    ensures cause { Counts (K.faults sink.old) (K.faults sink.new) (output_failed result) }
+) -> Result<(), AnswerFault>
+    requires ready { IsReady J.medium D.tells (J.state receiver.old) (D.reads disk.old) (D.images disk.old) }
+    ensures answered { (ticks : List DayMinute) → Knows (is_stamped_by_clock kind) J.medium D.tells (C.ticks clock.old) ticks
+        → OnOk result (Answered (is_stamped_by_clock kind) J.medium (holding (J.state receiver.old).journal ticks) (J.state receiver.new).journal
+        (C.ticks clock.new) (K.written sink.old) (K.written sink.new) (request_of_line kind line.now ∷ [])) }
+    ensures broken { (ticks : List DayMinute) → Knows (is_stamped_by_clock kind) J.medium D.tells (C.ticks clock.old) ticks
+        → OnErr result (Broken (is_stamped_by_clock kind) J.medium (holding (J.state receiver.old).journal ticks)
+        (C.ticks clock.new) (K.written sink.old) (K.written sink.new) (D.images disk.new) (request_of_line kind line.now ∷ [])) }
+    ensures any_moment { (ticks : List DayMinute) → Knows (is_stamped_by_clock kind) J.medium D.tells (C.ticks clock.old) ticks → J.medium ≡ OnDisk
+        → LeavesOnly D.moment D.since disk.old disk.new (GrownFrom (J.state receiver.old).journal
+        (held_after J.medium (holding (J.state receiver.old).journal ticks) (request_of_line kind line.now ∷ [])).journal) }
+    ensures ready { OnOk result (IsReady J.medium D.tells (J.state receiver.new) (D.reads disk.new) (D.images disk.new)) }
+    ensures in_memory { J.medium ≡ InMemory → disk.new ≡ disk.old }
+    ensures no_disk { J.medium ≡ InMemory → answer_disk_failed result ≡ false }
+    ensures own_stamps { is_stamped_by_clock kind ≡ false → clock.new ≡ clock.old }
+    ensures write_cause { Counts (K.faults sink.old) (K.faults sink.new) (answer_output_failed result) }
+    ensures disk_cause { Counts (D.faults disk.old) (D.faults disk.new) (answer_disk_failed result) }
 {
-    let reply = receive_stamped(alloc, journal, line)?;
-    write_all(sink, reply.as_slice())
+    let request = request_of_line(alloc, kind, line)?;
+    answer_request(alloc, receiver, disk, clock, &request, sink)
 }
 
 /// Answers the line that these bytes end; an LF stands behind them, and none among them.
-fn answer_ended<K: Sink>(
+fn answer_ended<J: Receiver, D: Disk, C: Clock, K: Sink>(
     alloc: Global,
-    journal: &mut Journal,
+    kind: LineKind,
+    receiver: &mut J,
+    disk: &mut D,
+    clock: &mut C,
     line: &mut Vec<u8>,
     end: &[u8],
     sink: &mut K,
-) -> Result<(), OutputStop>
+) -> Result<(), AnswerFault>
     requires within_line { list_any (λ b. b == 10) end.now ≡ false }
-    ensures answered { OnOk result (Answered (K.written sink.old) (K.written sink.new) journal.old.receipts journal.new.receipts
-        line.old.items line.new.items (end.now ++ 10 ∷ [])) }
-    ensures part { OnErr result (AppendsFront (K.written sink.old) (K.written sink.new)
-        (replies journal.old.receipts (ended line.old.items (end.now ++ 10 ∷ [])))) }
-    ensures cause { Counts (K.faults sink.old) (K.faults sink.new) (output_failed result) }
+    requires ready { IsReady J.medium D.tells (J.state receiver.old) (D.reads disk.old) (D.images disk.old) }
+    ensures answered { (ticks : List DayMinute) → Knows (is_stamped_by_clock kind) J.medium D.tells (C.ticks clock.old) ticks
+        → OnOk result (Answered (is_stamped_by_clock kind) J.medium (holding (J.state receiver.old).journal ticks) (J.state receiver.new).journal
+        (C.ticks clock.new) (K.written sink.old) (K.written sink.new) (ended_requests kind line.old.items (end.now ++ 10 ∷ []))) }
+    ensures broken { (ticks : List DayMinute) → Knows (is_stamped_by_clock kind) J.medium D.tells (C.ticks clock.old) ticks
+        → OnErr result (Broken (is_stamped_by_clock kind) J.medium (holding (J.state receiver.old).journal ticks)
+        (C.ticks clock.new) (K.written sink.old) (K.written sink.new) (D.images disk.new) (ended_requests kind line.old.items (end.now ++ 10 ∷ []))) }
+    ensures any_moment { (ticks : List DayMinute) → Knows (is_stamped_by_clock kind) J.medium D.tells (C.ticks clock.old) ticks → J.medium ≡ OnDisk
+        → LeavesOnly D.moment D.since disk.old disk.new (GrownFrom (J.state receiver.old).journal
+        (held_after J.medium (holding (J.state receiver.old).journal ticks) (ended_requests kind line.old.items (end.now ++ 10 ∷ []))).journal) }
+    ensures ready { OnOk result (IsReady J.medium D.tells (J.state receiver.new) (D.reads disk.new) (D.images disk.new)) }
+    ensures in_memory { J.medium ≡ InMemory → disk.new ≡ disk.old }
+    ensures no_disk { J.medium ≡ InMemory → answer_disk_failed result ≡ false }
+    ensures own_stamps { is_stamped_by_clock kind ≡ false → clock.new ≡ clock.old }
+    ensures write_cause { Counts (K.faults sink.old) (K.faults sink.new) (answer_output_failed result) }
+    ensures disk_cause { Counts (D.faults disk.old) (D.faults disk.new) (answer_disk_failed result) }
+    ensures line { OnOk result (line.new.items ≡ behind line.old.items (end.now ++ 10 ∷ [])) }
 {
     line.extend_from_slice(end)?;
-    answer_line(alloc, journal, line.as_slice(), sink)?;
+    answer_line(alloc, kind, receiver, disk, clock, line.as_slice(), sink)?;
     line.clear();
     Ok(())
 }
@@ -75,22 +111,37 @@ fn first_line(bytes: &[u8]) -> Option<(&[u8], &[u8])>
 }
 
 /// Answers the lines that this piece of the input ends, and keeps what stands behind the last LF.
-fn answer_piece<K: Sink>(
+fn answer_piece<J: Receiver, D: Disk, C: Clock, K: Sink>(
     alloc: Global,
-    journal: &mut Journal,
+    kind: LineKind,
+    receiver: &mut J,
+    disk: &mut D,
+    clock: &mut C,
     line: &mut Vec<u8>,
     piece: &[u8],
     sink: &mut K,
-) -> Result<(), OutputStop>
-    ensures answered { OnOk result (Answered (K.written sink.old) (K.written sink.new) journal.old.receipts journal.new.receipts
-        line.old.items line.new.items piece.now) }
-    ensures part { OnErr result (AppendsFront (K.written sink.old) (K.written sink.new)
-        (replies journal.old.receipts (ended line.old.items piece.now))) }
-    ensures cause { Counts (K.faults sink.old) (K.faults sink.new) (output_failed result) }
+) -> Result<(), AnswerFault>
+    requires ready { IsReady J.medium D.tells (J.state receiver.old) (D.reads disk.old) (D.images disk.old) }
+    ensures answered { (ticks : List DayMinute) → Knows (is_stamped_by_clock kind) J.medium D.tells (C.ticks clock.old) ticks
+        → OnOk result (Answered (is_stamped_by_clock kind) J.medium (holding (J.state receiver.old).journal ticks) (J.state receiver.new).journal
+        (C.ticks clock.new) (K.written sink.old) (K.written sink.new) (ended_requests kind line.old.items piece.now)) }
+    ensures broken { (ticks : List DayMinute) → Knows (is_stamped_by_clock kind) J.medium D.tells (C.ticks clock.old) ticks
+        → OnErr result (Broken (is_stamped_by_clock kind) J.medium (holding (J.state receiver.old).journal ticks)
+        (C.ticks clock.new) (K.written sink.old) (K.written sink.new) (D.images disk.new) (ended_requests kind line.old.items piece.now)) }
+    ensures any_moment { (ticks : List DayMinute) → Knows (is_stamped_by_clock kind) J.medium D.tells (C.ticks clock.old) ticks → J.medium ≡ OnDisk
+        → LeavesOnly D.moment D.since disk.old disk.new (GrownFrom (J.state receiver.old).journal
+        (held_after J.medium (holding (J.state receiver.old).journal ticks) (ended_requests kind line.old.items piece.now)).journal) }
+    ensures ready { OnOk result (IsReady J.medium D.tells (J.state receiver.new) (D.reads disk.new) (D.images disk.new)) }
+    ensures in_memory { J.medium ≡ InMemory → disk.new ≡ disk.old }
+    ensures no_disk { J.medium ≡ InMemory → answer_disk_failed result ≡ false }
+    ensures own_stamps { is_stamped_by_clock kind ≡ false → clock.new ≡ clock.old }
+    ensures write_cause { Counts (K.faults sink.old) (K.faults sink.new) (answer_output_failed result) }
+    ensures disk_cause { Counts (D.faults disk.old) (D.faults disk.new) (answer_disk_failed result) }
+    ensures line { OnOk result (line.new.items ≡ behind line.old.items piece.now) }
 {
     let mut rest = piece;
     while let Some((end, behind)) = first_line(rest) {
-        answer_ended(alloc, journal, line, end, sink)?;
+        answer_ended(alloc, kind, receiver, disk, clock, line, end, sink)?;
         rest = behind;
     }
     line.extend_from_slice(rest)?;
@@ -127,32 +178,37 @@ fn read_block<S: Source>(source: &mut S, block: &mut [u8], room: usize) -> Got
 }
 
 /// Answers all lines of the input.
-pub fn answer_input<S: Source, K: Sink>(
+pub(crate) fn answer_input<J: Receiver, D: Disk, C: Clock, S: Source, K: Sink>(
     alloc: Global,
-    journal: &mut Journal,
+    kind: LineKind,
+    receiver: &mut J,
+    disk: &mut D,
+    clock: &mut C,
     source: &mut S,
     sink: &mut K,
-) -> Result<(), Stop>
-    requires { journal.old.receipts ≡ [] }
-    ensures replies { OnOk result (IfSome (S.left source.old) (λ input.
-        Appends (K.written sink.old) (K.written sink.new) (replies [] (lines_of input)))) }
-    ensures journal { OnOk result (IfSome (S.left source.old) (λ input. journal.new.receipts ≡ journal_after [] (lines_of input))) }
-    ensures built { OnOk result (IsTrue (list_all (λ r. is_built r.item) journal.new.receipts)) }
-    ensures at_end { OnOk result (IfSome (S.left source.old) (λ _. S.left source.new ≡ Some [])) }
-    ensures short { OnOk result (IfSome (S.left source.old) (λ input. length input ≤ MAX_INPUT)) }
-    ensures long { result ≡ Err Stop.TooLong → IfSome (S.left source.old) (λ input. MAX_INPUT < length input) }
+) -> Result<(), SessionFault>
+    requires ready { IsReady J.medium D.tells (J.state receiver.old) (D.reads disk.old) (D.images disk.old) }
 
-    // Where the source fails, just the lines are answered that an LF ends in the bytes read; where the
-    // input is too long, those that one ends in the most that the office takes.
-    ensures so_far { result ≡ Err Stop.Read → AnsweredRead (S.left source.old) (S.left source.new) (K.written sink.old) (K.written sink.new) }
-    ensures most { result ≡ Err Stop.TooLong → IfSome (S.left source.old) (λ input.
-        Appends (K.written sink.old) (K.written sink.new) (replies [] (ended [] (take MAX_INPUT input)))) }
-
-    // Else a front of the replies is written.
-    ensures part { OnErr result (IfSome (S.left source.old) (λ input.
-        AppendsFront (K.written sink.old) (K.written sink.new) (replies [] (lines_of input)))) }
-    ensures read_cause { Counts (S.faults source.old) (S.faults source.new) (read_failed result) }
-    ensures write_cause { Counts (K.faults sink.old) (K.faults sink.new) (write_failed result) }
+    // All lines are answered; or where the source fails or gives too much, just those that an LF ends
+    // in the bytes read, of which the first 64 MiB count; else some of those.
+    ensures all { OnOk result (Took (S.left source.old) (S.left source.new) (λ read. IsAtEnd (S.left source.new) × (length read ≤ MAX_INPUT)
+        × AllAnswered (is_stamped_by_clock kind) J.medium D.tells (C.ticks clock.old) (J.state receiver.old).journal (J.state receiver.new).journal (C.ticks clock.new) (K.written sink.old) (K.written sink.new) (line_requests kind read))) }
+    ensures cut { (result ≡ Err SessionFault.Read) ⊎ (result ≡ Err SessionFault.TooLong)
+        → Took (S.left source.old) (S.left source.new) (λ read. AllAnswered (is_stamped_by_clock kind) J.medium D.tells (C.ticks clock.old) (J.state receiver.old).journal (J.state receiver.new).journal (C.ticks clock.new) (K.written sink.old) (K.written sink.new) (ended_requests kind [] (take MAX_INPUT read))) }
+    ensures part { OnErr result (Took (S.left source.old) (S.left source.new) (λ read. (requests : List Request) × AreOf kind (S.left source.new) read requests
+        × PartAnswered (is_stamped_by_clock kind) J.medium D.tells (C.ticks clock.old) (J.state receiver.old).journal (C.ticks clock.new) (K.written sink.old) (K.written sink.new) (D.images disk.new) requests
+        × LeavesGrown D.moment D.since disk.old disk.new (is_stamped_by_clock kind) J.medium D.tells (C.ticks clock.old) (J.state receiver.old).journal requests)) }
+    ensures whole { OnOk result (Took (S.left source.old) (S.left source.new) (λ read. IsAtEnd (S.left source.new) × (length read ≤ MAX_INPUT)
+        × LeavesGrown D.moment D.since disk.old disk.new (is_stamped_by_clock kind) J.medium D.tells (C.ticks clock.old) (J.state receiver.old).journal (line_requests kind read))) }
+    ensures short { (result ≡ Err SessionFault.TooLong → ⊥) → Took (S.left source.old) (S.left source.new) (λ read. length read ≤ MAX_INPUT) }
+    ensures long { result ≡ Err SessionFault.TooLong → Took (S.left source.old) (S.left source.new) (λ read. MAX_INPUT < length read) }
+    ensures ready { OnOk result (IsReady J.medium D.tells (J.state receiver.new) (D.reads disk.new) (D.images disk.new)) }
+    ensures in_memory { J.medium ≡ InMemory → disk.new ≡ disk.old }
+    ensures no_disk { J.medium ≡ InMemory → session_disk_failed result ≡ false }
+    ensures own_stamps { is_stamped_by_clock kind ≡ false → clock.new ≡ clock.old }
+    ensures read_cause { Counts (S.faults source.old) (S.faults source.new) (session_input_failed result) }
+    ensures write_cause { Counts (K.faults sink.old) (K.faults sink.new) (session_output_failed result) }
+    ensures disk_cause { Counts (D.faults disk.old) (D.faults disk.new) (session_disk_failed result) }
 {
     let mut line = Vec::new(alloc);
     let mut block = empty_block(alloc)?;
@@ -161,16 +217,17 @@ pub fn answer_input<S: Source, K: Sink>(
         match read_block(source, block.as_mut_slice(), room_for(count)) {
             Got::Bytes(read) => {
                 if read > MAX_INPUT - count {
-                    return Err(Stop::TooLong);
+                    return Err(SessionFault::TooLong);
                 }
-                answer_piece(alloc, journal, &mut line, &block[..read], sink)?;
+                let piece = &block[..read];
+                answer_piece(alloc, kind, receiver, disk, clock, &mut line, piece, sink)?;
                 count += read;
             }
             Got::End => {
-                answer_line(alloc, journal, line.as_slice(), sink)?;
+                answer_line(alloc, kind, receiver, disk, clock, line.as_slice(), sink)?;
                 return Ok(());
             }
-            Got::Failed => return Err(Stop::Read),
+            Got::Failed => return Err(SessionFault::Read),
         }
     }
     unreachable!()

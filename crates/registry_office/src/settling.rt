@@ -1,46 +1,61 @@
 // The command that settles stamped lines in memory.
-ghost use Rattle.std.specs.Prelude.{◌≡◌, ◌≤◌, ◌<◌, ◌^◌, [], Some, Err, OnOk, OnErr, IfSome, length, take, IsTrue};
+ghost use Rattle.std.specs.Prelude.{◌≡◌, ◌⊎◌, ◌≤◌, ◌<◌, ◌^◌, [], Some, Err, OnOk, OnErr, IfSome, length, take, false, IsTrue};
 ghost use Rattle.std.specs.List.{list_all};
 ghost use Rattle.std.specs.Io.KnownBytes.{Appends};
 ghost use Rattle.gb_outside.specs.Bytes.{AppendsFront};
 ghost use Rattle.gb_outside.specs.Faults.{Counts};
 ghost use Rattle.registry_office.specs.Built.{is_built};
+ghost use Rattle.registry_office.specs.Faults.{output_failed, session_input_failed, session_output_failed, session_disk_failed};
 ghost use Rattle.registry_office.specs.Outcomes.{report_of, settle_lines_output};
-ghost use Rattle.registry_office.specs.Sessions.{ended, replies, AnsweredRead};
-ghost use Rattle.registry_office.specs.Stops.{output_failed, read_failed, write_failed};
+ghost use Rattle.registry_office.specs.Requests.{InMemory, holding, replies};
+ghost use Rattle.registry_office.specs.Sessions.{ended_requests, Took, most_input};
+ghost use Rattle.registry_office.specs.declared.lines.LineKind.TheVariants.{Stamped};
 
+use crate::faults::{OutputFault, SessionFault};
+use crate::lines::LineKind;
 use crate::registrar::alone;
 use crate::reports::report;
 use crate::session::answer_input;
-use crate::stops::{OutputStop, Stop};
 use crate::writing::write_all;
 use act_model::Journal;
-use gb_outside::{Sink, Source};
+use gb_outside::{Clock, Disk, Sink, Source};
 use std::alloc::Global;
 
 /// Receives the stamped lines of the input into a journal in memory, with a reply line for each,
-/// and writes the report of that journal.
-pub fn settle_lines<S: Source, K: Sink>(
+/// and writes the report of that journal. The disk and the clock are not used.
+pub(crate) fn settle_lines<D: Disk, C: Clock, S: Source, K: Sink>(
     alloc: Global,
+    disk: &mut D,
+    clock: &mut C,
     source: &mut S,
     sink: &mut K,
-) -> Result<(), Stop>
+) -> Result<(), SessionFault>
     ensures output { OnOk result (IfSome (S.left source.old) (λ input.
         Appends (K.written sink.old) (K.written sink.new) (settle_lines_output input))) }
     ensures at_end { OnOk result (IfSome (S.left source.old) (λ _. S.left source.new ≡ Some [])) }
-    ensures short { OnOk result (IfSome (S.left source.old) (λ input. length input ≤ 2 ^ 26)) }
-    ensures long { result ≡ Err Stop.TooLong → IfSome (S.left source.old) (λ input. 2 ^ 26 < length input) }
-    ensures so_far { result ≡ Err Stop.Read
-        → AnsweredRead (S.left source.old) (S.left source.new) (K.written sink.old) (K.written sink.new) }
-    ensures most { result ≡ Err Stop.TooLong → IfSome (S.left source.old) (λ input.
-        Appends (K.written sink.old) (K.written sink.new) (replies [] (ended [] (take (2 ^ 26) input)))) }
+    ensures short { (result ≡ Err SessionFault.TooLong → ⊥) → Took (S.left source.old) (S.left source.new) (λ read. length read ≤ most_input) }
+    ensures long { result ≡ Err SessionFault.TooLong → Took (S.left source.old) (S.left source.new) (λ read. most_input < length read) }
+    ensures cut { (result ≡ Err SessionFault.Read) ⊎ (result ≡ Err SessionFault.TooLong)
+        → Took (S.left source.old) (S.left source.new) (λ read.
+        Appends (K.written sink.old) (K.written sink.new) (replies InMemory (holding [] []) (ended_requests Stamped [] (take most_input read)))) }
     ensures part { OnErr result (IfSome (S.left source.old) (λ input.
         AppendsFront (K.written sink.old) (K.written sink.new) (settle_lines_output input))) }
-    ensures read_cause { Counts (S.faults source.old) (S.faults source.new) (read_failed result) }
-    ensures write_cause { Counts (K.faults sink.old) (K.faults sink.new) (write_failed result) }
+    ensures same_disk { disk.new ≡ disk.old }
+    ensures same_clock { clock.new ≡ clock.old }
+    ensures no_disk { session_disk_failed result ≡ false }
+    ensures read_cause { Counts (S.faults source.old) (S.faults source.new) (session_input_failed result) }
+    ensures write_cause { Counts (K.faults sink.old) (K.faults sink.new) (session_output_failed result) }
 {
     let mut journal = Journal::new(alloc);
-    answer_input(alloc, &mut journal, source, sink)?;
+    answer_input(
+        alloc,
+        LineKind::Stamped,
+        &mut journal,
+        disk,
+        clock,
+        source,
+        sink,
+    )?;
     write_report(alloc, &journal, sink)?;
     Ok(())
 }
@@ -51,7 +66,7 @@ pub(crate) fn write_report<K: Sink>(
     alloc: Global,
     journal: &Journal,
     sink: &mut K,
-) -> Result<(), OutputStop>
+) -> Result<(), OutputFault>
     requires { IsTrue (list_all (λ r. is_built r.item) journal.now.receipts) }
     ensures whole { OnOk result (Appends (K.written sink.old) (K.written sink.new) (report_of journal.now.receipts)) }
     ensures part { OnErr result (AppendsFront (K.written sink.old) (K.written sink.new) (report_of journal.now.receipts)) }

@@ -1,7 +1,7 @@
 ghost use Rattle.std.specs.Prelude.{◌≡◌};
-ghost use Rattle.registry_office.specs.Statuses.{status_of, status_of_disk};
+ghost use Rattle.registry_office.specs.Statuses.{status_of, status_of_settling};
 
-use crate::stops::{DiskStop, OutputStop, Stop};
+use crate::faults::{OutputFault, SessionFault, SettlingFault};
 use receipt_journal::BookFault;
 
 /// How a run of the office ended.
@@ -29,30 +29,31 @@ pub enum Status {
     DoorFault,
 }
 
-/// The status of work over an input.
-pub fn status_of(done: Result<(), Stop>) -> Status
+/// The status of a session over an input.
+pub fn status_of(done: Result<(), SessionFault>) -> Status
     ensures { result ≡ status_of done }
 {
     match done {
         Ok(()) => Status::Ok,
-        Err(Stop::Read) => Status::ReadFault,
-        Err(Stop::Write) => Status::WriteFault,
-        Err(Stop::Memory) => Status::Memory,
-        Err(Stop::TooLong) => Status::InputTooLong,
+        Err(SessionFault::Read) => Status::ReadFault,
+        Err(SessionFault::Write) => Status::WriteFault,
+        Err(SessionFault::Disk) => Status::DiskFault,
+        Err(SessionFault::Memory) => Status::Memory,
+        Err(SessionFault::TooLong) => Status::InputTooLong,
     }
 }
 
 /// The status of work over the journal of the disk.
-pub fn status_of_disk(done: Result<(), DiskStop>) -> Status
-    ensures { result ≡ status_of_disk done }
+pub fn status_of_settling(done: Result<(), SettlingFault>) -> Status
+    ensures { result ≡ status_of_settling done }
 {
     match done {
         Ok(()) => Status::Ok,
-        Err(DiskStop::Opening(BookFault::Disk)) => Status::DiskFault,
-        Err(DiskStop::Opening(BookFault::NotJournal)) => Status::NotJournal,
-        Err(DiskStop::Opening(BookFault::BadRecord { at })) => Status::BadRecord { at },
-        Err(DiskStop::Opening(BookFault::Memory)) => Status::Memory,
-        Err(DiskStop::Output(OutputStop::Write)) => Status::WriteFault,
-        Err(DiskStop::Output(OutputStop::Memory)) => Status::Memory,
+        Err(SettlingFault::Opening(BookFault::Disk)) => Status::DiskFault,
+        Err(SettlingFault::Opening(BookFault::NotJournal)) => Status::NotJournal,
+        Err(SettlingFault::Opening(BookFault::BadRecord { at })) => Status::BadRecord { at },
+        Err(SettlingFault::Opening(BookFault::Memory)) => Status::Memory,
+        Err(SettlingFault::Output(OutputFault::Write)) => Status::WriteFault,
+        Err(SettlingFault::Output(OutputFault::Memory)) => Status::Memory,
     }
 }

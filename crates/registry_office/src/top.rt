@@ -1,4 +1,4 @@
-ghost use Rattle.std.specs.Prelude.{◌≡◌, ◌↔◌, ◌<◌, ◌≤◌, ◌^◌, ℕ, [], Some, None, IfSome, IsTrue, List, map, length, take, true, false};
+ghost use Rattle.std.specs.Prelude.{◌≡◌, ◌⊎◌, ◌↔◌, ◌<◌, ◌≤◌, ℕ, [], Some, None, IfSome, IsTrue, List, map, length, take, true, false};
 ghost use Rattle.std.specs.Io.KnownBytes.{Appends};
 ghost use Rattle.std.specs.Rc.{rc_str_bytes};
 ghost use Rattle.gb_outside.specs.Bytes.{AppendsFront};
@@ -7,13 +7,15 @@ ghost use Rattle.act_model.specs.declared.receipts.Receipt.{Receipt};
 ghost use Rattle.journal_disk.specs.Opening.{IsKept};
 ghost use Rattle.registry_office.specs.Disks.{FindsBy, KeepsDisk};
 ghost use Rattle.registry_office.specs.Outcomes.{output_of, uses_disk, uses_input, Told};
-ghost use Rattle.registry_office.specs.Sessions.{ended, replies, AnsweredRead};
+ghost use Rattle.registry_office.specs.Requests.{InMemory, holding, replies};
+ghost use Rattle.registry_office.specs.Sessions.{ended_requests, most_input, Took};
+ghost use Rattle.registry_office.specs.declared.lines.LineKind.TheVariants.{Stamped};
 ghost use Rattle.registry_office.specs.Statuses.{read_fault, write_fault, disk_fault, door_fault, is_no_journal};
 ghost use Rattle.registry_office.specs.Words.{command_of};
 
 use crate::disk_settling::settle_disk;
 use crate::settling::settle_lines;
-use crate::statuses::{Status, status_of, status_of_disk};
+use crate::statuses::{Status, status_of, status_of_settling};
 use crate::words::{Command, read_words};
 use gb_outside::{Clock, DeskGate, Disk, Listener, Sink, Source};
 use std::rc::RcStr;
@@ -42,9 +44,8 @@ pub fn run<R: AllocGlobal, S: Source, K: Sink, D: Disk, C: Clock, L: Listener, G
         → Appends (K.written sink.old) (K.written sink.new) (output_of (command_of (map rc_str_bytes words.now)) journal input) }
     ensures at_end { uses_input (command_of (map rc_str_bytes words.now)) ≡ true → result ≡ Status.Ok
         → IfSome (S.left source.old) (λ _. S.left source.new ≡ Some []) }
-    ensures short { uses_input (command_of (map rc_str_bytes words.now)) ≡ true → result ≡ Status.Ok
-        → IfSome (S.left source.old) (λ input. length input ≤ 2 ^ 26) }
-    ensures long { result ≡ Status.InputTooLong → IfSome (S.left source.old) (λ input. 2 ^ 26 < length input) }
+    ensures short { (result ≡ Status.InputTooLong → ⊥) → Took (S.left source.old) (S.left source.new) (λ read. length read ≤ most_input) }
+    ensures long { result ≡ Status.InputTooLong → Took (S.left source.old) (S.left source.new) (λ read. most_input < length read) }
 
     // On every other status a front of it was written; where the source failed or gave too much, just
     // the replies to the lines that an LF ends in what was read, of which the first 64 MiB count.
@@ -52,10 +53,9 @@ pub fn run<R: AllocGlobal, S: Source, K: Sink, D: Disk, C: Clock, L: Listener, G
         → Told (command_of (map rc_str_bytes words.now)) D.tells (D.reads disk.old) (S.left source.old) journal input
         → (result ≡ Status.Ok → ⊥)
         → AppendsFront (K.written sink.old) (K.written sink.new) (output_of (command_of (map rc_str_bytes words.now)) journal input) }
-    ensures so_far { result ≡ Status.ReadFault
-        → AnsweredRead (S.left source.old) (S.left source.new) (K.written sink.old) (K.written sink.new) }
-    ensures most { result ≡ Status.InputTooLong → IfSome (S.left source.old) (λ input.
-        Appends (K.written sink.old) (K.written sink.new) (replies [] (ended [] (take (2 ^ 26) input)))) }
+    ensures cut { (result ≡ Status.ReadFault) ⊎ (result ≡ Status.InputTooLong)
+        → Took (S.left source.old) (S.left source.new) (λ read.
+        Appends (K.written sink.old) (K.written sink.new) (replies InMemory (holding [] []) (ended_requests Stamped [] (take most_input read)))) }
 
     // The disk's file keeps its journal, also over a stop at any moment; a status tells what it
     // stood for, and where it stood for none nothing is written.
@@ -65,6 +65,12 @@ pub fn run<R: AllocGlobal, S: Source, K: Sink, D: Disk, C: Clock, L: Listener, G
         → KeepsDisk D.reads D.images D.moment D.since disk.old disk.new (disk_fault result) }
     ensures untouched { uses_disk (command_of (map rc_str_bytes words.now)) ≡ false → disk.new ≡ disk.old }
     ensures unopened { is_no_journal result ≡ true → sink.new ≡ sink.old }
+
+    // What the command does not use stays as it is.
+    ensures same_source { uses_input (command_of (map rc_str_bytes words.now)) ≡ false → source.new ≡ source.old }
+    ensures same_sink { command_of (map rc_str_bytes words.now) ≡ None → sink.new ≡ sink.old }
+    ensures same_clock { clock.new ≡ clock.old }
+    ensures same_door { door.new ≡ door.old }
 
     // Each fault has its cause, and a count rises with no other answer.
     ensures read { Counts (S.faults source.old) (S.faults source.new) (read_fault result) }
@@ -81,7 +87,9 @@ pub fn run<R: AllocGlobal, S: Source, K: Sink, D: Disk, C: Clock, L: Listener, G
 {
     match read_words(words) {
         None => Status::Usage,
-        Some(Command::Settle { .. }) => status_of_disk(settle_disk(rt.alloc(), disk, sink)),
-        Some(Command::SettleLines { .. }) => status_of(settle_lines(rt.alloc(), source, sink)),
+        Some(Command::Settle { .. }) => status_of_settling(settle_disk(rt.alloc(), disk, sink)),
+        Some(Command::SettleLines { .. }) => {
+            status_of(settle_lines(rt.alloc(), disk, clock, source, sink))
+        },
     }
 }

@@ -1,14 +1,15 @@
+// Writing a whole text.
 ghost use Rattle.std.specs.Prelude.{OnOk, OnErr};
 ghost use Rattle.std.specs.Io.KnownBytes.{Appends};
 ghost use Rattle.gb_outside.specs.Bytes.{AppendsFront};
 ghost use Rattle.gb_outside.specs.Faults.{Counts};
-ghost use Rattle.registry_office.specs.Stops.{output_failed};
+ghost use Rattle.registry_office.specs.Faults.{output_failed};
 
-use crate::stops::OutputStop;
+use crate::faults::OutputFault;
 use gb_outside::{Sink, Wrote};
 
 /// Writes a whole text, or a front of it where the sink fails.
-pub fn write_all<K: Sink>(sink: &mut K, text: &[u8]) -> Result<(), OutputStop>
+pub fn write_all<K: Sink>(sink: &mut K, text: &[u8]) -> Result<(), OutputFault>
     ensures whole { OnOk result (Appends (K.written sink.old) (K.written sink.new) text.now) }
     ensures part { OnErr result (AppendsFront (K.written sink.old) (K.written sink.new) text.now) }
     ensures cause { Counts (K.faults sink.old) (K.faults sink.new) (output_failed result) }
@@ -17,7 +18,7 @@ pub fn write_all<K: Sink>(sink: &mut K, text: &[u8]) -> Result<(), OutputStop>
     while done < text.len() {
         match sink.write(&text[done..]) {
             Wrote::Took(count) => done += count,
-            Wrote::Failed => return Err(OutputStop::Write),
+            Wrote::Failed => return Err(OutputFault::Write),
         }
     }
     Ok(())

@@ -1,4 +1,4 @@
-use Rattle.registry_office.proofs.Inputs.{reads_longer}
+use Rattle.registry_office.proofs.Blocks.{reads_longer}
 use Rattle.registry_office.proofs.session.read_block.Goals as goal
 
 pub returns-clause-content : goal.returns-clause-content

@@ -1,0 +1,131 @@
+-- One request, and how far it came.
+use Rattle.std.proofs.Common.{◌≡◌, inl, inr, ℕ, Bool, true, false, List, [], ◌∷◌, ◌++◌, refl, sym, ap, ◌∙◌, subst, append-nil, Option, Some, None}
+use Rattle.std.specs.Io.KnownBytes.{Appends}
+use Rattle.std.proofs.KnownBytes.{Appends-nil}
+use Rattle.gb_base.specs.DayMinute.{DayMinute}
+use Rattle.gb_outside.specs.Bytes.{AppendsFront}
+use Rattle.gb_outside.specs.Ticks.{Ticks}
+use Rattle.act_model.specs.declared.items.Item.{Item}
+use Rattle.act_model.specs.declared.receipts.Receipt.{Receipt}
+use Rattle.receipt_journal.specs.Receiving.{Answers}
+use Rattle.receipt_journal.specs.declared.received.Received.{Received}
+use Rattle.registry_office.specs.Grown.{GrownFrom}
+use Rattle.registry_office.specs.Requests.{Medium, OnDisk, Held, Replied, holding, received, replied, reply_of, replies, held_after}
+use Rattle.registry_office.specs.declared.requests.Request.{Request}
+use Rattle.registry_office.specs.declared.requests.Request.TheVariants.{Nothing, Refused, Receive}
+use Rattle.registry_office.specs.inner.Asking.{is_fault, has_no_stamp}
+use Rattle.registry_office.specs.inner.Sessions.{GotReply, MissedReply, unanswered, cut, Answered, AskedForFront, Broken}
+use Rattle.registry_office.proofs.Durable.{front_refl}
+use Rattle.registry_office.proofs.Replies.{grows_longer, grown_at, grown_wider, whole_front}
+
+-- an answer that is no fault is the answer expected
+pub answer_expected : (expected : Received) (answer : Received) → Answers expected answer → is_fault answer ≡ false → answer ≡ expected
+answer_expected expected answer (inl same) sound = same
+answer_expected expected answer (inr (accepts, inl memory)) sound = let never : true ≡ false = sym (ap is_fault memory) ∙ sound in absurd cc
+answer_expected expected answer (inr (accepts, inr disk)) sound = let never : true ≡ false = sym (ap is_fault disk) ∙ sound in absurd cc
+
+-- an item with the stamp that it got: its reply, and what the clock will give then
+pub record IsStamped (by_clock : Bool) (medium : Medium) (journal : List Receipt) (ticks : List DayMinute) (stamp : DayMinute) (own : Option DayMinute) (sender reference : ℕ) (item : Item) (known : Option (List DayMinute)) : Type 0 where
+  pub later : List DayMinute
+  pub reply : reply_of medium (holding journal ticks) (Receive own sender reference item) ≡ replied journal later stamp sender reference item (received medium journal stamp sender reference item)
+  pub clock : by_clock ≡ true → known ≡ Some later
+
+stamped_by_clock : (by_clock : Bool) (medium : Medium) (journal : List Receipt) (ticks : List DayMinute) (stamp : DayMinute) (sender reference : ℕ) (item : Item) (known0 known1 : Option (List DayMinute))
+    → known0 ≡ Some ticks → Ticks known0 known1 stamp → IsStamped by_clock medium journal ticks stamp None sender reference item known1
+unfolding reply_of
+stamped_by_clock by_clock medium journal [] stamp sender reference item known0 known1 is tick = absurd (subst (λ known. Ticks known known1 stamp) is tick)
+stamped_by_clock by_clock medium journal (t ∷ []) stamp sender reference item known0 known1 is tick =
+    let at : Ticks (Some (t ∷ [])) known1 stamp = subst (λ known. Ticks known known1 stamp) is tick in
+    record { later = t ∷ []; reply = ap (λ s. replied journal (t ∷ []) s sender reference item (received medium journal s sender reference item)) (sym at.0); clock = λ asked. at.1 }
+stamped_by_clock by_clock medium journal (t ∷ u ∷ ticks) stamp sender reference item known0 known1 is tick =
+    let at : Ticks (Some (t ∷ u ∷ ticks)) known1 stamp = subst (λ known. Ticks known known1 stamp) is tick in
+    record { later = u ∷ ticks; reply = ap (λ s. replied journal (u ∷ ticks) s sender reference item (received medium journal s sender reference item)) (sym at.0); clock = λ asked. at.1 }
+
+pub is_stamped : (by_clock : Bool) (medium : Medium) (journal : List Receipt) (ticks : List DayMinute) (stamp : DayMinute) (own : Option DayMinute) (sender reference : ℕ) (item : Item) (known0 known1 : Option (List DayMinute))
+    → (has_no_stamp own ≡ true → by_clock ≡ true) → (by_clock ≡ true → known0 ≡ Some ticks)
+    → ((t : DayMinute) → own ≡ Some t → (stamp ≡ t) × (known1 ≡ known0)) → (own ≡ None → Ticks known0 known1 stamp)
+    → IsStamped by_clock medium journal ticks stamp own sender reference item known1
+unfolding reply_of
+is_stamped by_clock medium journal ticks stamp (Some t) sender reference item known0 known1 asks clock own tick = record {
+  later = ticks;
+  reply = ap (λ s. replied journal ticks s sender reference item (received medium journal s sender reference item)) (sym (own t refl).0);
+  clock = λ asked. (own t refl).1 ∙ clock asked;
+}
+is_stamped by_clock medium journal ticks stamp None sender reference item known0 known1 asks clock own tick =
+    stamped_by_clock by_clock medium journal ticks stamp sender reference item known0 known1 (clock (asks refl)) (tick refl)
+
+-- ---- one request answered
+
+pub answered_nothing : (by_clock : Bool) (medium : Medium) (journal : List Receipt) (ticks : List DayMinute) (known : Option (List DayMinute)) (w : Option (List ℕ)) (request : Request)
+    → request ≡ Nothing → (by_clock ≡ true → known ≡ Some ticks) → Answered by_clock medium (holding journal ticks) journal known w w (request ∷ [])
+unfolding reply_of
+answered_nothing by_clock medium journal ticks known w request is clock = rw is (record { wrote = Appends-nil w; receipts = refl; clock = clock })
+
+pub answered_refused : (by_clock : Bool) (medium : Medium) (journal : List Receipt) (ticks : List DayMinute) (known : Option (List DayMinute)) (w0 w1 : Option (List ℕ)) (request : Request) (text : List ℕ)
+    → request ≡ Refused text → (by_clock ≡ true → known ≡ Some ticks) → Appends w0 w1 text → Answered by_clock medium (holding journal ticks) journal known w0 w1 (request ∷ [])
+unfolding reply_of
+answered_refused by_clock medium journal ticks known w0 w1 request text is clock wrote = rw is (record { wrote = rw (append-nil text) wrote; receipts = refl; clock = clock })
+
+pub answered_item : (by_clock : Bool) (medium : Medium) (journal0 journal1 : List Receipt) (ticks : List DayMinute) (stamp : DayMinute) (own : Option DayMinute) (sender reference : ℕ) (item : Item) (known : Option (List DayMinute)) (w0 w1 : Option (List ℕ)) (request : Request)
+    → request ≡ Receive own sender reference item → (s : IsStamped by_clock medium journal0 ticks stamp own sender reference item known)
+    → GotReply (replied journal0 s.later stamp sender reference item (received medium journal0 stamp sender reference item)) journal1 w0 w1
+    → Answered by_clock medium (holding journal0 ticks) journal1 known w0 w1 (request ∷ [])
+answered_item by_clock medium journal0 journal1 ticks stamp own sender reference item known w0 w1 request is s got =
+    let reply : Replied = replied journal0 s.later stamp sender reference item (received medium journal0 stamp sender reference item) in
+    rw is (record {
+      wrote = subst (λ r. Appends w0 w1 (r.text ++ [])) (sym s.reply) (rw (append-nil reply.text) got.wrote);
+      receipts = got.receipts ∙ ap (λ r. r.held.journal) (sym s.reply);
+      clock = λ asked. s.clock asked ∙ ap (λ r. Some r.held.ticks) (sym s.reply);
+    })
+
+-- ---- one request broken off
+
+pub broken_refused : (by_clock : Bool) (medium : Medium) (journal : List Receipt) (ticks : List DayMinute) (known : Option (List DayMinute)) (w0 w1 : Option (List ℕ)) (images : List ℕ → Type 0) (request : Request) (text : List ℕ)
+    → request ≡ Refused text → (by_clock ≡ true → known ≡ Some ticks) → AppendsFront w0 w1 text → (medium ≡ OnDisk → (c : List ℕ) → images c → GrownFrom journal journal c)
+    → Broken by_clock medium (holding journal ticks) known w0 w1 images (request ∷ [])
+unfolding reply_of
+broken_refused by_clock medium journal ticks known w0 w1 images request text is clock wrote durable = rw is (record {
+  done = Refused text ∷ [];
+  rest = [];
+  whole = refl;
+  wrote = rw (append-nil text) wrote;
+  durable = durable;
+  ticks = record { asked = Refused text ∷ []; others = []; all = refl; clock = clock };
+})
+
+module _ (by_clock : Bool) (medium : Medium) (journal : List Receipt) (ticks : List DayMinute) (stamp : DayMinute) (own : Option DayMinute) (sender reference : ℕ) (item : Item) (known : Option (List DayMinute)) (w0 w1 : Option (List ℕ)) (images : List ℕ → Type 0) where
+  abbrev item_asked : Request
+  item_asked = Receive own sender reference item
+
+  missed : (s : IsStamped by_clock medium journal ticks stamp own sender reference item known)
+      → MissedReply medium journal (reply_of medium (holding journal ticks) item_asked) w0 w1 images
+      → (by_clock ≡ true → known ≡ Some (reply_of medium (holding journal ticks) item_asked).held.ticks)
+      → Broken by_clock medium (holding journal ticks) known w0 w1 images (item_asked ∷ [])
+  missed s (unanswered stays durable) clock = record {
+    done = [];
+    rest = item_asked ∷ [];
+    whole = refl;
+    wrote = rw stays (whole_front w0 w0 [] (Appends-nil w0));
+    durable = durable;
+    ticks = record { asked = item_asked ∷ []; others = []; all = refl; clock = clock };
+  }
+  missed s (cut wrote durable) clock = record {
+    done = item_asked ∷ [];
+    rest = [];
+    whole = refl;
+    wrote = rw (append-nil (reply_of medium (holding journal ticks) item_asked).text) wrote;
+    durable = λ on_disk c image. grown_at (reply_of medium (holding journal ticks) item_asked).held.journal c (durable on_disk c image);
+    ticks = record { asked = item_asked ∷ []; others = []; all = refl; clock = clock };
+  }
+
+  pub broken_item : (request : Request) → request ≡ item_asked → (s : IsStamped by_clock medium journal ticks stamp own sender reference item known)
+      → MissedReply medium journal (replied journal s.later stamp sender reference item (received medium journal stamp sender reference item)) w0 w1 images
+      → Broken by_clock medium (holding journal ticks) known w0 w1 images (request ∷ [])
+  broken_item request is s miss = rw is (missed s
+      (subst (λ reply. MissedReply medium journal reply w0 w1 images) (sym s.reply) miss) (λ asked. s.clock asked ∙ ap (λ reply. Some reply.held.ticks) (sym s.reply)))
+
+-- what a stop leaves while an item is received
+pub item_grows : (by_clock : Bool) (medium : Medium) (journal : List Receipt) (ticks : List DayMinute) (stamp : DayMinute) (own : Option DayMinute) (sender reference : ℕ) (item : Item) (known : Option (List DayMinute)) (request : Request)
+    → request ≡ Receive own sender reference item → (s : IsStamped by_clock medium journal ticks stamp own sender reference item known)
+    → (replied journal s.later stamp sender reference item (received medium journal stamp sender reference item)).held.journal ≡ (held_after medium (holding journal ticks) (request ∷ [])).journal
+item_grows by_clock medium journal ticks stamp own sender reference item known request is s = rw is (ap (λ r. r.held.journal) (sym s.reply))

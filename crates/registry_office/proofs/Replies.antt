@@ -1,0 +1,223 @@
+-- Requests that are answered one list after the other.
+use Rattle.std.proofs.Common.{◌≡◌, ℕ, Bool, true, false, cond, List, [], ◌∷◌, ◌++◌, refl, sym, ap, ◌∙◌, subst, append_assoc, append-nil, Option, Some, None, IsTrue}
+use Rattle.std.specs.Io.KnownBytes.{Appends}
+use Rattle.std.proofs.KnownBytes.{Appends-nil, Appends-trans}
+use Rattle.gb_base.specs.DayMinute.{DayMinute}
+use Rattle.gb_outside.specs.Bytes.{AppendsFront}
+use Rattle.gb_outside.specs.Images.{LeavesOnly}
+use Rattle.gb_outside.proofs.Moments.{followed, weakened, started}
+use Rattle.act_model.specs.declared.items.Item.{Item}
+use Rattle.act_model.specs.declared.receipts.Receipt.{Receipt}
+use Rattle.receipt_journal.specs.BookState.{BookState}
+use Rattle.receipt_journal.specs.Receiving.{is_received, journal_after, next_receipt}
+use Rattle.receipt_journal.specs.Standing.{StandsForJournal}
+use Rattle.receipt_journal.specs.declared.received.Received.{Received}
+use Rattle.registry_office.specs.Grown.{IsFront, GrownFrom, IsDurable}
+use Rattle.registry_office.specs.Requests.{Medium, OnDisk, Held, holding, received, replied_by_clock, reply_of, replies, held_after}
+use Rattle.registry_office.specs.declared.requests.Request.{Request}
+use Rattle.registry_office.specs.declared.requests.Request.TheVariants.{Nothing, Refused, Receive}
+use Rattle.registry_office.specs.inner.Sessions.{IsReady, Knows, Answered, AskedForFront, Broken}
+use Rattle.registry_office.proofs.Durable.{front_refl, durable_stands}
+
+pub front_trans : {A : Type 0} (xs ys zs : List A) → IsFront xs ys → IsFront ys zs → IsFront xs zs
+front_trans xs ys zs first second =
+    (first.0 ++ second.0, second.1 ∙ ap (λ l. l ++ second.0) first.1 ∙ append_assoc xs first.0 second.0)
+
+pub replies-append : (medium : Medium) (held : Held) (xs ys : List Request)
+    → replies medium held (xs ++ ys) ≡ replies medium held xs ++ replies medium (held_after medium held xs) ys
+replies-append medium held [] ys = refl
+replies-append medium held (x ∷ xs) ys =
+    ap (λ text. (reply_of medium held x).text ++ text) (replies-append medium (reply_of medium held x).held xs ys)
+    ∙ sym (append_assoc (reply_of medium held x).text (replies medium (reply_of medium held x).held xs) _)
+
+pub held_after-append : (medium : Medium) (held : Held) (xs ys : List Request)
+    → held_after medium held (xs ++ ys) ≡ held_after medium (held_after medium held xs) ys
+held_after-append medium held [] ys = refl
+held_after-append medium held (x ∷ xs) ys = held_after-append medium (reply_of medium held x).held xs ys
+
+-- ---- journals grow
+
+grows_by_answer : (journal : List Receipt) (stamp : DayMinute) (sender reference : ℕ) (item : Item) (answer : Received)
+    → IsFront journal (journal_after journal stamp sender reference item answer)
+grows_by_answer journal stamp sender reference item answer =
+    let next = next_receipt journal stamp sender reference item in
+    elim (is_received answer) as (λ b. IsFront journal (cond b (journal ++ next ∷ []) journal)) [ true ↦ (next ∷ [], refl) | false ↦ front_refl journal ]
+
+grows_by_clock : (medium : Medium) (journal : List Receipt) (ticks : List DayMinute) (sender reference : ℕ) (item : Item)
+    → IsFront journal (replied_by_clock medium journal ticks sender reference item).held.journal
+grows_by_clock medium journal [] sender reference item = front_refl journal
+grows_by_clock medium journal (t ∷ []) sender reference item = grows_by_answer journal t sender reference item (received medium journal t sender reference item)
+grows_by_clock medium journal (t ∷ u ∷ ticks) sender reference item = grows_by_answer journal t sender reference item (received medium journal t sender reference item)
+
+grows_by : (medium : Medium) (held : Held) (request : Request) → IsFront held.journal (reply_of medium held request).held.journal
+unfolding reply_of
+grows_by medium held Nothing = front_refl held.journal
+grows_by medium held (Refused text) = front_refl held.journal
+grows_by medium held (Receive (Some stamp) sender reference item) = grows_by_answer held.journal stamp sender reference item (received medium held.journal stamp sender reference item)
+grows_by medium held (Receive None sender reference item) = grows_by_clock medium held.journal held.ticks sender reference item
+
+pub grows : (medium : Medium) (held : Held) (requests : List Request) → IsFront held.journal (held_after medium held requests).journal
+grows medium held [] = front_refl held.journal
+grows medium held (x ∷ xs) =
+    front_trans held.journal (reply_of medium held x).held.journal (held_after medium held (x ∷ xs)).journal (grows_by medium held x) (grows medium (reply_of medium held x).held xs)
+
+pub grows_longer : (medium : Medium) (held : Held) (xs ys : List Request) → IsFront (held_after medium held xs).journal (held_after medium held (xs ++ ys)).journal
+grows_longer medium held xs ys = rw (held_after-append medium held xs ys) (grows medium (held_after medium held xs) ys)
+
+-- ---- files that stand for a journal that has grown
+
+pub grown_wider : (a b from to : List Receipt) (file : List ℕ) → IsFront a from → IsFront to b → GrownFrom from to file → GrownFrom a b file
+grown_wider a b from to file begins ends is = record {
+  journal = is.journal;
+  stands = is.stands;
+  begins = front_trans a from is.journal begins is.begins;
+  ends = front_trans is.journal to b is.ends ends;
+}
+
+pub grown_at : (journal : List Receipt) (file : List ℕ) → StandsForJournal file journal → GrownFrom journal journal file
+grown_at journal file stands = record { journal = journal; stands = stands; begins = front_refl journal; ends = front_refl journal }
+
+module _ {D : Type 0} (moment : D → ℕ) (since : D → ℕ → List ℕ → Type 0) where
+  pub leaves_wider : (old new : D) (a b from to : List Receipt) → IsFront a from → IsFront to b
+      → LeavesOnly moment since old new (GrownFrom from to) → LeavesOnly moment since old new (GrownFrom a b)
+  leaves_wider old new a b from to begins ends run = weakened moment since old new (GrownFrom from to) (GrownFrom a b) (λ file is. grown_wider a b from to file begins ends is) run
+
+  -- one growth after another
+  pub leaves_then : (old mid new : D) (a b c : List Receipt) → IsFront a b → IsFront b c
+      → LeavesOnly moment since old mid (GrownFrom a b) → LeavesOnly moment since mid new (GrownFrom b c) → LeavesOnly moment since old new (GrownFrom a c)
+  leaves_then old mid new a b c first second run more =
+      followed moment since old mid new (GrownFrom a c) (leaves_wider old mid a c a b (front_refl a) second run) (leaves_wider mid new a c b c first (front_refl c) more)
+
+  -- nothing is done
+  pub leaves_same : (disk : D) (images : List ℕ → Type 0) (medium : Medium) (tells : Bool) (book : BookState) (reads : List ℕ) (to : List Receipt) → IsFront book.journal to
+      → medium ≡ OnDisk → IsTrue tells → IsReady medium tells book reads images → ((c : List ℕ) → since disk (moment disk) c → images c)
+      → LeavesOnly moment since disk disk (GrownFrom book.journal to)
+  leaves_same disk images medium tells book reads to front on_disk told ready only_now =
+      started moment since disk (GrownFrom book.journal to) (λ c left.
+      grown_wider book.journal to book.journal book.journal c (front_refl book.journal) front
+      (grown_at book.journal c (durable_stands book reads images c (ready.durable on_disk told) (only_now c left))))
+
+-- ---- what is answered
+
+pub answered_none : (by_clock : Bool) (medium : Medium) (held : Held) (known : Option (List DayMinute)) (w : Option (List ℕ)) → (by_clock ≡ true → known ≡ Some held.ticks) → Answered by_clock medium held held.journal known w w []
+answered_none by_clock medium held known w clock = record { wrote = Appends-nil w; receipts = refl; clock = clock }
+
+-- what is held between two lists, as it was found
+pub held_between : (by_clock : Bool) (medium : Medium) (held : Held) (journal : List Receipt) (known : Option (List DayMinute)) (w0 w1 : Option (List ℕ)) (xs : List Request)
+    → Answered by_clock medium held journal known w0 w1 xs → holding journal (held_after medium held xs).ticks ≡ held_after medium held xs
+held_between by_clock medium held journal known w0 w1 xs first = ap (λ j. holding j (held_after medium held xs).ticks) first.receipts
+
+pub answered_then : (by_clock : Bool) (medium : Medium) (held : Held) (j1 j2 : List Receipt) (k1 k2 : Option (List DayMinute)) (w0 w1 w2 : Option (List ℕ)) (xs ys : List Request)
+    → Answered by_clock medium held j1 k1 w0 w1 xs → Answered by_clock medium (holding j1 (held_after medium held xs).ticks) j2 k2 w1 w2 ys
+    → Answered by_clock medium held j2 k2 w0 w2 (xs ++ ys)
+answered_then by_clock medium held j1 j2 k1 k2 w0 w1 w2 xs ys first second =
+    let at = subst (λ h. Answered by_clock medium h j2 k2 w1 w2 ys) (held_between by_clock medium held j1 k1 w0 w1 xs first) second in record {
+      wrote = rw (replies-append medium held xs ys) (Appends-trans w0 w1 w2 (replies medium held xs) (replies medium (held_after medium held xs) ys) first.wrote at.wrote);
+      receipts = rw (held_after-append medium held xs ys) at.receipts;
+      clock = rw (held_after-append medium held xs ys) at.clock;
+    }
+
+pub front_of_more : (a b c : Option (List ℕ)) (text more : List ℕ) → Appends a b text → AppendsFront b c more → AppendsFront a c (text ++ more)
+front_of_more a b c text more before now = record {
+  front = text ++ now.front;
+  rest = now.rest;
+  whole = ap (λ r. text ++ r) now.whole ∙ sym (append_assoc text now.front now.rest);
+  added = Appends-trans a b c text now.front before now.added;
+}
+
+pub front_of_longer : (a b : Option (List ℕ)) (text more : List ℕ) → AppendsFront a b text → AppendsFront a b (text ++ more)
+front_of_longer a b text more part = record {
+  front = part.front;
+  rest = part.rest ++ more;
+  whole = ap (λ t. t ++ more) part.whole ∙ append_assoc part.front part.rest more;
+  added = part.added;
+}
+
+pub whole_front : (a b : Option (List ℕ)) (text : List ℕ) → Appends a b text → AppendsFront a b text
+whole_front a b text wrote = record { front = text; rest = []; whole = sym (append-nil text); added = wrote }
+
+-- ---- what is broken off
+
+-- what is broken off among the first is broken off among all
+pub broken_longer : (by_clock : Bool) (medium : Medium) (held : Held) (known : Option (List DayMinute)) (w0 w1 : Option (List ℕ)) (images : List ℕ → Type 0) (xs ys : List Request)
+    → Broken by_clock medium held known w0 w1 images xs → Broken by_clock medium held known w0 w1 images (xs ++ ys)
+broken_longer by_clock medium held known w0 w1 images xs ys is = record {
+  done = is.done;
+  rest = is.rest ++ ys;
+  whole = ap (λ l. l ++ ys) is.whole ∙ append_assoc is.done is.rest ys;
+  wrote = is.wrote;
+  durable = λ on_disk c image. grown_wider _ _ _ _ c (front_refl (held_after medium held is.done).journal) (grows_longer medium held xs ys) (is.durable on_disk c image);
+  ticks = record {
+    asked = is.ticks.asked;
+    others = is.ticks.others ++ ys;
+    all = ap (λ l. l ++ ys) is.ticks.all ∙ append_assoc is.ticks.asked is.ticks.others ys;
+    clock = is.ticks.clock;
+  };
+}
+
+-- the first are answered, and the others are broken off
+pub broken_then : (by_clock : Bool) (medium : Medium) (held : Held) (j1 : List Receipt) (k1 k2 : Option (List DayMinute)) (w0 w1 w2 : Option (List ℕ)) (images : List ℕ → Type 0) (xs ys : List Request)
+    → Answered by_clock medium held j1 k1 w0 w1 xs → Broken by_clock medium (holding j1 (held_after medium held xs).ticks) k2 w1 w2 images ys
+    → Broken by_clock medium held k2 w0 w2 images (xs ++ ys)
+broken_then by_clock medium held j1 k1 k2 w0 w1 w2 images xs ys first second =
+    let at = subst (λ h. Broken by_clock medium h k2 w1 w2 images ys) (held_between by_clock medium held j1 k1 w0 w1 xs first) second in record {
+      done = xs ++ at.done;
+      rest = at.rest;
+      whole = ap (λ l. xs ++ l) at.whole ∙ sym (append_assoc xs at.done at.rest);
+      wrote = rw (replies-append medium held xs at.done) (front_of_more w0 w1 w2 (replies medium held xs) (replies medium (held_after medium held xs) at.done) first.wrote at.wrote);
+      durable = rw (held_after-append medium held xs at.done, held_after-append medium held xs ys) at.durable;
+      ticks = record {
+        asked = xs ++ at.ticks.asked;
+        others = at.ticks.others;
+        all = ap (λ l. xs ++ l) at.ticks.all ∙ sym (append_assoc xs at.ticks.asked at.ticks.others);
+        clock = rw (held_after-append medium held xs at.ticks.asked) at.ticks.clock;
+      };
+    }
+
+-- nothing of these requests is done
+pub broken_before : (by_clock : Bool) (medium : Medium) (tells : Bool) (book : BookState) (ticks : List DayMinute) (known : Option (List DayMinute)) (w : Option (List ℕ)) (reads : List ℕ) (images : List ℕ → Type 0) (requests : List Request)
+    → (by_clock ≡ true → known ≡ Some ticks) → (medium ≡ OnDisk → IsTrue tells) → IsReady medium tells book reads images
+    → Broken by_clock medium (holding book.journal ticks) known w w images requests
+broken_before by_clock medium tells book ticks known w reads images requests clock told ready = record {
+  done = [];
+  rest = requests;
+  whole = refl;
+  wrote = whole_front w w [] (Appends-nil w);
+  durable = λ on_disk c image. grown_wider _ _ _ _ c (front_refl book.journal) (grows medium (holding book.journal ticks) requests)
+      (grown_at book.journal c (durable_stands book reads images c (ready.durable on_disk (told on_disk)) image));
+  ticks = record { asked = []; others = requests; all = refl; clock = clock };
+}
+
+-- ---- what a stop leaves of a disk while requests are answered
+
+module _ {D : Type 0} (moment : D → ℕ) (since : D → ℕ → List ℕ → Type 0) where
+  -- the first are answered, then others were worked on, and more may follow
+  pub left_within : (old mid new : D) (by_clock : Bool) (medium : Medium) (j0 j1 : List Receipt) (ticks : List DayMinute) (known : Option (List DayMinute)) (w0 w1 : Option (List ℕ)) (all xs ys zs : List Request)
+      → Answered by_clock medium (holding j0 ticks) j1 known w0 w1 xs → all ≡ (xs ++ ys) ++ zs
+      → LeavesOnly moment since old mid (GrownFrom j0 j1)
+      → LeavesOnly moment since mid new (GrownFrom j1 (held_after medium (holding j1 (held_after medium (holding j0 ticks) xs).ticks) ys).journal)
+      → LeavesOnly moment since old new (GrownFrom j0 (held_after medium (holding j0 ticks) all).journal)
+  left_within old mid new by_clock medium j0 j1 ticks known w0 w1 all xs ys zs first whole run more =
+      let held : Held = holding j0 ticks in
+      let between = held_between by_clock medium held j1 known w0 w1 xs first in
+      let later = subst (λ (h : Held). LeavesOnly moment since mid new (GrownFrom j1 (held_after medium h ys).journal)) between more in
+      let back : LeavesOnly moment since old new (GrownFrom j0 (held_after medium (held_after medium held xs) ys).journal) =
+      leaves_then moment since old mid new j0 j1 (held_after medium (held_after medium held xs) ys).journal
+      (subst (IsFront j0) (sym first.receipts) (grows medium held xs))
+      (subst (λ j. IsFront j (held_after medium (held_after medium held xs) ys).journal) (sym first.receipts) (grows medium (held_after medium held xs) ys)) run later in
+      rw whole (leaves_wider moment since old new j0 (held_after medium held ((xs ++ ys) ++ zs)).journal j0 (held_after medium (held_after medium held xs) ys).journal (front_refl j0)
+      (subst (λ h. IsFront h.journal (held_after medium held ((xs ++ ys) ++ zs)).journal) (held_after-append medium held xs ys) (grows_longer medium held (xs ++ ys) zs)) back)
+
+-- all of them are answered, and nothing more is
+pub broken_all : (by_clock : Bool) (medium : Medium) (tells : Bool) (j0 : List Receipt) (ticks : List DayMinute) (book : BookState) (known : Option (List DayMinute)) (w0 w1 : Option (List ℕ)) (reads : List ℕ) (images : List ℕ → Type 0) (xs : List Request)
+    → (medium ≡ OnDisk → IsTrue tells) → Answered by_clock medium (holding j0 ticks) book.journal known w0 w1 xs → IsReady medium tells book reads images
+    → Broken by_clock medium (holding j0 ticks) known w0 w1 images xs
+broken_all by_clock medium tells j0 ticks book known w0 w1 reads images xs told answered ready =
+    subst (λ rs. Broken by_clock medium (holding j0 ticks) known w0 w1 images rs) (append-nil xs)
+    (broken_then by_clock medium (holding j0 ticks) book.journal known known w0 w1 w1 images xs [] answered
+    (broken_before by_clock medium tells book (held_after medium (holding j0 ticks) xs).ticks known w1 reads images [] answered.clock told ready))
+
+-- what is known of the clock goes on
+pub knows_then : (by_clock : Bool) (medium : Medium) (tells : Bool) (known0 known1 : Option (List DayMinute)) (ticks : List DayMinute) (held : Held) (j1 : List Receipt) (w0 w1 : Option (List ℕ)) (xs : List Request)
+    → Knows by_clock medium tells known0 ticks → Answered by_clock medium held j1 known1 w0 w1 xs → Knows by_clock medium tells known1 (held_after medium held xs).ticks
+knows_then by_clock medium tells known0 known1 ticks held j1 w0 w1 xs knows first = record { clock = first.clock; disk = knows.disk }

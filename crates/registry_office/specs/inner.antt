@@ -1,0 +1,4 @@
+-- What clauses of private functions say.
+pub mod Asking
+pub mod Inputs
+pub mod Sessions

@@ -1,0 +1,41 @@
+-- What a request asks for.
+use Rattle.std.specs.Prelude.{◌≡◌, ℕ, Bool, true, false, Option, Some, None}
+use Rattle.gb_base.specs.DayMinute.{DayMinute}
+use Rattle.act_model.specs.WellFormed.{well_formed}
+use Rattle.receipt_journal.specs.declared.received.Received.{Received}
+use Rattle.receipt_journal.specs.declared.received.Received.TheVariants as answer
+use Rattle.registry_office.specs.Built.{is_built}
+use Rattle.registry_office.specs.declared.requests.Request.{Request}
+use Rattle.registry_office.specs.declared.requests.Request.TheVariants.{Nothing, Refused, Receive}
+
+-- an item that is to be received is well formed
+abbrev pub asks_well : Request → Bool
+asks_well Nothing = true
+asks_well (Refused text) = true
+asks_well (Receive stamp sender reference item) = well_formed item
+
+-- an item that is to be received is one that the office takes
+abbrev pub asks_built : Request → Bool
+asks_built Nothing = true
+asks_built (Refused text) = true
+asks_built (Receive stamp sender reference item) = is_built item
+
+abbrev pub has_no_stamp : Option DayMinute → Bool
+has_no_stamp None = true
+has_no_stamp (Some stamp) = false
+
+-- the clock is asked for it
+abbrev pub asks_clock : Request → Bool
+asks_clock Nothing = false
+asks_clock (Refused text) = false
+asks_clock (Receive stamp sender reference item) = has_no_stamp stamp
+
+-- the answer is a fault
+abbrev pub is_fault : Received → Bool
+is_fault (answer.Accepted n) = false
+is_fault (answer.Repeated n) = false
+is_fault (answer.Differs n) = false
+is_fault answer.Full = false
+is_fault answer.Disk = true
+is_fault answer.MustReopen = true
+is_fault answer.Memory = true

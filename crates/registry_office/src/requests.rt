@@ -1,0 +1,53 @@
+// What an input asks at one place.
+use act_model::Item;
+use gb_base::Stamp;
+use std::marker::Model;
+
+/// A reply line, with its LF.
+#[derive(Debug, Drop)]
+pub struct Reply {
+    text: Vec<u8>,
+}
+
+impl Model for Reply {
+    ghost use Rattle.std.specs.Prelude.{List, ℕ};
+
+    ghost Value = { List ℕ };
+
+    ghost view = { λ a. a.text.items };
+}
+
+impl Reply {
+    ghost use Rattle.std.specs.Prelude.{◌≡◌};
+
+    /// This text.
+    pub fn new(text: Vec<u8>) -> Reply
+        ensures { result ≡ text.items }
+    {
+        Reply { text }
+    }
+
+    /// The bytes of the line.
+    pub fn text(&self) -> &[u8]
+        ensures { result.now ≡ self.now }
+    {
+        self.text.as_slice()
+    }
+}
+
+/// What an input asks at one place: nothing, or a text that is refused with this reply, or that
+/// an item be received, which the clock stamps where it has no stamp of its own.
+#[derive(Debug, Drop)]
+pub enum Request {
+    /// Nothing.
+    Nothing,
+    /// A text that is no item.
+    Refused(Reply),
+    /// An item.
+    Receive {
+        stamp: Option<Stamp>,
+        sender: u32,
+        reference: u64,
+        item: Item,
+    },
+}
