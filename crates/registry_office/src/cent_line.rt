@@ -2,8 +2,8 @@
 ghost use Rattle.std.specs.Prelude.{◌≡◌, ◌+◌, ◌*◌, ◌≤◌, ◌++◌, List, IfOk, OnOk, length, sum_by, replicate};
 ghost use Rattle.registry_office.specs.Ranks.{LiveRight, cent_line, pieces_of};
 
-use crate::ranks::has_same_place;
 use crate::live_rights::LiveRight;
+use crate::ranks::has_same_place;
 use gb_base::NoMemory;
 use std::alloc::Global;
 use std::marker::Model;

@@ -7,9 +7,9 @@ ghost use Rattle.registry_office.specs.Reports.{inventory_line, owners_line, kin
 
 use crate::acts::is_in_division_three;
 use crate::entries::{Created, RightForm};
+use crate::live_rights::{LiveRight, rights_entered};
 use crate::reading::{inventory_of, owners_of};
 use crate::register::Register;
-use crate::live_rights::{LiveRight, rights_entered};
 use act_model::{Inventory, RightKind};
 use gb_base::{Cents, FolioId, NoMemory, Person, ReceiptNo};
 use std::alloc::Global;
@@ -95,7 +95,11 @@ fn add_notes(text: &mut String, right: &Created) -> Result<(), NoMemory>
 fn division_of(kind: RightKind) -> &'static str
     ensures { result.now ≡ division_of kind }
 {
-    if is_in_division_three(kind) { "III" } else { "II" }
+    if is_in_division_three(kind) {
+        "III"
+    } else {
+        "II"
+    }
 }
 
 fn kind_name(kind: RightKind) -> &'static str

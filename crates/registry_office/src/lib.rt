@@ -13,6 +13,7 @@ mod extracts;
 mod folios;
 mod judging;
 mod lines;
+mod live_rights;
 mod rank_tables;
 mod ranks;
 mod reading;
@@ -21,7 +22,6 @@ mod registrar;
 mod reports;
 mod session;
 mod settling;
-mod live_rights;
 mod statuses;
 mod stops;
 #[cfg(test)]

@@ -7,9 +7,9 @@ ghost use Rattle.registry_office.specs.Ranks.{rights_in, rights_entered, has_sam
 ghost use Rattle.registry_office.specs.Reports.{rank_line, owner_text, cent_lines, rank_table_of, rank_table};
 
 use crate::cent_line::{Piece, pieces};
+use crate::live_rights::{LiveRight, places_in, rights_entered};
 use crate::ranks::{has_same_place, rank_of};
 use crate::register::Register;
-use crate::live_rights::{LiveRight, places_in, rights_entered};
 use gb_base::{FolioId, NoMemory, ReceiptNo};
 use std::alloc::Global;
 
