@@ -67,8 +67,5 @@ fn check(receipt: &Receipt, bytes: &[u8]) -> Result<()> {
 }
 
 fn is_same(a: &Receipt, b: &Receipt) -> bool {
-    a.stamp == b.stamp
-        && a.sender == b.sender
-        && a.reference == b.reference
-        && a.item == b.item
+    a.stamp == b.stamp && a.sender == b.sender && a.reference == b.reference && a.item == b.item
 }

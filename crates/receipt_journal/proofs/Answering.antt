@@ -1,5 +1,5 @@
 -- A book's answer to an item, and what the file stands for then.
-use Rattle.std.proofs.Common.{◌≡◌, inl, inr, ℕ, ◌+◌, ◌≤◌, Bool, true, false, ltb, List, [], ◌∷◌, ◌++◌, length, Result, Ok, Err, OnOk, is_err, refl, sym, ◌∙◌, ap, subst, arith}
+use Rattle.std.proofs.Common.{◌≡◌, ◌⊎◌, inl, inr, ℕ, ◌+◌, ◌≤◌, Bool, true, false, ltb, List, [], ◌∷◌, ◌++◌, length, Result, Ok, Err, OnOk, is_err, refl, sym, ◌∙◌, ap, subst, arith}
 use Rattle.std.proofs.lemmas.Bool.{cond-true, cond-false, le-ltb}
 use Rattle.std.proofs.lemmas.List.{map-append}
 use Rattle.std.proofs.lemmas.List.Elements.{All-push}
@@ -82,6 +82,7 @@ next_fits journal stamp sender reference item is accepts short =
 
 module _ (journal : List Receipt) (stamp : DayMinute) (sender reference : ℕ) (item : Item) (fits : file_size the_heading (journal ++ next_receipt journal stamp sender reference item ∷ []) ≤ file_limit) where
   as_in_journal : answer_on journal stamp sender reference item ≡ in_journal (answer_to journal sender reference item)
+  unfolding answer_on
   as_in_journal = accepted_on_disk (file_size the_heading (journal ++ next_receipt journal stamp sender reference item ∷ [])) (answer_to journal sender reference item) fits
 
   pub answers_kept : (answer : Added) → answer ≡ answer_to journal sender reference item → Answers (answer_on journal stamp sender reference item) (in_journal answer)
@@ -101,6 +102,22 @@ module _ (journal : List Receipt) (stamp : DayMinute) (sender reference : ℕ) (
   never_full gate body ends spelled full =
       let next = next_receipt journal stamp sender reference item in
       omega (arith, fits, sum_by_push (λ r. 5 + length (spelling r)) journal next, records_size journal, ap length spelled)
+
+not_on_disk : (size : ℕ) (expected : Added) → journals.is_accepted expected ≡ false → on_disk size expected ≡ in_journal expected
+not_on_disk size (added.Accepted n) refuses = absurd cc
+not_on_disk size (added.Repeated n) refuses = refl
+not_on_disk size (added.Differs n) refuses = refl
+not_on_disk size added.Full refuses = refl
+not_on_disk size added.Memory refuses = refl
+
+-- what the journal does not accept is answered as the journal does
+pub answers_refused : (journal : List Receipt) (stamp : DayMinute) (sender reference : ℕ) (item : Item) (answer : Added) → journals.is_accepted (answer_to journal sender reference item) ≡ false
+    → (answer ≡ answer_to journal sender reference item) ⊎ ((answer ≡ added.Memory) × (journals.is_accepted (answer_to journal sender reference item) ≡ true))
+    → Answers (answer_on journal stamp sender reference item) (in_journal answer)
+unfolding answer_on
+answers_refused journal stamp sender reference item answer refuses (inl same) =
+    inl (ap in_journal same ∙ sym (not_on_disk (file_size the_heading (journal ++ next_receipt journal stamp sender reference item ∷ [])) (answer_to journal sender reference item) refuses))
+answers_refused journal stamp sender reference item answer refuses (inr memory) = let no = memory.1 in absurd cc
 
 -- what holds on Ok, by the test for an error
 pub no_error : {T E : Type 0} (r : Result T E) (P : Type 0) (failed : Bool) → failed ≡ is_err r → failed ≡ false → OnOk r P → P

@@ -17,7 +17,7 @@ use Rattle.act_model.specs.declared.auctions.Registration.TheVariants as registr
 use Rattle.act_model.specs.declared.items.Item.{Item}
 use Rattle.act_model.specs.declared.items.Item.TheVariants as item
 use Rattle.act_model.specs.declared.receipts.Receipt.{Receipt}
-use Rattle.act_codec.specs.Spelling.{u16_bytes, u32_bytes, u64_bytes, kind_bytes, reserve_bytes, act_bytes, form_bytes, doc_bytes, condition_bytes, basis_bytes, what_bytes, item_bytes, spelling}
+use Rattle.act_codec.specs.Spelling.{u16_bytes, u32_bytes, u64_bytes, kind_bytes, reserve_bytes, act_bytes, form_bytes, doc_bytes, condition_bytes, basis_bytes, registration_bytes, item_bytes, spelling}
 use Rattle.receipt_journal.specs.inner.Lists.{HasFewOwners, HasShortLists}
 
 u16_len : (n : ℕ) → length (u16_bytes n) ≡ 2
@@ -83,17 +83,17 @@ basis_len : (b : Basis) → length (basis_bytes b) ≤ 13
 basis_len (basis.Personal p c) = simp (length-append, u32_len, u64_len) (omega arith)
 basis_len (basis.FromRight r) = simp (length-append, u32_len) (omega arith)
 
-what_len : (w : Registration) → length (what_bytes w) ≤ 17
-what_len (registration.Advance p a) = simp (length-append, u32_len, u64_len) (omega arith)
-what_len (registration.PublicCharge p a d) = simp (length-append, u32_len, u64_len) (omega arith)
-what_len (registration.Arrears r f u) = simp (length-append, u32_len) (omega arith)
+registration_len : (w : Registration) → length (registration_bytes w) ≤ 17
+registration_len (registration.Advance p a) = simp (length-append, u32_len, u64_len) (omega arith)
+registration_len (registration.PublicCharge p a d) = simp (length-append, u32_len, u64_len) (omega arith)
+registration_len (registration.Arrears r f u) = simp (length-append, u32_len) (omega arith)
 
 item_len : (i : Item) → HasShortLists i → length (item_bytes i) ≤ 504
 item_len (item.Filing f) few = simp (length-append, u32_len, condition_len) (omega (arith, docs_len f.docs, acts_len f.acts few.1, few.0, few.2))
 item_len (item.Cure n ds) few = simp (length-append, u32_len) (omega (arith, docs_len ds, few))
 item_len (item.Lapse n) few = omega (arith, u32_len n)
 item_len (item.Seize f b d) few = simp (length-append, u32_len) (omega (arith, basis_len b))
-item_len (item.Register f w) few = simp (length-append, u32_len) (omega (arith, what_len w))
+item_len (item.Register f w) few = simp (length-append, u32_len) (omega (arith, registration_len w))
 item_len (item.OpenBids f c) few = simp (length-append, u32_len, u64_len) (omega arith)
 item_len (item.Award f p b) few = simp (length-append, u32_len, u64_len) (omega arith)
 item_len (item.Distribute f) few = omega (arith, u32_len f)

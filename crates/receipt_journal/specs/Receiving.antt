@@ -35,7 +35,7 @@ abbrev pub on_disk : ℕ → Added → Received
 on_disk size answer = if journals.is_accepted answer && nat_lt file_limit size then received.Full else in_journal answer
 
 -- the answer to an item of this sender and reference
-abbrev pub answer_on : List Receipt → DayMinute → ℕ → ℕ → Item → Received
+unfoldable pub answer_on : List Receipt → DayMinute → ℕ → ℕ → Item → Received
 answer_on journal stamp sender reference item =
     on_disk (file_size the_heading (journal ++ next_receipt journal stamp sender reference item ∷ [])) (answer_to journal sender reference item)
 

@@ -27,6 +27,19 @@ use std::alloc::Global;
 use std::marker::Model;
 
 /// The journal of the office, and the log on a disk that keeps it. The disk is lent to each call.
+///
+/// ```
+/// let mut book = Book::open(alloc, &mut disk)?;
+/// // Sender 1 calls the item 5.
+/// match book.receive(alloc, &mut disk, stamp, 1, 5, &item) {
+///     // The receipt is on the disk.
+///     Received::Accepted(n) => assert!(book.get(n).is_some()),
+///     Received::Repeated(_) | Received::Differs(_) | Received::Full => {}
+///     // Opened again, the journal has the receipt or not.
+///     Received::Disk | Received::MustReopen => book = Book::open(alloc, &mut disk)?,
+///     Received::Memory => {}
+/// }
+/// ```
 #[derive(Drop)]
 pub struct Book {
     journal: Journal,

@@ -1,8 +1,9 @@
 -- A book receives an item: the frame is appended, and then the journal takes the receipt.
-use Rattle.std.proofs.Common.{◌≡◌, ◌++◌, ◌∷◌, [], ℕ, List, Err, IsTrue, true, false, sym, ◌∙◌, ap, subst}
-use Rattle.gb_outside.proofs.Moments.{weakened}
+use Rattle.std.proofs.Common.{◌≡◌, ◌⊎◌, inl, ◌++◌, ◌∷◌, [], ℕ, List, Err, IsTrue, true, false, sym, ◌∙◌, ap, subst}
+use Rattle.gb_outside.proofs.Moments.{started, weakened}
 use Rattle.act_model.specs.JournalState.{has_room}
 use Rattle.act_model.specs.declared.receipts.Receipt.{Receipt}
+use Rattle.act_model.specs.declared.added.Added.TheVariants as variants
 use Rattle.act_model.specs.Receiving.{answer_to}
 use Rattle.act_model.specs.Receiving as journals
 use Rattle.act_codec.specs.Spelling.{spelling}
@@ -10,7 +11,8 @@ use Rattle.journal_disk.specs.Appending as frames
 use Rattle.journal_disk.specs.Appending.{StandsOn}
 use Rattle.receipt_journal.specs.Standing.{records, gate_behind, IsKeepable}
 use Rattle.receipt_journal.specs.Receiving.{next_receipt, answer_on, Answers, JournalWithOrWithout}
-use Rattle.receipt_journal.proofs.Answering.{next_fits, answers_memory, keepable_next, records_push, gate_next, with_or_without, answers_kept, answers_disk, never_full, accepted_added, no_error}
+use Rattle.receipt_journal.proofs.Answering.{next_fits, answers_memory, answers_refused, keepable_next, records_push, gate_next, with_or_without, answers_kept, answers_disk, never_full, accepted_added, no_error}
+use Rattle.receipt_journal.proofs.Standings.{stands_by_frames}
 use Rattle.receipt_journal.proofs.books.Book.receive.Goals as goal
 
 -- room was kept, so the journal gives the answer expected
@@ -134,3 +136,29 @@ returns-then-is_err-clause-answer g c = λ works.
     let is : IsKeepable journal = subst IsKeepable (ap (λ b. b.journal) c.self.view_is) c.self.invariant.keepable in
     let fits = next_fits journal c.args.stamp c.args.sender c.args.reference c.args.item.now is accepted c.spell.ensures.short in
     answers_memory journal c.args.stamp c.args.sender c.args.reference c.args.item.now fits accepted
+
+pub returns-in_default-clause-any_moment : goal.returns-in_default-clause-any_moment
+returns-in_default-clause-any_moment g c = λ tells works.
+    let journal = c.args.self.now.journal in
+    let next = next_receipt journal c.args.stamp c.args.sender c.args.reference c.args.item.now in
+    let is : IsKeepable journal = subst IsKeepable (ap (λ b. b.journal) c.self.view_is) c.self.invariant.keepable in
+    started g.D.Disk.moment g.D.Disk.since c.args.disk.now (JournalWithOrWithout journal next)
+    (λ file left. inl (stands_by_frames file journal is ((c.requires.stands tells works).durable file (g.met.D.Disk.only_now c.args.disk.now file tells left))))
+
+pub returns-then-is_err-clause-any_moment : goal.returns-then-is_err-clause-any_moment
+returns-then-is_err-clause-any_moment g c = λ tells works.
+    let journal = c.args.self.now.journal in
+    let next = next_receipt journal c.args.stamp c.args.sender c.args.reference c.args.item.now in
+    let is : IsKeepable journal = subst IsKeepable (ap (λ b. b.journal) c.self.view_is) c.self.invariant.keepable in
+    started g.D.Disk.moment g.D.Disk.since c.args.disk.now (JournalWithOrWithout journal next)
+    (λ file left. inl (stands_by_frames file journal is ((c.requires.stands tells works).durable file (g.met.D.Disk.only_now c.args.disk.now file tells left))))
+
+-- what the journal does not accept
+pub returns-then-not-accepts-clause-answer : goal.returns-then-not-accepts-clause-answer
+returns-then-not-accepts-clause-answer g c = λ works.
+    let journal = c.args.self.now.journal in
+    let refuses : journals.is_accepted (answer_to journal c.args.sender c.args.reference c.args.item.now) ≡ false = c.accepts.ensures c.args.item.now ∙ c.if-not-accepts.true in
+    let said = subst (λ (j : List Receipt). (c.add.result ≡ answer_to j c.args.sender c.args.reference c.args.item.now) ⊎ ((c.add.result ≡ variants.Memory) × (journals.is_accepted (answer_to j c.args.sender c.args.reference c.args.item.now) ≡ true)))
+    (ap (λ b. b.journal) c.self.view_is) c.add.ensures.answer in
+    subst (Answers (answer_on journal c.args.stamp c.args.sender c.args.reference c.args.item.now)) (sym c.answered.ensures)
+    (answers_refused journal c.args.stamp c.args.sender c.args.reference c.args.item.now c.add.result refuses said)
