@@ -78,11 +78,13 @@ durable_stands book reads images file is image = stands_by_frames file book.jour
 
 -- no answer that is expected is a failure of the disk
 pub none_failed : (medium : Medium) (journal : List Receipt) (stamp : DayMinute) (sender reference : ℕ) (item : Item) → receiving_failed (received medium journal stamp sender reference item) ≡ false
+unfolding answer_on
 none_failed InMemory journal stamp sender reference item = no_disk_in_journal (answer_to journal sender reference item)
 none_failed OnDisk journal stamp sender reference item = no_disk (file_size the_heading (journal ++ next_receipt journal stamp sender reference item ∷ [])) (answer_to journal sender reference item)
 
 -- the same for an item that a disk's answer refuses
 pub refused_on_disk : (journal : List Receipt) (stamp : DayMinute) (sender reference : ℕ) (item : Item) (result : Received) → Answers (answer_on journal stamp sender reference item) result
     → is_received (answer_on journal stamp sender reference item) ≡ false → (is_received result ≡ false) × (receiving_failed result ≡ false)
+unfolding answer_on
 refused_on_disk journal stamp sender reference item result answers refused =
     refused_by_none (file_size the_heading (journal ++ next_receipt journal stamp sender reference item ∷ [])) (answer_to journal sender reference item) result answers refused
