@@ -1,1 +1,5 @@
+pub mod Heads
 pub mod Replies
+pub mod RequestParts
+pub mod Requests
+pub mod inner

@@ -2,6 +2,13 @@
 //! for, and the bytes of a reply.
 #![tactic(auto)]
 
+mod headers;
+mod heads;
 mod replies;
+mod request_parts;
+mod requests;
+mod targets;
 
 pub use replies::{ReplyFault, write_reply};
+pub use request_parts::Request;
+pub use requests::{Next, next_request};
