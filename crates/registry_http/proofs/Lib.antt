@@ -1,4 +1,5 @@
 pub mod Lengths
+pub mod ReadSoFar
 pub mod TargetEnds
 pub mod Tokens
 pub mod WholeHeads

@@ -1,11 +1,11 @@
 -- Bytes that end inside a target: line ends, a method, a space, and bytes of a target.
-use Rattle.std.proofs.Common.{◌≡◌, ℕ, ◌<◌, ◌≤◌, Bool, true, false, cond, ◌==◌, ◌&&◌, ◌⊎◌, ⊎_elim, List, [], ◌∷◌, ◌++◌, length, refl, sym, ap, subst, ◌∙◌, arith, append_assoc, length-append}
+use Rattle.std.proofs.Common.{◌≡◌, ℕ, ◌<◌, ◌≤◌, Bool, true, false, ◌==◌, ◌&&◌, ⊎_elim, List, [], ◌∷◌, ◌++◌, length, refl, sym, ap, subst, ◌∙◌, arith, append_assoc, length-append}
 use Rattle.std.specs.List.{list_all}
 use Rattle.std.proofs.lemmas.Bool.{cases_eq, cases_Bool, ne_eqb, and_parts, and_left, and_right, eqb-true, false≢true}
 use Rattle.std.proofs.lemmas.List.Elements.{All-nil, All-cons, All-head, All-tail}
 use Rattle.std.proofs.lemmas.List.Sums.{AllPass-from_list_all, list_all-from_AllPass}
 use Rattle.httparse.specs.Grammar.{LineEnd, crlf, lf, print_blank, is_token_byte, is_uri_byte, IsToken, AllPass, EndsInTarget}
-use Rattle.httparse.proofs.PieceLemmas.{space_ends_token, token_is_no_newline}
+use Rattle.httparse.proofs.PieceLemmas.{space_ends_token}
 use Rattle.registry_http.specs.inner.Reading.{without_blank, without_token, is_space_and_target}
 
 -- ---- line ends
@@ -42,10 +42,10 @@ blank_of (a ∷ []) =
 blank_of (a ∷ b ∷ bytes) =
     ⊎_elim (λ (same : a ≡ 10). subst (λ v. Blank (v ∷ b ∷ bytes)) (sym same) (lf_blank (b ∷ bytes) (blank_of (b ∷ bytes))))
     (λ (differs : a ≡ 10 → ⊥).
-      ⊎_elim (λ (cr : a ≡ 13).
-        ⊎_elim (λ (same : b ≡ 10). subst (λ v. Blank (v ∷ b ∷ bytes)) (sym cr) (subst (λ v. Blank (13 ∷ v ∷ bytes)) (sym same) (crlf_blank bytes (blank_of bytes))))
-        (λ (other : b ≡ 10 → ⊥). none_blank (a ∷ b ∷ bytes) (two_stay a b bytes differs (and_right _ _ (ne_eqb b 10 other)))) (cases_eq b 10))
-      (λ (other : a ≡ 13 → ⊥). none_blank (a ∷ b ∷ bytes) (two_stay a b bytes differs (and_left _ _ (ne_eqb a 13 other)))) (cases_eq a 13))
+    ⊎_elim (λ (cr : a ≡ 13).
+    ⊎_elim (λ (same : b ≡ 10). subst (λ v. Blank (v ∷ b ∷ bytes)) (sym cr) (subst (λ v. Blank (13 ∷ v ∷ bytes)) (sym same) (crlf_blank bytes (blank_of bytes))))
+    (λ (other : b ≡ 10 → ⊥). none_blank (a ∷ b ∷ bytes) (two_stay a b bytes differs (and_right _ _ (ne_eqb b 10 other)))) (cases_eq b 10))
+    (λ (other : a ≡ 13 → ⊥). none_blank (a ∷ b ∷ bytes) (two_stay a b bytes differs (and_left _ _ (ne_eqb a 13 other)))) (cases_eq a 13))
     (cases_eq a 10)
 
 without_blank-blank : (ends : List LineEnd) (rest : List ℕ) → without_blank (print_blank ends ++ rest) ≡ without_blank rest
@@ -88,11 +88,11 @@ token_of [] = record { token = []; pass = All-nil (λ v. is_token_byte v ≡ tru
 token_of (b ∷ bytes) =
     let t = token_of bytes in
     ⊎_elim (λ (good : is_token_byte b ≡ true).
-      record {
-        token = b ∷ t.token;
-        pass = All-cons (λ v. is_token_byte v ≡ true) b t.token good t.pass;
-        whole = rw good (ap (λ l. b ∷ l) t.whole);
-      })
+    record {
+      token = b ∷ t.token;
+      pass = All-cons (λ v. is_token_byte v ≡ true) b t.token good t.pass;
+      whole = rw good (ap (λ l. b ∷ l) t.whole);
+    })
     (λ (bad : is_token_byte b ≡ false). record { token = []; pass = All-nil (λ v. is_token_byte v ≡ true); whole = rw bad refl })
     (cases_Bool (is_token_byte b))
 
@@ -128,8 +128,7 @@ ends_in_target bytes shown =
     let b = blank_of bytes in
     let t = token_of line in
     let space = space_first (without_token line) shown.target in
-    let whole : line ≡ t.token ++ 32 ∷ space.0 = t.whole ∙ ap (λ l. t.token ++ l) space.1 in
-    (
+    let whole : line ≡ t.token ++ 32 ∷ space.0 = t.whole ∙ ap (λ l. t.token ++ l) space.1 in (
       b.ends,
       t.token,
       space.0,
@@ -141,10 +140,10 @@ ends_in_target bytes shown =
 pub shows_target : (bytes : List ℕ) → EndsInTarget bytes → ShowsTarget bytes
 shows_target bytes ends =
     let line : without_blank bytes ≡ ends.1 ++ 32 ∷ ends.2 =
-        ap without_blank (ends.5 ∙ append_assoc (print_blank ends.0) ends.1 (32 ∷ ends.2))
-        ∙ without_blank-blank ends.0 (ends.1 ++ 32 ∷ ends.2) ∙ without_blank-token ends.1 (32 ∷ ends.2) ends.3 in
+    ap without_blank (ends.5 ∙ append_assoc (print_blank ends.0) ends.1 (32 ∷ ends.2))
+    ∙ without_blank-blank ends.0 (ends.1 ++ 32 ∷ ends.2) ∙ without_blank-token ends.1 (32 ∷ ends.2) ends.3 in
     let behind : without_token (without_blank bytes) ≡ 32 ∷ ends.2 =
-        ap without_token line ∙ without_token-token ends.1 (32 ∷ ends.2) ends.3.1 ∙ without_token-space ends.2 in
+    ap without_token line ∙ without_token-token ends.1 (32 ∷ ends.2) ends.3.1 ∙ without_token-space ends.2 in
     record {
       method = omega (arith, ap length line, ap length behind, length-append ends.1 (32 ∷ ends.2), ends.3.0);
       target = rw behind (list_all-from_AllPass is_uri_byte ends.2 ends.4);
@@ -154,8 +153,7 @@ shows_target bytes ends =
 pub ends_by : (bytes line behind : List ℕ) (r : Bool) → line ≡ without_blank bytes → behind ≡ without_token line → length behind < length line
     → r ≡ is_space_and_target behind → (r ≡ true → EndsInTarget bytes) × (EndsInTarget bytes → r ≡ true)
 ends_by bytes line behind r line_is behind_is shorter r_is =
-    let rest : behind ≡ without_token (without_blank bytes) = behind_is ∙ ap without_token line_is in
-    (
+    let rest : behind ≡ without_token (without_blank bytes) = behind_is ∙ ap without_token line_is in (
       λ yes. ends_in_target bytes (record {
         method = omega (arith, ap length rest, ap length line_is);
         target = sym (ap is_space_and_target rest) ∙ sym r_is ∙ yes;
@@ -167,8 +165,7 @@ ends_by bytes line behind r line_is behind_is shorter r_is =
 pub ends_nowhere : (bytes line behind : List ℕ) (r : Bool) → line ≡ without_blank bytes → behind ≡ without_token line → length line ≤ length behind
     → (r ≡ true → length behind < length line) → (r ≡ true → EndsInTarget bytes) × (EndsInTarget bytes → r ≡ true)
 ends_nowhere bytes line behind r line_is behind_is longer shorter =
-    let rest : behind ≡ without_token (without_blank bytes) = behind_is ∙ ap without_token line_is in
-    (
+    let rest : behind ≡ without_token (without_blank bytes) = behind_is ∙ ap without_token line_is in (
       λ yes. let h : length behind < length line = shorter yes in absurd (omega arith),
       λ ends. let h = (shows_target bytes ends).method in absurd (omega (arith, h, ap length rest, ap length line_is)),
     )

@@ -1,5 +1,5 @@
 -- Heads at the front of bytes: what more bytes change, and how long a head is.
-use Rattle.std.proofs.Common.{◌≡◌, ◌≢◌, ℕ, ◌+◌, ◌-◌, ◌*◌, min, ◌<◌, ◌≤◌, ◌⊎◌, inl, inr, ⊎_elim, Bool, true, false, List, [], ◌∷◌, ◌++◌, length, take, drop, map, Option, Some, None, Err, refl, sym, ap, subst, ◌∙◌, arith, append_assoc, append-nil, length-append}
+use Rattle.std.proofs.Common.{◌≡◌, ◌≢◌, ℕ, ◌+◌, ◌-◌, ◌*◌, min, ◌<◌, ◌≤◌, ◌⊎◌, inl, inr, ⊎_elim, Bool, List, [], ◌∷◌, ◌++◌, length, take, refl, sym, ap, subst, ◌∙◌, arith, append-nil, length-append}
 use Rattle.std.specs.Prelude.{All}
 use Rattle.std.specs.List.{flat_map}
 use Rattle.std.proofs.lemmas.Bool.{cases_lt}
@@ -8,11 +8,10 @@ use Rattle.std.proofs.lemmas.List.Elements.{All-head, All-tail}
 use Rattle.std.proofs.Math.Seq.{take-append-add}
 use Rattle.httparse.specs.declared.Error.{Error}
 use Rattle.httparse.specs.declared.Error.TheVariants.{HeaderName, HeaderValue, NewLine, Status, Token, TooManyHeaders, Version}
-use Rattle.httparse.specs.Grammar.{LineEnd, crlf, lf, print_end, print_blank, print_version, print_section, Field, print_field, IsField, RequestHead, print_request, ReadsRequest, HasNoRequest, NeverHasRequest, EndsInTarget}
+use Rattle.httparse.specs.Grammar.{LineEnd, crlf, lf, print_end, print_blank, print_version, Field, print_field, IsField, RequestHead, print_request, ReadsRequest, HasNoRequest, NeverHasRequest, EndsInTarget}
 use Rattle.httparse.specs.Spans.{RequestExceeds}
 use Rattle.httparse.proofs.GrammarLemmas.{print_request-append, ReadsRequest-append}
-use Rattle.registry_http.specs.Heads.{is_refused, body_length}
-use Rattle.registry_http.specs.Requests.{BeginsWith, BeginsRequest, HasNoHead, HasNoHeadYet, StandsIn, HeadRefused, BodyTooLong}
+use Rattle.registry_http.specs.Requests.{BeginsWith, BeginsRequest, HasNoHead, HasNoHeadYet}
 use Rattle.registry_http.specs.inner.Reading.{HasHead, IsFront, IsJudged, FewBehind}
 use Rattle.registry_http.specs.declared.heads.Front.{Front}
 use Rattle.registry_http.specs.declared.heads.Front.TheVariants as front
@@ -80,7 +79,7 @@ head_length h all =
 pub few_fields : (bytes : List ℕ) (room : ℕ) → room ≡ 2731 → length bytes ≤ 8192 → RequestExceeds room bytes → ⊥
 few_fields bytes room enough fits x =
     let lengths : length x.0 + 1 ≡ length (print_request x.3) =
-        sym (length-append x.0 (10 ∷ [])) ∙ ap length (x.4.1 ∙ append-nil (print_request x.3)) in
+    sym (length-append x.0 (10 ∷ [])) ∙ ap length (x.4.1 ∙ append-nil (print_request x.3)) in
     absurd (omega (arith, lengths, head_length x.3 x.4.0.fields, x.5, ap length x.2, length-append x.0 x.1))
 
 -- ---- where the parser finds no head
@@ -111,15 +110,22 @@ head_in_front bytes before h behind reads within =
     let split : before ≡ length head + (before - length head) = omega arith in
     (reads.0, ap (take before) reads.1 ∙ ap (λ n. take n (head ++ behind)) split ∙ take-append-add head behind (before - length head))
 
-pub few_behind : (had bytes method path : List ℕ) (len body : ℕ) (last : Bool) → FewRead had bytes
+few_behind : (had bytes method path : List ℕ) (len body : ℕ) (last : Bool) → FewRead had bytes
     → HasHead bytes method path len body last → FewBehind had bytes len
 few_behind had bytes method path len body last few x =
     ⊎_elim (λ h. inl h)
     (λ (read : (before : ℕ) × HasNoRequest (take before bytes) × (length bytes ≤ before + 4096)).
-      ⊎_elim (λ (short : read.0 < len). inr (omega (arith, read.2)))
-      (λ (long : len ≤ read.0). absurd (read.1 x.h _ (head_in_front bytes read.0 x.h x.behind x.begins.head.reads (omega (arith, x.len_is)))))
-      (cases_lt read.0 len))
+    ⊎_elim (λ (short : read.0 < len). inr (omega (arith, read.2)))
+    (λ (long : len ≤ read.0). absurd (read.1 x.h _ (head_in_front bytes read.0 x.h x.behind x.begins.head.reads (omega (arith, x.len_is)))))
+    (cases_lt read.0 len))
     few
+
+-- the same where the head is read of a view of the bytes
+pub few_behind_at : (had bytes seen method path : List ℕ) (len end body : ℕ) (last : Bool) → seen ≡ bytes → end ≡ len → FewRead had bytes
+    → HasHead seen method path len body last → FewBehind had bytes end
+few_behind_at had bytes seen method path len end body last same is few x =
+    subst (FewBehind had bytes) (sym is)
+    (few_behind had bytes method path len body last few (subst (λ b. HasHead b method path len body last) same x))
 
 pub few_more : (had old new piece : List ℕ) → HasNoHeadYet old → new ≡ old ++ piece → length new ≤ length old + 4096 → FewRead had new
 few_more had old new piece none grown few =

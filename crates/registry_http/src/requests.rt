@@ -3,7 +3,7 @@ ghost use Rattle.std.specs.Prelude.{◌≡◌, ◌+◌, ◌<◌, ◌≤◌, OnOk
 ghost use Rattle.gb_outside.specs.Faults.{Counts};
 ghost use Rattle.httparse.specs.Grammar.{IsToken};
 ghost use Rattle.registry_http.specs.Requests.{ReadsNext, Answers, KeepsFew, link_failed, longest_read};
-ghost use Rattle.registry_http.specs.inner.Reading.{HasHead, ReadsOn, Stops, FallsShort, FewBehind, work_failed, most_fields};
+ghost use Rattle.registry_http.specs.inner.Reading.{HasHead, ReadsOn, Stops, FallsShort, FewBehind, IsNoRequest, work_failed, most_fields};
 ghost use Rattle.registry_http.specs.declared.requests.Next.TheVariants.{Memory as OutOfMemory};
 
 use crate::heads::{Front, Head, MOST_FIELDS, read_front};
@@ -125,6 +125,7 @@ fn read_head<L: Link>(
     ensures few { IfOk result (λ begun. FewBehind bytes.old.items bytes.new.items begun.len) }
     ensures reads { OnOk result (ReadsOn (L.left link.old) (L.left link.new) bytes.old.items bytes.new.items) }
     ensures answer { IfErr result (ReadsNext (L.left link.old) (L.left link.new) bytes.old.items bytes.new.items) }
+    ensures no_request { IfErr result IsNoRequest }
     ensures written { L.written link.new ≡ L.written link.old }
     ensures cause { Counts (L.faults link.old) (L.faults link.new) (work_failed result) }
 {
@@ -165,10 +166,10 @@ fn read_to<L: Link>(
 fn take_request(alloc: Global, bytes: &mut Vec<u8>, begun: Begun) -> Result<Request, NoMemory>
     requires { begun.len + begun.body ≤ length bytes.old.items }
     ensures request { IfOk result (λ request. request ≡ record {
-        method = begun.method;
-        path = begun.path.items;
-        body = take begun.body (drop begun.len bytes.old.items);
-        last = begun.last;
+      method = begun.method;
+      path = begun.path.items;
+      body = take begun.body (drop begun.len bytes.old.items);
+      last = begun.last;
     }) }
     ensures rest { OnOk result (bytes.new.items ≡ drop (begun.len + begun.body) bytes.old.items) }
 {
@@ -180,15 +181,12 @@ fn take_request(alloc: Global, bytes: &mut Vec<u8>, begun: Begun) -> Result<Requ
 }
 
 /// Reads the next request.
-fn read_request<L: Link>(
-    alloc: Global,
-    link: &mut L,
-    bytes: &mut Vec<u8>,
-) -> Result<Request, Next>
+fn read_request<L: Link>(alloc: Global, link: &mut L, bytes: &mut Vec<u8>) -> Result<Request, Next>
     ensures request { IfOk result (λ request. ReadsNext (L.left link.old) (L.left link.new) bytes.old.items bytes.new.items
         (Next.Request request)) }
     ensures few { IfOk result (λ request. KeepsFew bytes.old.items bytes.new.items (Next.Request request)) }
     ensures answer { IfErr result (ReadsNext (L.left link.old) (L.left link.new) bytes.old.items bytes.new.items) }
+    ensures no_request { IfErr result IsNoRequest }
     ensures written { L.written link.new ≡ L.written link.old }
     ensures cause { Counts (L.faults link.old) (L.faults link.new) (work_failed result) }
 {

@@ -65,6 +65,16 @@ pub record Stops (left_old left_new : Option (List ℕ)) (had : List ℕ) (answe
   pub consumed : Consumes left_old left_new read
   pub stop : IsStop had read left_new answer
 
+-- the answer is no request
+abbrev pub IsNoRequest : Next → Type 0
+IsNoRequest (next.Request request) = ⊥
+IsNoRequest next.End = Unit {0}
+IsNoRequest next.Cut = Unit {0}
+IsNoRequest next.HeadFault = Unit {0}
+IsNoRequest next.BodyTooLong = Unit {0}
+IsNoRequest next.LinkFault = Unit {0}
+IsNoRequest next.Memory = Unit {0}
+
 -- why not so many bytes came
 abbrev pub IsShort : ℕ → List ℕ → Option (List ℕ) → Next → Type 0
 IsShort end bytes left (next.Request request) = ⊥

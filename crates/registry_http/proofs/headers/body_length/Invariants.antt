@@ -1,6 +1,4 @@
-use Rattle.std.proofs.Common.{◌≡◌, length, map, drop, codes, nat_lt}
-use Rattle.std.specs.List.{list_any}
-use Rattle.std.specs.Str.{str_eq_ignore_ascii_case}
+use Rattle.std.proofs.Common.{◌≡◌, map, drop, codes}
 use Rattle.httparse.specs.Spans.{header_bytes}
 use Rattle.registry_http.specs.Heads.{values_of, length_in}
 use Rattle.registry_http.specs.inner.Reading.{length_from}

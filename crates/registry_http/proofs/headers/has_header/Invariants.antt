@@ -1,9 +1,6 @@
-use Rattle.std.proofs.Common.{◌≡◌, length, map, drop, codes, nat_lt}
-use Rattle.std.specs.List.{list_any}
-use Rattle.std.specs.Str.{str_eq_ignore_ascii_case}
+use Rattle.std.proofs.Common.{◌≡◌, length, map, drop, nat_lt}
 use Rattle.httparse.specs.Spans.{header_bytes}
-use Rattle.registry_http.specs.Heads.{values_of, length_in}
-use Rattle.registry_http.specs.inner.Reading.{length_from}
+use Rattle.registry_http.specs.Heads.{values_of}
 use Rattle.registry_http.proofs.headers.has_header.Given as goal
 
 abbrev pub invariant-loop-span : goal.invariant-loop-span

@@ -1,6 +1,5 @@
-use Rattle.std.proofs.Common.{◌≡◌, ◌≤◌, ◌<◌, length, take, drop, inl, subst, ap, sym, ◌∙◌, Err, arith, take-append-drop, length-take}
+use Rattle.std.proofs.Common.{take, drop, inl, subst, ap, sym, ◌∙◌, Err, arith, take-append-drop, length-take}
 use Rattle.std.proofs.lemmas.Bool.{false≢true}
-use Rattle.httparse.specs.Grammar.{NeverHasRequest, EndsInTarget}
 use Rattle.httparse.proofs.HeadLemmas.{on_partial}
 use Rattle.registry_http.specs.inner.Reading.{IsFront}
 use Rattle.registry_http.proofs.WholeHeads.{judged, never, none_now, full_front, bad_front, cut_target}
@@ -30,7 +29,7 @@ pub returns-else-bytes-lt-LONGEST_HEAD-2 : goal.returns-else-bytes-lt-LONGEST_HE
 returns-else-bytes-lt-LONGEST_HEAD-2 c =
     let bytes = c.args.bytes.now in
     inl (elim c.else-bytes-lt-LONGEST_HEAD-2.branch [
-      else-bytes-lt-LONGEST_HEAD-2-via-then-bytes-lt-LONGEST_HEAD-2+else-ends_in_target w ↦
+      | else-bytes-lt-LONGEST_HEAD-2-via-then-bytes-lt-LONGEST_HEAD-2+else-ends_in_target w ↦
           bad_front bytes c.min.result c.min.ensures
           (never c.in-Err.field-0 (take c.min.result bytes) _ c.requires (omega (arith, length-take c.min.result bytes, c.min.ensures)) c.in-Err.ensures.invalid
           (λ many. c.in-Err.ensures.too_many (ap Err many)))
