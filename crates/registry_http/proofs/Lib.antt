@@ -1,4 +1,6 @@
 pub mod Lengths
+pub mod OneFound
+pub mod OneRequest
 pub mod ReadSoFar
 pub mod TargetEnds
 pub mod Tokens

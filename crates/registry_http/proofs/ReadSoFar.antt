@@ -9,7 +9,7 @@ use Rattle.registry_http.specs.RequestParts.{RequestParts}
 use Rattle.registry_http.specs.Heads.{is_last}
 use Rattle.registry_http.specs.Requests.{BeginsRequest, HasNoHeadYet, StandsIn, Whole, CutShort, Answers, ReadsNext, request_of, KeepsFew}
 use Rattle.registry_http.specs.inner.Reading.{HasHead, ReadsOn, IsStop, Stops, IsShort, FallsShort, IsNoRequest}
-use Rattle.registry_http.proofs.WholeHeads.{HasHead-append}
+use Rattle.registry_http.proofs.WholeHeads.{HasHead-append, head_has_bytes}
 use Rattle.registry_http.specs.declared.requests.Next.{Next}
 use Rattle.registry_http.specs.declared.requests.Next.TheVariants as next
 
@@ -96,9 +96,6 @@ behind_length : (bytes method path : List ℕ) (len body : ℕ) (last : Bool) (x
     → length bytes ≡ len + length x.behind
 behind_length bytes method path len body last x =
     omega (arith, ap length x.begins.head.reads.1, length-append (print_request x.h) x.behind, x.len_is)
-
-head_has_bytes : (blank method target rest : List ℕ) → 0 < length (blank ++ (method ++ 32 ∷ (target ++ 32 ∷ rest)))
-head_has_bytes blank method target rest = simp (length-append {A = ℕ}) (omega arith)
 
 -- a head has bytes
 pub some_bytes : (bytes method path : List ℕ) (len body : ℕ) (last : Bool) → HasHead bytes method path len body last → 0 < length bytes

@@ -82,6 +82,10 @@ few_fields bytes room enough fits x =
     sym (length-append x.0 (10 ∷ [])) ∙ ap length (x.4.1 ∙ append-nil (print_request x.3)) in
     absurd (omega (arith, lengths, head_length x.3 x.4.0.fields, x.5, ap length x.2, length-append x.0 x.1))
 
+-- a head has bytes
+pub head_has_bytes : (blank method target rest : List ℕ) → 0 < length (blank ++ (method ++ 32 ∷ (target ++ 32 ∷ rest)))
+head_has_bytes blank method target rest = simp (length-append {A = ℕ}) (omega arith)
+
 -- ---- where the parser finds no head
 
 pub never : (e : Error) (bytes : List ℕ) (room : ℕ) → room ≡ 2731 → length bytes ≤ 8192 → (e ≢ TooManyHeaders → NeverHasRequest bytes)
@@ -103,7 +107,7 @@ none_now bytes never = subst HasNoRequest (append-nil bytes) (never [])
 abbrev pub FewRead : List ℕ → List ℕ → Type 0
 FewRead had bytes = (length bytes ≤ length had) ⊎ ((before : ℕ) × HasNoRequest (take before bytes) × (length bytes ≤ before + 4096))
 
-head_in_front : (bytes : List ℕ) (before : ℕ) (h : RequestHead) (behind : List ℕ) → ReadsRequest bytes h behind → length (print_request h) ≤ before
+pub head_in_front : (bytes : List ℕ) (before : ℕ) (h : RequestHead) (behind : List ℕ) → ReadsRequest bytes h behind → length (print_request h) ≤ before
     → ReadsRequest (take before bytes) h (take (before - length (print_request h)) behind)
 head_in_front bytes before h behind reads within =
     let head = print_request h in

@@ -4,6 +4,7 @@
 
 mod headers;
 mod heads;
+pub mod laws;
 mod replies;
 mod request_parts;
 mod requests;
