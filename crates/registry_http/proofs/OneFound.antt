@@ -1,9 +1,9 @@
 -- What stands at the front of bytes is one.
-use Rattle.std.proofs.Common.{◌≡◌, ℕ, ◌+◌, ◌<◌, ◌≤◌, ◌⊎◌, inl, inr, ⊎_elim, Bool, true, false, List, [], ◌∷◌, ◌++◌, length, take, Option, Some, refl, sym, ap, subst, ◌∙◌, arith, append-nil, length-append}
+use Rattle.std.proofs.Common.{◌≡◌, ℕ, ◌<◌, ◌≤◌, ⊎_elim, true, List, [], ◌∷◌, ◌++◌, length, take, Option, Some, refl, sym, ap, ◌∙◌, arith, length-append}
 use Rattle.std.proofs.lemmas.Bool.{false≢true}
 use Rattle.std.proofs.lemmas.List.{take_at, append_cancel_left}
 use Rattle.std.proofs.lemmas.List.Elements.{All-nil, All-cons}
-use Rattle.httparse.specs.Grammar.{print_blank, print_version, print_end, print_section, RequestHead, print_request, ReadsRequest, NeverHasRequest, EndsInTarget, is_token_byte}
+use Rattle.httparse.specs.Grammar.{print_blank, print_version, print_end, print_section, RequestHead, NeverHasRequest, EndsInTarget, is_token_byte}
 use Rattle.httparse.proofs.GrammarLemmas.{print_request-append, request_unique}
 use Rattle.httparse.proofs.OpenLemmas.{letter_is_token}
 use Rattle.registry_http.specs.RequestParts.{RequestParts}
@@ -35,8 +35,8 @@ nothing_or_none : (bytes : List ℕ) → bytes ≡ [] → HasNoHead bytes → �
 nothing_or_none bytes empty x =
     ⊎_elim (λ (full : 8192 ≤ length bytes). absurd (omega (arith, full, ap length empty)))
     (λ (never : NeverHasRequest bytes × ¬ (EndsInTarget bytes)).
-      may_come bytes (65 ∷ []) [] (65 ∷ []) (omega arith, All-cons (λ v. is_token_byte v ≡ true) 65 [] letter_is_token (All-nil (λ v. is_token_byte v ≡ true)))
-      (ap (λ l. l ++ 65 ∷ []) empty) never.0)
+    may_come bytes (65 ∷ []) [] (65 ∷ []) (omega arith, All-cons (λ v. is_token_byte v ≡ true) 65 [] letter_is_token (All-nil (λ v. is_token_byte v ≡ true)))
+    (ap (λ l. l ++ 65 ∷ []) empty) never.0)
     x.none_comes
 
 taken_or_refused : (bytes : List ℕ) (h k : RequestHead) (behind rest : List ℕ) (size : ℕ) → BeginsRequest bytes h behind size → BeginsWith bytes k rest → is_refused k ≡ true → ⊥
@@ -66,7 +66,7 @@ whole_once : (bytes rest rest' : List ℕ) (request request' : RequestParts) →
 whole_once bytes rest rest' request request' x y =
     let same = one_beginning bytes x.0 y.0 (x.1 ++ rest) (y.1 ++ rest') (length x.1) (length y.1) x.2 y.2 in
     let body : x.1 ≡ y.1 =
-        sym (take_at x.1 rest (length x.1) refl) ∙ ap (take (length x.1)) same.rest_is ∙ ap (λ n. take n (y.1 ++ rest')) same.size ∙ take_at y.1 rest' (length y.1) refl in
+    sym (take_at x.1 rest (length x.1) refl) ∙ ap (take (length x.1)) same.rest_is ∙ ap (λ n. take n (y.1 ++ rest')) same.size ∙ take_at y.1 rest' (length y.1) refl in
     let behind : rest ≡ rest' = append_cancel_left x.1 rest rest' (same.rest_is ∙ ap (λ l. l ++ rest') (sym body)) in
     let parts : request ≡ request' = x.4 ∙ ap (λ h. request_of h x.1) same.head ∙ ap (request_of y.0) body ∙ sym y.4 in
     λ i. Whole (parts i) (behind i)
@@ -78,14 +78,14 @@ whole_cut : (bytes rest : List ℕ) (request : RequestParts) → StandsIn bytes 
 whole_cut bytes rest request x y =
     ⊎_elim (λ (none : HasNoHeadYet bytes). head_or_not_yet bytes x.0 _ x.2.head none)
     (λ (cut : (h : RequestHead) × (behind : List ℕ) × (size : ℕ) × BeginsRequest bytes h behind size × (size ≤ 65536) × (length behind < size)).
-      let same = one_beginning bytes x.0 cut.0 (x.1 ++ rest) cut.1 (length x.1) cut.2 x.2 cut.3 in
-      absurd (omega (arith, cut.5, same.size, ap length same.rest_is, length-append x.1 rest))) y.1
+    let same = one_beginning bytes x.0 cut.0 (x.1 ++ rest) cut.1 (length x.1) cut.2 x.2 cut.3 in
+    absurd (omega (arith, cut.5, same.size, ap length same.rest_is, length-append x.1 rest))) y.1
 
 whole_refused : (bytes rest : List ℕ) (request : RequestParts) → StandsIn bytes (Whole request rest) → StandsIn bytes HeadRefused → ⊥
 whole_refused bytes rest request x y =
     ⊎_elim (λ (none : HasNoHead bytes). head_or_none bytes x.0 _ x.2.head none)
     (λ (head : (h : RequestHead) × (behind : List ℕ) × BeginsWith bytes h behind × (is_refused h ≡ true)).
-      taken_or_refused bytes x.0 head.0 _ head.1 _ x.2 head.2 head.3) y
+    taken_or_refused bytes x.0 head.0 _ head.1 _ x.2 head.2 head.3) y
 
 whole_long : (bytes rest : List ℕ) (request : RequestParts) → StandsIn bytes (Whole request rest) → StandsIn bytes BodyTooLong → ⊥
 whole_long bytes rest request x y =
@@ -99,7 +99,7 @@ nothing_refused : (bytes : List ℕ) → bytes ≡ [] → StandsIn bytes HeadRef
 nothing_refused bytes empty y =
     ⊎_elim (λ (none : HasNoHead bytes). nothing_or_none bytes empty none)
     (λ (head : (h : RequestHead) × (behind : List ℕ) × BeginsWith bytes h behind × (is_refused h ≡ true)).
-      let some = head_is_some bytes head.0 head.1 head.2 in absurd (omega (arith, some, ap length empty))) y
+    let some = head_is_some bytes head.0 head.1 head.2 in absurd (omega (arith, some, ap length empty))) y
 
 nothing_long : (bytes : List ℕ) → bytes ≡ [] → StandsIn bytes BodyTooLong → ⊥
 nothing_long bytes empty y = let some = head_is_some bytes y.0 y.1 y.3.head in absurd (omega (arith, some, ap length empty))
@@ -107,18 +107,18 @@ nothing_long bytes empty y = let some = head_is_some bytes y.0 y.1 y.3.head in a
 cut_refused : (bytes : List ℕ) → StandsIn bytes CutShort → StandsIn bytes HeadRefused → ⊥
 cut_refused bytes x y =
     ⊎_elim (λ (yet : HasNoHeadYet bytes).
-      ⊎_elim (λ (none : HasNoHead bytes). never_or_yet bytes none yet)
-      (λ (head : (h : RequestHead) × (behind : List ℕ) × BeginsWith bytes h behind × (is_refused h ≡ true)). head_or_not_yet bytes head.0 head.1 head.2 yet) y)
+    ⊎_elim (λ (none : HasNoHead bytes). never_or_yet bytes none yet)
+    (λ (head : (h : RequestHead) × (behind : List ℕ) × BeginsWith bytes h behind × (is_refused h ≡ true)). head_or_not_yet bytes head.0 head.1 head.2 yet) y)
     (λ (cut : (h : RequestHead) × (behind : List ℕ) × (size : ℕ) × BeginsRequest bytes h behind size × (size ≤ 65536) × (length behind < size)).
-      ⊎_elim (λ (none : HasNoHead bytes). head_or_none bytes cut.0 cut.1 cut.3.head none)
-      (λ (head : (h : RequestHead) × (behind : List ℕ) × BeginsWith bytes h behind × (is_refused h ≡ true)). taken_or_refused bytes cut.0 head.0 cut.1 head.1 cut.2 cut.3 head.2 head.3) y)
+    ⊎_elim (λ (none : HasNoHead bytes). head_or_none bytes cut.0 cut.1 cut.3.head none)
+    (λ (head : (h : RequestHead) × (behind : List ℕ) × BeginsWith bytes h behind × (is_refused h ≡ true)). taken_or_refused bytes cut.0 head.0 cut.1 head.1 cut.2 cut.3 head.2 head.3) y)
     x.1
 
 cut_long : (bytes : List ℕ) → StandsIn bytes CutShort → StandsIn bytes BodyTooLong → ⊥
 cut_long bytes x y =
     ⊎_elim (λ (yet : HasNoHeadYet bytes). head_or_not_yet bytes y.0 y.1 y.3.head yet)
     (λ (cut : (h : RequestHead) × (behind : List ℕ) × (size : ℕ) × BeginsRequest bytes h behind size × (size ≤ 65536) × (length behind < size)).
-      let same = one_beginning bytes cut.0 y.0 cut.1 y.1 cut.2 y.2 cut.3 y.3 in absurd (omega (arith, cut.4, y.4, same.size)))
+    let same = one_beginning bytes cut.0 y.0 cut.1 y.1 cut.2 y.2 cut.3 y.3 in absurd (omega (arith, cut.4, y.4, same.size)))
     x.1
 
 refused_long : (bytes : List ℕ) → StandsIn bytes HeadRefused → StandsIn bytes BodyTooLong → ⊥

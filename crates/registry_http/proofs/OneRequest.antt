@@ -1,19 +1,17 @@
 -- At most one thing stands at the front of bytes, and what of it stays when more bytes come.
-use Rattle.std.proofs.Common.{◌≡◌, ℕ, ◌+◌, ◌-◌, ◌<◌, ◌≤◌, ◌⊎◌, inl, inr, ⊎_elim, Bool, true, false, List, [], ◌∷◌, ◌++◌, length, take, drop, Option, Some, refl, sym, ap, subst, ◌∙◌, arith, append_assoc, append-nil, length-append, take-append-drop, zero, suc}
+use Rattle.std.proofs.Common.{◌≡◌, ℕ, ◌+◌, ◌-◌, ◌<◌, ◌≤◌, inl, inr, ⊎_elim, true, List, [], ◌∷◌, ◌++◌, length, take, drop, refl, sym, ap, subst, ◌∙◌, arith, append_assoc, length-append, take-append-drop, zero, suc}
 use Rattle.std.proofs.Math.Seq.{take-append-add}
-use Rattle.std.proofs.lemmas.Bool.{cases_lt, false≢true, true≢false}
-use Rattle.std.proofs.lemmas.List.{take_at, take_all, take-append-le, append_cancel_left}
-use Rattle.std.proofs.lemmas.List.Prefix.{front_rest}
+use Rattle.std.proofs.lemmas.Bool.{cases_lt}
+use Rattle.std.proofs.lemmas.List.{take_at, take-append-le}
 use Rattle.std.proofs.lemmas.List.Elements.{All-nil, All-cons, All-take}
 use Rattle.std.proofs.lemmas.Str.{IsUtf8-from_ascii}
 use Rattle.std.proofs.lemmas.Str.Ascii.{IsAscii-cons, IsAscii-nil}
-use Rattle.httparse.specs.Grammar.{LineEnd, lf, print_blank, RequestHead, print_request, IsRequestHead, IsField, ReadsRequest, HasNoRequest, NeverHasRequest, EndsInTarget, IsToken, AllPass, is_token_byte, is_uri_byte}
-use Rattle.httparse.proofs.GrammarLemmas.{print_request-append, request_unique, ReadsRequest-append}
-use Rattle.httparse.proofs.OpenLemmas.{letter_is_token}
+use Rattle.httparse.specs.Grammar.{LineEnd, lf, print_blank, RequestHead, IsField, ReadsRequest, HasNoRequest, NeverHasRequest, EndsInTarget, IsToken, is_uri_byte}
+use Rattle.httparse.proofs.GrammarLemmas.{print_request-append, ReadsRequest-append}
 use Rattle.registry_http.specs.RequestParts.{RequestParts}
-use Rattle.registry_http.specs.Heads.{is_refused, body_length, longest_body}
-use Rattle.registry_http.specs.Requests.{BeginsWith, BeginsRequest, HasNoHead, HasNoHeadYet, Found, Whole, Nothing, CutShort, HeadRefused, BodyTooLong, StandsIn, request_of}
-use Rattle.registry_http.proofs.WholeHeads.{BeginsWith-append, BeginsRequest-append, head_in_front, none_now}
+use Rattle.registry_http.specs.Heads.{is_refused}
+use Rattle.registry_http.specs.Requests.{BeginsWith, BeginsRequest, HasNoHead, Whole, HeadRefused, BodyTooLong, StandsIn}
+use Rattle.registry_http.proofs.WholeHeads.{BeginsWith-append, BeginsRequest-append, none_now}
 
 -- ---- what more bytes change
 
@@ -71,7 +69,7 @@ may_come bytes m blank method token whole never =
 shorter_front : (bytes more a b : List ℕ) → bytes ++ more ≡ a ++ b → length bytes ≤ length a → bytes ++ drop (length bytes) a ≡ a
 shorter_front bytes more a b whole within =
     let front : take (length bytes) a ≡ bytes =
-        sym (take-append-le (length bytes) a b within) ∙ sym (ap (take (length bytes)) whole) ∙ take_at bytes more (length bytes) refl in
+    sym (take-append-le (length bytes) a b within) ∙ sym (ap (take (length bytes)) whole) ∙ take_at bytes more (length bytes) refl in
     ap (λ l. l ++ drop (length bytes) a) (sym front) ∙ take-append-drop (length bytes) a
 
 longer_front : (bytes more a b : List ℕ) → bytes ++ more ≡ a ++ b → length a ≤ length bytes → bytes ≡ a ++ take (length bytes - length a) b
@@ -89,18 +87,18 @@ outside_stays bytes more never outside ends =
     let line = print_blank ends.0 ++ ends.1 in
     ⊎_elim
     (λ (inside : length line < length bytes).
-      let n = length bytes - length line in
-      let target = take (n - 1) ends.2 in
-      outside (
-        ends.0,
-        ends.1,
-        target,
-        ends.3,
-        All-take (λ v. is_uri_byte v ≡ true) (n - 1) ends.2 ends.4,
-        longer_front bytes more line (32 ∷ ends.2) ends.5 (omega arith) ∙ ap (λ l. line ++ l) (take_some n 32 ends.2 (omega arith)),
-      ))
+    let n = length bytes - length line in
+    let target = take (n - 1) ends.2 in
+    outside (
+      ends.0,
+      ends.1,
+      target,
+      ends.3,
+      All-take (λ v. is_uri_byte v ≡ true) (n - 1) ends.2 ends.4,
+      longer_front bytes more line (32 ∷ ends.2) ends.5 (omega arith) ∙ ap (λ l. line ++ l) (take_some n 32 ends.2 (omega arith)),
+    ))
     (λ (short : length bytes ≤ length line).
-      may_come bytes (drop (length bytes) line) ends.0 ends.1 ends.3 (shorter_front bytes more line (32 ∷ ends.2) ends.5 short) never)
+    may_come bytes (drop (length bytes) line) ends.0 ends.1 ends.3 (shorter_front bytes more line (32 ∷ ends.2) ends.5 short) never)
     (cases_lt (length line) (length bytes))
 
 never_stays : (bytes more : List ℕ) → NeverHasRequest bytes → NeverHasRequest (bytes ++ more)
@@ -120,15 +118,15 @@ no_head_stays bytes more x =
       none_comes = inl (omega (arith, length-append bytes more));
     })
     (λ (never : NeverHasRequest bytes × ¬ (EndsInTarget bytes)).
-      let later = never_stays bytes more never.0 in
-      record {
-        none = none_in_front (bytes ++ more) 8192 (none_now (bytes ++ more) later);
-        none_comes = inr (later, outside_stays bytes more never.0 never.1);
-      })
+    let later = never_stays bytes more never.0 in
+    record {
+      none = none_in_front (bytes ++ more) 8192 (none_now (bytes ++ more) later);
+      none_comes = inr (later, outside_stays bytes more never.0 never.1);
+    })
     x.none_comes
 
 pub refused_stays : (bytes more : List ℕ) → StandsIn bytes HeadRefused → StandsIn (bytes ++ more) HeadRefused
 refused_stays bytes more x =
     ⊎_elim (λ (none : HasNoHead bytes). inl (no_head_stays bytes more none))
     (λ (head : (h : RequestHead) × (behind : List ℕ) × BeginsWith bytes h behind × (is_refused h ≡ true)).
-      inr (head.0, head.1 ++ more, BeginsWith-append bytes more head.0 head.1 head.2, head.3)) x
+    inr (head.0, head.1 ++ more, BeginsWith-append bytes more head.0 head.1 head.2, head.3)) x

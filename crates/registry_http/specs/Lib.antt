@@ -2,4 +2,5 @@ pub mod Heads
 pub mod Replies
 pub mod RequestParts
 pub mod Requests
+pub mod Routes
 pub mod inner
