@@ -55,7 +55,7 @@ fn two_requests_of_one_read_come_one_after_another(rt: HostRuntime) -> Result<()
     let bytes = b"GET /report HTTP/1.0\n\nGET /plans/7 HTTP/1.1\r\nCONNECTION: Close\r\n\r\n";
     let mut link = MemLink::new(rt.alloc(), bytes, 0, &[2])?;
     let mut rest = Vec::new(rt.alloc());
-    for wanted in ["GET /report  true 46", "GET /plans/7  true 0", "LinkFault"] {
+    for wanted in ["GET /report  true 44", "GET /plans/7  true 0", "LinkFault"] {
         let next = next_request(rt.alloc(), &mut link, &mut rest);
         let kept = rest.len();
         assert_eq!(rt; spell(rt.alloc(), next, kept)?.as_str(), wanted);
