@@ -1,0 +1,11 @@
+pub mod FoundRows
+pub mod Lengths
+pub mod Numbers
+pub mod OneFound
+pub mod OneRequest
+pub mod ReadSoFar
+pub mod TargetEnds
+pub mod Tokens
+pub mod Walks
+pub mod WholeHeads
+pub mod Written

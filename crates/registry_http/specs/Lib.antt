@@ -1,0 +1,6 @@
+pub mod Heads
+pub mod Replies
+pub mod RequestParts
+pub mod Requests
+pub mod Routes
+pub mod inner

@@ -1,0 +1,94 @@
+-- What stands at the front of the bytes of a link: a request, or why there is none.
+use Rattle.std.specs.Prelude.{◌≡◌, ℕ, ◌<◌, ◌≤◌, ◌⊎◌, Bool, true, false, List, [], ◌++◌, length, take, Option, Some}
+use Rattle.std.specs.Io.KnownBytes.{Consumes, IsAtEnd}
+use Rattle.httparse.specs.Grammar.{RequestHead, print_request, ReadsRequest, HasNoRequest, NeverHasRequest, EndsInTarget}
+use Rattle.registry_http.specs.Heads.{longest_head, longest_body, body_length, is_refused, is_last}
+use Rattle.registry_http.specs.RequestParts.{RequestParts}
+use Rattle.registry_http.specs.declared.requests.Next.{Next}
+use Rattle.registry_http.specs.declared.requests.Next.TheVariants as next
+
+-- the bytes begin with this head, which is not too long, and then `behind`
+pub record BeginsWith (bytes : List ℕ) (h : RequestHead) (behind : List ℕ) : Type 0 where
+  pub reads : ReadsRequest bytes h behind
+  pub fits : length (print_request h) ≤ longest_head
+
+-- the bytes begin with no head, and never will: as many as a head may have came, or none begins so
+pub record HasNoHead (bytes : List ℕ) : Type 0 where
+  pub none : HasNoRequest (take longest_head bytes)
+  pub none_comes : (longest_head ≤ length bytes) ⊎ (NeverHasRequest bytes × ¬ (EndsInTarget bytes))
+
+-- the bytes begin with no head, and may yet do so; bytes that end inside the target count as cut, whatever they are
+pub record HasNoHeadYet (bytes : List ℕ) : Type 0 where
+  pub none : HasNoRequest bytes
+  pub room : length bytes < longest_head
+  pub may_come : (¬ (NeverHasRequest bytes)) ⊎ EndsInTarget bytes
+
+-- the bytes begin with a head that is not refused, and whose body has this length
+pub record BeginsRequest (bytes : List ℕ) (h : RequestHead) (behind : List ℕ) (size : ℕ) : Type 0 where
+  pub head : BeginsWith bytes h behind
+  pub taken : is_refused h ≡ false
+  pub length_is : body_length h ≡ Some size
+
+-- the request of a head and its body
+abbrev pub request_of : RequestHead → List ℕ → RequestParts
+request_of h body = record { method = h.method; path = h.target; body = body; last = is_last h }
+
+-- what stands at the front of bytes: a whole request and the bytes behind it, nothing, a part of a request,
+-- a head that is refused or none at all, or a head that announces too long a body
+pub data Found : Type 0 where
+  Whole : RequestParts → List ℕ → Found
+  Nothing CutShort HeadRefused BodyTooLong : Found
+
+-- this stands at the front of the bytes
+abbrev pub StandsIn : List ℕ → Found → Type 0
+StandsIn bytes (Whole request rest) =
+    (h : RequestHead) × (body : List ℕ) × BeginsRequest bytes h (body ++ rest) (length body)
+    × (length body ≤ longest_body) × (request ≡ request_of h body)
+StandsIn bytes Nothing = bytes ≡ []
+StandsIn bytes CutShort =
+    (0 < length bytes) × (HasNoHeadYet bytes ⊎ ((h : RequestHead) × (behind : List ℕ) × (size : ℕ)
+    × BeginsRequest bytes h behind size × (size ≤ longest_body) × (length behind < size)))
+StandsIn bytes HeadRefused =
+    HasNoHead bytes ⊎ ((h : RequestHead) × (behind : List ℕ) × BeginsWith bytes h behind × (is_refused h ≡ true))
+StandsIn bytes BodyTooLong =
+    (h : RequestHead) × (behind : List ℕ) × (size : ℕ) × BeginsRequest bytes h behind size × (longest_body < size)
+
+-- the answer says what stands at the front of the bytes that came; at the end of a link no more come
+abbrev pub Answers : List ℕ → List ℕ → Option (List ℕ) → Next → Type 0
+Answers bytes kept left (next.Request request) = StandsIn bytes (Whole request kept)
+Answers bytes kept left next.End = StandsIn bytes Nothing × IsAtEnd left
+Answers bytes kept left next.Cut = StandsIn bytes CutShort × IsAtEnd left
+Answers bytes kept left next.HeadFault = StandsIn bytes HeadRefused
+Answers bytes kept left next.BodyTooLong = StandsIn bytes BodyTooLong
+Answers bytes kept left next.LinkFault = Unit {0}
+Answers bytes kept left next.Memory = Unit {0}
+
+-- some bytes were read of the link, and the answer is by those that were kept and these
+pub record ReadsNext (left_old left_new : Option (List ℕ)) (kept_old kept_new : List ℕ) (answer : Next) : Type 0 where
+  pub read : List ℕ
+  pub consumed : Consumes left_old left_new read
+  pub answered : Answers (kept_old ++ read) kept_new left_new answer
+
+-- the link failed
+abbrev pub link_failed : Next → Bool
+link_failed (next.Request request) = false
+link_failed next.End = false
+link_failed next.Cut = false
+link_failed next.HeadFault = false
+link_failed next.BodyTooLong = false
+link_failed next.LinkFault = true
+link_failed next.Memory = false
+
+-- the most bytes that one read brings
+abbrev pub longest_read : ℕ
+longest_read = 4096
+
+-- behind a request no more bytes are kept than were kept before it or than one read brings
+abbrev pub KeepsFew : List ℕ → List ℕ → Next → Type 0
+KeepsFew kept_old kept_new (next.Request request) = (length kept_new ≤ length kept_old) ⊎ (length kept_new ≤ longest_read)
+KeepsFew kept_old kept_new next.End = Unit {0}
+KeepsFew kept_old kept_new next.Cut = Unit {0}
+KeepsFew kept_old kept_new next.HeadFault = Unit {0}
+KeepsFew kept_old kept_new next.BodyTooLong = Unit {0}
+KeepsFew kept_old kept_new next.LinkFault = Unit {0}
+KeepsFew kept_old kept_new next.Memory = Unit {0}

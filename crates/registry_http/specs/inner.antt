@@ -1,0 +1,3 @@
+-- Definitions that only private clauses and proofs use.
+pub mod Finding
+pub mod Reading

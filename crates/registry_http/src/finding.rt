@@ -1,0 +1,157 @@
+// The route that a request asks for.
+ghost use Rattle.std.specs.Prelude.{◌≡◌, ◌≢◌, ◌^◌, ◌<◌, ℕ, Some, Err, IfOk, IfSome, IsNone, OnErr};
+ghost use Rattle.matchit.specs.Params.{walk};
+ghost use Rattle.registry_http.specs.Routes.{path_of, method_of, IsRoute, IsNumber};
+ghost use Rattle.registry_http.specs.inner.Finding.{the_table, IsNumberPart, FitsRoute};
+ghost use Rattle.registry_http.specs.declared.finding.RouteFault.TheVariants.{NotFound, WrongMethod, Memory};
+
+use crate::routes::Route;
+use gb_base::{FolioId, ReceiptNo};
+use http::Method;
+use matchit::{InsertError, Params, Router};
+use std::alloc::{AllocError, Global};
+use std::str;
+
+/// Why a request has no route.
+#[derive(Clone, Copy, Debug, PartialEq, Eq)]
+pub enum RouteFault {
+    /// No route has the path.
+    NotFound,
+    /// A route has the path, with another method.
+    WrongMethod,
+    /// No memory was found.
+    Memory,
+}
+
+impl From<AllocError> for RouteFault {
+    ghost from_gives = { λ _ e. e ≡ Memory };
+
+    fn from(_: AllocError) -> RouteFault {
+        RouteFault::Memory
+    }
+}
+
+/// The paths of the table are good and do not conflict, so memory is all that an insert can want.
+impl From<InsertError> for RouteFault {
+    ghost from_gives = { λ _ e. e ≡ Memory };
+
+    fn from(_: InsertError) -> RouteFault {
+        RouteFault::Memory
+    }
+}
+
+/// A row of the table of routes: a route whose number is still to be read.
+#[derive(Clone, Copy)]
+enum Row {
+    Post,
+    Receipt,
+    Folio,
+    Ranks,
+    Plan,
+    PlanCsv,
+    Report,
+}
+
+/// The table of routes.
+fn new_table(alloc: Global) -> Result<Router<Row>, InsertError>
+    ensures { IfOk result (λ table. table ≡ the_table) }
+{
+    let mut table = Router::new(alloc);
+    table.insert("/receipts", Row::Post)?;
+    table.insert("/receipts/{number}", Row::Receipt)?;
+    table.insert("/folios/{number}", Row::Folio)?;
+    table.insert("/folios/{number}/ranks", Row::Ranks)?;
+    table.insert("/plans/{number}", Row::Plan)?;
+    table.insert("/plans/{number}/csv", Row::PlanCsv)?;
+    table.insert("/report", Row::Report)?;
+    Ok(table)
+}
+
+/// The number in a path, where it is one.
+fn number_in(params: &Params<'_, '_>) -> Option<u32>
+    ensures { (n : ℕ) → n < 2 ^ 32
+        → IsNumberPart n (walk params.now.pattern.now params.now.text.now params.now.path.now params.now.names.now 0 0)
+        → result ≡ Some n }
+{
+    params.get("number")?.parse().ok()
+}
+
+/// The receipt that a path names.
+fn receipt_in(params: &Params<'_, '_>) -> Option<ReceiptNo>
+    ensures number { (n : ℕ) → IsNumber n
+        → IsNumberPart n (walk params.now.pattern.now params.now.text.now params.now.path.now params.now.names.now 0 0)
+        → result ≡ Some n }
+    ensures range { IfSome result IsNumber }
+{
+    ReceiptNo::new(number_in(params)?)
+}
+
+/// The folio that a path names.
+fn folio_in(params: &Params<'_, '_>) -> Option<FolioId>
+    ensures number { (n : ℕ) → IsNumber n
+        → IsNumberPart n (walk params.now.pattern.now params.now.text.now params.now.path.now params.now.names.now 0 0)
+        → result ≡ Some n }
+    ensures range { IfSome result IsNumber }
+{
+    FolioId::new(number_in(params)?)
+}
+
+/// The route of a row, with the number in its path.
+fn read_row(row: Row, params: &Params<'_, '_>) -> Option<Route>
+    ensures fits { (route : Route) → IsRoute route
+        → FitsRoute route row (walk params.now.pattern.now params.now.text.now params.now.path.now params.now.names.now 0 0)
+        → result ≡ Some route }
+    ensures range { IfSome result IsRoute }
+{
+    match row {
+        Row::Post => Some(Route::Post),
+        Row::Receipt => Some(Route::Receipt(receipt_in(params)?)),
+        Row::Folio => Some(Route::Folio(folio_in(params)?)),
+        Row::Ranks => Some(Route::Ranks(folio_in(params)?)),
+        Row::Plan => Some(Route::Plan(receipt_in(params)?)),
+        Row::PlanCsv => Some(Route::PlanCsv(receipt_in(params)?)),
+        Row::Report => Some(Route::Report),
+    }
+}
+
+/// The route of a path.
+fn find(alloc: Global, path: &[u8]) -> Result<Option<Route>, RouteFault>
+    ensures some { IfOk result (λ found. IfSome found (λ route. IsRoute route × (path.now ≡ path_of route))) }
+    ensures none { IfOk result (λ found. IsNone found → (route : Route) → IsRoute route → path.now ≢ path_of route) }
+    ensures fault { OnErr result (result ≡ Err Memory) }
+{
+    let Ok(path) = str::from_utf8(path) else {
+        return Ok(None);
+    };
+    let table = new_table(alloc)?;
+    let Ok(found) = table.at(path) else {
+        return Ok(None);
+    };
+    let Some(route) = read_row(*found.value, &found.params) else {
+        return Ok(None);
+    };
+    // A route has one path: its number has no sign and no leading zero.
+    let spelled = format!(in alloc; "{route}")?;
+    if spelled.as_str() == path {
+        Ok(Some(route))
+    } else {
+        Ok(None)
+    }
+}
+
+/// The route of a method and a path. A path that is not UTF-8 has none.
+pub fn route(alloc: Global, method: &Method, path: &[u8]) -> Result<Route, RouteFault>
+    ensures found { IfOk result (λ route. (path.now ≡ path_of route) × (method.now ≡ method_of route)) }
+    ensures not_found { result ≡ Err NotFound → (route : Route) → IsRoute route → path.now ≢ path_of route }
+    ensures wrong_method { result ≡ Err WrongMethod
+        → (route : Route) × IsRoute route × (path.now ≡ path_of route) × (method.now ≢ method_of route) }
+{
+    let Some(route) = find(alloc, path)? else {
+        return Err(RouteFault::NotFound);
+    };
+    if method.as_str() == route.method() {
+        Ok(route)
+    } else {
+        Err(RouteFault::WrongMethod)
+    }
+}

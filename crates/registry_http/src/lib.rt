@@ -1,0 +1,23 @@
+//! Requests and replies over a link: the next request of its bytes, the route that a request asks
+//! for, and the bytes of a reply.
+#![tactic(auto)]
+
+mod finding;
+mod headers;
+mod heads;
+pub mod laws;
+mod replies;
+mod request_parts;
+mod requests;
+#[cfg(test)]
+mod route_tests;
+mod routes;
+mod targets;
+#[cfg(test)]
+mod tests;
+
+pub use finding::{RouteFault, route};
+pub use replies::{ReplyFault, write_reply};
+pub use request_parts::Request;
+pub use requests::{Next, next_request};
+pub use routes::Route;

@@ -1,0 +1,91 @@
+// The routes of paths and methods, and the bytes of replies.
+use crate::{ReplyFault, Route, RouteFault, route, write_reply};
+use gb_base::{FolioId, ReceiptNo};
+use gb_outside::MemLink;
+use http::Method;
+use std::test::Fail;
+
+#[test]
+fn each_route_has_its_path(rt: HostRuntime) -> Result<(), Fail> {
+    let receipt = ReceiptNo::new(4_294_967_295).ok_or("no receipt")?;
+    let folio = FolioId::new(1).ok_or("no folio")?;
+    for (path, wanted) in [
+        ("/receipts/4294967295", Route::Receipt(receipt)),
+        ("/folios/1", Route::Folio(folio)),
+        ("/folios/1/ranks", Route::Ranks(folio)),
+        ("/plans/4294967295", Route::Plan(receipt)),
+        ("/plans/4294967295/csv", Route::PlanCsv(receipt)),
+        ("/report", Route::Report),
+    ] {
+        assert_eq!(rt;
+            route(rt.alloc(), &Method::GET, path.as_bytes()),
+            Ok(wanted),
+            "{path}"
+        );
+        let posted = route(rt.alloc(), &Method::POST, path.as_bytes());
+        assert_eq!(rt; posted, Err(RouteFault::WrongMethod), "{path}");
+    }
+    assert_eq!(rt;
+        route(rt.alloc(), &Method::POST, b"/receipts"),
+        Ok(Route::Post)
+    );
+    let got = route(rt.alloc(), &Method::GET, b"/receipts");
+    assert_eq!(rt; got, Err(RouteFault::WrongMethod));
+    Ok(())
+}
+
+#[test]
+fn neighbours_of_paths_have_no_route(rt: HostRuntime) {
+    for path in [
+        b"".as_slice(),
+        b"/",
+        b"/receipts/",
+        b"/receipts/01",
+        b"/receipts/0",
+        b"/receipts/+1",
+        b"/receipts/1/",
+        b"/receipts/4294967296",
+        b"/receipts/1a",
+        b"/receipts/1/ranks",
+        b"/receipts?x=1",
+        b"/folios",
+        b"/folios//ranks",
+        b"/folios/1/rank",
+        b"/folios/1/ranks/",
+        b"/folios/1/csv",
+        b"/plans/1?x=1",
+        b"/plans/\xff",
+        b"/Report",
+        b"/report/",
+        b"http://a/report",
+    ] {
+        let got = route(rt.alloc(), &Method::GET, path);
+        assert_eq!(rt; got, Err(RouteFault::NotFound), "{path:?}");
+    }
+}
+
+#[test]
+fn a_reply_is_written_byte_for_byte(rt: HostRuntime) -> Result<(), Fail> {
+    let mut link = MemLink::new(rt.alloc(), b"", 200, &[])?;
+    assert_eq!(rt;
+        write_reply(rt.alloc(), &mut link, 201, b"accepted 1\n"),
+        Ok(())
+    );
+    let wanted =
+        "HTTP/1.1 201 Created\r\nContent-Type: text/plain\r\nContent-Length: 11\r\n\r\naccepted 1\n";
+    assert_eq!(rt; link.written(), wanted.as_bytes());
+    Ok(())
+}
+
+#[test]
+fn a_link_without_room_takes_a_front_of_the_reply(rt: HostRuntime) -> Result<(), Fail> {
+    let mut link = MemLink::new(rt.alloc(), b"", 20, &[])?;
+    let got = write_reply(rt.alloc(), &mut link, 404, b"not found\n");
+    assert_eq!(rt; got, Err(ReplyFault::LinkFault));
+    assert_eq!(rt; link.written(), b"HTTP/1.1 404 Not Fou".as_slice());
+    let mut link = MemLink::new(rt.alloc(), b"", 20, &[1])?;
+    let got = write_reply(rt.alloc(), &mut link, 404, b"not found\n");
+    assert_eq!(rt; got, Err(ReplyFault::LinkFault));
+    assert_eq!(rt; link.written(), b"".as_slice());
+    Ok(())
+}
