@@ -6,12 +6,12 @@ use Rattle.std.proofs.lemmas.List.Folds.{list_all-append}
 use Rattle.gb_base.specs.DayMinute.{DayMinute}
 use Rattle.act_model.specs.declared.items.Item.{Item}
 use Rattle.act_model.specs.declared.receipts.Receipt.{Receipt}
-use Rattle.act_json.specs.Lines.{stamped_of, item_of}
+use Rattle.act_json.specs.Lines.{longest_line, stamped_of, item_of}
 use Rattle.act_json.specs.declared.lines.LineFault.{LineFault}
 use Rattle.receipt_journal.specs.Receiving.{is_received, journal_after, next_receipt}
 use Rattle.receipt_journal.specs.declared.received.Received.{Received}
 use Rattle.registry_office.specs.Built.{is_built}
-use Rattle.registry_office.specs.Lines.{is_blank, longest_line, request_of_line, request_of_item, request_of_stamped, request_of_plain, request_read}
+use Rattle.registry_office.specs.Lines.{is_blank, request_of_line, request_of_item, request_of_stamped, request_of_plain, request_read}
 use Rattle.registry_office.specs.Requests.{Medium, Held, holding, received, replied_by_clock, reply_of, held_after}
 use Rattle.registry_office.specs.declared.lines.LineKind.{LineKind}
 use Rattle.registry_office.specs.declared.lines.LineKind.TheVariants.{Stamped, Plain}

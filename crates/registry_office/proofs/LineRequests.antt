@@ -5,10 +5,10 @@ use Rattle.std.specs.List.{list_any}
 use Rattle.std.proofs.lemmas.List.{map-append}
 use Rattle.gb_base.specs.DayMinute.{DayMinute}
 use Rattle.act_model.specs.declared.items.Item.{Item}
-use Rattle.act_json.specs.Lines.{stamped_of}
+use Rattle.act_json.specs.Lines.{longest_line, stamped_of}
 use Rattle.act_json.specs.declared.lines.LineFault.{LineFault}
 use Rattle.registry_office.specs.Built.{is_built}
-use Rattle.registry_office.specs.Lines.{is_blank, longest_line, request_of_line, request_of_item, request_of_stamped, request_read, is_stamped_by_clock}
+use Rattle.registry_office.specs.Lines.{is_blank, request_of_line, request_of_item, request_of_stamped, request_read, is_stamped_by_clock}
 use Rattle.registry_office.specs.Sessions.{ended, behind, lines_of, ended_requests, line_requests}
 use Rattle.registry_office.specs.declared.lines.LineKind.{LineKind}
 use Rattle.registry_office.specs.declared.lines.LineKind.TheVariants.{Stamped, Plain}

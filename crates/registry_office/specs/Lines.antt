@@ -3,7 +3,7 @@ use Rattle.std.specs.Prelude.{ℕ, Bool, true, false, ◌||◌, ◌==◌, nat_lt
 use Rattle.std.specs.List.{list_all}
 use Rattle.gb_base.specs.DayMinute.{DayMinute}
 use Rattle.act_model.specs.declared.items.Item.{Item}
-use Rattle.act_json.specs.Lines.{item_of, stamped_of}
+use Rattle.act_json.specs.Lines.{longest_line, item_of, stamped_of}
 use Rattle.act_json.specs.declared.lines.LineFault.{LineFault}
 use Rattle.act_json.specs.declared.lines.LineFault.TheVariants.{NotJson, NotItem, Memory}
 use Rattle.registry_office.specs.Built.{is_built}
@@ -11,10 +11,6 @@ use Rattle.registry_office.specs.declared.lines.LineKind.{LineKind}
 use Rattle.registry_office.specs.declared.lines.LineKind.TheVariants.{Stamped, Plain}
 use Rattle.registry_office.specs.declared.requests.Request.{Request}
 use Rattle.registry_office.specs.declared.requests.Request.TheVariants.{Nothing, Refused, Receive}
-
--- the most bytes of a line
-abbrev pub longest_line : ℕ
-longest_line = 65536
 
 -- spaces, tabs and carriage returns alone
 abbrev pub is_blank : List ℕ → Bool

@@ -1,5 +1,6 @@
 // The cents that the rights of a folio take in turn.
 ghost use Rattle.std.specs.Prelude.{◌≡◌, ◌+◌, ◌*◌, ◌≤◌, ◌++◌, List, IfOk, OnOk, length, sum_by, replicate};
+ghost use Rattle.gb_base.specs.Limits.{most_cents};
 ghost use Rattle.registry_office.specs.Ranks.{LiveRight, cent_line, pieces_of};
 
 use crate::live_rights::LiveRight;
@@ -30,7 +31,7 @@ impl Model for Piece {
 pub fn pieces(alloc: Global, rights: &[LiveRight]) -> Result<Vec<Piece>, NoMemory>
     requires few { length rights.now ≤ 400000 }
     ensures value { IfOk result (λ pieces. pieces.items ≡ pieces_of (cent_line rights.now)) }
-    ensures bound { IfOk result (λ pieces. sum_by (λ p. p.cents) pieces.items ≤ 10000000000000 * length rights.now) }
+    ensures bound { IfOk result (λ pieces. sum_by (λ p. p.cents) pieces.items ≤ most_cents * length rights.now) }
 {
     let mut pieces = Vec::new(alloc);
     for right in rights {
@@ -41,11 +42,11 @@ pub fn pieces(alloc: Global, rights: &[LiveRight]) -> Result<Vec<Piece>, NoMemor
 
 /// Adds a right's cents to the pieces of the cents before them.
 fn add_claim(pieces: &mut Vec<Piece>, right: &LiveRight) -> Result<(), NoMemory>
-    requires few { sum_by (λ p. p.cents) pieces.old.items ≤ 10000000000000 * 400000 }
+    requires few { sum_by (λ p. p.cents) pieces.old.items ≤ most_cents * 400000 }
     ensures joined { OnOk result ((line : List LiveRight) → pieces.old.items ≡ pieces_of line
         → pieces.new.items ≡ pieces_of (line ++ replicate right.now.created.spec.capital right.now)) }
     ensures bound { OnOk result (sum_by (λ p. p.cents) pieces.new.items
-        ≤ sum_by (λ p. p.cents) pieces.old.items + 10000000000000) }
+        ≤ sum_by (λ p. p.cents) pieces.old.items + most_cents) }
 {
     let cents = right.created.spec.capital.get();
     if cents == 0 {

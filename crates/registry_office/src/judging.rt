@@ -1,6 +1,7 @@
 // How a filing is judged on the register as it stands.
 ghost use Rattle.std.specs.Prelude.{◌≡◌, ◌+◌, ◌-◌, ◌≤◌, ◌<◌, ◌*◌, ◌^◌, ◌++◌, take, length, count_by, sum_by, is_some, not};
 ghost use Rattle.std.specs.List.{list_any};
+ghost use Rattle.act_model.specs.Limits.{most_receipts};
 ghost use Rattle.act_model.specs.Acts.{folio_of, right_created};
 ghost use Rattle.registry_office.specs.Judging.{some_act, holds, creates_in, creations_in, is_beyond_limit, opens, is_open_as_of, lacks_folio, owners_named, owners_as_of, affected, owner_side, may_not_apply, is_consent_of, is_strangers_consent, lacks_consent, judged};
 ghost use Rattle.registry_office.specs.Entries.{owners_of};
@@ -38,7 +39,7 @@ pub fn judge(
     filing: &Filing,
     entries: &[Entry],
 ) -> Judgement
-    requires few { length receipts.now ≤ 200000 }
+    requires few { length receipts.now ≤ most_receipts }
     requires received { number ≤ length receipts.now }
     ensures { result ≡ judged receipts.now number filing.now entries.now }
 {
@@ -58,7 +59,7 @@ fn holds_for_some(
     entries: &[Entry],
     section: Section,
 ) -> bool
-    requires few { length receipts.now ≤ 200000 }
+    requires few { length receipts.now ≤ most_receipts }
     requires received { number ≤ length receipts.now }
     ensures { result ≡ some_act (holds receipts.now number filing.now entries.now section) filing.now.acts }
 {
@@ -89,7 +90,7 @@ fn holds(
     before: &[Act],
     act: &Act,
 ) -> bool
-    requires few { length receipts.now ≤ 200000 }
+    requires few { length receipts.now ≤ most_receipts }
     requires received { number ≤ length receipts.now }
     requires few_acts { length before.now < 8 }
     ensures { result ≡ holds receipts.now number filing.now entries.now section before.now act.now }
@@ -105,7 +106,7 @@ fn holds(
 
 /// Whether the act is beyond the 256th creating act of its folio.
 fn is_beyond_limit(receipts: &[Receipt], number: ReceiptNo, before: &[Act], act: &Act) -> bool
-    requires few { length receipts.now ≤ 200000 }
+    requires few { length receipts.now ≤ most_receipts }
     requires received { number ≤ length receipts.now }
     requires few_acts { length before.now < 8 }
     ensures { result ≡ is_beyond_limit receipts.now number before.now act.now }
@@ -117,7 +118,7 @@ fn is_beyond_limit(receipts: &[Receipt], number: ReceiptNo, before: &[Act], act:
 
 /// How many acts of these receipts create a right in the folio.
 fn creations(receipts: &[Receipt], folio: FolioId) -> usize
-    requires few { length receipts.now ≤ 200000 }
+    requires few { length receipts.now ≤ most_receipts }
     ensures value { result ≡ sum_by (λ r. creations_in folio r.item) receipts.now }
     ensures bound { result ≤ 8 * length receipts.now }
 {

@@ -2,7 +2,7 @@
 ghost use Rattle.std.specs.Prelude.{◌≡◌, ◌≤◌, ◌==◌, ◌||◌, ◌++◌, ◌≢◌, true, false, codes, length, IfOk, OnOk, IsTrue};
 ghost use Rattle.std.specs.List.{list_all};
 ghost use Rattle.act_model.specs.WellFormed.{well_formed};
-ghost use Rattle.act_json.specs.Lines.{item_of, stamped_of};
+ghost use Rattle.act_json.specs.Lines.{longest_line, item_of, stamped_of};
 ghost use Rattle.registry_office.specs.Built.{is_built};
 ghost use Rattle.registry_office.specs.Lines.{is_blank, fault_text, request_of_line, request_of_item, request_of_stamped, request_of_plain, request_read};
 ghost use Rattle.registry_office.specs.inner.Asking.{asks_well};
@@ -54,7 +54,7 @@ fn is_blank(line: &[u8]) -> bool
 
 /// What a line asks that has its stamp.
 fn request_of_stamped(alloc: Global, line: &[u8]) -> Result<Request, NoMemory>
-    requires { length line.now ≤ 65536 }
+    requires { length line.now ≤ longest_line }
     ensures value { IfOk result (λ request. request ≡ request_of_stamped (stamped_of line.now)) }
     ensures well_formed { IfOk result (λ request. IsTrue (asks_well request)) }
 {
@@ -68,7 +68,7 @@ fn request_of_stamped(alloc: Global, line: &[u8]) -> Result<Request, NoMemory>
 
 /// What a line asks that the clock stamps.
 fn request_of_plain(alloc: Global, line: &[u8]) -> Result<Request, NoMemory>
-    requires { length line.now ≤ 65536 }
+    requires { length line.now ≤ longest_line }
     ensures value { IfOk result (λ request. request ≡ request_of_plain (item_of line.now)) }
     ensures well_formed { IfOk result (λ request. IsTrue (asks_well request)) }
 {

@@ -3,6 +3,7 @@ ghost use Rattle.std.specs.Prelude.{◌≡◌, ◌++◌, ◌*◌, ◌≤◌, ℕ
 ghost use Rattle.gb_base.specs.Texts.{right_text};
 ghost use Rattle.std.specs.List.{flat_map};
 ghost use Rattle.std.specs.String.{string_bytes};
+ghost use Rattle.gb_base.specs.Limits.{most_cents};
 ghost use Rattle.registry_office.specs.Ranks.{rights_in, rights_entered, has_same_place, cent_line, pieces_of};
 ghost use Rattle.registry_office.specs.Reports.{rank_line, owner_text, cent_lines, rank_table_of, rank_table};
 
@@ -75,7 +76,7 @@ fn add_pieces(
     rights: &[LiveRight],
     pieces: &[Piece],
 ) -> Result<(), NoMemory>
-    requires few { sum_by (λ p. p.cents) pieces.now ≤ 10000000000000 * 400000 }
+    requires few { sum_by (λ p. p.cents) pieces.now ≤ most_cents * 400000 }
     ensures { OnOk result (string_bytes text.new ≡ string_bytes text.old ++ cent_lines rights.now 1 pieces.now) }
 {
     let mut from = 1;

@@ -1,6 +1,7 @@
 // One registrar who takes the journal in the order of receipt (GBO § 17).
 ghost use Rattle.std.specs.Prelude.{◌≡◌, ◌≤◌, ◌*◌, ◌++◌, ℕ, length, IsTrue, OnOk, IfOk};
 ghost use Rattle.std.specs.List.{list_all};
+ghost use Rattle.act_model.specs.Limits.{most_receipts};
 ghost use Rattle.act_model.specs.Receiving.{IsJournal};
 ghost use Rattle.registry_office.specs.Built.{is_built};
 ghost use Rattle.registry_office.specs.Entering.{entered};
@@ -18,7 +19,7 @@ use std::alloc::Global;
 
 /// The register that one registrar makes of these receipts, taken in their order.
 pub fn alone(alloc: Global, receipts: &[Receipt]) -> Result<Register, NoMemory>
-    requires few { length receipts.now ≤ 200000 }
+    requires few { length receipts.now ≤ most_receipts }
     ensures register { IfOk result (λ register. register ≡ registrar receipts.now) }
     ensures verdicts { IfOk result (λ register. length register.verdicts ≡ length receipts.now) }
 
@@ -48,7 +49,7 @@ fn settle(
     receipt: &Receipt,
     entries: &mut Vec<Entry>,
 ) -> Result<Verdict, NoMemory>
-    requires few { length receipts.now ≤ 200000 }
+    requires few { length receipts.now ≤ most_receipts }
     requires received { number ≤ length receipts.now }
     ensures entries { OnOk result (entries.new.items ≡ entries.old.items
         ++ (brought receipts.now number receipt.now.stamp.day entries.old.items receipt.now.item).entries) }
