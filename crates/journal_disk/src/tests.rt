@@ -212,11 +212,13 @@ fn nearly_full(alloc: Global) -> Result<Vec<u8>, AllocError> {
 fn the_file_is_full_where_a_gate_would_stand_at_its_limit(rt: HostRuntime) -> Result<(), Fail> {
     let alloc = rt.alloc();
     let file = nearly_full(alloc)?;
-    let mut disk = MemDisk::new(alloc, &file, FILE_LIMIT as usize, 16, 4096, &[])?;
+    let mut disk = MemDisk::new(alloc, &file, FILE_LIMIT as usize, 16, 8192, &[])?;
     let (mut log, frames) = Log::open(alloc, &mut disk)?;
     assert_eq!(rt; frames.len(), 130_436);
     assert_eq!(rt; log.append(&mut disk, b"ab"), Err(AppendFault::Full));
     assert_eq!(rt; log.append(&mut disk, b"a"), Ok(()));
+    let (mut log, frames) = Log::open(alloc, &mut disk)?;
+    assert_eq!(rt; frames.len(), 130_437);
     assert_eq!(rt; log.append(&mut disk, b"a"), Err(AppendFault::Full));
     Ok(())
 }
