@@ -31,7 +31,7 @@ no_reply medium held (Refused text) none = refl
 no_reply medium held (Receive (Some stamp) sender reference item) none = absurd (not_empty (received_text (received medium held.journal stamp sender reference item)) 10 none)
 no_reply medium held (Receive None sender reference item) none = no_reply_by_clock medium held.journal held.ticks sender reference item none
 
-first_empty : (xs ys : List ℕ) → xs ++ ys ≡ [] → xs ≡ []
+pub first_empty : (xs ys : List ℕ) → xs ++ ys ≡ [] → xs ≡ []
 first_empty [] ys is = refl
 first_empty (x ∷ xs) ys is = absurd cc
 

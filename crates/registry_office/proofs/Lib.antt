@@ -12,8 +12,10 @@ pub mod InOrder
 pub mod LineRequests
 pub mod OnDisk
 pub mod OneRequest
+pub mod Opened
 pub mod Replies
 pub mod SessionInputs
 pub mod Settled
+pub mod Takings
 pub mod Whole
 pub mod Written

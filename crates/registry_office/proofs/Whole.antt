@@ -63,7 +63,8 @@ pub handed_on : {A E : Type 0} (result : Result A E) (came : Result A E) (fault 
 handed_on (Ok value) came fault is from = absurd is
 handed_on (Err e) came fault is from = ap Err is ∙ sym from
 
-ends_some : (left0 left1 : Option (List ℕ)) (read : List ℕ) → Consumes left0 left1 read → IsAtEnd left1 → IfSome left0 (λ input. left1 ≡ Some [])
+-- a source that was read to its end
+pub ends_some : (left0 left1 : Option (List ℕ)) (read : List ℕ) → Consumes left0 left1 read → IsAtEnd left1 → IfSome left0 (λ input. left1 ≡ Some [])
 ends_some None left1 read consumed end = tt
 ends_some (Some x) None read consumed end = absurd consumed
 ends_some (Some x) (Some y) read consumed end = ap (λ (l : List ℕ). Some l) end

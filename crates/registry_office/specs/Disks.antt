@@ -1,11 +1,12 @@
 -- The disk in a run: what its file stood for, and what a stop leaves of it.
 use Rattle.std.specs.Prelude.{◌≡◌, ◌⊎◌, ℕ, Bool, true, false, List, Result, Ok, Err}
-use Rattle.gb_outside.specs.Images.{LeavesOnly}
+use Rattle.gb_outside.specs.Images.{Only, LeavesOnly}
 use Rattle.act_model.specs.declared.receipts.Receipt.{Receipt}
 use Rattle.journal_disk.specs.Layout.{IsForeign}
 use Rattle.journal_disk.specs.Opening.{SyncsFirst}
 use Rattle.receipt_journal.specs.Standing.{StandsForJournal, IsBadBehind, gate_behind}
 use Rattle.receipt_journal.specs.Opening.{BookRefuses}
+use Rattle.registry_office.specs.Grown.{GrownFrom}
 use Rattle.registry_office.specs.declared.faults.SettlingFault.{SettlingFault}
 use Rattle.registry_office.specs.declared.faults.SettlingFault.TheVariants as settling
 use Rattle.registry_office.specs.declared.statuses.Status.{Status}
@@ -38,3 +39,15 @@ FindsBy file status.DoorFault = Unit {0}
 abbrev pub KeepsDisk : {D : Type 0} → (D → List ℕ) → (D → List ℕ → Type 0) → (D → ℕ) → (D → ℕ → List ℕ → Type 0) → D → D → Bool → Type 0
 KeepsDisk reads images moment since old new true = LeavesOnly moment since old new (images old) ⊎ SyncsFirst reads images moment since old new
 KeepsDisk reads images moment since old new false = SyncsFirst reads images moment since old new
+
+-- First a sync: until it is done a stop leaves what it might have left before, and from then on a journal that has grown from the first of these two to the second, or part of the way.
+pub record GrowsSynced {D : Type 0} (reads : D → List ℕ) (images : D → List ℕ → Type 0) (moment : D → ℕ) (since : D → ℕ → List ℕ → Type 0) (old new : D) (from to : List Receipt) : Type 0 where
+  pub synced : D
+  pub until : LeavesOnly moment since old synced (images old)
+  pub only : Only (reads old) (images synced)
+  pub then : LeavesOnly moment since synced new (GrownFrom from to)
+
+-- that sync was done; or, where the disk failed, it may be that it was not
+abbrev pub KeepsGrown : {D : Type 0} → (D → List ℕ) → (D → List ℕ → Type 0) → (D → ℕ) → (D → ℕ → List ℕ → Type 0) → D → D → Bool → List Receipt → List Receipt → Type 0
+KeepsGrown reads images moment since old new true from to = LeavesOnly moment since old new (images old) ⊎ GrowsSynced reads images moment since old new from to
+KeepsGrown reads images moment since old new false from to = GrowsSynced reads images moment since old new from to

@@ -1,16 +1,18 @@
 -- What the office writes. The number of desks occurs in none of these.
 use Rattle.std.specs.Prelude.{◌≡◌, ℕ, Bool, true, false, if◌then◌else◌, List, [], ◌∷◌, ◌++◌, codes, Option, Some, None}
 use Rattle.std.specs.List.{list_all}
+use Rattle.gb_base.specs.DayMinute.{DayMinute}
 use Rattle.act_model.specs.declared.receipts.Receipt.{Receipt}
 use Rattle.receipt_journal.specs.Standing.{StandsForJournal}
 use Rattle.registry_office.specs.Built.{is_built}
 use Rattle.registry_office.specs.Reports.{report}
-use Rattle.registry_office.specs.Requests.{InMemory, holding, replies, held_after}
-use Rattle.registry_office.specs.Sessions.{line_requests}
+use Rattle.registry_office.specs.Requests.{InMemory, OnDisk, Held, holding, replies, held_after}
+use Rattle.registry_office.specs.Sessions.{line_requests, ended_requests}
 use Rattle.registry_office.specs.Settling.{registrar}
-use Rattle.registry_office.specs.declared.lines.LineKind.TheVariants.{Stamped}
+use Rattle.registry_office.specs.declared.lines.LineKind.TheVariants.{Stamped, Plain}
+use Rattle.registry_office.specs.declared.requests.Request.{Request}
 use Rattle.registry_office.specs.declared.words.Command.{Command}
-use Rattle.registry_office.specs.declared.words.Command.TheVariants.{Settle, SettleLines}
+use Rattle.registry_office.specs.declared.words.Command.TheVariants.{Settle, SettleLines, Take}
 
 -- the report of the journal that one registrar takes in the order of receipt
 unfoldable pub report_of : List Receipt → List ℕ
@@ -25,26 +27,61 @@ abbrev pub settle_lines_output : List ℕ → List ℕ
 settle_lines_output input =
     replies InMemory (holding [] []) (line_requests Stamped input) ++ report_of (held_after InMemory (holding [] []) (line_requests Stamped input)).journal
 
--- what is written to the sink for these words, this journal of the disk and this input; words that are no command give nothing
-abbrev pub output_of : Option Command → List Receipt → List ℕ → List ℕ
-output_of None journal input = []
-output_of (Some (Settle desks)) journal input = settle_output journal
-output_of (Some (SettleLines desks)) journal input = settle_lines_output input
+-- what the input asks of the command
+abbrev pub requests_of : Option Command → List ℕ → List Request
+requests_of None input = []
+requests_of (Some (Settle desks)) input = []
+requests_of (Some (SettleLines desks)) input = line_requests Stamped input
+requests_of (Some Take) input = line_requests Plain input
+
+-- the replies to the lines that an LF ends in these bytes; nothing where the command reads none
+abbrev pub ended_replies : Option Command → Held → List ℕ → List ℕ
+ended_replies None held read = []
+ended_replies (Some (Settle desks)) held read = []
+ended_replies (Some (SettleLines desks)) held read = replies InMemory (holding [] []) (ended_requests Stamped [] read)
+ended_replies (Some Take) held read = replies OnDisk held (ended_requests Plain [] read)
+
+-- what a command writes, and the journal of the disk and the clock's ticks after it
+pub record Outcome : Type 0 where
+  pub written : List ℕ
+  pub journal : List Receipt
+  pub ticks : List DayMinute
+
+-- what comes of the words, where the disk's journal and the clock's ticks are held and the source gives this input; words that are no command bring nothing
+abbrev pub outcome : Option Command → Held → List ℕ → Outcome
+outcome None held input = record { written = []; journal = held.journal; ticks = held.ticks }
+outcome (Some (Settle desks)) held input = record { written = settle_output held.journal; journal = held.journal; ticks = held.ticks }
+outcome (Some (SettleLines desks)) held input = record { written = settle_lines_output input; journal = held.journal; ticks = held.ticks }
+outcome (Some Take) held input = record {
+  written = replies OnDisk held (line_requests Plain input);
+  journal = (held_after OnDisk held (line_requests Plain input)).journal;
+  ticks = (held_after OnDisk held (line_requests Plain input)).ticks;
+}
 
 -- the command reads the input
 abbrev pub uses_input : Option Command → Bool
 uses_input None = false
 uses_input (Some (Settle desks)) = false
 uses_input (Some (SettleLines desks)) = true
+uses_input (Some Take) = true
 
 -- the command uses the disk
 abbrev pub uses_disk : Option Command → Bool
 uses_disk None = false
 uses_disk (Some (Settle desks)) = true
 uses_disk (Some (SettleLines desks)) = false
+uses_disk (Some Take) = true
 
--- The objects that the command uses tell what they hold: at first the disk's file stood for this journal, and this was left of the input.
-pub record Told (command : Option Command) (tells : Bool) (file : List ℕ) (left : Option (List ℕ)) (journal : List Receipt) (input : List ℕ) : Type 0 where
+-- the command asks the clock for stamps
+abbrev pub uses_clock : Option Command → Bool
+uses_clock None = false
+uses_clock (Some (Settle desks)) = false
+uses_clock (Some (SettleLines desks)) = false
+uses_clock (Some Take) = true
+
+-- The objects that the command uses tell what they hold: at first the disk's file stood for this journal, the clock had these ticks to give, and this was left of the input.
+pub record Told (command : Option Command) (tells : Bool) (file : List ℕ) (left : Option (List ℕ)) (known : Option (List DayMinute)) (held : Held) (input : List ℕ) : Type 0 where
   pub disk_tells : uses_disk command ≡ true → tells ≡ true
-  pub disk_stands : uses_disk command ≡ true → StandsForJournal file journal
+  pub disk_stands : uses_disk command ≡ true → StandsForJournal file held.journal
   pub source_left : uses_input command ≡ true → left ≡ Some input
+  pub clock_tells : uses_clock command ≡ true → known ≡ Some held.ticks

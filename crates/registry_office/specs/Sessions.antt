@@ -1,6 +1,7 @@
 -- An input as lines, and the requests of its lines.
-use Rattle.std.specs.Prelude.{ℕ, ◌==◌, if◌then◌else◌, List, [], ◌∷◌, ◌++◌, map, Option}
+use Rattle.std.specs.Prelude.{◌≡◌, ℕ, ◌==◌, if◌then◌else◌, List, [], ◌∷◌, ◌++◌, map, Option, Some, None, Bool, IsTrue}
 use Rattle.std.specs.Io.KnownBytes.{Consumes}
+use Rattle.gb_base.specs.DayMinute.{DayMinute}
 use Rattle.registry_office.specs.Lines.{request_of_line}
 use Rattle.registry_office.specs.declared.lines.LineKind.{LineKind}
 use Rattle.registry_office.specs.declared.requests.Request.{Request}
@@ -36,3 +37,15 @@ pub record Took (left0 left1 : Option (List ℕ)) (Did : List ℕ → Type 0) : 
   pub read : List ℕ
   pub consumed : Consumes left0 left1 read
   pub did : Did read
+
+-- The disk tells its bytes, the clock its ticks, and the source what is left of the input.
+pub record AllTell (tells : Bool) (known : Option (List DayMinute)) (left : Option (List ℕ)) (ticks : List DayMinute) (input : List ℕ) : Type 0 where
+  pub disk : IsTrue tells
+  pub clock : known ≡ Some ticks
+  pub source : left ≡ Some input
+
+-- the sink tells that it has taken this text, and perhaps more
+abbrev pub HasWritten : Option (List ℕ) → Option (List ℕ) → List ℕ → Type 0
+HasWritten (Some before) (Some now) text = (more : List ℕ) × (now ≡ before ++ (text ++ more))
+HasWritten (Some before) None text = ⊥
+HasWritten None now text = ⊥

@@ -99,3 +99,16 @@ abbrev pub status_of_settling : {A : Type 0} → Result A SettlingFault → Stat
 status_of_settling (Ok value) = status.Ok
 status_of_settling (Err (settling.Opening fault)) = status_of_fault fault
 status_of_settling (Err (settling.Output fault)) = status_of_output fault
+
+-- a session over an input ends so
+abbrev pub is_of_session : Status → Bool
+is_of_session status.Ok = true
+is_of_session status.Usage = false
+is_of_session status.ReadFault = true
+is_of_session status.WriteFault = true
+is_of_session status.DiskFault = true
+is_of_session status.Memory = true
+is_of_session status.NotJournal = false
+is_of_session (status.BadRecord at) = false
+is_of_session status.InputTooLong = true
+is_of_session status.DoorFault = false

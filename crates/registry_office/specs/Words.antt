@@ -4,7 +4,7 @@ use Rattle.std.specs.List.{list_all}
 use Rattle.std.specs.Str.{bytes_eq}
 use Rattle.gb_base.specs.Limits.{is_between}
 use Rattle.registry_office.specs.declared.words.Command.{Command}
-use Rattle.registry_office.specs.declared.words.Command.TheVariants.{Settle, SettleLines}
+use Rattle.registry_office.specs.declared.words.Command.TheVariants.{Settle, SettleLines, Take}
 
 abbrev pub is_digit : ℕ → Bool
 is_digit b = is_between 48 57 b
@@ -31,8 +31,9 @@ abbrev pub settle_lines_by : Option ℕ → Option Command
 settle_lines_by (Some desks) = Some (SettleLines desks)
 settle_lines_by None = None
 
--- `settle --desks N`, and the same with `--lines`
+-- `take`, `settle --desks N`, and the same with `--lines`
 abbrev pub command_of : List (List ℕ) → Option Command
+command_of (name ∷ []) = if bytes_eq name (codes "take") then Some Take else None
 command_of (name ∷ flag ∷ desks ∷ []) =
     if bytes_eq name (codes "settle") && bytes_eq flag (codes "--desks")
     then settle_by (value_in 1 64 desks) else None

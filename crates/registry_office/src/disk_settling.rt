@@ -1,5 +1,5 @@
 // The command that settles the journal of the disk.
-ghost use Rattle.std.specs.Prelude.{◌≡◌, List, OnOk, OnErr, IsTrue, Err};
+ghost use Rattle.std.specs.Prelude.{◌≡◌, ℕ, List, OnOk, OnErr, IsTrue, Err};
 ghost use Rattle.std.specs.List.{list_all};
 ghost use Rattle.std.specs.Io.KnownBytes.{Appends};
 ghost use Rattle.gb_outside.specs.Bytes.{AppendsFront};
@@ -9,7 +9,7 @@ ghost use Rattle.journal_disk.specs.Opening.{IsKept};
 ghost use Rattle.receipt_journal.specs.Standing.{StandsForJournal};
 ghost use Rattle.receipt_journal.specs.declared.faults.BookFault.{BookFault};
 ghost use Rattle.registry_office.specs.Built.{is_built};
-ghost use Rattle.registry_office.specs.Disks.{Finds, KeepsDisk};
+ghost use Rattle.registry_office.specs.Disks.{Finds, IsJournalFile, KeepsDisk, KeepsGrown};
 ghost use Rattle.registry_office.specs.Outcomes.{settle_output};
 ghost use Rattle.registry_office.specs.Faults.{output_failed, settling_disk_failed, settling_output_failed};
 ghost use Rattle.registry_office.specs.declared.faults.SettlingFault.TheVariants.{Opening};
@@ -38,6 +38,11 @@ pub fn settle_disk<D: Disk, K: Sink>(
     ensures found { IsTrue D.tells → Finds (D.reads disk.old) result }
     ensures kept { IsTrue D.tells → IsKept (D.reads disk.old) (D.reads disk.new) }
     ensures any_moment { IsTrue D.tells → KeepsDisk D.reads D.images D.moment D.since disk.old disk.new (settling_disk_failed result) }
+    ensures grown { IsTrue D.tells → (journal : List Receipt) → StandsForJournal (D.reads disk.old) journal
+        → KeepsGrown D.reads D.images D.moment D.since disk.old disk.new (settling_disk_failed result) journal journal }
+    ensures stands_at_end { IsTrue D.tells → (journal : List Receipt) (file : List ℕ) → StandsForJournal (D.reads disk.old) journal
+        → OnOk result (D.images disk.new file → StandsForJournal file journal) }
+    ensures none { IsTrue D.tells → (IsJournalFile (D.reads disk.old) → ⊥) → sink.new ≡ sink.old }
     ensures disk_cause { Counts (D.faults disk.old) (D.faults disk.new) (settling_disk_failed result) }
     ensures write_cause { Counts (K.faults sink.old) (K.faults sink.new) (settling_output_failed result) }
 {

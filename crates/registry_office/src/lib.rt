@@ -28,6 +28,9 @@ mod session;
 mod settling;
 mod statuses;
 #[cfg(test)]
+mod take_tests;
+mod taking;
+#[cfg(test)]
 mod tests;
 mod top;
 mod verdict_lines;
@@ -36,4 +39,5 @@ mod words;
 mod writing;
 
 pub use statuses::Status;
+pub use taking::take;
 pub use top::run;

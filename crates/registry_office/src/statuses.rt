@@ -1,5 +1,5 @@
 ghost use Rattle.std.specs.Prelude.{◌≡◌};
-ghost use Rattle.registry_office.specs.Statuses.{status_of, status_of_settling};
+ghost use Rattle.registry_office.specs.Statuses.{status_of, status_of_fault, status_of_settling};
 
 use crate::faults::{OutputFault, SessionFault, SettlingFault};
 use receipt_journal::BookFault;
@@ -55,5 +55,17 @@ pub fn status_of_settling(done: Result<(), SettlingFault>) -> Status
         Err(SettlingFault::Opening(BookFault::Memory)) => Status::Memory,
         Err(SettlingFault::Output(OutputFault::Write)) => Status::WriteFault,
         Err(SettlingFault::Output(OutputFault::Memory)) => Status::Memory,
+    }
+}
+
+/// The status of a book that was not opened.
+pub fn status_of_opening(fault: BookFault) -> Status
+    ensures { result ≡ status_of_fault fault }
+{
+    match fault {
+        BookFault::Disk => Status::DiskFault,
+        BookFault::NotJournal => Status::NotJournal,
+        BookFault::BadRecord { at } => Status::BadRecord { at },
+        BookFault::Memory => Status::Memory,
     }
 }

@@ -1,21 +1,23 @@
-ghost use Rattle.std.specs.Prelude.{◌≡◌, ◌⊎◌, ◌↔◌, ◌<◌, ◌≤◌, ℕ, [], Some, None, IfSome, IsTrue, List, map, length, take, true, false};
+ghost use Rattle.std.specs.Prelude.{◌≡◌, ◌⊎◌, ◌↔◌, ◌<◌, ◌≤◌, ◌++◌, ℕ, [], Some, None, IfSome, IsTrue, List, map, length, take, true, false};
 ghost use Rattle.std.specs.Io.KnownBytes.{Appends};
 ghost use Rattle.std.specs.Rc.{rc_str_bytes};
 ghost use Rattle.gb_outside.specs.Bytes.{AppendsFront};
 ghost use Rattle.gb_outside.specs.Faults.{Counts};
-ghost use Rattle.act_model.specs.declared.receipts.Receipt.{Receipt};
 ghost use Rattle.journal_disk.specs.Opening.{IsKept};
-ghost use Rattle.registry_office.specs.Disks.{FindsBy, KeepsDisk};
-ghost use Rattle.registry_office.specs.Outcomes.{output_of, uses_disk, uses_input, Told};
-ghost use Rattle.registry_office.specs.Requests.{InMemory, holding, replies};
-ghost use Rattle.registry_office.specs.Sessions.{ended_requests, most_input, Took};
-ghost use Rattle.registry_office.specs.declared.lines.LineKind.TheVariants.{Stamped};
+ghost use Rattle.receipt_journal.specs.Standing.{StandsForJournal};
+ghost use Rattle.registry_office.specs.Disks.{FindsBy, IsJournalFile, KeepsDisk, KeepsGrown};
+ghost use Rattle.registry_office.specs.Grown.{GrownFrom};
+ghost use Rattle.registry_office.specs.Outcomes.{outcome, requests_of, ended_replies, uses_disk, uses_input, uses_clock, Told};
+ghost use Rattle.registry_office.specs.Requests.{OnDisk, Held, replies, held_after};
+ghost use Rattle.registry_office.specs.Sessions.{most_input, Took, HasWritten};
 ghost use Rattle.registry_office.specs.Statuses.{read_fault, write_fault, disk_fault, door_fault, is_no_journal};
 ghost use Rattle.registry_office.specs.Words.{command_of};
+ghost use Rattle.registry_office.specs.declared.requests.Request.{Request};
 
 use crate::disk_settling::settle_disk;
 use crate::settling::settle_lines;
 use crate::statuses::{Status, status_of, status_of_settling};
+use crate::taking::take_disk;
 use crate::words::{Command, read_words};
 use gb_outside::{Clock, DeskGate, Disk, Listener, Sink, Source};
 use std::rc::RcStr;
@@ -38,38 +40,64 @@ pub fn run<R: AllocGlobal, S: Source, K: Sink, D: Disk, C: Clock, L: Listener, G
     ensures usage { (result ≡ Status.Usage) ↔ (command_of (map rc_str_bytes words.now) ≡ None) }
 
     // All was read, and all was written.
-    ensures written { (journal : List Receipt) (input : List ℕ)
-        → Told (command_of (map rc_str_bytes words.now)) D.tells (D.reads disk.old) (S.left source.old) journal input
+    ensures written { (held : Held) (input : List ℕ)
+        → Told (command_of (map rc_str_bytes words.now)) D.tells (D.reads disk.old) (S.left source.old) (C.ticks clock.old) held input
         → result ≡ Status.Ok
-        → Appends (K.written sink.old) (K.written sink.new) (output_of (command_of (map rc_str_bytes words.now)) journal input) }
+        → Appends (K.written sink.old) (K.written sink.new) (outcome (command_of (map rc_str_bytes words.now)) held input).written }
     ensures at_end { uses_input (command_of (map rc_str_bytes words.now)) ≡ true → result ≡ Status.Ok
         → IfSome (S.left source.old) (λ _. S.left source.new ≡ Some []) }
+    ensures ticks { (held : Held) (input : List ℕ)
+        → Told (command_of (map rc_str_bytes words.now)) D.tells (D.reads disk.old) (S.left source.old) (C.ticks clock.old) held input
+        → uses_clock (command_of (map rc_str_bytes words.now)) ≡ true → result ≡ Status.Ok
+        → C.ticks clock.new ≡ Some (outcome (command_of (map rc_str_bytes words.now)) held input).ticks }
+    ensures stands_at_end { (held : Held) (input file : List ℕ)
+        → Told (command_of (map rc_str_bytes words.now)) D.tells (D.reads disk.old) (S.left source.old) (C.ticks clock.old) held input
+        → uses_disk (command_of (map rc_str_bytes words.now)) ≡ true → result ≡ Status.Ok → D.images disk.new file
+        → StandsForJournal file (outcome (command_of (map rc_str_bytes words.now)) held input).journal }
+
+    // No more than 64 MiB are taken, unless the status says so.
     ensures short { (result ≡ Status.InputTooLong → ⊥) → Took (S.left source.old) (S.left source.new) (λ read. length read ≤ most_input) }
     ensures long { result ≡ Status.InputTooLong → Took (S.left source.old) (S.left source.new) (λ read. most_input < length read) }
 
     // On every other status a front of it was written; where the source failed or gave too much, just
     // the replies to the lines that an LF ends in what was read, of which the first 64 MiB count.
-    ensures part { (journal : List Receipt) (input : List ℕ)
-        → Told (command_of (map rc_str_bytes words.now)) D.tells (D.reads disk.old) (S.left source.old) journal input
+    ensures part { (held : Held) (input : List ℕ)
+        → Told (command_of (map rc_str_bytes words.now)) D.tells (D.reads disk.old) (S.left source.old) (C.ticks clock.old) held input
         → (result ≡ Status.Ok → ⊥)
-        → AppendsFront (K.written sink.old) (K.written sink.new) (output_of (command_of (map rc_str_bytes words.now)) journal input) }
-    ensures cut { (result ≡ Status.ReadFault) ⊎ (result ≡ Status.InputTooLong)
-        → Took (S.left source.old) (S.left source.new) (λ read.
-        Appends (K.written sink.old) (K.written sink.new) (replies InMemory (holding [] []) (ended_requests Stamped [] (take most_input read)))) }
+        → AppendsFront (K.written sink.old) (K.written sink.new) (outcome (command_of (map rc_str_bytes words.now)) held input).written }
+    ensures cut { (held : Held) (input : List ℕ)
+        → Told (command_of (map rc_str_bytes words.now)) D.tells (D.reads disk.old) (S.left source.old) (C.ticks clock.old) held input
+        → (result ≡ Status.ReadFault) ⊎ (result ≡ Status.InputTooLong)
+        → Took (S.left source.old) (S.left source.new) (λ read. Appends (K.written sink.old) (K.written sink.new)
+        (ended_replies (command_of (map rc_str_bytes words.now)) held (take most_input read))) }
 
-    // The disk's file keeps its journal, also over a stop at any moment; a status tells what it
-    // stood for, and where it stood for none nothing is written.
+    // A stop at any moment after the first sync leaves the journal that was found, followed by the first
+    // of the receipts that this call receives; each reply that stands whole has its receipts in every image.
+    ensures any_moment { (held : Held) (input : List ℕ)
+        → Told (command_of (map rc_str_bytes words.now)) D.tells (D.reads disk.old) (S.left source.old) (C.ticks clock.old) held input
+        → uses_disk (command_of (map rc_str_bytes words.now)) ≡ true
+        → KeepsGrown D.reads D.images D.moment D.since disk.old disk.new (disk_fault result) held.journal (outcome (command_of (map rc_str_bytes words.now)) held input).journal }
+    ensures acknowledged { (held : Held) (input : List ℕ) (front back : List Request) (file : List ℕ)
+        → Told (command_of (map rc_str_bytes words.now)) D.tells (D.reads disk.old) (S.left source.old) (C.ticks clock.old) held input
+        → uses_clock (command_of (map rc_str_bytes words.now)) ≡ true → requests_of (command_of (map rc_str_bytes words.now)) input ≡ front ++ back
+        → (replies OnDisk held front ≡ [] → ⊥) → HasWritten (K.written sink.old) (K.written sink.new) (replies OnDisk held front)
+        → D.images disk.new file
+        → GrownFrom (held_after OnDisk held front).journal (outcome (command_of (map rc_str_bytes words.now)) held input).journal file }
+
+    // A status tells what the disk's file stood for; where it stood for no journal, it stays, and nothing is written.
     ensures found { IsTrue D.tells → uses_disk (command_of (map rc_str_bytes words.now)) ≡ true → FindsBy (D.reads disk.old) result }
-    ensures kept { IsTrue D.tells → uses_disk (command_of (map rc_str_bytes words.now)) ≡ true → IsKept (D.reads disk.old) (D.reads disk.new) }
-    ensures any_moment { IsTrue D.tells → uses_disk (command_of (map rc_str_bytes words.now)) ≡ true
+    ensures kept { IsTrue D.tells → uses_disk (command_of (map rc_str_bytes words.now)) ≡ true → (IsJournalFile (D.reads disk.old) → ⊥) → IsKept (D.reads disk.old) (D.reads disk.new) }
+    ensures kept_any_moment { IsTrue D.tells → uses_disk (command_of (map rc_str_bytes words.now)) ≡ true → (IsJournalFile (D.reads disk.old) → ⊥)
         → KeepsDisk D.reads D.images D.moment D.since disk.old disk.new (disk_fault result) }
-    ensures untouched { uses_disk (command_of (map rc_str_bytes words.now)) ≡ false → disk.new ≡ disk.old }
-    ensures unopened { is_no_journal result ≡ true → sink.new ≡ sink.old }
+    ensures unopened { IsTrue D.tells → uses_disk (command_of (map rc_str_bytes words.now)) ≡ true → (IsJournalFile (D.reads disk.old) → ⊥)
+        → (source.new ≡ source.old) × (sink.new ≡ sink.old) × (clock.new ≡ clock.old) }
+    ensures unopened_by { is_no_journal result ≡ true → (source.new ≡ source.old) × (sink.new ≡ sink.old) × (clock.new ≡ clock.old) }
 
     // What the command does not use stays as it is.
     ensures same_source { uses_input (command_of (map rc_str_bytes words.now)) ≡ false → source.new ≡ source.old }
-    ensures same_sink { command_of (map rc_str_bytes words.now) ≡ None → sink.new ≡ sink.old }
-    ensures same_clock { clock.new ≡ clock.old }
+    ensures same_sink { (command_of (map rc_str_bytes words.now)) ≡ None → sink.new ≡ sink.old }
+    ensures same_disk { uses_disk (command_of (map rc_str_bytes words.now)) ≡ false → disk.new ≡ disk.old }
+    ensures same_clock { uses_clock (command_of (map rc_str_bytes words.now)) ≡ false → clock.new ≡ clock.old }
     ensures same_door { door.new ≡ door.old }
 
     // Each fault has its cause, and a count rises with no other answer.
@@ -90,6 +118,7 @@ pub fn run<R: AllocGlobal, S: Source, K: Sink, D: Disk, C: Clock, L: Listener, G
         Some(Command::Settle { .. }) => status_of_settling(settle_disk(rt.alloc(), disk, sink)),
         Some(Command::SettleLines { .. }) => {
             status_of(settle_lines(rt.alloc(), disk, clock, source, sink))
-        },
+        }
+        Some(Command::Take) => take_disk(rt, source, sink, disk, clock),
     }
 }

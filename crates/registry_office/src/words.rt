@@ -14,6 +14,8 @@ pub enum Command {
     /// Receive the stamped lines of the input into a journal in memory, settle it at so many desks
     /// and write the report.
     SettleLines { desks: u16 },
+    /// Receive the lines of the input into the journal of the disk.
+    Take,
 }
 
 /// The command of these words; None where they are none.
@@ -21,6 +23,13 @@ pub fn read_words(words: &[RcStr]) -> Option<Command>
     ensures { result ≡ command_of (map rc_str_bytes words.now) }
 {
     match words {
+        [name] => {
+            if &**name == "take" {
+                Some(Command::Take)
+            } else {
+                None
+            }
+        }
         [name, flag, desks] => {
             if &**name == "settle" && &**flag == "--desks" {
                 settle(&**desks)

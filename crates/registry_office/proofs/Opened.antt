@@ -1,0 +1,156 @@
+-- What an opening finds and keeps, and a session after it.
+use Rattle.std.proofs.Common.{◌≡◌, ◌⊎◌, inl, inr, ⊎_elim, ℕ, Bool, true, false, List, [], refl, sym, ap, ◌∙◌, subst, Result, Ok, Err, IsTrue, ◌++◌, append-nil, Option, Some, None, IsErrAnd}
+use Rattle.std.proofs.KnownBytes.{Appends-nil}
+use Rattle.std.proofs.lemmas.List.{append_cancel_left}
+use Rattle.gb_outside.specs.Bytes.{AppendsFront}
+use Rattle.gb_outside.specs.Images.{LeavesOnly}
+use Rattle.gb_outside.proofs.Moments.{weakened, followed}
+use Rattle.act_model.specs.declared.receipts.Receipt.{Receipt}
+use Rattle.journal_disk.specs.Opening.{IsKept, SyncsFirst, AnswersSynced}
+use Rattle.receipt_journal.specs.Opening.{BookRefuses, book_opening_failed}
+use Rattle.receipt_journal.specs.BookState.{BookState}
+use Rattle.receipt_journal.specs.Standing.{StandsForJournal}
+use Rattle.receipt_journal.specs.declared.faults.BookFault.{BookFault}
+use Rattle.receipt_journal.specs.declared.faults.BookFault.TheVariants as fault
+use Rattle.receipt_journal.proofs.Standings.{stands_by_frames, kept_frames}
+use Rattle.registry_office.specs.Disks.{IsJournalFile, FindsBy, KeepsDisk, GrowsSynced, KeepsGrown}
+use Rattle.registry_office.specs.Grown.{GrownFrom, IsFront}
+use Rattle.registry_office.specs.Statuses.{status_of_fault, read_fault, write_fault, disk_fault, door_fault, is_no_journal, is_of_session}
+use Rattle.registry_office.specs.Faults.{settling_disk_failed}
+use Rattle.registry_office.specs.Sessions.{HasWritten}
+use Rattle.registry_office.specs.declared.faults.OutputFault.{OutputFault}
+use Rattle.registry_office.specs.declared.faults.SettlingFault.{SettlingFault}
+use Rattle.registry_office.specs.declared.faults.SettlingFault.TheVariants as settling
+use Rattle.registry_office.specs.declared.statuses.Status.{Status}
+use Rattle.registry_office.specs.declared.statuses.Status.TheVariants as status
+use Rattle.registry_office.proofs.Acknowledged.{first_empty}
+use Rattle.registry_office.proofs.Durable.{front_refl}
+use Rattle.registry_office.proofs.Replies.{grown_at, grown_wider, leaves_wider}
+
+-- a file that is kept stands for the journal that it stood for
+pub kept_journal : (file c : List ℕ) (journal : List Receipt) → StandsForJournal file journal → IsKept file c → StandsForJournal c journal
+kept_journal file c journal stands kept =
+    let keeps = kept_frames file journal stands in stands_by_frames c journal keeps.0 (kept.frames _ keeps.1)
+
+module _ {D : Type 0} (reads : D → List ℕ) (images : D → List ℕ → Type 0) (moment : D → ℕ) (since : D → ℕ → List ℕ → Type 0) where
+  pub grows_synced : (old new : D) (journal to : List Receipt) → StandsForJournal (reads old) journal → IsFront journal to → SyncsFirst reads images moment since old new → GrowsSynced reads images moment since old new journal to
+  grows_synced old new journal to stands front first = record {
+    synced = first.synced;
+    until = first.until;
+    only = first.only;
+    then = weakened moment since first.synced new (IsKept (reads old)) (GrownFrom journal to)
+        (λ c kept. grown_wider journal to journal journal c (front_refl journal) front (grown_at journal c (kept_journal (reads old) c journal stands kept))) first.then;
+  }
+
+  pub keeps_grown : (old new : D) (journal to : List Receipt) (failed : Bool) → StandsForJournal (reads old) journal → IsFront journal to → AnswersSynced reads images moment since old new failed
+      → KeepsGrown reads images moment since old new failed journal to
+  keeps_grown old new journal to true stands front answers = ⊎_elim (λ none. inl none) (λ first. inr (grows_synced old new journal to stands front first)) answers
+  keeps_grown old new journal to false stands front answers = grows_synced old new journal to stands front answers
+
+  pub grows_further : (old mid new : D) (journal to : List Receipt) (failed : Bool) → GrowsSynced reads images moment since old mid journal to → LeavesOnly moment since mid new (GrownFrom journal to)
+      → KeepsGrown reads images moment since old new failed journal to
+  grows_further old mid new journal to failed first more =
+      let both : GrowsSynced reads images moment since old new journal to = record {
+        synced = first.synced;
+        until = first.until;
+        only = first.only;
+        then = followed moment since first.synced mid new (GrownFrom journal to) first.then more;
+      } in by failed both
+    where
+      by : (failed : Bool) → GrowsSynced reads images moment since old new journal to → KeepsGrown reads images moment since old new failed journal to
+      by true both = inr both
+      by false both = both
+
+-- the status of a book that was not opened
+pub record IsOpeningStatus (s : Status) (f : BookFault) : Type 0 where
+  pub not_ok : s ≡ status.Ok → ⊥
+  pub not_usage : s ≡ status.Usage → ⊥
+  pub not_read : s ≡ status.ReadFault → ⊥
+  pub not_long : s ≡ status.InputTooLong → ⊥
+  pub no_read : read_fault s ≡ false
+  pub no_write : write_fault s ≡ false
+  pub no_door : door_fault s ≡ false
+
+opening_status_of : (f : BookFault) → IsOpeningStatus (status_of_fault f) f
+opening_status_of fault.Disk = record { not_ok = λ is. cc; not_usage = λ is. cc; not_read = λ is. cc; not_long = λ is. cc; no_read = refl; no_write = refl; no_door = refl }
+opening_status_of fault.NotJournal = record { not_ok = λ is. cc; not_usage = λ is. cc; not_read = λ is. cc; not_long = λ is. cc; no_read = refl; no_write = refl; no_door = refl }
+opening_status_of (fault.BadRecord at) = record { not_ok = λ is. cc; not_usage = λ is. cc; not_read = λ is. cc; not_long = λ is. cc; no_read = refl; no_write = refl; no_door = refl }
+opening_status_of fault.Memory = record { not_ok = λ is. cc; not_usage = λ is. cc; not_read = λ is. cc; not_long = λ is. cc; no_read = refl; no_write = refl; no_door = refl }
+
+pub opening_status : (s : Status) (f : BookFault) → s ≡ status_of_fault f → IsOpeningStatus s f
+opening_status s f is = subst (λ t. IsOpeningStatus t f) (sym is) (opening_status_of f)
+
+pub found_at_opening : (s : Status) (f : BookFault) (file : List ℕ) → s ≡ status_of_fault f → BookRefuses file f → FindsBy file s
+found_at_opening s fault.Disk file is refuses = rw is tt
+found_at_opening s fault.NotJournal file is refuses = rw is refuses
+found_at_opening s (fault.BadRecord at) file is refuses = rw is refuses
+found_at_opening s fault.Memory file is refuses = rw is tt
+
+pub disk_at_opening : (s : Status) (f : BookFault) → s ≡ status_of_fault f → disk_fault s ≡ book_opening_failed {A = BookState} (Err f)
+disk_at_opening s fault.Disk is = ap disk_fault is
+disk_at_opening s fault.NotJournal is = ap disk_fault is
+disk_at_opening s (fault.BadRecord at) is = ap disk_fault is
+disk_at_opening s fault.Memory is = ap disk_fault is
+
+-- ---- a status of a session
+
+pub session_not_none : (s : Status) → is_of_session s ≡ true → is_no_journal s ≡ true → ⊥
+session_not_none status.Ok of none = cc
+session_not_none status.Usage of none = cc
+session_not_none status.ReadFault of none = cc
+session_not_none status.WriteFault of none = cc
+session_not_none status.DiskFault of none = cc
+session_not_none status.Memory of none = cc
+session_not_none status.NotJournal of none = cc
+session_not_none (status.BadRecord at) of none = cc
+session_not_none status.InputTooLong of none = cc
+session_not_none status.DoorFault of none = cc
+
+pub found_by_session : (s : Status) (file : List ℕ) → is_of_session s ≡ true → IsJournalFile file → FindsBy file s
+found_by_session status.Ok file of found = found
+found_by_session status.Usage file of found = tt
+found_by_session status.ReadFault file of found = found
+found_by_session status.WriteFault file of found = found
+found_by_session status.DiskFault file of found = tt
+found_by_session status.Memory file of found = tt
+found_by_session status.NotJournal file of found = absurd cc
+found_by_session (status.BadRecord at) file of found = absurd cc
+found_by_session status.InputTooLong file of found = found
+found_by_session status.DoorFault file of found = absurd cc
+
+pub session_no_door : (s : Status) → is_of_session s ≡ true → door_fault s ≡ false
+session_no_door status.Ok of = refl
+session_no_door status.Usage of = refl
+session_no_door status.ReadFault of = refl
+session_no_door status.WriteFault of = refl
+session_no_door status.DiskFault of = refl
+session_no_door status.Memory of = refl
+session_no_door status.NotJournal of = refl
+session_no_door (status.BadRecord at) of = refl
+session_no_door status.InputTooLong of = refl
+session_no_door status.DoorFault of = absurd cc
+
+pub session_no_usage : (s : Status) → is_of_session s ≡ true → s ≡ status.Usage → ⊥
+session_no_usage s of is = let never : true ≡ false = sym of ∙ ap is_of_session is in cc
+
+-- ---- work that settles
+
+pub failed_at_opening : (r : Result (Unit {0}) SettlingFault) (f : BookFault) → IsErrAnd r (λ e. e ≡ settling.Opening f) → settling_disk_failed r ≡ book_opening_failed {A = BookState} (Err f)
+failed_at_opening (Ok done) f is = absurd is
+failed_at_opening (Err e) fault.Disk is = ap (λ x. settling_disk_failed {A = Unit {0}} (Err x)) is
+failed_at_opening (Err e) fault.NotJournal is = ap (λ x. settling_disk_failed {A = Unit {0}} (Err x)) is
+failed_at_opening (Err e) (fault.BadRecord at) is = ap (λ x. settling_disk_failed {A = Unit {0}} (Err x)) is
+failed_at_opening (Err e) fault.Memory is = ap (λ x. settling_disk_failed {A = Unit {0}} (Err x)) is
+
+pub failed_at_output : (r : Result (Unit {0}) SettlingFault) (o : OutputFault) → IsErrAnd r (λ e. e ≡ settling.Output o) → settling_disk_failed r ≡ false
+failed_at_output (Ok done) o is = absurd is
+failed_at_output (Err e) o is = ap (λ x. settling_disk_failed {A = Unit {0}} (Err x)) is
+
+-- a text that nothing was written of is empty
+pub none_written : (w : Option (List ℕ)) (text : List ℕ) → HasWritten w w text → text ≡ []
+none_written None text wrote = absurd wrote
+none_written (Some a) text wrote = first_empty text wrote.0 (sym (append_cancel_left a [] (text ++ wrote.0) (append-nil a ∙ wrote.1)))
+
+-- nothing is a front of each text
+pub no_front : (w : Option (List ℕ)) (text : List ℕ) → AppendsFront w w text
+no_front w text = record { front = []; rest = text; whole = refl; added = Appends-nil w }
