@@ -17,12 +17,12 @@ use Rattle.registry_http.specs.declared.finding.Row.{Row}
 use Rattle.registry_http.specs.declared.finding.Row.TheVariants as row
 use Rattle.registry_http.specs.declared.routes.Route.{Route}
 use Rattle.registry_http.specs.declared.routes.Route.TheVariants.{Post, Receipt, Folio, Ranks, Plan, PlanCsv, Report}
-use Rattle.registry_http.specs.Routes.{path_of, IsNumber, IsRoute}
+use Rattle.registry_http.specs.Routes.{path_of, IsRouteNumber, IsRoute}
 use Rattle.registry_http.specs.inner.Finding.{plain, numbered, the_table, IsNumberPart, FitsRoute}
 use Rattle.registry_http.proofs.Numbers.{ascii_text}
 use Rattle.registry_http.proofs.Walks.{steps, seek_text, seek_number, seek_number_then, digits_not_cut, slash_cut, segment_to_slash, wild_at, are_bytes, part_is}
 
-numeral : (n : ℕ) → IsNumber n → IsNumeral 10 (decimal n)
+numeral : (n : ℕ) → IsRouteNumber n → IsNumeral 10 (decimal n)
 numeral n is = (decimal_is_IsNumeral n (omega (arith, is.1))).0
 
 -- a row that goes on with a parameter does not go on with a byte
@@ -35,14 +35,14 @@ text_found w o is = ap (seek 0 the_table) (sym (append-nil w)) ∙ is
 
 -- ---- what the table gives at the path of a route
 
-receipt_found : (n : ℕ) → IsNumber n → first the_table (path_of (Receipt n)) ≡ Some (numbered (codes "/receipts/") [] row.Receipt).1
+receipt_found : (n : ℕ) → IsRouteNumber n → first the_table (path_of (Receipt n)) ≡ Some (numbered (codes "/receipts/") [] row.Receipt).1
 receipt_found n is =
     let d = numeral n is in
     let rs = steps (codes "/receipts/") the_table in
     seek_text (codes "/receipts/") (decimal n) the_table refl
     ∙ seek_number rs (decimal n) _ d.1 d.0 (λ b low. miss b [] (numbered (codes "/receipts/") [] row.Receipt).1 [] low) refl refl refl
 
-folio_found : (n : ℕ) → IsNumber n → first the_table (path_of (Folio n)) ≡ Some (numbered (codes "/folios/") [] row.Folio).1
+folio_found : (n : ℕ) → IsRouteNumber n → first the_table (path_of (Folio n)) ≡ Some (numbered (codes "/folios/") [] row.Folio).1
 folio_found n is =
     let d = numeral n is in
     let rs = steps (codes "/folios/") the_table in
@@ -51,7 +51,7 @@ folio_found n is =
     ∙ seek_number rs x _ d.1 d.0 (λ b low. miss b (codes "/ranks") ((numbered (codes "/folios/") (codes "/ranks") row.Ranks).1) ((param_token ∷ [], (numbered (codes "/folios/") [] row.Folio).1) ∷ []) low ∙ miss b [] ((numbered (codes "/folios/") [] row.Folio).1) [] low) refl
     (ap (λ v. longest_from {K = RouteOf Row} x (cond (true && v) (47 ∷ []) []) (([], (numbered (codes "/folios/") [] row.Folio).1) ∷ [])) (digits_not_cut x d.1)) refl
 
-plan_found : (n : ℕ) → IsNumber n → first the_table (path_of (Plan n)) ≡ Some (numbered (codes "/plans/") [] row.Plan).1
+plan_found : (n : ℕ) → IsRouteNumber n → first the_table (path_of (Plan n)) ≡ Some (numbered (codes "/plans/") [] row.Plan).1
 plan_found n is =
     let d = numeral n is in
     let rs = steps (codes "/plans/") the_table in
@@ -72,7 +72,7 @@ csv_tail : seek 0 ((codes "/csv", (numbered (codes "/plans/") (codes "/csv") row
 unfolding seek param_step
 csv_tail = refl
 
-ranks_found : (n : ℕ) → IsNumber n → first the_table (path_of (Ranks n)) ≡ Some (numbered (codes "/folios/") (codes "/ranks") row.Ranks).1
+ranks_found : (n : ℕ) → IsRouteNumber n → first the_table (path_of (Ranks n)) ≡ Some (numbered (codes "/folios/") (codes "/ranks") row.Ranks).1
 ranks_found n is =
     let d = numeral n is in
     let rs = steps (codes "/folios/") the_table in
@@ -81,7 +81,7 @@ ranks_found n is =
     ∙ seek_number_then rs x (codes "ranks") _ d.1 d.0 (λ b low. miss b (codes "/ranks") ((numbered (codes "/folios/") (codes "/ranks") row.Ranks).1) ((param_token ∷ [], (numbered (codes "/folios/") [] row.Folio).1) ∷ []) low ∙ miss b [] ((numbered (codes "/folios/") [] row.Folio).1) [] low) refl
     (ap (λ v. longest_from {K = RouteOf Row} (x ++ 47 ∷ []) (cond (true && v) (47 ∷ []) []) (([], (numbered (codes "/folios/") [] row.Folio).1) ∷ [])) (slash_cut x d.0)) ranks_tail
 
-csv_found : (n : ℕ) → IsNumber n → first the_table (path_of (PlanCsv n)) ≡ Some (numbered (codes "/plans/") (codes "/csv") row.PlanCsv).1
+csv_found : (n : ℕ) → IsRouteNumber n → first the_table (path_of (PlanCsv n)) ≡ Some (numbered (codes "/plans/") (codes "/csv") row.PlanCsv).1
 csv_found n is =
     let d = numeral n is in
     let rs = steps (codes "/plans/") the_table in
@@ -127,22 +127,22 @@ walk_end w text name x start end all named stop =
 slash_size : (n : ℕ) (x rest : List ℕ) → AllDigits 10 x → n + length (segment (x ++ 47 ∷ rest)) - 1 ≡ n + length x
 slash_size n x rest d = ap (λ l. n + length l - 1) (segment_to_slash x rest d) ∙ omega (arith, length-append x (47 ∷ []))
 
-receipt_part : (n : ℕ) → IsNumber n → IsNumberPart n (walk (codes "/receipts/" ++ param_token ∷ []) (codes "/receipts/{number}") (path_of (Receipt n)) ((11, 17) ∷ []) 0 0)
+receipt_part : (n : ℕ) → IsRouteNumber n → IsNumberPart n (walk (codes "/receipts/" ++ param_token ∷ []) (codes "/receipts/{number}") (path_of (Receipt n)) ((11, 17) ∷ []) 0 0)
 receipt_part n is = walk_end (codes "/receipts/") (codes "/receipts/{number}") (codes "number") (decimal n) 11 17 refl refl refl
 
-folio_part : (n : ℕ) → IsNumber n → IsNumberPart n (walk (codes "/folios/" ++ param_token ∷ []) (codes "/folios/{number}") (path_of (Folio n)) ((9, 15) ∷ []) 0 0)
+folio_part : (n : ℕ) → IsRouteNumber n → IsNumberPart n (walk (codes "/folios/" ++ param_token ∷ []) (codes "/folios/{number}") (path_of (Folio n)) ((9, 15) ∷ []) 0 0)
 folio_part n is = walk_end (codes "/folios/") (codes "/folios/{number}") (codes "number") (decimal n) 9 15 refl refl refl
 
-plan_part : (n : ℕ) → IsNumber n → IsNumberPart n (walk (codes "/plans/" ++ param_token ∷ []) (codes "/plans/{number}") (path_of (Plan n)) ((8, 14) ∷ []) 0 0)
+plan_part : (n : ℕ) → IsRouteNumber n → IsNumberPart n (walk (codes "/plans/" ++ param_token ∷ []) (codes "/plans/{number}") (path_of (Plan n)) ((8, 14) ∷ []) 0 0)
 plan_part n is = walk_end (codes "/plans/") (codes "/plans/{number}") (codes "number") (decimal n) 8 14 refl refl refl
 
-ranks_part : (n : ℕ) → IsNumber n
+ranks_part : (n : ℕ) → IsRouteNumber n
     → IsNumberPart n (walk (codes "/folios/" ++ param_token ∷ codes "/ranks") (codes "/folios/{number}/ranks") (path_of (Ranks n)) ((9, 15) ∷ []) 0 0)
 ranks_part n is =
     walk_one (codes "/folios/") (codes "/ranks") (decimal n) (codes "/ranks") (codes "/folios/{number}/ranks") (codes "number") 9 15 refl refl
     (slash_size 8 (decimal n) (codes "ranks") (numeral n is).1)
 
-csv_part : (n : ℕ) → IsNumber n
+csv_part : (n : ℕ) → IsRouteNumber n
     → IsNumberPart n (walk (codes "/plans/" ++ param_token ∷ codes "/csv") (codes "/plans/{number}/csv") (path_of (PlanCsv n)) ((8, 14) ∷ []) 0 0)
 csv_part n is =
     walk_one (codes "/plans/") (codes "/csv") (decimal n) (codes "/csv") (codes "/plans/{number}/csv") (codes "number") 8 14 refl refl
@@ -165,13 +165,13 @@ finds (Plan n) is = record { found = (numbered (codes "/plans/") [] row.Plan).1;
 finds (PlanCsv n) is = record { found = (numbered (codes "/plans/") (codes "/csv") row.PlanCsv).1; is_found = csv_found n is; fits = (refl, csv_part n is) }
 finds Report is = record { found = (plain (codes "/report") row.Report).1; is_found = report_found; fits = refl }
 
-number_ascii : (front back : List ℕ) (n : ℕ) → list_all (λ b. ltb b 128) front ≡ true → list_all (λ b. ltb b 128) back ≡ true → IsNumber n
+number_ascii : (front back : List ℕ) (n : ℕ) → list_all (λ b. ltb b 128) front ≡ true → list_all (λ b. ltb b 128) back ≡ true → IsRouteNumber n
     → IsUtf8 (front ++ (decimal n ++ back))
 number_ascii front back n f b is =
     IsUtf8-from_ascii _
     (IsAscii-append front (decimal n ++ back) (ascii_text front f) (IsAscii-append (decimal n) back (IsAscii-decimal n (omega (arith, is.1))) (ascii_text back b)))
 
-number_last : (front : List ℕ) (n : ℕ) → list_all (λ b. ltb b 128) front ≡ true → IsNumber n → IsUtf8 (front ++ decimal n)
+number_last : (front : List ℕ) (n : ℕ) → list_all (λ b. ltb b 128) front ≡ true → IsRouteNumber n → IsUtf8 (front ++ decimal n)
 number_last front n f is = IsUtf8-from_ascii _ (IsAscii-append front (decimal n) (ascii_text front f) (IsAscii-decimal n (omega (arith, is.1))))
 
 -- the path of a route is a text

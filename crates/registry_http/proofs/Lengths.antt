@@ -3,7 +3,12 @@ use Rattle.std.proofs.Common.{◌≡◌, ℕ, ◌+◌, ◌<◌, true, false, Lis
 use Rattle.std.specs.Str.{str_eq_ignore_ascii_case}
 use Rattle.std.proofs.lemmas.List.{at_drop_more}
 use Rattle.registry_http.specs.Heads.{values_of, length_of, length_in}
-use Rattle.registry_http.specs.inner.Reading.{length_from}
+
+-- the length that the values of Content-Length give, where those before gave this one
+abbrev pub length_from : Option ℕ → List (List ℕ) → Option ℕ
+length_from None values = length_in values
+length_from (Some n) [] = Some n
+length_from (Some n) (value ∷ values) = None
 
 module _ {X : Type 0} (f : X → List ℕ × List ℕ) (headers : List X) (i : ℕ) (d : X) (name n v : List ℕ) where
   -- the header at an index has the name

@@ -3,6 +3,8 @@ pub mod Lengths
 pub mod Numbers
 pub mod OneFound
 pub mod OneRequest
+pub mod OneRoute
+pub mod Prompt
 pub mod ReadSoFar
 pub mod TargetEnds
 pub mod Tokens

@@ -8,7 +8,7 @@ use Rattle.httparse.proofs.GrammarLemmas.{print_request-append, request_unique}
 use Rattle.httparse.proofs.OpenLemmas.{letter_is_token}
 use Rattle.registry_http.specs.RequestParts.{RequestParts}
 use Rattle.registry_http.specs.Heads.{is_refused, body_length}
-use Rattle.registry_http.specs.Requests.{BeginsWith, BeginsRequest, HasNoHead, HasNoHeadYet, Found, Whole, Nothing, CutShort, HeadRefused, BodyTooLong, StandsIn, request_of}
+use Rattle.registry_http.specs.Requests.{BeginsWith, BeginsRequest, HasNoHead, HasNoHeadYet, AtFront, Whole, Nothing, CutShort, HeadRefused, BodyTooLong, StandsIn, request_of}
 use Rattle.registry_http.proofs.WholeHeads.{head_in_front, head_has_bytes}
 use Rattle.registry_http.proofs.OneRequest.{may_come}
 
@@ -22,7 +22,7 @@ head_is_some bytes h behind b =
 head_or_none : (bytes : List ℕ) (h : RequestHead) (behind : List ℕ) → BeginsWith bytes h behind → HasNoHead bytes → ⊥
 head_or_none bytes h behind b none = none.none h _ (head_in_front bytes 8192 h behind b.reads b.fits)
 
-head_or_not_yet : (bytes : List ℕ) (h : RequestHead) (behind : List ℕ) → BeginsWith bytes h behind → HasNoHeadYet bytes → ⊥
+pub head_or_not_yet : (bytes : List ℕ) (h : RequestHead) (behind : List ℕ) → BeginsWith bytes h behind → HasNoHeadYet bytes → ⊥
 head_or_not_yet bytes h behind b none = none.none h behind b.reads
 
 never_or_yet : (bytes : List ℕ) → HasNoHead bytes → HasNoHeadYet bytes → ⊥
@@ -48,12 +48,12 @@ same_size : (s t : ℕ) (o : Option ℕ) → o ≡ Some s → o ≡ Some t → s
 same_size s t o a b = let e : Some s ≡ Some t = sym a ∙ b in cc
 
 -- two requests that begin the bytes are one
-record Same (h k : RequestHead) (behind rest : List ℕ) (s t : ℕ) : Type 0 where
-  head : h ≡ k
-  rest_is : behind ≡ rest
-  size : s ≡ t
+pub record Same (h k : RequestHead) (behind rest : List ℕ) (s t : ℕ) : Type 0 where
+  pub head : h ≡ k
+  pub rest_is : behind ≡ rest
+  pub size : s ≡ t
 
-one_beginning : (bytes : List ℕ) (h k : RequestHead) (behind rest : List ℕ) (s t : ℕ) → BeginsRequest bytes h behind s → BeginsRequest bytes k rest t
+pub one_beginning : (bytes : List ℕ) (h k : RequestHead) (behind rest : List ℕ) (s t : ℕ) → BeginsRequest bytes h behind s → BeginsRequest bytes k rest t
     → Same h k behind rest s t
 one_beginning bytes h k behind rest s t x y =
     let same = request_unique bytes h k behind rest x.head.reads y.head.reads in
@@ -126,7 +126,7 @@ refused_long bytes x y =
     ⊎_elim (λ (none : HasNoHead bytes). head_or_none bytes y.0 y.1 y.3.head none)
     (λ (head : (h : RequestHead) × (behind : List ℕ) × BeginsWith bytes h behind × (is_refused h ≡ true)). taken_or_refused bytes y.0 head.0 y.1 head.1 y.2 y.3 head.2 head.3) x
 
-pub one_found : (bytes : List ℕ) (a b : Found) → StandsIn bytes a → StandsIn bytes b → a ≡ b
+pub one_found : (bytes : List ℕ) (a b : AtFront) → StandsIn bytes a → StandsIn bytes b → a ≡ b
 one_found bytes (Whole r s) (Whole q t) x y = whole_once bytes s t r q x y
 one_found bytes (Whole r s) Nothing x y = absurd (whole_nothing bytes s r x y)
 one_found bytes (Whole r s) CutShort x y = absurd (whole_cut bytes s r x y)

@@ -7,8 +7,8 @@ use Rattle.httparse.specs.Grammar.{RequestHead, print_request, print_blank, prin
 use Rattle.httparse.proofs.GrammarLemmas.{print_request-append}
 use Rattle.registry_http.specs.RequestParts.{RequestParts}
 use Rattle.registry_http.specs.Heads.{is_last}
-use Rattle.registry_http.specs.Requests.{BeginsRequest, HasNoHeadYet, StandsIn, Whole, CutShort, Answers, ReadsNext, request_of, KeepsFew}
-use Rattle.registry_http.specs.inner.Reading.{HasHead, ReadsOn, IsStop, Stops, IsShort, FallsShort, IsNoRequest}
+use Rattle.registry_http.specs.Requests.{BeginsRequest, HasNoHeadYet, StandsIn, Whole, CutShort, Tells, ReadsNext, request_of, KeepsFew}
+use Rattle.registry_http.specs.inner.Reading.{HasHead, ReadsOn, IsStop, Stops, IsCutOff, FallsShort, IsNoRequest}
 use Rattle.registry_http.proofs.WholeHeads.{HasHead-append, head_has_bytes}
 use Rattle.registry_http.specs.declared.requests.Next.{Next}
 use Rattle.registry_http.specs.declared.requests.Next.TheVariants as next
@@ -32,22 +32,22 @@ answer_since a b c old mid kept answer before now = record {
   read = before.read ++ now.read;
   consumed = Consumes-trans a b c before.read now.read before.consumed now.consumed;
   answered =
-      subst (λ bytes. Answers bytes kept c answer)
+      subst (λ bytes. Tells bytes kept c answer)
       (ap (λ l. l ++ now.read) before.grown ∙ append_assoc old before.read now.read) now.answered;
 }
 
 -- an answer that needs no more bytes
-pub answer_now : (left : Option (List ℕ)) (bytes kept : List ℕ) (answer : Next) → Answers bytes kept left answer → ReadsNext left left bytes kept answer
+pub answer_now : (left : Option (List ℕ)) (bytes kept : List ℕ) (answer : Next) → Tells bytes kept left answer → ReadsNext left left bytes kept answer
 answer_now left bytes kept answer is = record {
   read = [];
   consumed = Consumes-nil left;
-  answered = subst (λ b. Answers b kept left answer) (sym (append-nil bytes)) is;
+  answered = subst (λ b. Tells b kept left answer) (sym (append-nil bytes)) is;
 }
 
 -- ---- no more bytes come
 
 stopped_answers : (bytes read kept : List ℕ) (left : Option (List ℕ)) (answer : Next) → HasNoHeadYet bytes → IsStop bytes read left answer
-    → Answers (bytes ++ read) kept left answer
+    → Tells (bytes ++ read) kept left answer
 stopped_answers bytes read kept left (next.Request request) none stop = absurd stop
 stopped_answers bytes read kept left next.End none stop = (ap (λ l. l ++ read) stop.0 ∙ stop.1, stop.2)
 stopped_answers bytes read kept left next.Cut none stop =
@@ -68,7 +68,7 @@ stopped_in_head left_old left_new bytes kept answer none stops = record {
 }
 
 short_of_end : (bytes read : List ℕ) (left : Option (List ℕ)) (end : ℕ) (answer : Next) → 0 < length bytes → length bytes < end
-    → IsStop bytes read left answer → IsShort end (bytes ++ read) left answer
+    → IsStop bytes read left answer → IsCutOff end (bytes ++ read) left answer
 short_of_end bytes read left end (next.Request request) some short stop = stop
 short_of_end bytes read left end next.End some short stop = absurd (omega (arith, ap length stop.0))
 short_of_end bytes read left end next.Cut some short stop =
@@ -85,14 +85,14 @@ falls_short a b c old bytes end answer some short before stops = record {
   read = before.read ++ stops.read;
   consumed = Consumes-trans a b c before.read stops.read before.consumed stops.consumed;
   short =
-      subst (λ l. IsShort end l c answer)
+      subst (λ l. IsCutOff end l c answer)
       (ap (λ l. l ++ stops.read) before.grown ∙ append_assoc old before.read stops.read)
       (short_of_end bytes stops.read c end answer some short stops.stop);
 }
 
 -- ---- a head and its body
 
-behind_length : (bytes method path : List ℕ) (len body : ℕ) (last : Bool) (x : HasHead bytes method path len body last)
+pub behind_length : (bytes method path : List ℕ) (len body : ℕ) (last : Bool) (x : HasHead bytes method path len body last)
     → length bytes ≡ len + length x.behind
 behind_length bytes method path len body last x =
     omega (arith, ap length x.begins.head.reads.1, length-append (print_request x.h) x.behind, x.len_is)
@@ -106,7 +106,7 @@ some_bytes bytes method path len body last x =
     omega (arith, ap length x.begins.head.reads.1, ap length printed, lengths)
 
 short_answers : (bytes read kept method path : List ℕ) (len body : ℕ) (last : Bool) (left : Option (List ℕ)) (answer : Next)
-    → HasHead bytes method path len body last → IsShort (len + body) (bytes ++ read) left answer → Answers (bytes ++ read) kept left answer
+    → HasHead bytes method path len body last → IsCutOff (len + body) (bytes ++ read) left answer → Tells (bytes ++ read) kept left answer
 short_answers bytes read kept method path len body last left (next.Request request) x short = absurd short
 short_answers bytes read kept method path len body last left next.End x short = absurd short
 short_answers bytes read kept method path len body last left next.Cut x short =
@@ -192,7 +192,7 @@ stop_is_no_request bytes read left next.Memory stop = tt
 pub stops_without_request : (a b : Option (List ℕ)) (bytes : List ℕ) (answer : Next) → Stops a b bytes answer → IsNoRequest answer
 stops_without_request a b bytes answer stops = stop_is_no_request bytes stops.read b answer stops.stop
 
-short_is_no_request : (bytes : List ℕ) (left : Option (List ℕ)) (end : ℕ) (answer : Next) → IsShort end bytes left answer → IsNoRequest answer
+short_is_no_request : (bytes : List ℕ) (left : Option (List ℕ)) (end : ℕ) (answer : Next) → IsCutOff end bytes left answer → IsNoRequest answer
 short_is_no_request bytes left end (next.Request request) short = short
 short_is_no_request bytes left end next.End short = tt
 short_is_no_request bytes left end next.Cut short = tt

@@ -35,12 +35,12 @@ request_of h body = record { method = h.method; path = h.target; body = body; la
 
 -- what stands at the front of bytes: a whole request and the bytes behind it, nothing, a part of a request,
 -- a head that is refused or none at all, or a head that announces too long a body
-pub data Found : Type 0 where
-  Whole : RequestParts → List ℕ → Found
-  Nothing CutShort HeadRefused BodyTooLong : Found
+pub data AtFront : Type 0 where
+  Whole : RequestParts → List ℕ → AtFront
+  Nothing CutShort HeadRefused BodyTooLong : AtFront
 
 -- this stands at the front of the bytes
-abbrev pub StandsIn : List ℕ → Found → Type 0
+abbrev pub StandsIn : List ℕ → AtFront → Type 0
 StandsIn bytes (Whole request rest) =
     (h : RequestHead) × (body : List ℕ) × BeginsRequest bytes h (body ++ rest) (length body)
     × (length body ≤ longest_body) × (request ≡ request_of h body)
@@ -54,20 +54,20 @@ StandsIn bytes BodyTooLong =
     (h : RequestHead) × (behind : List ℕ) × (size : ℕ) × BeginsRequest bytes h behind size × (longest_body < size)
 
 -- the answer says what stands at the front of the bytes that came; at the end of a link no more come
-abbrev pub Answers : List ℕ → List ℕ → Option (List ℕ) → Next → Type 0
-Answers bytes kept left (next.Request request) = StandsIn bytes (Whole request kept)
-Answers bytes kept left next.End = StandsIn bytes Nothing × IsAtEnd left
-Answers bytes kept left next.Cut = StandsIn bytes CutShort × IsAtEnd left
-Answers bytes kept left next.HeadFault = StandsIn bytes HeadRefused
-Answers bytes kept left next.BodyTooLong = StandsIn bytes BodyTooLong
-Answers bytes kept left next.LinkFault = Unit {0}
-Answers bytes kept left next.Memory = Unit {0}
+abbrev pub Tells : List ℕ → List ℕ → Option (List ℕ) → Next → Type 0
+Tells bytes kept left (next.Request request) = StandsIn bytes (Whole request kept)
+Tells bytes kept left next.End = StandsIn bytes Nothing × IsAtEnd left
+Tells bytes kept left next.Cut = StandsIn bytes CutShort × IsAtEnd left
+Tells bytes kept left next.HeadFault = StandsIn bytes HeadRefused
+Tells bytes kept left next.BodyTooLong = StandsIn bytes BodyTooLong
+Tells bytes kept left next.LinkFault = Unit {0}
+Tells bytes kept left next.Memory = Unit {0}
 
 -- some bytes were read of the link, and the answer is by those that were kept and these
 pub record ReadsNext (left_old left_new : Option (List ℕ)) (kept_old kept_new : List ℕ) (answer : Next) : Type 0 where
   pub read : List ℕ
   pub consumed : Consumes left_old left_new read
-  pub answered : Answers (kept_old ++ read) kept_new left_new answer
+  pub answered : Tells (kept_old ++ read) kept_new left_new answer
 
 -- the link failed
 abbrev pub link_failed : Next → Bool

@@ -25,15 +25,15 @@ method_of (PlanCsv n) = codes "GET"
 method_of Report = codes "GET"
 
 -- the number of a folio or of a receipt, from 1 to 4,294,967,295
-abbrev pub IsNumber : ℕ → Type 0
-IsNumber n = (0 < n) × (n < 2 ^ 32)
+abbrev pub IsRouteNumber : ℕ → Type 0
+IsRouteNumber n = (0 < n) × (n < 2 ^ 32)
 
 -- the number of a route is one of a folio or of a receipt
 abbrev pub IsRoute : Route → Type 0
 IsRoute Post = Unit {0}
-IsRoute (Receipt n) = IsNumber n
-IsRoute (Folio f) = IsNumber f
-IsRoute (Ranks f) = IsNumber f
-IsRoute (Plan n) = IsNumber n
-IsRoute (PlanCsv n) = IsNumber n
+IsRoute (Receipt n) = IsRouteNumber n
+IsRoute (Folio f) = IsRouteNumber f
+IsRoute (Ranks f) = IsRouteNumber f
+IsRoute (Plan n) = IsRouteNumber n
+IsRoute (PlanCsv n) = IsRouteNumber n
 IsRoute Report = Unit {0}

@@ -1,7 +1,7 @@
 // The route that a request asks for.
 ghost use Rattle.std.specs.Prelude.{◌≡◌, ◌≢◌, ◌^◌, ◌<◌, ℕ, Some, Err, IfOk, IfSome, IsNone, OnErr};
 ghost use Rattle.matchit.specs.Params.{walk};
-ghost use Rattle.registry_http.specs.Routes.{path_of, method_of, IsRoute, IsNumber};
+ghost use Rattle.registry_http.specs.Routes.{path_of, method_of, IsRoute, IsRouteNumber};
 ghost use Rattle.registry_http.specs.inner.Finding.{the_table, IsNumberPart, FitsRoute};
 ghost use Rattle.registry_http.specs.declared.finding.RouteFault.TheVariants.{NotFound, WrongMethod, Memory};
 
@@ -78,20 +78,20 @@ fn number_in(params: &Params<'_, '_>) -> Option<u32>
 
 /// The receipt that a path names.
 fn receipt_in(params: &Params<'_, '_>) -> Option<ReceiptNo>
-    ensures number { (n : ℕ) → IsNumber n
+    ensures number { (n : ℕ) → IsRouteNumber n
         → IsNumberPart n (walk params.now.pattern.now params.now.text.now params.now.path.now params.now.names.now 0 0)
         → result ≡ Some n }
-    ensures range { IfSome result IsNumber }
+    ensures range { IfSome result IsRouteNumber }
 {
     ReceiptNo::new(number_in(params)?)
 }
 
 /// The folio that a path names.
 fn folio_in(params: &Params<'_, '_>) -> Option<FolioId>
-    ensures number { (n : ℕ) → IsNumber n
+    ensures number { (n : ℕ) → IsRouteNumber n
         → IsNumberPart n (walk params.now.pattern.now params.now.text.now params.now.path.now params.now.names.now 0 0)
         → result ≡ Some n }
-    ensures range { IfSome result IsNumber }
+    ensures range { IfSome result IsRouteNumber }
 {
     FolioId::new(number_in(params)?)
 }

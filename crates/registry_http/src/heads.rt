@@ -1,7 +1,7 @@
 // The head at the front of some bytes.
-ghost use Rattle.std.specs.Prelude.{◌≡◌, ◌≤◌, length};
+ghost use Rattle.std.specs.Prelude.{◌≡◌, ◌≤◌, length, nat_lt};
 ghost use Rattle.httparse.specs.Spans.{IsRequestWithin, IsRequestOf};
-ghost use Rattle.registry_http.specs.Heads.{longest_head};
+ghost use Rattle.registry_http.specs.Heads.{longest_head, most_header_lines};
 ghost use Rattle.registry_http.specs.inner.Reading.{IsFront, IsJudged, most_fields};
 
 use crate::headers::{body_length, has_header, says_close};
@@ -46,6 +46,13 @@ pub(crate) enum Front<'b> {
     TooLong,
 }
 
+/// Whether so many header lines are too many.
+fn are_too_many(lines: usize) -> bool
+    ensures { result ≡ nat_lt most_header_lines lines }
+{
+    lines > MOST_HEADER_LINES
+}
+
 /// Judges a head by what its headers say.
 fn judge<'b>(bytes: &'b [u8], headers: &[HeaderSpan], head: &RequestSpans) -> Front<'b>
     requires within { IsRequestWithin bytes.now headers.now head.now }
@@ -54,7 +61,7 @@ fn judge<'b>(bytes: &'b [u8], headers: &[HeaderSpan], head: &RequestSpans) -> Fr
     ensures { IsJudged bytes.now result }
 {
     let headers = &headers[..head.headers];
-    if headers.len() > MOST_HEADER_LINES || has_header(bytes, headers, b"transfer-encoding") {
+    if are_too_many(headers.len()) || has_header(bytes, headers, b"transfer-encoding") {
         return Front::Refused;
     }
     match body_length(bytes, headers) {

@@ -1,8 +1,9 @@
 // The requests of a link, one after another.
-ghost use Rattle.std.specs.Prelude.{◌≡◌, ◌+◌, ◌<◌, ◌≤◌, OnOk, IfOk, IfErr, Result, Ok, Err, length, take, drop, vec_len};
+ghost use Rattle.std.specs.Prelude.{◌≡◌, ℕ, List, ◌+◌, ◌<◌, ◌≤◌, OnOk, IfOk, IfErr, Result, Ok, Err, length, take, drop, vec_len};
 ghost use Rattle.gb_outside.specs.Faults.{Counts};
 ghost use Rattle.httparse.specs.Grammar.{IsToken};
-ghost use Rattle.registry_http.specs.Requests.{ReadsNext, Answers, KeepsFew, link_failed, longest_read};
+ghost use Rattle.registry_http.specs.RequestParts.{RequestParts};
+ghost use Rattle.registry_http.specs.Requests.{StandsIn, Whole, ReadsNext, KeepsFew, link_failed, longest_read};
 ghost use Rattle.registry_http.specs.inner.Reading.{HasHead, ReadsOn, Stops, FallsShort, FewBehind, IsNoRequest, work_failed, most_fields};
 ghost use Rattle.registry_http.specs.declared.requests.Next.TheVariants.{Memory as OutOfMemory};
 
@@ -126,6 +127,7 @@ fn read_head<L: Link>(
     ensures reads { OnOk result (ReadsOn (L.left link.old) (L.left link.new) bytes.old.items bytes.new.items) }
     ensures answer { IfErr result (ReadsNext (L.left link.old) (L.left link.new) bytes.old.items bytes.new.items) }
     ensures no_request { IfErr result IsNoRequest }
+    ensures prompt { (request : RequestParts) (rest : List ℕ) → StandsIn bytes.old.items (Whole request rest) → L.left link.new ≡ L.left link.old }
     ensures written { L.written link.new ≡ L.written link.old }
     ensures cause { Counts (L.faults link.old) (L.faults link.new) (work_failed result) }
 {
@@ -153,6 +155,7 @@ fn read_to<L: Link>(
     ensures few { OnOk result (FewBehind bytes.old.items bytes.new.items end) }
     ensures reads { OnOk result (ReadsOn (L.left link.old) (L.left link.new) bytes.old.items bytes.new.items) }
     ensures short { IfErr result (FallsShort (L.left link.old) (L.left link.new) bytes.old.items end) }
+    ensures prompt { end ≤ length bytes.old.items → L.left link.new ≡ L.left link.old }
     ensures written { L.written link.new ≡ L.written link.old }
     ensures cause { Counts (L.faults link.old) (L.faults link.new) (work_failed result) }
 {
@@ -187,6 +190,7 @@ fn read_request<L: Link>(alloc: Global, link: &mut L, bytes: &mut Vec<u8>) -> Re
     ensures few { IfOk result (λ request. KeepsFew bytes.old.items bytes.new.items (Next.Request request)) }
     ensures answer { IfErr result (ReadsNext (L.left link.old) (L.left link.new) bytes.old.items bytes.new.items) }
     ensures no_request { IfErr result IsNoRequest }
+    ensures prompt { (request : RequestParts) (rest : List ℕ) → StandsIn bytes.old.items (Whole request rest) → L.left link.new ≡ L.left link.old }
     ensures written { L.written link.new ≡ L.written link.old }
     ensures cause { Counts (L.faults link.old) (L.faults link.new) (work_failed result) }
 {
@@ -197,11 +201,13 @@ fn read_request<L: Link>(alloc: Global, link: &mut L, bytes: &mut Vec<u8>) -> Re
 }
 
 /// The next request of a link. `rest` has the bytes that were read behind the request before; those
-/// behind this one are kept there. No more is read than whole requests need, but for the rest of
-/// the last block. After any other answer the bytes of this connection are used up.
+/// behind this one are kept there. Where a whole request stands in `rest`, nothing is read, so no
+/// reply waits for bytes that it does not need. After any other answer the connection is over, and
+/// what `rest` has is of no use.
 pub fn next_request<L: Link>(alloc: Global, link: &mut L, rest: &mut Vec<u8>) -> Next
     ensures answer { ReadsNext (L.left link.old) (L.left link.new) rest.old.items rest.new.items result }
     ensures few { KeepsFew rest.old.items rest.new.items result }
+    ensures prompt { (request : RequestParts) (behind : List ℕ) → StandsIn rest.old.items (Whole request behind) → L.left link.new ≡ L.left link.old }
     ensures written { L.written link.new ≡ L.written link.old }
     ensures cause { Counts (L.faults link.old) (L.faults link.new) (link_failed result) }
 {

@@ -1,20 +1,14 @@
 -- How a request is read of a link: its head first, and then its body.
-use Rattle.std.specs.Prelude.{◌≡◌, ℕ, ◌+◌, ◌==◌, ◌<◌, ◌≤◌, ◌⊎◌, Bool, true, false, ◌&&◌, if◌then◌else◌, List, [], ◌∷◌, ◌++◌, length, Option, Some, None, Result, Ok, Err}
+use Rattle.std.specs.Prelude.{◌≡◌, ℕ, ◌+◌, ◌==◌, ◌<◌, ◌≤◌, ◌⊎◌, Bool, true, false, ◌&&◌, if◌then◌else◌, List, [], ◌∷◌, ◌++◌, length, Option, Result, Ok, Err}
 use Rattle.std.specs.List.{list_all}
 use Rattle.std.specs.Io.KnownBytes.{Consumes, IsAtEnd}
 use Rattle.httparse.specs.Grammar.{RequestHead, print_request, IsToken, is_token_byte, is_uri_byte}
-use Rattle.registry_http.specs.Heads.{longest_body, length_in, is_last, is_refused}
+use Rattle.registry_http.specs.Heads.{longest_body, is_last, is_refused}
 use Rattle.registry_http.specs.Requests.{BeginsWith, BeginsRequest, HasNoHeadYet, StandsIn, HeadRefused, BodyTooLong, longest_read, link_failed}
 use Rattle.registry_http.specs.declared.heads.Front.{Front}
 use Rattle.registry_http.specs.declared.heads.Front.TheVariants as front
 use Rattle.registry_http.specs.declared.requests.Next.{Next}
 use Rattle.registry_http.specs.declared.requests.Next.TheVariants as next
-
--- the length that the values of Content-Length give, where those before gave this one
-abbrev pub length_from : Option ℕ → List (List ℕ) → Option ℕ
-length_from None values = length_in values
-length_from (Some n) [] = Some n
-length_from (Some n) (value ∷ values) = None
 
 -- the bytes begin with a head that is not refused, of these parts and so many bytes
 pub record HasHead (bytes method path : List ℕ) (len body : ℕ) (last : Bool) : Type 0 where
@@ -76,20 +70,20 @@ IsNoRequest next.LinkFault = Unit {0}
 IsNoRequest next.Memory = Unit {0}
 
 -- why not so many bytes came
-abbrev pub IsShort : ℕ → List ℕ → Option (List ℕ) → Next → Type 0
-IsShort end bytes left (next.Request request) = ⊥
-IsShort end bytes left next.End = ⊥
-IsShort end bytes left next.Cut = (length bytes < end) × IsAtEnd left
-IsShort end bytes left next.HeadFault = ⊥
-IsShort end bytes left next.BodyTooLong = ⊥
-IsShort end bytes left next.LinkFault = Unit {0}
-IsShort end bytes left next.Memory = Unit {0}
+abbrev pub IsCutOff : ℕ → List ℕ → Option (List ℕ) → Next → Type 0
+IsCutOff end bytes left (next.Request request) = ⊥
+IsCutOff end bytes left next.End = ⊥
+IsCutOff end bytes left next.Cut = (length bytes < end) × IsAtEnd left
+IsCutOff end bytes left next.HeadFault = ⊥
+IsCutOff end bytes left next.BodyTooLong = ⊥
+IsCutOff end bytes left next.LinkFault = Unit {0}
+IsCutOff end bytes left next.Memory = Unit {0}
 
 -- not so many bytes came
 pub record FallsShort (left_old left_new : Option (List ℕ)) (had : List ℕ) (end : ℕ) (answer : Next) : Type 0 where
   pub read : List ℕ
   pub consumed : Consumes left_old left_new read
-  pub short : IsShort end (had ++ read) left_new answer
+  pub short : IsCutOff end (had ++ read) left_new answer
 
 -- nothing was read, or no more than one read brings stands behind `end`
 abbrev pub FewBehind : List ℕ → List ℕ → ℕ → Type 0

@@ -1,7 +1,7 @@
 use Rattle.std.proofs.Common.{◌≡◌, map, drop, codes}
 use Rattle.httparse.specs.Spans.{header_bytes}
 use Rattle.registry_http.specs.Heads.{values_of, length_in}
-use Rattle.registry_http.specs.inner.Reading.{length_from}
+use Rattle.registry_http.proofs.Lengths.{length_from}
 use Rattle.registry_http.proofs.headers.body_length.Given as goal
 
 abbrev pub invariant-loop-span : goal.invariant-loop-span

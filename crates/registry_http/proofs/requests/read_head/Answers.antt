@@ -3,6 +3,7 @@ use Rattle.std.proofs.lemmas.Grind.{common_steps}
 use Rattle.registry_http.specs.Requests.{ReadsNext, StandsIn, HeadRefused, HasNoHeadYet}
 use Rattle.registry_http.specs.inner.Reading.{IsNoRequest}
 use Rattle.registry_http.proofs.WholeHeads.{few_behind_at, few_more}
+use Rattle.registry_http.proofs.Prompt.{whole_not_yet}
 use Rattle.registry_http.proofs.ReadSoFar.{reads_then, answer_since, answer_now, stopped_in_head, stops_without_request, at_exit}
 use Rattle.registry_http.proofs.requests.read_head.Goals as goal
 
@@ -20,6 +21,8 @@ loop-head-preserved g c = record {
   block = grind (arith, common_steps);
   few = few_more _ c.loop-head.bytes.items _ _ (subst HasNoHeadYet c.deref.ensures.value c.in-Cut.ensures) c.in_ok-read_more-in-Cut.ensures.reads.grown c.in_ok-read_more-in-Cut.ensures.few;
   reads = reads_then _ _ _ _ _ _ c.loop-head.invariant.reads c.in_ok-read_more-in-Cut.ensures.reads;
+  prompt = λ request rest whole.
+      absurd (whole_not_yet _ _ _ c.loop-head.bytes.items rest request c.loop-head.invariant.reads whole (subst HasNoHeadYet c.deref.ensures.value c.in-Cut.ensures));
   written = c.read_more.ensures.written ∙ c.loop-head.invariant.written;
   quiet = c.in_ok-read_more-in-Cut.ensures.cause.else_same refl ∙ c.loop-head.invariant.quiet;
 }
@@ -36,3 +39,7 @@ pub returns-in_err-read_more-in-Cut-clause-no_request : goal.returns-in_err-read
 returns-in_err-read_more-in-Cut-clause-no_request g c =
     at_exit c.from_residual-in_err-read_more-in-Cut.result IsNoRequest _ c.from_residual-in_err-read_more-in-Cut.ensures.1
     (stops_without_request _ _ c.loop-head.bytes.items _ c.in_err-read_more-in-Cut.ensures.stops)
+
+pub returns-in_err-read_more-in-Cut-clause-prompt : goal.returns-in_err-read_more-in-Cut-clause-prompt
+returns-in_err-read_more-in-Cut-clause-prompt g c = λ request rest whole.
+    absurd (whole_not_yet _ _ _ c.loop-head.bytes.items rest request c.loop-head.invariant.reads whole (subst HasNoHeadYet c.deref.ensures.value c.in-Cut.ensures))

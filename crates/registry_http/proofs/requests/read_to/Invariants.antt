@@ -1,4 +1,4 @@
-use Rattle.std.proofs.Common.{◌≡◌, ◌-◌, ◌<◌, length}
+use Rattle.std.proofs.Common.{◌≤◌, ◌≡◌, ◌-◌, ◌<◌, length}
 use Rattle.registry_http.specs.inner.Reading.{ReadsOn, FewBehind}
 use Rattle.registry_http.proofs.requests.read_to.Given as goal
 
@@ -11,6 +11,7 @@ invariant-loop-link g l = record {
   some : 0 < length l.bytes.items;
   few : FewBehind l.fn.bytes.items l.bytes.items l.end;
   reads : ReadsOn (g.L.Link.left l.fn.link) (g.L.Link.left l.link) l.fn.bytes.items l.bytes.items;
+  prompt : l.end ≤ length l.fn.bytes.items → g.L.Link.left l.link ≡ g.L.Link.left l.fn.link;
   written : g.L.Link.written l.link ≡ g.L.Link.written l.fn.link;
   quiet : g.L.Link.faults l.link ≡ g.L.Link.faults l.fn.link;
 }
