@@ -1,17 +1,15 @@
 -- Whatever was replied to has its receipts in every image.
-use Rattle.std.proofs.Common.{◌≡◌, inl, inr, ℕ, Bool, true, false, List, [], ◌∷◌, ◌++◌, refl, sym, ap, ◌∙◌, subst, append_assoc, append-nil, Option, Some, None}
+use Rattle.std.proofs.Common.{◌≡◌, ℕ, List, [], ◌∷◌, ◌++◌, refl, sym, ◌∙◌, subst, append_assoc, Some, None}
 use Rattle.std.proofs.lemmas.List.{append_cancel_left}
 use Rattle.gb_base.specs.DayMinute.{DayMinute}
-use Rattle.gb_outside.specs.Bytes.{AppendsFront}
 use Rattle.act_model.specs.declared.items.Item.{Item}
 use Rattle.act_model.specs.declared.receipts.Receipt.{Receipt}
-use Rattle.registry_office.specs.Grown.{IsFront, GrownFrom}
-use Rattle.registry_office.specs.Requests.{Medium, OnDisk, Held, holding, received, received_text, replied_by_clock, reply_of, replies, held_after}
+use Rattle.registry_office.specs.Grown.{IsFront}
+use Rattle.registry_office.specs.Requests.{Medium, Held, received, received_text, replied_by_clock, reply_of, replies, held_after}
 use Rattle.registry_office.specs.declared.requests.Request.{Request}
 use Rattle.registry_office.specs.declared.requests.Request.TheVariants.{Nothing, Refused, Receive}
-use Rattle.registry_office.specs.inner.Sessions.{Broken}
 use Rattle.registry_office.proofs.Durable.{front_refl}
-use Rattle.registry_office.proofs.Replies.{front_trans, grows}
+use Rattle.registry_office.proofs.Replies.{grows}
 
 not_empty : {A : Type 0} (xs : List A) (x : A) → xs ++ x ∷ [] ≡ [] → ⊥
 not_empty [] x is = absurd cc

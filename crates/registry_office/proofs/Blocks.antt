@@ -1,5 +1,5 @@
 -- What a read gives to the front of a block.
-use Rattle.std.proofs.Common.{◌≡◌, ℕ, ◌≤◌, List, ◌++◌, length, take, Option}
+use Rattle.std.proofs.Common.{ℕ, ◌≤◌, List, ◌++◌, length, Option}
 use Rattle.std.proofs.lemmas.List.{take-append-le}
 use Rattle.gb_outside.specs.Bytes.{IsGot, Reads}
 use Rattle.gb_outside.specs.declared.streams.Got.{Got}

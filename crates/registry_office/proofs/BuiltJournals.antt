@@ -1,5 +1,5 @@
 -- A session keeps items alone that the office takes.
-use Rattle.std.proofs.Common.{◌≡◌, ℕ, Bool, true, false, cond, List, [], ◌∷◌, ◌++◌, map, codes, refl, sym, ap, ◌∙◌, Option, Some, None, Result, Ok, Err}
+use Rattle.std.proofs.Common.{◌≡◌, ℕ, Bool, true, false, cond, List, [], ◌∷◌, ◌++◌, map, codes, refl, Option, Some, None, Result, Ok, Err}
 use Rattle.std.specs.Prelude.{nat_lt, length}
 use Rattle.std.specs.List.{list_all}
 use Rattle.std.proofs.lemmas.List.Folds.{list_all-append}
@@ -12,7 +12,7 @@ use Rattle.receipt_journal.specs.Receiving.{is_received, journal_after, next_rec
 use Rattle.receipt_journal.specs.declared.received.Received.{Received}
 use Rattle.registry_office.specs.Built.{is_built}
 use Rattle.registry_office.specs.Lines.{is_blank, request_of_line, request_of_item, request_of_stamped, request_of_plain, request_read}
-use Rattle.registry_office.specs.Requests.{Medium, Held, holding, received, replied_by_clock, reply_of, held_after}
+use Rattle.registry_office.specs.Requests.{Medium, Held, received, replied_by_clock, reply_of, held_after}
 use Rattle.registry_office.specs.declared.lines.LineKind.{LineKind}
 use Rattle.registry_office.specs.declared.lines.LineKind.TheVariants.{Stamped, Plain}
 use Rattle.registry_office.specs.declared.requests.Request.{Request}

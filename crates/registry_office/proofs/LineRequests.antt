@@ -1,5 +1,5 @@
 -- The requests of lines that come in pieces.
-use Rattle.std.proofs.Common.{◌≡◌, ℕ, ◌==◌, Bool, true, false, cond, ◌||◌, List, [], ◌∷◌, ◌++◌, map, length, codes, refl, sym, ap, ◌∙◌, append_assoc, append-nil, Result, Ok, Err, Option, Some, None}
+use Rattle.std.proofs.Common.{◌≡◌, ℕ, ◌==◌, Bool, true, false, cond, ◌||◌, List, [], ◌∷◌, ◌++◌, map, length, codes, refl, sym, ap, ◌∙◌, append_assoc, append-nil, Result, Ok, Err, Some}
 use Rattle.std.specs.Prelude.{nat_lt}
 use Rattle.std.specs.List.{list_any}
 use Rattle.std.proofs.lemmas.List.{map-append}
@@ -9,10 +9,9 @@ use Rattle.act_json.specs.Lines.{longest_line, stamped_of}
 use Rattle.act_json.specs.declared.lines.LineFault.{LineFault}
 use Rattle.registry_office.specs.Built.{is_built}
 use Rattle.registry_office.specs.Lines.{is_blank, request_of_line, request_of_item, request_of_stamped, request_read, is_stamped_by_clock}
-use Rattle.registry_office.specs.Sessions.{ended, behind, lines_of, ended_requests, line_requests}
+use Rattle.registry_office.specs.Sessions.{ended, behind, ended_requests}
 use Rattle.registry_office.specs.declared.lines.LineKind.{LineKind}
 use Rattle.registry_office.specs.declared.lines.LineKind.TheVariants.{Stamped, Plain}
-use Rattle.registry_office.specs.declared.requests.Request.{Request}
 use Rattle.registry_office.specs.declared.requests.Request.TheVariants.{Nothing, Refused, Receive}
 use Rattle.registry_office.specs.inner.Asking.{asks_clock}
 

@@ -10,13 +10,12 @@ use Rattle.act_model.specs.declared.receipts.Receipt.{Receipt}
 use Rattle.receipt_journal.specs.Receiving.{Answers}
 use Rattle.receipt_journal.specs.declared.received.Received.{Received}
 use Rattle.registry_office.specs.Grown.{GrownFrom}
-use Rattle.registry_office.specs.Requests.{Medium, OnDisk, Held, Replied, holding, received, replied, reply_of, replies, held_after}
+use Rattle.registry_office.specs.Requests.{Medium, OnDisk, Replied, holding, received, replied, reply_of, held_after}
 use Rattle.registry_office.specs.declared.requests.Request.{Request}
 use Rattle.registry_office.specs.declared.requests.Request.TheVariants.{Nothing, Refused, Receive}
 use Rattle.registry_office.specs.inner.Asking.{is_fault, has_no_stamp}
-use Rattle.registry_office.specs.inner.Sessions.{GotReply, MissedReply, unanswered, cut, Answered, AskedForFront, Broken}
-use Rattle.registry_office.proofs.Durable.{front_refl}
-use Rattle.registry_office.proofs.Replies.{grows_longer, grown_at, grown_wider, whole_front}
+use Rattle.registry_office.specs.inner.Sessions.{GotReply, MissedReply, unanswered, cut, Answered, Broken}
+use Rattle.registry_office.proofs.Replies.{grown_at, whole_front}
 
 -- an answer that is no fault is the answer expected
 pub answer_expected : (expected : Received) (answer : Received) → Answers expected answer → is_fault answer ≡ false → answer ≡ expected

@@ -1,5 +1,5 @@
 -- What an opening finds and keeps, and a session after it.
-use Rattle.std.proofs.Common.{◌≡◌, ◌⊎◌, inl, inr, ⊎_elim, ℕ, Bool, true, false, List, [], refl, sym, ap, ◌∙◌, subst, Result, Ok, Err, IsTrue, ◌++◌, append-nil, Option, Some, None, IsErrAnd}
+use Rattle.std.proofs.Common.{◌≡◌, inl, inr, ⊎_elim, ℕ, Bool, true, false, List, [], refl, sym, ap, ◌∙◌, subst, Result, Ok, Err, ◌++◌, append-nil, Option, Some, None, IsErrAnd}
 use Rattle.std.proofs.KnownBytes.{Appends-nil}
 use Rattle.std.proofs.lemmas.List.{append_cancel_left}
 use Rattle.gb_outside.specs.Bytes.{AppendsFront}
@@ -13,7 +13,7 @@ use Rattle.receipt_journal.specs.Standing.{StandsForJournal}
 use Rattle.receipt_journal.specs.declared.faults.BookFault.{BookFault}
 use Rattle.receipt_journal.specs.declared.faults.BookFault.TheVariants as fault
 use Rattle.receipt_journal.proofs.Standings.{stands_by_frames, kept_frames}
-use Rattle.registry_office.specs.Disks.{IsJournalFile, FindsBy, KeepsDisk, GrowsSynced, KeepsGrown}
+use Rattle.registry_office.specs.Disks.{IsJournalFile, FindsBy, GrowsSynced, KeepsGrown}
 use Rattle.registry_office.specs.Grown.{GrownFrom, IsFront}
 use Rattle.registry_office.specs.Statuses.{status_of_fault, read_fault, write_fault, disk_fault, door_fault, is_no_journal, is_of_session}
 use Rattle.registry_office.specs.Faults.{settling_disk_failed}
@@ -25,7 +25,7 @@ use Rattle.registry_office.specs.declared.statuses.Status.{Status}
 use Rattle.registry_office.specs.declared.statuses.Status.TheVariants as status
 use Rattle.registry_office.proofs.Acknowledged.{first_empty}
 use Rattle.registry_office.proofs.Durable.{front_refl}
-use Rattle.registry_office.proofs.Replies.{grown_at, grown_wider, leaves_wider}
+use Rattle.registry_office.proofs.Replies.{grown_at, grown_wider}
 
 -- a file that is kept stands for the journal that it stood for
 pub kept_journal : (file c : List ℕ) (journal : List Receipt) → StandsForJournal file journal → IsKept file c → StandsForJournal c journal

@@ -12,11 +12,11 @@ use Rattle.receipt_journal.specs.BookState.{BookState}
 use Rattle.receipt_journal.specs.Receiving.{is_received, journal_after, next_receipt}
 use Rattle.receipt_journal.specs.Standing.{StandsForJournal}
 use Rattle.receipt_journal.specs.declared.received.Received.{Received}
-use Rattle.registry_office.specs.Grown.{IsFront, GrownFrom, IsDurable}
+use Rattle.registry_office.specs.Grown.{IsFront, GrownFrom}
 use Rattle.registry_office.specs.Requests.{Medium, OnDisk, Held, holding, received, replied_by_clock, reply_of, replies, held_after}
 use Rattle.registry_office.specs.declared.requests.Request.{Request}
 use Rattle.registry_office.specs.declared.requests.Request.TheVariants.{Nothing, Refused, Receive}
-use Rattle.registry_office.specs.inner.Sessions.{IsReady, Knows, Answered, AskedForFront, Broken}
+use Rattle.registry_office.specs.inner.Sessions.{IsReady, Knows, Answered, Broken}
 use Rattle.registry_office.proofs.Durable.{front_refl, durable_stands}
 
 pub front_trans : {A : Type 0} (xs ys zs : List A) → IsFront xs ys → IsFront ys zs → IsFront xs zs

@@ -1,10 +1,10 @@
 -- An input that is read in blocks, and the requests of what was read.
-use Rattle.std.proofs.Common.{◌≡◌, inl, inr, ⊎_elim, ℕ, ◌+◌, ◌≤◌, ◌<◌, List, [], ◌∷◌, ◌++◌, map, length, take, drop, take-append-drop, refl, sym, ap, ◌∙◌, subst, append_assoc, append-nil, length-append, arith, Option, Some, None, IfSome}
-use Rattle.std.specs.Io.KnownBytes.{Appends, Consumes, IsAtEnd}
+use Rattle.std.proofs.Common.{◌≡◌, inl, ⊎_elim, ℕ, ◌≤◌, List, [], ◌∷◌, ◌++◌, length, take, drop, take-append-drop, sym, ap, ◌∙◌, subst, append_assoc, append-nil, Option, Some, None, IfSome}
+use Rattle.std.specs.Io.KnownBytes.{Consumes, IsAtEnd}
 use Rattle.std.proofs.KnownBytes.{Consumes-nil, Consumes-trans}
 use Rattle.std.proofs.lemmas.List.{map-append, take_all, take_at}
 use Rattle.registry_office.specs.Lines.{request_of_line}
-use Rattle.registry_office.specs.Sessions.{ended, behind, lines_of, ended_requests, line_requests, most_input, Took}
+use Rattle.registry_office.specs.Sessions.{ended, behind, ended_requests, line_requests, Took}
 use Rattle.registry_office.specs.declared.lines.LineKind.{LineKind}
 use Rattle.registry_office.specs.declared.requests.Request.{Request}
 use Rattle.registry_office.specs.inner.Inputs.{AreOf}

@@ -1,5 +1,5 @@
 -- What a session over a disk did with a whole input, however it ended.
-use Rattle.std.proofs.Common.{◌≡◌, ◌⊎◌, inl, inr, ℕ, ◌≤◌, Bool, true, false, List, [], ◌∷◌, ◌++◌, length, take, refl, sym, ap, ◌∙◌, subst, append_assoc, append-nil, Option, Some, None, IfSome, Result, Ok, Err, OnOk, OnErr, IsTrue}
+use Rattle.std.proofs.Common.{◌≡◌, ◌⊎◌, inl, inr, ℕ, ◌≤◌, Bool, true, List, [], ◌++◌, length, take, refl, sym, ap, ◌∙◌, subst, append_assoc, Option, Some, None, IfSome, Result, Ok, Err, OnOk, OnErr}
 use Rattle.std.specs.Io.KnownBytes.{Appends, IsAtEnd}
 use Rattle.std.proofs.lemmas.List.{append_cancel_left}
 use Rattle.gb_base.specs.DayMinute.{DayMinute}
@@ -7,10 +7,9 @@ use Rattle.gb_outside.specs.Bytes.{AppendsFront}
 use Rattle.gb_outside.specs.Images.{LeavesOnly}
 use Rattle.act_model.specs.declared.receipts.Receipt.{Receipt}
 use Rattle.receipt_journal.specs.BookState.{BookState}
-use Rattle.registry_office.specs.Grown.{IsFront, GrownFrom}
+use Rattle.registry_office.specs.Grown.{GrownFrom}
 use Rattle.registry_office.specs.Requests.{OnDisk, Held, holding, replies, held_after}
 use Rattle.registry_office.specs.Sessions.{ended_requests, line_requests, Took, AllTell, HasWritten}
-use Rattle.registry_office.specs.declared.lines.LineKind.{LineKind}
 use Rattle.registry_office.specs.declared.lines.LineKind.TheVariants.{Plain}
 use Rattle.registry_office.specs.declared.requests.Request.{Request}
 use Rattle.registry_office.specs.inner.Inputs.{AllAnswered, PartAnswered, LeavesGrown, AreOf}

@@ -16,6 +16,7 @@ output_failed (Ok value) = false
 output_failed (Err output.Write) = true
 output_failed (Err output.Memory) = false
 
+-- the fault of answering where its reply could not be written
 abbrev pub answer_fault_of : OutputFault → AnswerFault
 answer_fault_of output.Write = answer.Write
 answer_fault_of output.Memory = answer.Memory
@@ -34,6 +35,7 @@ answer_disk_failed (Err answer.Write) = false
 answer_disk_failed (Err answer.Disk) = true
 answer_disk_failed (Err answer.Memory) = false
 
+-- the fault of a session where one of its requests could not be answered
 abbrev pub session_fault_of : AnswerFault → SessionFault
 session_fault_of answer.Write = session.Write
 session_fault_of answer.Disk = session.Disk

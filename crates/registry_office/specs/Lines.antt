@@ -1,5 +1,5 @@
 -- What a line of an input asks.
-use Rattle.std.specs.Prelude.{ℕ, Bool, true, false, ◌||◌, ◌==◌, nat_lt, if◌then◌else◌, List, [], ◌∷◌, ◌++◌, length, map, codes, Result, Ok, Err, Option, Some, None}
+use Rattle.std.specs.Prelude.{ℕ, Bool, true, false, ◌||◌, ◌==◌, nat_lt, if◌then◌else◌, List, [], ◌++◌, length, codes, Result, Ok, Err, Option, Some, None}
 use Rattle.std.specs.List.{list_all}
 use Rattle.gb_base.specs.DayMinute.{DayMinute}
 use Rattle.act_model.specs.declared.items.Item.{Item}
@@ -36,6 +36,7 @@ abbrev pub request_of_plain : Result (ℕ × ℕ × Item) LineFault → Request
 request_of_plain (Ok found) = request_of_item None found.0 found.1 found.2
 request_of_plain (Err fault) = Refused (fault_text fault ++ codes "\n")
 
+-- what a line that is neither blank nor too long asks
 abbrev pub request_read : LineKind → List ℕ → Request
 request_read Stamped line = request_of_stamped (stamped_of line)
 request_read Plain line = request_of_plain (item_of line)

@@ -1,5 +1,5 @@
 -- What requests are answered, and what is held after them.
-use Rattle.std.specs.Prelude.{◌≡◌, ℕ, List, [], ◌∷◌, ◌++◌, codes, Option, Some, None}
+use Rattle.std.specs.Prelude.{ℕ, List, [], ◌∷◌, ◌++◌, codes, Some, None}
 use Rattle.std.specs.Fmt.{decimal}
 use Rattle.gb_base.specs.DayMinute.{DayMinute}
 use Rattle.act_model.specs.Receiving.{answer_to}
@@ -36,6 +36,7 @@ pub record Held : Type 0 where
   pub journal : List Receipt
   pub ticks : List DayMinute
 
+-- these receipts and these ticks
 abbrev pub holding : List Receipt → List DayMinute → Held
 holding journal ticks = record { journal = journal; ticks = ticks }
 

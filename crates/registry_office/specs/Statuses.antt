@@ -11,6 +11,7 @@ use Rattle.registry_office.specs.declared.faults.SettlingFault.TheVariants as se
 use Rattle.receipt_journal.specs.declared.faults.BookFault.{BookFault}
 use Rattle.receipt_journal.specs.declared.faults.BookFault.TheVariants as fault
 
+-- the status blames the source
 abbrev pub read_fault : Status → Bool
 read_fault status.Ok = false
 read_fault status.Usage = false
@@ -23,6 +24,7 @@ read_fault (status.BadRecord at) = false
 read_fault status.InputTooLong = false
 read_fault status.DoorFault = false
 
+-- the status blames the sink
 abbrev pub write_fault : Status → Bool
 write_fault status.Ok = false
 write_fault status.Usage = false
@@ -35,6 +37,7 @@ write_fault (status.BadRecord at) = false
 write_fault status.InputTooLong = false
 write_fault status.DoorFault = false
 
+-- the status blames the disk
 abbrev pub disk_fault : Status → Bool
 disk_fault status.Ok = false
 disk_fault status.Usage = false
@@ -47,6 +50,7 @@ disk_fault (status.BadRecord at) = false
 disk_fault status.InputTooLong = false
 disk_fault status.DoorFault = false
 
+-- the status blames the listener
 abbrev pub door_fault : Status → Bool
 door_fault status.Ok = false
 door_fault status.Usage = false
@@ -72,6 +76,7 @@ is_no_journal (status.BadRecord at) = true
 is_no_journal status.InputTooLong = false
 is_no_journal status.DoorFault = false
 
+-- the status of a session that ended early
 abbrev pub status_of_session : SessionFault → Status
 status_of_session session.Read = status.ReadFault
 status_of_session session.Write = status.WriteFault
@@ -84,12 +89,14 @@ abbrev pub status_of : {A : Type 0} → Result A SessionFault → Status
 status_of (Ok value) = status.Ok
 status_of (Err fault) = status_of_session fault
 
+-- the status where the disk's file could not be opened as a journal
 abbrev pub status_of_fault : BookFault → Status
 status_of_fault fault.Disk = status.DiskFault
 status_of_fault fault.NotJournal = status.NotJournal
 status_of_fault (fault.BadRecord at) = status.BadRecord at
 status_of_fault fault.Memory = status.Memory
 
+-- the status where a report could not be written
 abbrev pub status_of_output : OutputFault → Status
 status_of_output output.Write = status.WriteFault
 status_of_output output.Memory = status.Memory

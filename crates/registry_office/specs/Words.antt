@@ -6,6 +6,7 @@ use Rattle.gb_base.specs.Limits.{is_between}
 use Rattle.registry_office.specs.declared.words.Command.{Command}
 use Rattle.registry_office.specs.declared.words.Command.TheVariants.{Settle, SettleLines, Take}
 
+-- the byte is an ASCII digit
 abbrev pub is_digit : ℕ → Bool
 is_digit b = is_between 48 57 b
 
@@ -23,10 +24,12 @@ abbrev pub value_in : ℕ → ℕ → List ℕ → Option ℕ
 value_in low high text =
     if is_numeral text && is_between low high (value_from 0 text) then Some (value_from 0 text) else None
 
+-- to settle the disk's journal by so many desks
 abbrev pub settle_by : Option ℕ → Option Command
 settle_by (Some desks) = Some (Settle desks)
 settle_by None = None
 
+-- to settle the lines of the input by so many desks
 abbrev pub settle_lines_by : Option ℕ → Option Command
 settle_lines_by (Some desks) = Some (SettleLines desks)
 settle_lines_by None = None

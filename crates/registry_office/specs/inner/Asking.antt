@@ -1,5 +1,5 @@
 -- What a request asks for.
-use Rattle.std.specs.Prelude.{◌≡◌, ℕ, Bool, true, false, Option, Some, None}
+use Rattle.std.specs.Prelude.{Bool, true, false, Option, Some, None}
 use Rattle.gb_base.specs.DayMinute.{DayMinute}
 use Rattle.act_model.specs.WellFormed.{well_formed}
 use Rattle.receipt_journal.specs.declared.received.Received.{Received}
@@ -20,6 +20,7 @@ asks_built Nothing = true
 asks_built (Refused text) = true
 asks_built (Receive stamp sender reference item) = is_built item
 
+-- the clock is to stamp it
 abbrev pub has_no_stamp : Option DayMinute → Bool
 has_no_stamp None = true
 has_no_stamp (Some stamp) = false

@@ -1,5 +1,5 @@
 -- How far a session has come with its requests.
-use Rattle.std.specs.Prelude.{◌≡◌, ℕ, Bool, true, false, List, [], ◌∷◌, ◌++◌, Option, Some, IsTrue}
+use Rattle.std.specs.Prelude.{◌≡◌, ℕ, Bool, true, false, List, ◌++◌, Option, Some, IsTrue}
 use Rattle.std.specs.Io.KnownBytes.{Appends}
 use Rattle.gb_outside.specs.Bytes.{AppendsFront}
 use Rattle.gb_base.specs.DayMinute.{DayMinute}

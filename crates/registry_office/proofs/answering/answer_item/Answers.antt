@@ -1,4 +1,4 @@
-use Rattle.std.proofs.Common.{◌≡◌, ◌++◌, ◌∷◌, [], ◌∙◌, refl, sym, ap, subst, ℕ, List}
+use Rattle.std.proofs.Common.{◌≡◌, ◌++◌, ◌∷◌, [], ◌∙◌, refl, ap, subst, List}
 use Rattle.std.proofs.lemmas.Result.{MatchResult-from_err}
 use Rattle.gb_outside.specs.Bytes.{AppendsFront}
 use Rattle.act_model.specs.declared.receipts.Receipt.{Receipt}

@@ -1,4 +1,4 @@
-use Rattle.std.proofs.Common.{◌≡◌, Bool, true, ◌∷◌, [], refl, sym, ap, ◌∙◌, subst, Option, Some, List}
+use Rattle.std.proofs.Common.{◌≡◌, Bool, true, ◌∷◌, [], ap, subst, Some, List}
 use Rattle.std.proofs.lemmas.Result.{MatchResult-from_err, on_ok_weaker, on_err_weaker}
 use Rattle.gb_base.specs.DayMinute.{DayMinute}
 use Rattle.gb_outside.specs.Images.{LeavesOnly}

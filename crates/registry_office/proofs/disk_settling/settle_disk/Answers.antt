@@ -1,5 +1,5 @@
 use Rattle.std.proofs.lemmas.Result.{MatchResult-from_err}
-use Rattle.std.proofs.Common.{◌≡◌, List, sym, subst}
+use Rattle.std.proofs.Common.{List, sym, subst}
 use Rattle.act_model.specs.declared.receipts.Receipt.{Receipt}
 use Rattle.journal_disk.specs.Opening.{AnswersSynced}
 use Rattle.receipt_journal.specs.Standing.{StandsForJournal}

@@ -1,14 +1,14 @@
 use Rattle.std.proofs.Common.{◌≡◌, ◌≤◌, inl, inr, ℕ, ◌+◌, List, [], ◌∷◌, ◌++◌, length, take, refl, sym, ap, ◌∙◌, subst, append-nil, length-append, arith}
 use Rattle.std.specs.Io.KnownBytes.{IsAtEnd}
 use Rattle.std.proofs.lemmas.Grind.{common_steps}
-use Rattle.std.proofs.lemmas.List.{take_at, take_all}
+use Rattle.std.proofs.lemmas.List.{take_at}
 use Rattle.std.proofs.lemmas.Result.{MatchResult-from_err}
 use Rattle.gb_base.specs.DayMinute.{DayMinute}
 use Rattle.gb_outside.specs.Images.{LeavesOnly}
 use Rattle.act_model.specs.declared.receipts.Receipt.{Receipt}
 use Rattle.registry_office.specs.Grown.{GrownFrom}
 use Rattle.registry_office.specs.Lines.{request_of_line, is_stamped_by_clock}
-use Rattle.registry_office.specs.Requests.{holding, held_after}
+use Rattle.registry_office.specs.Requests.{holding}
 use Rattle.registry_office.specs.Sessions.{behind, ended_requests, line_requests}
 use Rattle.registry_office.specs.inner.Sessions.{Knows, Answered, Broken}
 use Rattle.registry_office.proofs.LineRequests.{behind-append}

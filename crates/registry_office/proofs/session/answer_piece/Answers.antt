@@ -1,4 +1,4 @@
-use Rattle.std.proofs.Common.{◌≡◌, ◌∷◌, ◌++◌, [], List, refl, ap, ◌∙◌, sym, subst, append-nil, append_assoc}
+use Rattle.std.proofs.Common.{◌∷◌, ◌++◌, [], List, refl, ap, ◌∙◌, sym, subst, append-nil, append_assoc}
 use Rattle.std.proofs.lemmas.Result.{MatchResult-from_err}
 use Rattle.gb_base.specs.DayMinute.{DayMinute}
 use Rattle.gb_outside.specs.Images.{LeavesOnly}
@@ -7,11 +7,9 @@ use Rattle.registry_office.specs.Grown.{GrownFrom}
 use Rattle.registry_office.specs.Lines.{is_stamped_by_clock}
 use Rattle.registry_office.specs.Requests.{holding, held_after}
 use Rattle.registry_office.specs.Sessions.{behind, ended_requests}
-use Rattle.registry_office.specs.declared.requests.Request.{Request}
 use Rattle.registry_office.specs.inner.Sessions.{Knows, Answered, Broken}
-use Rattle.registry_office.proofs.Durable.{durable_stands}
 use Rattle.registry_office.proofs.LineRequests.{behind-append, behind-none, requests_of_two, requests_of_piece, requests_at_end}
-use Rattle.registry_office.proofs.Replies.{answered_none, answered_then, broken_then, broken_longer, broken_all, left_within, knows_then}
+use Rattle.registry_office.proofs.Replies.{answered_then, broken_then, broken_longer, broken_all, left_within, knows_then}
 use Rattle.registry_office.proofs.session.answer_piece.Goals as goal
 
 pub returns-in_err-answer_ended-clause-broken : goal.returns-in_err-answer_ended-clause-broken

@@ -1,4 +1,4 @@
-use Rattle.std.proofs.Common.{◌≡◌, ◌⊎◌, inl, inr, ⊎_elim, ℕ, List, [], refl, sym, ap, ◌∙◌, Err}
+use Rattle.std.proofs.Common.{inl, inr, ⊎_elim, refl, sym, ◌∙◌, Err}
 use Rattle.std.proofs.lemmas.Result.{MatchResult-from_err}
 use Rattle.registry_office.proofs.Whole.{front_of_report, whole_output, handed_on, all_of_input, built_of_input, end_of_input, cut_of_input, part_of_input}
 use Rattle.registry_office.proofs.settling.settle_lines.Goals as goal

@@ -1,4 +1,4 @@
-use Rattle.std.proofs.Common.{◌≡◌, ℕ, Bool, List, true, refl, sym, ap, ◌∙◌, subst}
+use Rattle.std.proofs.Common.{ℕ, List, true, refl, sym, ◌∙◌, subst}
 use Rattle.gb_base.specs.DayMinute.{DayMinute}
 use Rattle.gb_outside.specs.Faults.{Counts}
 use Rattle.registry_office.specs.Requests.{OnDisk, holding}
@@ -6,7 +6,7 @@ use Rattle.registry_office.specs.Sessions.{line_requests, AllTell}
 use Rattle.registry_office.specs.declared.lines.LineKind.TheVariants.{Plain}
 use Rattle.registry_office.specs.declared.requests.Request.{Request}
 use Rattle.registry_office.specs.inner.Inputs.{LeavesGrown}
-use Rattle.registry_office.specs.inner.Sessions.{IsReady, Broken}
+use Rattle.registry_office.specs.inner.Sessions.{Broken}
 use Rattle.registry_office.proofs.Takings.{part_of_broken, acknowledged, answered_input, cut_input, broken_input, left_input, ok_by_status, long_by_status, cut_by_status, short_by_status, of_session}
 use Rattle.registry_office.proofs.Whole.{ends_some}
 use Rattle.registry_office.proofs.taking.take.Goals as goal

@@ -1,6 +1,5 @@
-use Rattle.std.proofs.Common.{◌≡◌, ◌⊎◌, inl, inr, ⊎_elim, ℕ, List, [], true, refl, sym, ap, ◌∙◌, subst, take, arith, Some, IsTrue}
+use Rattle.std.proofs.Common.{◌≡◌, ⊎_elim, List, [], refl, sym, ap, ◌∙◌, subst, take, arith, Some, IsTrue}
 use Rattle.std.specs.Io.KnownBytes.{Appends}
-use Rattle.gb_base.specs.DayMinute.{DayMinute}
 use Rattle.gb_outside.specs.Bytes.{AppendsFront}
 use Rattle.gb_outside.specs.Images.{LeavesOnly}
 use Rattle.act_model.specs.declared.receipts.Receipt.{Receipt}

@@ -1,4 +1,4 @@
-use Rattle.std.proofs.Common.{◌≡◌, ℕ, List, true, false, inr, refl, sym, ◌∙◌, subst}
+use Rattle.std.proofs.Common.{List, inr, refl, sym, subst}
 use Rattle.act_model.specs.declared.receipts.Receipt.{Receipt}
 use Rattle.receipt_journal.specs.Receiving.{answer_on, is_received, next_receipt}
 use Rattle.receipt_journal.specs.Standing.{IsKeepable, StandsForJournal, records}
