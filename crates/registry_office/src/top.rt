@@ -1,3 +1,4 @@
+// The top call: the words, and the objects that stand outside.
 ghost use Rattle.std.specs.Prelude.{◌≡◌, ◌⊎◌, ◌↔◌, ◌<◌, ◌≤◌, ◌++◌, ℕ, [], Some, None, IfSome, IsTrue, List, map, length, take, true, false};
 ghost use Rattle.std.specs.Io.KnownBytes.{Appends};
 ghost use Rattle.std.specs.Rc.{rc_str_bytes};
@@ -27,6 +28,17 @@ use std::rc::RcStr;
 /// Each status but `Ok`, `Usage` and `Memory` blames one object: its count of faults rose in this
 /// call, or, for the input, more bytes came than the office takes. Want of memory may be answered
 /// at any point. The number of desks never changes what is written.
+///
+/// ```
+/// // The words are "settle", "--desks", "2", "--lines".
+/// match run(rt, &words, &mut source, &mut sink, &mut disk, &mut clock, &mut door, &gate) {
+///     // The sink has a reply for each line of the source, and then the report.
+///     Status::Ok => {}
+///     // It has the replies to the lines that were read whole.
+///     Status::ReadFault => {}
+///     fault => eprintln!("{fault}"),
+/// }
+/// ```
 pub fn run<R: AllocGlobal, S: Source, K: Sink, D: Disk, C: Clock, L: Listener, G: DeskGate>(
     rt: &R,
     words: &[RcStr],
