@@ -14,7 +14,6 @@ import tempfile
 import time
 
 import checks
-import wrong_lines
 
 LINES = 2000
 ROUNDS = 50
@@ -22,12 +21,6 @@ SETTLE = ["settle", "--desks", "1"]
 
 # A folder in memory, where there is one: a kill asks nothing of a disk, and there a sync takes no time.
 IN_MEMORY = pathlib.Path("/dev/shm")
-
-
-def plain(number):
-    """A line without a stamp that opens a folio."""
-    line = checks.filing(number, checks.opening(number))
-    return wrong_lines.compact({name: line[name] for name in ("sender", "reference", "item")})
 
 
 def killed(folder, lines, after):
@@ -71,7 +64,7 @@ def main():
     with tempfile.TemporaryDirectory() as folder:
         lines = os.path.join(folder, "lines")
         with open(lines, "w", encoding="ascii") as file:
-            file.writelines(plain(number) + "\n" for number in range(1, LINES + 1))
+            file.writelines(checks.plain(number) + "\n" for number in range(1, LINES + 1))
         with tempfile.TemporaryDirectory(dir=IN_MEMORY if IN_MEMORY.is_dir() else None) as whole:
             start = time.monotonic()
             with open(lines, "rb") as source:

@@ -11,6 +11,7 @@ import subprocess
 import sys
 
 import spelling
+import wrong_lines
 
 ROOT = pathlib.Path(__file__).resolve().parent.parent
 WRAPPER = ROOT / "grundbuch"
@@ -100,6 +101,17 @@ def filing(number, act):
     consent = {"doc": "consent", "act": 1, "person": 10, "form": "certified"}
     item = {"kind": "filing", "applicant": 10, "conditional": False, "acts": [act], "docs": [consent]}
     return {"day": "2024-03-01", "minute": 540, "sender": 1, "reference": number, "item": item}
+
+
+def stamped(number):
+    """A stamped line that opens a folio, as text."""
+    return wrong_lines.compact(filing(number, opening(number)))
+
+
+def plain(number):
+    """The same line without its stamp."""
+    line = filing(number, opening(number))
+    return wrong_lines.compact({name: line[name] for name in ("sender", "reference", "item")})
 
 
 def journal(bodies):
