@@ -1,4 +1,3 @@
 -- What only private clauses and proofs use.
 pub mod Index
 pub mod KeyInsertion
-pub mod Touched
