@@ -7,6 +7,7 @@ pub mod Brought
 pub mod BuiltJournals
 pub mod CentPieces
 pub mod Durable
+pub mod EarlyEnds
 pub mod Grounds
 pub mod InOrder
 pub mod LineRequests

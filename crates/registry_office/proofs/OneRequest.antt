@@ -1,5 +1,5 @@
 -- One request, and how far it came.
-use Rattle.std.proofs.Common.{◌≡◌, inl, inr, ℕ, Bool, true, false, List, [], ◌∷◌, ◌++◌, refl, sym, ap, ◌∙◌, subst, append-nil, Option, Some, None}
+use Rattle.std.proofs.Common.{◌≡◌, inl, inr, ℕ, Bool, true, false, List, [], ◌∷◌, ◌++◌, refl, sym, ap, ◌∙◌, subst, append-nil, arith, Option, Some, None}
 use Rattle.std.specs.Io.KnownBytes.{Appends}
 use Rattle.std.proofs.KnownBytes.{Appends-nil}
 use Rattle.gb_base.specs.DayMinute.{DayMinute}
@@ -14,8 +14,10 @@ use Rattle.registry_office.specs.Requests.{Medium, OnDisk, Replied, holding, rec
 use Rattle.registry_office.specs.declared.requests.Request.{Request}
 use Rattle.registry_office.specs.declared.requests.Request.TheVariants.{Nothing, Refused, Receive}
 use Rattle.registry_office.specs.inner.Asking.{is_fault, has_no_stamp}
-use Rattle.registry_office.specs.inner.Sessions.{GotReply, MissedReply, unanswered, cut, Answered, Broken}
-use Rattle.registry_office.proofs.Replies.{grown_at, whole_front}
+use Rattle.registry_office.specs.EarlyEnds.{EndsEarly}
+use Rattle.registry_office.specs.inner.Sessions.{GotReply, MissedReply, unanswered, cut, Answered}
+use Rattle.registry_office.proofs.Durable.{front_refl}
+use Rattle.registry_office.proofs.Replies.{grown_at}
 
 -- an answer that is no fault is the answer expected
 pub answer_expected : (expected : Received) (answer : Received) → Answers expected answer → is_fault answer ≡ false → answer ≡ expected
@@ -77,50 +79,64 @@ answered_item by_clock medium journal0 journal1 ticks stamp own sender reference
       clock = λ asked. s.clock asked ∙ ap (λ r. Some r.held.ticks) (sym s.reply);
     })
 
--- ---- one request broken off
+-- ---- one request that ends early
 
-pub broken_refused : (by_clock : Bool) (medium : Medium) (journal : List Receipt) (ticks : List DayMinute) (known : Option (List DayMinute)) (w0 w1 : Option (List ℕ)) (images : List ℕ → Type 0) (request : Request) (text : List ℕ)
+pub early_refused : (by_clock : Bool) (medium : Medium) (journal : List Receipt) (ticks : List DayMinute) (known : Option (List DayMinute)) (w0 w1 : Option (List ℕ)) (images : List ℕ → Type 0) (request : Request) (text : List ℕ)
     → request ≡ Refused text → (by_clock ≡ true → known ≡ Some ticks) → AppendsFront w0 w1 text → (medium ≡ OnDisk → (c : List ℕ) → images c → GrownFrom journal journal c)
-    → Broken by_clock medium (holding journal ticks) known w0 w1 images (request ∷ [])
+    → EndsEarly by_clock medium (holding journal ticks) known w0 w1 images (request ∷ [])
 unfolding reply_of
-broken_refused by_clock medium journal ticks known w0 w1 images request text is clock wrote durable = rw is (record {
-  done = Refused text ∷ [];
+early_refused by_clock medium journal ticks known w0 w1 images request text is clock wrote durable = rw is (record {
+  replied = [];
+  last = Refused text ∷ [];
+  next = [];
   rest = [];
   whole = refl;
-  wrote = rw (append-nil text) wrote;
-  durable = durable;
-  ticks = record { asked = Refused text ∷ []; others = []; all = refl; clock = clock };
+  one = omega arith;
+  front = wrote.front;
+  begun = (wrote.rest, append-nil text ∙ wrote.whole);
+  wrote = wrote.added;
+  clock = clock;
+  received = durable;
 })
 
 module _ (by_clock : Bool) (medium : Medium) (journal : List Receipt) (ticks : List DayMinute) (stamp : DayMinute) (own : Option DayMinute) (sender reference : ℕ) (item : Item) (known : Option (List DayMinute)) (w0 w1 : Option (List ℕ)) (images : List ℕ → Type 0) where
   abbrev item_asked : Request
   item_asked = Receive own sender reference item
 
-  missed : (s : IsStamped by_clock medium journal ticks stamp own sender reference item known)
-      → MissedReply medium journal (reply_of medium (holding journal ticks) item_asked) w0 w1 images
+  missed : MissedReply medium journal (reply_of medium (holding journal ticks) item_asked) w0 w1 images
       → (by_clock ≡ true → known ≡ Some (reply_of medium (holding journal ticks) item_asked).held.ticks)
-      → Broken by_clock medium (holding journal ticks) known w0 w1 images (item_asked ∷ [])
-  missed s (unanswered stays durable) clock = record {
-    done = [];
-    rest = item_asked ∷ [];
-    whole = refl;
-    wrote = rw stays (whole_front w0 w0 [] (Appends-nil w0));
-    durable = durable;
-    ticks = record { asked = item_asked ∷ []; others = []; all = refl; clock = clock };
-  }
-  missed s (cut wrote durable) clock = record {
-    done = item_asked ∷ [];
+      → EndsEarly by_clock medium (holding journal ticks) known w0 w1 images (item_asked ∷ [])
+  missed (unanswered stays durable) clock = record {
+    replied = [];
+    last = [];
+    next = item_asked ∷ [];
     rest = [];
     whole = refl;
-    wrote = rw (append-nil (reply_of medium (holding journal ticks) item_asked).text) wrote;
-    durable = λ on_disk c image. grown_at (reply_of medium (holding journal ticks) item_asked).held.journal c (durable on_disk c image);
-    ticks = record { asked = item_asked ∷ []; others = []; all = refl; clock = clock };
+    one = omega arith;
+    front = [];
+    begun = front_refl [];
+    wrote = rw stays (Appends-nil w0);
+    clock = clock;
+    received = durable;
+  }
+  missed (cut wrote durable) clock = record {
+    replied = [];
+    last = item_asked ∷ [];
+    next = [];
+    rest = [];
+    whole = refl;
+    one = omega arith;
+    front = wrote.front;
+    begun = (wrote.rest, append-nil (reply_of medium (holding journal ticks) item_asked).text ∙ wrote.whole);
+    wrote = wrote.added;
+    clock = clock;
+    received = λ on_disk file image. grown_at (reply_of medium (holding journal ticks) item_asked).held.journal file (durable on_disk file image);
   }
 
-  pub broken_item : (request : Request) → request ≡ item_asked → (s : IsStamped by_clock medium journal ticks stamp own sender reference item known)
+  pub early_item : (request : Request) → request ≡ item_asked → (s : IsStamped by_clock medium journal ticks stamp own sender reference item known)
       → MissedReply medium journal (replied journal s.later stamp sender reference item (received medium journal stamp sender reference item)) w0 w1 images
-      → Broken by_clock medium (holding journal ticks) known w0 w1 images (request ∷ [])
-  broken_item request is s miss = rw is (missed s
+      → EndsEarly by_clock medium (holding journal ticks) known w0 w1 images (request ∷ [])
+  early_item request is s miss = rw is (missed
       (subst (λ reply. MissedReply medium journal reply w0 w1 images) (sym s.reply) miss) (λ asked. s.clock asked ∙ ap (λ reply. Some reply.held.ticks) (sym s.reply)))
 
 -- what a stop leaves while an item is received

@@ -1,11 +1,12 @@
 -- What an opening finds and keeps, and a session after it.
-use Rattle.std.proofs.Common.{◌≡◌, inl, inr, ⊎_elim, ℕ, Bool, true, false, List, [], refl, sym, ap, ◌∙◌, subst, Result, Ok, Err, ◌++◌, append-nil, Option, Some, None, IsErrAnd}
+use Rattle.std.proofs.Common.{◌≡◌, ◌⊎◌, ◌≤◌, ◌∷◌, inl, inr, ⊎_elim, ℕ, Bool, true, false, List, [], refl, sym, ap, ◌∙◌, subst, Err, ◌++◌, append-nil, Option, Some, None}
 use Rattle.std.proofs.KnownBytes.{Appends-nil}
 use Rattle.std.proofs.lemmas.List.{append_cancel_left}
 use Rattle.gb_outside.specs.Bytes.{AppendsFront}
 use Rattle.gb_outside.specs.Images.{LeavesOnly}
 use Rattle.gb_outside.proofs.Moments.{weakened, followed}
 use Rattle.act_model.specs.declared.receipts.Receipt.{Receipt}
+use Rattle.journal_disk.specs.Layout.{the_heading, frames, measured, IsJournal, IsMade}
 use Rattle.journal_disk.specs.Opening.{IsKept, SyncsFirst, AnswersSynced}
 use Rattle.receipt_journal.specs.Opening.{BookRefuses, book_opening_failed}
 use Rattle.receipt_journal.specs.BookState.{BookState}
@@ -13,14 +14,10 @@ use Rattle.receipt_journal.specs.Standing.{StandsForJournal}
 use Rattle.receipt_journal.specs.declared.faults.BookFault.{BookFault}
 use Rattle.receipt_journal.specs.declared.faults.BookFault.TheVariants as fault
 use Rattle.receipt_journal.proofs.Standings.{stands_by_frames, kept_frames}
-use Rattle.registry_office.specs.Disks.{IsJournalFile, FindsBy, GrowsSynced, KeepsGrown}
+use Rattle.registry_office.specs.Disks.{IsJournalFile, FindsBy, GrowsSynced, KeepsGrown, LeftAnew}
 use Rattle.registry_office.specs.Grown.{GrownFrom, IsFront}
-use Rattle.registry_office.specs.Statuses.{status_of_fault, read_fault, write_fault, disk_fault, door_fault, is_no_journal, is_of_session}
-use Rattle.registry_office.specs.Faults.{settling_disk_failed}
+use Rattle.registry_office.specs.Statuses.{status_of_fault, read_fault, write_fault, disk_fault, door_fault, is_no_journal, is_of_session, tells_of_opening}
 use Rattle.registry_office.specs.Sessions.{HasWritten}
-use Rattle.registry_office.specs.declared.faults.OutputFault.{OutputFault}
-use Rattle.registry_office.specs.declared.faults.SettlingFault.{SettlingFault}
-use Rattle.registry_office.specs.declared.faults.SettlingFault.TheVariants as settling
 use Rattle.registry_office.specs.declared.statuses.Status.{Status}
 use Rattle.registry_office.specs.declared.statuses.Status.TheVariants as status
 use Rattle.registry_office.proofs.Acknowledged.{first_empty}
@@ -70,12 +67,13 @@ pub record IsOpeningStatus (s : Status) (f : BookFault) : Type 0 where
   pub no_read : read_fault s ≡ false
   pub no_write : write_fault s ≡ false
   pub no_door : door_fault s ≡ false
+  pub not_told : tells_of_opening s ≡ false
 
 opening_status_of : (f : BookFault) → IsOpeningStatus (status_of_fault f) f
-opening_status_of fault.Disk = record { not_ok = λ is. cc; not_usage = λ is. cc; not_read = λ is. cc; not_long = λ is. cc; no_read = refl; no_write = refl; no_door = refl }
-opening_status_of fault.NotJournal = record { not_ok = λ is. cc; not_usage = λ is. cc; not_read = λ is. cc; not_long = λ is. cc; no_read = refl; no_write = refl; no_door = refl }
-opening_status_of (fault.BadRecord at) = record { not_ok = λ is. cc; not_usage = λ is. cc; not_read = λ is. cc; not_long = λ is. cc; no_read = refl; no_write = refl; no_door = refl }
-opening_status_of fault.Memory = record { not_ok = λ is. cc; not_usage = λ is. cc; not_read = λ is. cc; not_long = λ is. cc; no_read = refl; no_write = refl; no_door = refl }
+opening_status_of fault.Disk = record { not_ok = λ is. cc; not_usage = λ is. cc; not_read = λ is. cc; not_long = λ is. cc; no_read = refl; no_write = refl; no_door = refl; not_told = refl }
+opening_status_of fault.NotJournal = record { not_ok = λ is. cc; not_usage = λ is. cc; not_read = λ is. cc; not_long = λ is. cc; no_read = refl; no_write = refl; no_door = refl; not_told = refl }
+opening_status_of (fault.BadRecord at) = record { not_ok = λ is. cc; not_usage = λ is. cc; not_read = λ is. cc; not_long = λ is. cc; no_read = refl; no_write = refl; no_door = refl; not_told = refl }
+opening_status_of fault.Memory = record { not_ok = λ is. cc; not_usage = λ is. cc; not_read = λ is. cc; not_long = λ is. cc; no_read = refl; no_write = refl; no_door = refl; not_told = refl }
 
 pub opening_status : (s : Status) (f : BookFault) → s ≡ status_of_fault f → IsOpeningStatus s f
 opening_status s f is = subst (λ t. IsOpeningStatus t f) (sym is) (opening_status_of f)
@@ -133,19 +131,6 @@ session_no_door status.DoorFault of = absurd cc
 pub session_no_usage : (s : Status) → is_of_session s ≡ true → s ≡ status.Usage → ⊥
 session_no_usage s of is = let never : true ≡ false = sym of ∙ ap is_of_session is in cc
 
--- ---- work that settles
-
-pub failed_at_opening : (r : Result (Unit {0}) SettlingFault) (f : BookFault) → IsErrAnd r (λ e. e ≡ settling.Opening f) → settling_disk_failed r ≡ book_opening_failed {A = BookState} (Err f)
-failed_at_opening (Ok done) f is = absurd is
-failed_at_opening (Err e) fault.Disk is = ap (λ x. settling_disk_failed {A = Unit {0}} (Err x)) is
-failed_at_opening (Err e) fault.NotJournal is = ap (λ x. settling_disk_failed {A = Unit {0}} (Err x)) is
-failed_at_opening (Err e) (fault.BadRecord at) is = ap (λ x. settling_disk_failed {A = Unit {0}} (Err x)) is
-failed_at_opening (Err e) fault.Memory is = ap (λ x. settling_disk_failed {A = Unit {0}} (Err x)) is
-
-pub failed_at_output : (r : Result (Unit {0}) SettlingFault) (o : OutputFault) → IsErrAnd r (λ e. e ≡ settling.Output o) → settling_disk_failed r ≡ false
-failed_at_output (Ok done) o is = absurd is
-failed_at_output (Err e) o is = ap (λ x. settling_disk_failed {A = Unit {0}} (Err x)) is
-
 -- a text that nothing was written of is empty
 pub none_written : (w : Option (List ℕ)) (text : List ℕ) → HasWritten w w text → text ≡ []
 none_written None text wrote = absurd wrote
@@ -154,3 +139,51 @@ none_written (Some a) text wrote = first_empty text wrote.0 (sym (append_cancel_
 -- nothing is a front of each text
 pub no_front : (w : Option (List ℕ)) (text : List ℕ) → AppendsFront w w text
 no_front w text = record { front = []; rest = text; whole = refl; added = Appends-nil w }
+
+-- ---- a made file, and what is left of the disk where an opening failed
+
+pub made_of_journal : (bodies : List (List ℕ)) (file : List ℕ) → IsJournal the_heading file bodies → IsMade the_heading file
+made_of_journal [] file journal = record { mark = journal.mark; gate = journal.gate; rest = journal.rest; made = journal.made; whole = journal.whole }
+made_of_journal (body ∷ bodies) file journal = record {
+  mark = journal.mark;
+  gate = 1;
+  rest = (measured body ++ frames bodies) ++ journal.gate ∷ journal.rest;
+  made = journal.made;
+  whole = journal.whole;
+}
+
+module _ {D : Type 0} (reads : D → List ℕ) (images : D → List ℕ → Type 0) (moment : D → ℕ) (since : D → ℕ → List ℕ → Type 0) (old new : D)
+    (now : (t : ℕ) (c : List ℕ) → t ≤ moment new → images new c → since new t c) where
+  kept_since_sync : (journal : List Receipt) (file : List ℕ) → StandsForJournal (reads old) journal → images new file → SyncsFirst reads images moment since old new → StandsForJournal file journal
+  kept_since_sync journal file stands image first =
+      kept_journal (reads old) file journal stands (first.then.each file (now (moment first.synced) file first.then.later image))
+
+  -- what an opening leaves anew stands for the journal that it found
+  pub left_by_opening : (failed : Bool) (journal : List Receipt) (file : List ℕ) → StandsForJournal (reads old) journal → AnswersSynced reads images moment since old new failed
+      → LeftAnew failed (images old) (images new) file → StandsForJournal file journal
+  left_by_opening true journal file stands answers left = ⊎_elim
+      (λ none. absurd (left.1 (none.each file (now (moment old) file none.later left.0))))
+      (λ first. kept_since_sync journal file stands left.0 first) answers
+  left_by_opening false journal file stands answers left = kept_since_sync journal file stands left answers
+
+pub left_of : (failed : Bool) (before now : List ℕ → Type 0) (file : List ℕ) → LeftAnew failed before now file → now file
+left_of true before now file left = left.0
+left_of false before now file left = left
+
+-- a session tells of its opening but for want of memory and the disk
+pub told_by_session : (s : Status) → is_of_session s ≡ true → tells_of_opening s ≡ true → disk_fault s ≡ false
+told_by_session status.Ok of tells = refl
+told_by_session status.Usage of tells = refl
+told_by_session status.ReadFault of tells = refl
+told_by_session status.WriteFault of tells = refl
+told_by_session status.DiskFault of tells = absurd cc
+told_by_session status.Memory of tells = refl
+told_by_session status.NotJournal of tells = refl
+told_by_session (status.BadRecord at) of tells = refl
+told_by_session status.InputTooLong of tells = refl
+told_by_session status.DoorFault of tells = refl
+
+-- where the source failed or gave too much, the disk did not
+pub cut_by_source : (s : Status) → (s ≡ status.ReadFault) ⊎ (s ≡ status.InputTooLong) → disk_fault s ≡ false
+cut_by_source s (inl read) = ap disk_fault read
+cut_by_source s (inr long) = ap disk_fault long

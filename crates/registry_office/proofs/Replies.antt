@@ -16,7 +16,7 @@ use Rattle.registry_office.specs.Grown.{IsFront, GrownFrom}
 use Rattle.registry_office.specs.Requests.{Medium, OnDisk, Held, holding, received, replied_by_clock, reply_of, replies, held_after}
 use Rattle.registry_office.specs.declared.requests.Request.{Request}
 use Rattle.registry_office.specs.declared.requests.Request.TheVariants.{Nothing, Refused, Receive}
-use Rattle.registry_office.specs.inner.Sessions.{IsReady, Knows, Answered, Broken}
+use Rattle.registry_office.specs.inner.Sessions.{IsReady, Knows, Answered}
 use Rattle.registry_office.proofs.Durable.{front_refl, durable_stands}
 
 pub front_trans : {A : Type 0} (xs ys zs : List A) → IsFront xs ys → IsFront ys zs → IsFront xs zs
@@ -136,58 +136,6 @@ front_of_longer a b text more part = record {
 pub whole_front : (a b : Option (List ℕ)) (text : List ℕ) → Appends a b text → AppendsFront a b text
 whole_front a b text wrote = record { front = text; rest = []; whole = sym (append-nil text); added = wrote }
 
--- ---- what is broken off
-
--- what is broken off among the first is broken off among all
-pub broken_longer : (by_clock : Bool) (medium : Medium) (held : Held) (known : Option (List DayMinute)) (w0 w1 : Option (List ℕ)) (images : List ℕ → Type 0) (xs ys : List Request)
-    → Broken by_clock medium held known w0 w1 images xs → Broken by_clock medium held known w0 w1 images (xs ++ ys)
-broken_longer by_clock medium held known w0 w1 images xs ys is = record {
-  done = is.done;
-  rest = is.rest ++ ys;
-  whole = ap (λ l. l ++ ys) is.whole ∙ append_assoc is.done is.rest ys;
-  wrote = is.wrote;
-  durable = λ on_disk c image. grown_wider _ _ _ _ c (front_refl (held_after medium held is.done).journal) (grows_longer medium held xs ys) (is.durable on_disk c image);
-  ticks = record {
-    asked = is.ticks.asked;
-    others = is.ticks.others ++ ys;
-    all = ap (λ l. l ++ ys) is.ticks.all ∙ append_assoc is.ticks.asked is.ticks.others ys;
-    clock = is.ticks.clock;
-  };
-}
-
--- the first are answered, and the others are broken off
-pub broken_then : (by_clock : Bool) (medium : Medium) (held : Held) (j1 : List Receipt) (k1 k2 : Option (List DayMinute)) (w0 w1 w2 : Option (List ℕ)) (images : List ℕ → Type 0) (xs ys : List Request)
-    → Answered by_clock medium held j1 k1 w0 w1 xs → Broken by_clock medium (holding j1 (held_after medium held xs).ticks) k2 w1 w2 images ys
-    → Broken by_clock medium held k2 w0 w2 images (xs ++ ys)
-broken_then by_clock medium held j1 k1 k2 w0 w1 w2 images xs ys first second =
-    let at = subst (λ h. Broken by_clock medium h k2 w1 w2 images ys) (held_between by_clock medium held j1 k1 w0 w1 xs first) second in record {
-      done = xs ++ at.done;
-      rest = at.rest;
-      whole = ap (λ l. xs ++ l) at.whole ∙ sym (append_assoc xs at.done at.rest);
-      wrote = rw (replies-append medium held xs at.done) (front_of_more w0 w1 w2 (replies medium held xs) (replies medium (held_after medium held xs) at.done) first.wrote at.wrote);
-      durable = rw (held_after-append medium held xs at.done, held_after-append medium held xs ys) at.durable;
-      ticks = record {
-        asked = xs ++ at.ticks.asked;
-        others = at.ticks.others;
-        all = ap (λ l. xs ++ l) at.ticks.all ∙ sym (append_assoc xs at.ticks.asked at.ticks.others);
-        clock = rw (held_after-append medium held xs at.ticks.asked) at.ticks.clock;
-      };
-    }
-
--- nothing of these requests is done
-pub broken_before : (by_clock : Bool) (medium : Medium) (tells : Bool) (book : BookState) (ticks : List DayMinute) (known : Option (List DayMinute)) (w : Option (List ℕ)) (reads : List ℕ) (images : List ℕ → Type 0) (requests : List Request)
-    → (by_clock ≡ true → known ≡ Some ticks) → (medium ≡ OnDisk → IsTrue tells) → IsReady medium tells book reads images
-    → Broken by_clock medium (holding book.journal ticks) known w w images requests
-broken_before by_clock medium tells book ticks known w reads images requests clock told ready = record {
-  done = [];
-  rest = requests;
-  whole = refl;
-  wrote = whole_front w w [] (Appends-nil w);
-  durable = λ on_disk c image. grown_wider _ _ _ _ c (front_refl book.journal) (grows medium (holding book.journal ticks) requests)
-      (grown_at book.journal c (durable_stands book reads images c (ready.durable on_disk (told on_disk)) image));
-  ticks = record { asked = []; others = requests; all = refl; clock = clock };
-}
-
 -- ---- what a stop leaves of a disk while requests are answered
 
 module _ {D : Type 0} (moment : D → ℕ) (since : D → ℕ → List ℕ → Type 0) where
@@ -207,15 +155,6 @@ module _ {D : Type 0} (moment : D → ℕ) (since : D → ℕ → List ℕ → T
       (subst (λ j. IsFront j (held_after medium (held_after medium held xs) ys).journal) (sym first.receipts) (grows medium (held_after medium held xs) ys)) run later in
       rw whole (leaves_wider moment since old new j0 (held_after medium held ((xs ++ ys) ++ zs)).journal j0 (held_after medium (held_after medium held xs) ys).journal (front_refl j0)
       (subst (λ h. IsFront h.journal (held_after medium held ((xs ++ ys) ++ zs)).journal) (held_after-append medium held xs ys) (grows_longer medium held (xs ++ ys) zs)) back)
-
--- all of them are answered, and nothing more is
-pub broken_all : (by_clock : Bool) (medium : Medium) (tells : Bool) (j0 : List Receipt) (ticks : List DayMinute) (book : BookState) (known : Option (List DayMinute)) (w0 w1 : Option (List ℕ)) (reads : List ℕ) (images : List ℕ → Type 0) (xs : List Request)
-    → (medium ≡ OnDisk → IsTrue tells) → Answered by_clock medium (holding j0 ticks) book.journal known w0 w1 xs → IsReady medium tells book reads images
-    → Broken by_clock medium (holding j0 ticks) known w0 w1 images xs
-broken_all by_clock medium tells j0 ticks book known w0 w1 reads images xs told answered ready =
-    subst (λ rs. Broken by_clock medium (holding j0 ticks) known w0 w1 images rs) (append-nil xs)
-    (broken_then by_clock medium (holding j0 ticks) book.journal known known w0 w1 w1 images xs [] answered
-    (broken_before by_clock medium tells book (held_after medium (holding j0 ticks) xs).ticks known w1 reads images [] answered.clock told ready))
 
 -- what is known of the clock goes on
 pub knows_then : (by_clock : Bool) (medium : Medium) (tells : Bool) (known0 known1 : Option (List DayMinute)) (ticks : List DayMinute) (held : Held) (j1 : List Receipt) (w0 w1 : Option (List ℕ)) (xs : List Request)

@@ -7,7 +7,8 @@ use Rattle.registry_office.specs.Lines.{request_of_line}
 use Rattle.registry_office.specs.Sessions.{ended, behind, ended_requests, line_requests, Took}
 use Rattle.registry_office.specs.declared.lines.LineKind.{LineKind}
 use Rattle.registry_office.specs.declared.requests.Request.{Request}
-use Rattle.registry_office.specs.inner.Inputs.{AreOf}
+use Rattle.registry_office.specs.EarlyEnds.{AreOf}
+use Rattle.registry_office.specs.Grown.{IsFront}
 use Rattle.registry_office.proofs.LineRequests.{requests_of_two}
 
 pub took_none : (left : Option (List ℕ)) (Did : List ℕ → Type 0) → Did [] → Took left left Did
@@ -24,7 +25,7 @@ took_same left0 left1 left2 Before Did before stays then =
     record { read = before.read; consumed = rw stays before.consumed; did = then before.read before.did }
 
 -- what was read is no more than an input has
-pub are_ended : (kind : LineKind) (left1 : Option (List ℕ)) (read : List ℕ) → length read ≤ 67108864 → AreOf kind left1 read (ended_requests kind [] read)
+pub are_ended : (kind : LineKind) (left1 : Option (List ℕ)) (read : List ℕ) → length read ≤ 67108864 → AreOf (line_requests kind) (ended_requests kind []) left1 read (ended_requests kind [] read)
 are_ended kind left1 read short = inl (ap (ended_requests kind []) (sym (take_all 67108864 read short)))
 
 -- a piece more
@@ -49,43 +50,47 @@ took_as left0 left1 Before Did before then = record { read = before.read; consum
 whole_input : (x y read : List ℕ) → x ≡ read ++ y → y ≡ [] → x ≡ read
 whole_input x y read e n = e ∙ ap (λ r. read ++ r) n ∙ append-nil read
 
--- where the source told its bytes and came to its end, they were all read
-pub of_whole : (kind : LineKind) (left0 left1 : Option (List ℕ)) (All : List Request → Type 0)
-    → Took left0 left1 (λ read. IsAtEnd left1 × (length read ≤ 67108864) × All (line_requests kind read)) → IfSome left0 (λ input. All (line_requests kind input))
-of_whole kind None left1 All took = tt
-of_whole kind (Some x) None All took = absurd took.consumed
-of_whole kind (Some x) (Some y) All took = subst (λ (input : List ℕ). All (line_requests kind input)) (sym (whole_input x y took.read took.consumed took.did.0)) took.did.2
+-- ---- what was read as the first of an input, whatever its bytes ask
 
--- the requests of what was read are the first of those of the input
-pub record FirstOf (kind : LineKind) (input : List ℕ) (Did : List Request → Type 0) : Type 0 where
-  pub requests : List Request
-  pub others : List Request
-  pub all : line_requests kind input ≡ requests ++ others
-  pub did : Did requests
+-- the requests of an input that is cut are the first of those of the whole input
+abbrev pub BeginsWith : (List ℕ → List Request) → (List ℕ → List Request) → Type 0
+BeginsWith whole cut = (front behind : List ℕ) → IsFront (cut (take 67108864 front)) (whole (front ++ behind))
 
-ended_first : (kind : LineKind) (x read y : List ℕ) (requests : List Request) → x ≡ read ++ y → requests ≡ ended_requests kind [] (take 67108864 read)
-    → (others : List Request) × (line_requests kind x ≡ requests ++ others)
-ended_first kind x read y requests whole is =
-    let a = take 67108864 read in
-    let b = drop 67108864 read ++ y in
-    let split : x ≡ a ++ b = whole ∙ ap (λ r. r ++ y) (sym (take-append-drop 67108864 read)) ∙ append_assoc a (drop 67108864 read) y in (
-      ended_requests kind (behind [] a) b ++ request_of_line kind (behind [] x) ∷ [],
-      map-append (request_of_line kind) (ended [] x) (behind [] x ∷ [])
-          ∙ ap (λ rs. rs ++ request_of_line kind (behind [] x) ∷ []) (ap (ended_requests kind []) split ∙ requests_of_two kind [] a b)
-          ∙ append_assoc (ended_requests kind [] a) (ended_requests kind (behind [] a) b) (request_of_line kind (behind [] x) ∷ [])
-          ∙ ap (λ rs. rs ++ (ended_requests kind (behind [] a) b ++ request_of_line kind (behind [] x) ∷ [])) (sym is),
+pub lines_begin : (kind : LineKind) → BeginsWith (line_requests kind) (ended_requests kind [])
+lines_begin kind front behind_it =
+    let a = take 67108864 front in
+    let b = drop 67108864 front ++ behind_it in
+    let split : front ++ behind_it ≡ a ++ b = ap (λ r. r ++ behind_it) (sym (take-append-drop 67108864 front)) ∙ append_assoc a (drop 67108864 front) behind_it in (
+      ended_requests kind (behind [] a) b ++ request_of_line kind (behind [] (front ++ behind_it)) ∷ [],
+      map-append (request_of_line kind) (ended [] (front ++ behind_it)) (behind [] (front ++ behind_it) ∷ [])
+          ∙ ap (λ rs. rs ++ request_of_line kind (behind [] (front ++ behind_it)) ∷ []) (ap (ended_requests kind []) split ∙ requests_of_two kind [] a b)
+          ∙ append_assoc (ended_requests kind [] a) (ended_requests kind (behind [] a) b) (request_of_line kind (behind [] (front ++ behind_it)) ∷ []),
     )
 
-pub of_part : (kind : LineKind) (left0 left1 : Option (List ℕ)) (Did : List Request → Type 0)
-    → Took left0 left1 (λ read. (requests : List Request) × AreOf kind left1 read requests × Did requests) → IfSome left0 (λ input. FirstOf kind input Did)
-of_part kind None left1 Did took = tt
-of_part kind (Some x) None Did took = absurd took.consumed
-of_part kind (Some x) (Some y) Did took = ⊎_elim
-    (λ ended. let first = ended_first kind x took.read y took.did.0 took.consumed ended in
-    record { requests = took.did.0; others = first.0; all = first.1; did = took.did.2 })
-    (λ whole. record {
+-- where the source told its bytes and came to its end, they were all read
+pub of_whole : (whole : List ℕ → List Request) (left0 left1 : Option (List ℕ)) (All : List Request → Type 0)
+    → Took left0 left1 (λ read. IsAtEnd left1 × (length read ≤ 67108864) × All (whole read)) → IfSome left0 (λ input. All (whole input))
+of_whole whole None left1 All took = tt
+of_whole whole (Some x) None All took = absurd took.consumed
+of_whole whole (Some x) (Some y) All took = subst (λ (input : List ℕ). All (whole input)) (sym (whole_input x y took.read took.consumed took.did.0)) took.did.2
+
+-- the requests of what was read are the first of those of the input
+pub record FirstOf (whole : List ℕ → List Request) (input : List ℕ) (Did : List Request → Type 0) : Type 0 where
+  pub requests : List Request
+  pub others : List Request
+  pub all : whole input ≡ requests ++ others
+  pub did : Did requests
+
+pub of_part : (whole cut : List ℕ → List Request) (left0 left1 : Option (List ℕ)) (Did : List Request → Type 0) → BeginsWith whole cut
+    → Took left0 left1 (λ read. (requests : List Request) × AreOf whole cut left1 read requests × Did requests) → IfSome left0 (λ input. FirstOf whole input Did)
+of_part whole cut None left1 Did begins took = tt
+of_part whole cut (Some x) None Did begins took = absurd took.consumed
+of_part whole cut (Some x) (Some y) Did begins took = ⊎_elim
+    (λ of_cut. let first = begins took.read y in
+    record { requests = took.did.0; others = first.0; all = ap whole took.consumed ∙ first.1 ∙ ap (λ rs. rs ++ first.0) (sym of_cut); did = took.did.2 })
+    (λ at_end. record {
       requests = took.did.0;
       others = [];
-      all = ap (line_requests kind) (whole_input x y took.read took.consumed whole.0) ∙ sym whole.2 ∙ sym (append-nil took.did.0);
+      all = ap whole (whole_input x y took.read took.consumed at_end.0) ∙ sym at_end.2 ∙ sym (append-nil took.did.0);
       did = took.did.2;
     }) took.did.1

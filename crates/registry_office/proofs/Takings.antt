@@ -1,5 +1,5 @@
 -- What a session over a disk did with a whole input, however it ended.
-use Rattle.std.proofs.Common.{◌≡◌, ◌⊎◌, inl, inr, ℕ, ◌≤◌, Bool, true, List, [], ◌++◌, length, take, refl, sym, ap, ◌∙◌, subst, append_assoc, Option, Some, None, IfSome, Result, Ok, Err, OnOk, OnErr}
+use Rattle.std.proofs.Common.{◌≡◌, ◌⊎◌, inl, inr, ⊎_elim, ℕ, ◌≤◌, Bool, true, false, List, ◌++◌, length, take, refl, sym, ap, ◌∙◌, subst, append_assoc, Option, Some, None, IfSome, Result, Ok, Err, OnOk, OnErr}
 use Rattle.std.specs.Io.KnownBytes.{Appends, IsAtEnd}
 use Rattle.std.proofs.lemmas.List.{append_cancel_left}
 use Rattle.gb_base.specs.DayMinute.{DayMinute}
@@ -7,13 +7,18 @@ use Rattle.gb_outside.specs.Bytes.{AppendsFront}
 use Rattle.gb_outside.specs.Images.{LeavesOnly}
 use Rattle.act_model.specs.declared.receipts.Receipt.{Receipt}
 use Rattle.receipt_journal.specs.BookState.{BookState}
-use Rattle.registry_office.specs.Grown.{GrownFrom}
-use Rattle.registry_office.specs.Requests.{OnDisk, Held, holding, replies, held_after}
-use Rattle.registry_office.specs.Sessions.{ended_requests, line_requests, Took, AllTell, HasWritten}
+use Rattle.registry_office.specs.Grown.{IsFront, GrownFrom}
+use Rattle.registry_office.specs.Requests.{Medium, OnDisk, Held, holding, replies, held_after}
+use Rattle.registry_office.specs.Sessions.{Took, AllTell, HasWritten}
+use Rattle.registry_office.specs.Intakes.{whole_of, cut_of}
+use Rattle.registry_office.specs.Receivings.{Receives}
+use Rattle.registry_office.specs.declared.intakes.Intake.{Intake}
+use Rattle.registry_office.specs.declared.intakes.Intake.TheVariants.{Lines}
 use Rattle.registry_office.specs.declared.lines.LineKind.TheVariants.{Plain}
 use Rattle.registry_office.specs.declared.requests.Request.{Request}
-use Rattle.registry_office.specs.inner.Inputs.{AllAnswered, PartAnswered, LeavesGrown, AreOf}
-use Rattle.registry_office.specs.inner.Sessions.{IsReady, Knows, Answered, Broken}
+use Rattle.registry_office.specs.inner.Inputs.{AllAnswered, PartAnswered, LeavesGrown}
+use Rattle.registry_office.specs.EarlyEnds.{AreOf, EndsEarly}
+use Rattle.registry_office.specs.inner.Sessions.{IsReady, Knows, Answered}
 use Rattle.registry_office.specs.Faults.{session_input_failed, session_output_failed, session_disk_failed}
 use Rattle.registry_office.specs.Statuses.{status_of, read_fault, write_fault, disk_fault, is_of_session}
 use Rattle.registry_office.specs.declared.faults.SessionFault.{SessionFault}
@@ -22,8 +27,9 @@ use Rattle.registry_office.specs.declared.statuses.Status.{Status}
 use Rattle.registry_office.specs.declared.statuses.Status.TheVariants as status
 use Rattle.registry_office.proofs.Acknowledged.{front_by_replies}
 use Rattle.registry_office.proofs.Durable.{front_refl}
-use Rattle.registry_office.proofs.Replies.{replies-append, grown_wider, grows_longer, leaves_wider, broken_longer, broken_all, front_of_longer}
-use Rattle.registry_office.proofs.SessionInputs.{of_whole, of_part, FirstOf}
+use Rattle.registry_office.proofs.EarlyEnds.{front_of_early, part_of_early, early_longer, early_all}
+use Rattle.registry_office.proofs.Replies.{replies-append, grown_wider, grows_longer, leaves_wider, front_of_longer}
+use Rattle.registry_office.proofs.SessionInputs.{BeginsWith, lines_begin, of_whole, of_part, FirstOf}
 
 pub at_some : {A : Type 0} (left : Option A) (x : A) (P : A → Type 0) → left ≡ Some x → IfSome left P → P x
 at_some left x P is holds = subst (λ l. IfSome l P) is holds
@@ -31,32 +37,37 @@ at_some left x P is holds = subst (λ l. IfSome l P) is holds
 pub knows_all : (tells : Bool) (known : Option (List DayMinute)) (left : Option (List ℕ)) (ticks : List DayMinute) (input : List ℕ) → AllTell tells known left ticks input → Knows true OnDisk tells known ticks
 knows_all tells known left ticks input told = record { clock = λ asked. told.clock; disk = λ on_disk. told.disk }
 
--- what was written is a front of the replies to all requests
-pub part_of_broken : (ticks : List DayMinute) (journal : List Receipt) (known : Option (List DayMinute)) (w0 w1 : Option (List ℕ)) (images : List ℕ → Type 0) (requests : List Request)
-    → Broken true OnDisk (holding journal ticks) known w0 w1 images requests → AppendsFront w0 w1 (replies OnDisk (holding journal ticks) requests)
-part_of_broken ticks journal known w0 w1 images requests broken =
-    subst (AppendsFront w0 w1) (sym (ap (replies OnDisk (holding journal ticks)) broken.whole ∙ replies-append OnDisk (holding journal ticks) broken.done broken.rest))
-    (front_of_longer w0 w1 (replies OnDisk (holding journal ticks) broken.done) _ broken.wrote)
+-- what was begun, and what was received beyond it, are the first of all
+received_first : (medium : Medium) (held : Held) (replied last next rest requests : List Request) → requests ≡ replied ++ (last ++ (next ++ rest))
+    → IsFront (held_after medium held (replied ++ (last ++ next))).journal (held_after medium held requests).journal
+received_first medium held replied last next rest requests whole =
+    subst (λ rs. IsFront (held_after medium held (replied ++ (last ++ next))).journal (held_after medium held rs).journal)
+    (append_assoc replied (last ++ next) rest ∙ ap (λ l. replied ++ l) (append_assoc last next rest) ∙ sym whole)
+    (grows_longer medium held (replied ++ (last ++ next)) rest)
 
 -- what was replied to whole stands in every image
 pub acknowledged : (ticks : List DayMinute) (journal : List Receipt) (known : Option (List DayMinute)) (w0 w1 : Option (List ℕ)) (images : List ℕ → Type 0) (requests front back : List Request) (file : List ℕ)
-    → Broken true OnDisk (holding journal ticks) known w0 w1 images requests → requests ≡ front ++ back → HasWritten w0 w1 (replies OnDisk (holding journal ticks) front) → images file
+    → EndsEarly true OnDisk (holding journal ticks) known w0 w1 images requests → requests ≡ front ++ back → HasWritten w0 w1 (replies OnDisk (holding journal ticks) front) → images file
     → GrownFrom (held_after OnDisk (holding journal ticks) front).journal (held_after OnDisk (holding journal ticks) requests).journal file
-acknowledged ticks journal known None w1 images requests front back file broken split wrote image = absurd wrote
-acknowledged ticks journal known (Some a) None images requests front back file broken split wrote image = absurd wrote
-acknowledged ticks journal known (Some a) (Some b) images requests front back file broken split wrote image =
+acknowledged ticks journal known None w1 images requests front back file early split wrote image = absurd wrote
+acknowledged ticks journal known (Some a) None images requests front back file early split wrote image = absurd wrote
+acknowledged ticks journal known (Some a) (Some b) images requests front back file early split wrote image =
     let held = holding journal ticks in
     let text = replies OnDisk held front in
-    let same : broken.wrote.front ≡ text ++ wrote.0 = append_cancel_left a broken.wrote.front (text ++ wrote.0) (sym broken.wrote.added ∙ wrote.1) in
-    let longer : replies OnDisk held broken.done ≡ text ++ (wrote.0 ++ broken.wrote.rest) =
-    broken.wrote.whole ∙ ap (λ (t : List ℕ). t ++ broken.wrote.rest) same ∙ append_assoc text wrote.0 broken.wrote.rest in
-    grown_wider (held_after OnDisk held front).journal (held_after OnDisk held requests).journal (held_after OnDisk held broken.done).journal (held_after OnDisk held requests).journal file
-    (front_by_replies OnDisk held front back broken.done broken.rest (wrote.0 ++ broken.wrote.rest) (sym split ∙ broken.whole) longer)
-    (front_refl (held_after OnDisk held requests).journal) (broken.durable refl file image)
+    let begun = early.replied ++ early.last in
+    let part = front_of_early true OnDisk held known (Some a) (Some b) images requests early in
+    let same : part.front ≡ text ++ wrote.0 = append_cancel_left a part.front (text ++ wrote.0) (sym part.added ∙ wrote.1) in
+    let longer : replies OnDisk held begun ≡ text ++ (wrote.0 ++ part.rest) =
+    part.whole ∙ ap (λ (t : List ℕ). t ++ part.rest) same ∙ append_assoc text wrote.0 part.rest in
+    let all : requests ≡ begun ++ (early.next ++ early.rest) = early.whole ∙ sym (append_assoc early.replied early.last (early.next ++ early.rest)) in
+    grown_wider (held_after OnDisk held front).journal (held_after OnDisk held requests).journal (held_after OnDisk held begun).journal (held_after OnDisk held (early.replied ++ (early.last ++ early.next))).journal file
+    (front_by_replies OnDisk held front back begun (early.next ++ early.rest) (wrote.0 ++ part.rest) (sym split ∙ all) longer)
+    (received_first OnDisk held early.replied early.last early.next early.rest requests early.whole) (early.received refl file image)
 
 -- ---- a session over a disk, however it ended
 
-module _ (tells : Bool) (known0 known1 : Option (List DayMinute)) (book0 book1 : BookState) (left0 left1 w0 w1 : Option (List ℕ)) (reads : List ℕ) (images : List ℕ → Type 0)
+module _ (whole cut : List ℕ → List Request) (begins : BeginsWith whole cut)
+    (tells : Bool) (known0 known1 : Option (List DayMinute)) (book0 book1 : BookState) (left0 left1 w0 w1 : Option (List ℕ)) (reads : List ℕ) (images : List ℕ → Type 0)
     (ticks : List DayMinute) (input : List ℕ) (told : AllTell tells known0 left0 ticks input) where
   abbrev held : Held
   held = holding book0.journal ticks
@@ -68,45 +79,83 @@ module _ (tells : Bool) (known0 known1 : Option (List DayMinute)) (book0 book1 :
   PartDone requests = PartAnswered true OnDisk tells known0 book0.journal known1 w0 w1 images requests
 
   abbrev AllTaken : Type 0
-  AllTaken = Took left0 left1 (λ read. IsAtEnd left1 × (length read ≤ 67108864) × AllDone (line_requests Plain read))
+  AllTaken = Took left0 left1 (λ read. IsAtEnd left1 × (length read ≤ 67108864) × AllDone (whole read))
 
-  pub answered_input : AllTaken → Answered true OnDisk held book1.journal known1 w0 w1 (line_requests Plain input)
-  answered_input took = at_some left0 input (λ i. AllDone (line_requests Plain i)) told.source (of_whole Plain left0 left1 AllDone took) ticks (knows_all tells known0 left0 ticks input told)
+  knows : Knows true OnDisk tells known0 ticks
+  knows = knows_all tells known0 left0 ticks input told
 
-  pub cut_input : Took left0 left1 (λ read. AllDone (ended_requests Plain [] (take 67108864 read)))
-      → Took left0 left1 (λ read. Appends w0 w1 (replies OnDisk held (ended_requests Plain [] (take 67108864 read))))
-  cut_input took = record { read = took.read; consumed = took.consumed; did = (took.did ticks (knows_all tells known0 left0 ticks input told)).wrote }
+  pub answered_input : AllTaken → Answered true OnDisk held book1.journal known1 w0 w1 (whole input)
+  answered_input took = at_some left0 input (λ i. AllDone (whole i)) told.source (of_whole whole left0 left1 AllDone took) ticks knows
+
+  pub cut_input : Took left0 left1 (λ read. AllDone (cut (take 67108864 read))) → Took left0 left1 (λ read. Appends w0 w1 (replies OnDisk held (cut (take 67108864 read))))
+  cut_input took = record { read = took.read; consumed = took.consumed; did = (took.did ticks knows).wrote }
+
+  pub cut_journal_of : Took left0 left1 (λ read. AllDone (cut (take 67108864 read))) → Took left0 left1 (λ read. book1.journal ≡ (held_after OnDisk held (cut (take 67108864 read))).journal)
+  cut_journal_of took = record { read = took.read; consumed = took.consumed; did = (took.did ticks knows).receipts }
 
   module _ (Left : List Request → Type 0) where
     abbrev PartTaken : Type 0
-    PartTaken = Took left0 left1 (λ read. (requests : List Request) × AreOf Plain left1 read requests × PartDone requests × Left requests)
+    PartTaken = Took left0 left1 (λ read. (requests : List Request) × AreOf whole cut left1 read requests × PartDone requests × Left requests)
 
-    first_input : PartTaken → FirstOf Plain input (λ requests. PartDone requests × Left requests)
+    first_input : PartTaken → FirstOf whole input (λ requests. PartDone requests × Left requests)
     first_input took =
-        at_some left0 input (λ i. FirstOf Plain i (λ requests. PartDone requests × Left requests)) told.source
-        (of_part Plain left0 left1 (λ requests. PartDone requests × Left requests) (record { read = took.read; consumed = took.consumed; did = (took.did.0, took.did.1, (took.did.2, took.did.3)) }))
+        at_some left0 input (λ i. FirstOf whole i (λ requests. PartDone requests × Left requests)) told.source
+        (of_part whole cut left0 left1 (λ requests. PartDone requests × Left requests) begins (record { read = took.read; consumed = took.consumed; did = (took.did.0, took.did.1, (took.did.2, took.did.3)) }))
 
-    pub broken_input : (r : Result (Unit {0}) SessionFault) → OnOk r AllTaken → OnOk r (IsReady OnDisk tells book1 reads images) → OnErr r PartTaken
-        → Broken true OnDisk held known1 w0 w1 images (line_requests Plain input)
-    broken_input (Ok done) all ready part = broken_all true OnDisk tells book0.journal ticks book1 known1 w0 w1 reads images (line_requests Plain input) (λ on_disk. told.disk) (answered_input all) ready
-    broken_input (Err fault) all ready part =
+    pub early_input : (r : Result (Unit {0}) SessionFault) → OnOk r AllTaken → (session_disk_failed r ≡ false → IsReady OnDisk tells book1 reads images) → OnErr r PartTaken
+        → EndsEarly true OnDisk held known1 w0 w1 images (whole input)
+    early_input (Ok done) all ready part = early_all true OnDisk tells book0.journal ticks book1 known1 w0 w1 reads images (whole input) (λ on_disk. told.disk) (answered_input all) (ready refl)
+    early_input (Err fault) all ready part =
         let first = first_input part in
-        subst (Broken true OnDisk held known1 w0 w1 images) (sym first.all) (broken_longer true OnDisk held known1 w0 w1 images first.requests first.others (first.did.0 ticks (knows_all tells known0 left0 ticks input told)))
+        subst (EndsEarly true OnDisk held known1 w0 w1 images) (sym first.all) (early_longer true OnDisk held known1 w0 w1 images first.requests first.others (first.did.0 ticks knows))
+
+    -- the requests that were answered are those of the bytes read
+    pub early_read : PartTaken → Took left0 left1 (λ read. (requests : List Request) × AreOf whole cut left1 read requests × EndsEarly true OnDisk held known1 w0 w1 images requests)
+    early_read took = record { read = took.read; consumed = took.consumed; did = (took.did.0, took.did.1, took.did.2 ticks knows) }
 
   module _ {D : Type 0} (moment : D → ℕ) (since : D → ℕ → List ℕ → Type 0) (old new : D) where
     abbrev Leaves : List Request → Type 0
     Leaves requests = LeavesGrown moment since old new true OnDisk tells known0 book0.journal requests
 
-    pub left_input : (r : Result (Unit {0}) SessionFault) → OnOk r (Took left0 left1 (λ read. IsAtEnd left1 × (length read ≤ 67108864) × Leaves (line_requests Plain read))) → OnErr r (PartTaken Leaves)
-        → LeavesOnly moment since old new (GrownFrom book0.journal (held_after OnDisk held (line_requests Plain input)).journal)
-    left_input (Ok done) all part = at_some left0 input (λ i. Leaves (line_requests Plain i)) told.source (of_whole Plain left0 left1 Leaves all) ticks (knows_all tells known0 left0 ticks input told) refl
+    pub left_input : (r : Result (Unit {0}) SessionFault) → OnOk r (Took left0 left1 (λ read. IsAtEnd left1 × (length read ≤ 67108864) × Leaves (whole read))) → OnErr r (PartTaken Leaves)
+        → LeavesOnly moment since old new (GrownFrom book0.journal (held_after OnDisk held (whole input)).journal)
+    left_input (Ok done) all part = at_some left0 input (λ i. Leaves (whole i)) told.source (of_whole whole left0 left1 Leaves all) ticks knows refl
     left_input (Err fault) all part =
         let first = first_input Leaves part in
         subst (λ rs. LeavesOnly moment since old new (GrownFrom book0.journal (held_after OnDisk held rs).journal)) (sym first.all)
         (leaves_wider moment since old new book0.journal (held_after OnDisk held (first.requests ++ first.others)).journal book0.journal (held_after OnDisk held first.requests).journal
-        (front_refl book0.journal) (grows_longer OnDisk held first.requests first.others) (first.did.1 ticks (knows_all tells known0 left0 ticks input told) refl))
+        (front_refl book0.journal) (grows_longer OnDisk held first.requests first.others) (first.did.1 ticks knows refl))
+
+-- what an input asks that is received onto the disk
+pub begins_of : (intake : Intake) → BeginsWith (whole_of intake) (cut_of intake)
+begins_of Lines = lines_begin Plain
+
+-- while the source was not at its end, replies to the lines of the bytes read alone were written
+pub read_part_of_early : (by_clock : Bool) (medium : Medium) (whole cut : List ℕ → List Request) (held : Held) (left0 left1 : Option (List ℕ)) (known1 : Option (List DayMinute)) (w0 w1 : Option (List ℕ)) (images : List ℕ → Type 0)
+    → Took left0 left1 (λ read. (requests : List Request) × AreOf whole cut left1 read requests × EndsEarly by_clock medium held known1 w0 w1 images requests) → (IsAtEnd left1 → ⊥)
+    → Took left0 left1 (λ read. AppendsFront w0 w1 (replies medium held (cut (take 67108864 read))))
+read_part_of_early by_clock medium whole cut held left0 left1 known1 w0 w1 images took unended = record {
+  read = took.read;
+  consumed = took.consumed;
+  did = ⊎_elim
+      (λ of_cut. subst (λ (rs : List Request). AppendsFront w0 w1 (replies medium held rs)) of_cut (part_of_early by_clock medium held known1 w0 w1 images took.did.0 took.did.2))
+      (λ at_end. absurd (unended at_end.0)) took.did.1;
+}
+
+-- what was written by a session that ended early is a front of all replies
+pub part_of_session : (whole cut : List ℕ → List Request) (begins : BeginsWith whole cut) (held : Held) (input : List ℕ) (left0 left1 : Option (List ℕ)) (known1 : Option (List DayMinute)) (w0 w1 : Option (List ℕ)) (journal1 : List Receipt) (images1 : List ℕ → Type 0) (result : Status)
+    → left0 ≡ Some input → Receives whole cut held input left0 left1 known1 w0 w1 journal1 images1 result → (result ≡ status.Ok → ⊥) → AppendsFront w0 w1 (replies OnDisk held (whole input))
+part_of_session whole cut begins held input left0 left1 known1 w0 w1 journal1 images1 result is session other =
+    let first = at_some left0 input (λ i. FirstOf whole i (λ requests. EndsEarly true OnDisk held known1 w0 w1 images1 requests)) is
+    (of_part whole cut left0 left1 (λ requests. EndsEarly true OnDisk held known1 w0 w1 images1 requests) begins (session.early other)) in
+    subst (AppendsFront w0 w1) (sym (ap (replies OnDisk held) first.all ∙ replies-append OnDisk held first.requests first.others))
+    (front_of_longer w0 w1 (replies OnDisk held first.requests) _ (part_of_early true OnDisk held known1 w0 w1 images1 first.requests first.did))
 
 -- ---- a session's end by its status
+
+pub err_by_status : (r : Result (Unit {0}) SessionFault) (s : Status) (P : Type 0) → s ≡ status_of r → (s ≡ status.Ok → ⊥) → OnErr r P → P
+err_by_status (Ok done) s P is other holds = absurd (other is)
+err_by_status (Err fault) s P is other holds = holds
 
 pub ok_by_status : (r : Result (Unit {0}) SessionFault) (s : Status) (P : Type 0) → s ≡ status_of r → s ≡ status.Ok → OnOk r P → P
 ok_by_status (Ok done) s P is ok holds = holds

@@ -1,5 +1,5 @@
 -- The session in memory and the report, one after the other.
-use Rattle.std.proofs.Common.{◌≡◌, ℕ, ◌≤◌, length, take, Bool, true, false, List, [], ◌++◌, refl, sym, ap, ◌∙◌, subst, append_assoc, Option, Some, None, IfSome, Result, Ok, Err, IsErrAnd}
+use Rattle.std.proofs.Common.{◌≡◌, ℕ, ◌≤◌, length, take, Bool, true, false, List, [], ◌++◌, refl, sym, ap, ◌∙◌, subst, Option, Some, None, IfSome, Result, Ok, Err, IsErrAnd}
 use Rattle.std.specs.Io.KnownBytes.{Appends, Consumes, IsAtEnd}
 use Rattle.std.proofs.KnownBytes.{Appends-trans}
 use Rattle.gb_base.specs.DayMinute.{DayMinute}
@@ -10,11 +10,14 @@ use Rattle.registry_office.specs.Requests.{InMemory, OnDisk, holding, replies, h
 use Rattle.registry_office.specs.Sessions.{lines_of, line_requests, ended_requests, Took}
 use Rattle.registry_office.specs.declared.lines.LineKind.TheVariants.{Stamped}
 use Rattle.registry_office.specs.declared.requests.Request.{Request}
-use Rattle.registry_office.specs.inner.Inputs.{AllAnswered, PartAnswered, AreOf}
-use Rattle.registry_office.specs.inner.Sessions.{Knows, Answered, Broken}
+use Rattle.registry_office.specs.inner.Inputs.{AllAnswered, PartAnswered}
+use Rattle.registry_office.specs.EarlyEnds.{AreOf, EndsEarly}
+use Rattle.registry_office.specs.inner.Sessions.{Knows, Answered}
 use Rattle.registry_office.proofs.BuiltJournals.{all_built, all_built-lines}
+use Rattle.registry_office.proofs.EarlyEnds.{part_of_early}
 use Rattle.registry_office.proofs.Replies.{replies-append, front_of_more, front_of_longer}
-use Rattle.registry_office.proofs.SessionInputs.{FirstOf, of_whole, of_part}
+use Rattle.registry_office.proofs.Takings.{read_part_of_early}
+use Rattle.registry_office.proofs.SessionInputs.{FirstOf, lines_begin, of_whole, of_part}
 
 -- lines with their stamps ask no clock, and a journal in memory no disk
 pub nothing_to_know : (tells : Bool) (known : Option (List DayMinute)) → Knows false InMemory tells known []
@@ -27,14 +30,12 @@ session_built journal known w0 w1 read answered = ap all_built answered.receipts
 
 -- a front of the replies is a front of the whole output
 pub front_of_replies : (known : Option (List DayMinute)) (w0 w1 : Option (List ℕ)) (images : List ℕ → Type 0) (input : List ℕ) (requests others : List Request)
-    → line_requests Stamped input ≡ requests ++ others → Broken false InMemory (holding [] []) known w0 w1 images requests → AppendsFront w0 w1 (settle_lines_output input)
-front_of_replies known w0 w1 images input requests others all broken =
-    let more = broken.rest ++ others in
-    let whole : line_requests Stamped input ≡ broken.done ++ more = all ∙ ap (λ rs. rs ++ others) broken.whole ∙ append_assoc broken.done broken.rest others in
-    let text : replies InMemory (holding [] []) (line_requests Stamped input) ≡ replies InMemory (holding [] []) broken.done ++ replies InMemory (held_after InMemory (holding [] []) broken.done) more =
-    ap (replies InMemory (holding [] [])) whole ∙ replies-append InMemory (holding [] []) broken.done more in
+    → line_requests Stamped input ≡ requests ++ others → EndsEarly false InMemory (holding [] []) known w0 w1 images requests → AppendsFront w0 w1 (settle_lines_output input)
+front_of_replies known w0 w1 images input requests others all early =
+    let text : replies InMemory (holding [] []) (line_requests Stamped input) ≡ replies InMemory (holding [] []) requests ++ replies InMemory (held_after InMemory (holding [] []) requests) others =
+    ap (replies InMemory (holding [] [])) all ∙ replies-append InMemory (holding [] []) requests others in
     front_of_longer w0 w1 (replies InMemory (holding [] []) (line_requests Stamped input)) (report_of (held_after InMemory (holding [] []) (line_requests Stamped input)).journal)
-    (subst (AppendsFront w0 w1) (sym text) (front_of_longer w0 w1 (replies InMemory (holding [] []) broken.done) _ broken.wrote))
+    (subst (AppendsFront w0 w1) (sym text) (front_of_longer w0 w1 (replies InMemory (holding [] []) requests) _ (part_of_early false InMemory (holding [] []) known w0 w1 images requests early)))
 
 -- the replies and a front of the report
 pub front_of_report : (left w0 w1 w2 : Option (List ℕ)) (known : Option (List DayMinute)) (j : List Receipt)
@@ -82,7 +83,7 @@ module _ (tells : Bool) (known0 known1 : Option (List DayMinute)) (journal0 jour
   all_of_input took =
       if_some left0 (λ input. AllAnswered false InMemory tells known0 journal0 journal1 known1 w0 w1 (line_requests Stamped input)) (λ input. Answered false InMemory (holding [] []) journal1 known1 w0 w1 (line_requests Stamped input))
       (λ input all. from_empty (line_requests Stamped input) all)
-      (of_whole Stamped left0 left1 (λ requests. AllAnswered false InMemory tells known0 journal0 journal1 known1 w0 w1 requests) took)
+      (of_whole (line_requests Stamped) left0 left1 (λ requests. AllAnswered false InMemory tells known0 journal0 journal1 known1 w0 w1 requests) took)
 
   pub built_of_input : AllTaken → all_built journal1 ≡ true
   built_of_input took = session_built journal1 known1 w0 w1 took.read (from_empty (line_requests Stamped took.read) took.did.2)
@@ -95,11 +96,23 @@ module _ (tells : Bool) (known0 known1 : Option (List DayMinute)) (journal0 jour
   cut_of_input took = record { read = took.read; consumed = took.consumed; did = (from_empty (ended_requests Stamped [] (take 67108864 took.read)) took.did).wrote }
 
   pub part_of_input : (images : List ℕ → Type 0) (Left : List Request → Type 0)
-      → Took left0 left1 (λ read. (requests : List Request) × AreOf Stamped left1 read requests × PartAnswered false InMemory tells known0 journal0 known1 w0 w1 images requests × Left requests)
+      → Took left0 left1 (λ read. (requests : List Request) × AreOf (line_requests Stamped) (ended_requests Stamped []) left1 read requests × PartAnswered false InMemory tells known0 journal0 known1 w0 w1 images requests × Left requests)
       → IfSome left0 (λ input. AppendsFront w0 w1 (settle_lines_output input))
   part_of_input images Left took =
-      if_some left0 (λ input. FirstOf Stamped input (λ requests. PartAnswered false InMemory tells known0 journal0 known1 w0 w1 images requests × Left requests)) (λ input. AppendsFront w0 w1 (settle_lines_output input))
+      if_some left0 (λ input. FirstOf (line_requests Stamped) input (λ requests. PartAnswered false InMemory tells known0 journal0 known1 w0 w1 images requests × Left requests)) (λ input. AppendsFront w0 w1 (settle_lines_output input))
       (λ input first. front_of_replies known1 w0 w1 images input first.requests first.others first.all
-      (subst (λ (j : List Receipt). Broken false InMemory (holding j []) known1 w0 w1 images first.requests) empty (first.did.0 [] (nothing_to_know tells known0))))
-      (of_part Stamped left0 left1 (λ requests. PartAnswered false InMemory tells known0 journal0 known1 w0 w1 images requests × Left requests)
+      (subst (λ (j : List Receipt). EndsEarly false InMemory (holding j []) known1 w0 w1 images first.requests) empty (first.did.0 [] (nothing_to_know tells known0))))
+      (of_part (line_requests Stamped) (ended_requests Stamped []) left0 left1 (λ requests. PartAnswered false InMemory tells known0 journal0 known1 w0 w1 images requests × Left requests) (lines_begin Stamped)
       (record { read = took.read; consumed = took.consumed; did = (took.did.0, took.did.1, (took.did.2, took.did.3)) }))
+
+  -- while the source was not at its end, a front of the replies to the lines of the bytes read
+  pub read_part_of_input : (images : List ℕ → Type 0) (Left : List Request → Type 0)
+      → Took left0 left1 (λ read. (requests : List Request) × AreOf (line_requests Stamped) (ended_requests Stamped []) left1 read requests × PartAnswered false InMemory tells known0 journal0 known1 w0 w1 images requests × Left requests)
+      → (IsAtEnd left1 → ⊥) → Took left0 left1 (λ read. AppendsFront w0 w1 (replies InMemory (holding [] []) (ended_requests Stamped [] (take 67108864 read))))
+  read_part_of_input images Left took unended =
+      read_part_of_early false InMemory (line_requests Stamped) (ended_requests Stamped []) (holding [] []) left0 left1 known1 w0 w1 images
+      (record {
+        read = took.read;
+        consumed = took.consumed;
+        did = (took.did.0, took.did.1, subst (λ (j : List Receipt). EndsEarly false InMemory (holding j []) known1 w0 w1 images took.did.0) empty (took.did.2 [] (nothing_to_know tells known0)));
+      }) unended

@@ -1,26 +1,16 @@
 -- The disk in a run: what its file stood for, and what a stop leaves of it.
-use Rattle.std.specs.Prelude.{◌≡◌, ◌⊎◌, ℕ, Bool, true, false, List, Result, Ok, Err}
+use Rattle.std.specs.Prelude.{◌≡◌, ◌⊎◌, ℕ, Bool, true, false, List}
 use Rattle.gb_outside.specs.Images.{Only, LeavesOnly}
 use Rattle.act_model.specs.declared.receipts.Receipt.{Receipt}
 use Rattle.journal_disk.specs.Layout.{IsForeign}
-use Rattle.journal_disk.specs.Opening.{SyncsFirst}
 use Rattle.receipt_journal.specs.Standing.{StandsForJournal, IsBadBehind, gate_behind}
-use Rattle.receipt_journal.specs.Opening.{BookRefuses}
 use Rattle.registry_office.specs.Grown.{GrownFrom}
-use Rattle.registry_office.specs.declared.faults.SettlingFault.{SettlingFault}
-use Rattle.registry_office.specs.declared.faults.SettlingFault.TheVariants as settling
 use Rattle.registry_office.specs.declared.statuses.Status.{Status}
 use Rattle.registry_office.specs.declared.statuses.Status.TheVariants as status
 
 -- the file stood for some journal
 abbrev pub IsJournalFile : List ℕ → Type 0
 IsJournalFile file = (journal : List Receipt) × StandsForJournal file journal
-
--- what the end of work over a disk's journal says of the file that was found
-abbrev pub Finds : {A : Type 0} → List ℕ → Result A SettlingFault → Type 0
-Finds file (Ok value) = IsJournalFile file
-Finds file (Err (settling.Opening fault)) = BookRefuses file fault
-Finds file (Err (settling.Output output)) = IsJournalFile file
 
 -- what a status says of the file that was found
 abbrev pub FindsBy : List ℕ → Status → Type 0
@@ -35,10 +25,10 @@ FindsBy file (status.BadRecord at) = (journal : List Receipt) × IsBadBehind fil
 FindsBy file status.InputTooLong = IsJournalFile file
 FindsBy file status.DoorFault = Unit {0}
 
--- a first sync was done, from which on a stop leaves the journal that was found; or, where the disk failed, it may be that it was not done
-abbrev pub KeepsDisk : {D : Type 0} → (D → List ℕ) → (D → List ℕ → Type 0) → (D → ℕ) → (D → ℕ → List ℕ → Type 0) → D → D → Bool → Type 0
-KeepsDisk reads images moment since old new true = LeavesOnly moment since old new (images old) ⊎ SyncsFirst reads images moment since old new
-KeepsDisk reads images moment since old new false = SyncsFirst reads images moment since old new
+-- the files that a stop leaves; where the disk failed, but for those that it might have left before
+abbrev pub LeftAnew : Bool → (List ℕ → Type 0) → (List ℕ → Type 0) → List ℕ → Type 0
+LeftAnew true before now file = now file × (before file → ⊥)
+LeftAnew false before now file = now file
 
 -- First a sync: until it is done a stop leaves what it might have left before, and from then on a journal that has grown from the first of these two to the second, or part of the way.
 pub record GrowsSynced {D : Type 0} (reads : D → List ℕ) (images : D → List ℕ → Type 0) (moment : D → ℕ) (since : D → ℕ → List ℕ → Type 0) (old new : D) (from to : List Receipt) : Type 0 where

@@ -6,9 +6,6 @@ use Rattle.registry_office.specs.declared.faults.AnswerFault.{AnswerFault}
 use Rattle.registry_office.specs.declared.faults.AnswerFault.TheVariants as answer
 use Rattle.registry_office.specs.declared.faults.SessionFault.{SessionFault}
 use Rattle.registry_office.specs.declared.faults.SessionFault.TheVariants as session
-use Rattle.registry_office.specs.declared.faults.SettlingFault.{SettlingFault}
-use Rattle.registry_office.specs.declared.faults.SettlingFault.TheVariants as settling
-use Rattle.receipt_journal.specs.Opening.{book_opening_failed}
 
 -- the sink failed in writing
 abbrev pub output_failed : {A : Type 0} → Result A OutputFault → Bool
@@ -67,16 +64,3 @@ session_disk_failed (Err session.Write) = false
 session_disk_failed (Err session.Disk) = true
 session_disk_failed (Err session.Memory) = false
 session_disk_failed (Err session.TooLong) = false
-
--- the disk failed where its journal was to be settled
-abbrev pub settling_disk_failed : {A : Type 0} → Result A SettlingFault → Bool
-settling_disk_failed (Ok value) = false
-settling_disk_failed (Err (settling.Opening fault)) = book_opening_failed {A = Unit {0}} (Err fault)
-settling_disk_failed (Err (settling.Output fault)) = false
-
--- the sink failed where a journal was to be settled
-abbrev pub settling_output_failed : {A : Type 0} → Result A SettlingFault → Bool
-settling_output_failed (Ok value) = false
-settling_output_failed (Err (settling.Opening fault)) = false
-settling_output_failed (Err (settling.Output output.Write)) = true
-settling_output_failed (Err (settling.Output output.Memory)) = false

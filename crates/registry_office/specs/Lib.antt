@@ -1,14 +1,17 @@
 -- What contracts cite.
 pub mod Built
 pub mod Disks
+pub mod EarlyEnds
 pub mod Entering
 pub mod Entries
 pub mod Faults
 pub mod Grown
+pub mod Intakes
 pub mod Judging
 pub mod Lines
 pub mod Outcomes
 pub mod Ranks
+pub mod Receivings
 pub mod Reports
 pub mod Requests
 pub mod Sessions

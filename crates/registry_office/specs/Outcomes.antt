@@ -5,14 +5,15 @@ use Rattle.gb_base.specs.DayMinute.{DayMinute}
 use Rattle.act_model.specs.declared.receipts.Receipt.{Receipt}
 use Rattle.receipt_journal.specs.Standing.{StandsForJournal}
 use Rattle.registry_office.specs.Built.{is_built}
+use Rattle.registry_office.specs.Intakes.{whole_of, cut_of}
 use Rattle.registry_office.specs.Reports.{report}
 use Rattle.registry_office.specs.Requests.{InMemory, OnDisk, Held, holding, replies, held_after}
 use Rattle.registry_office.specs.Sessions.{line_requests, ended_requests}
 use Rattle.registry_office.specs.Settling.{registrar}
-use Rattle.registry_office.specs.declared.lines.LineKind.TheVariants.{Stamped, Plain}
+use Rattle.registry_office.specs.declared.lines.LineKind.TheVariants.{Stamped}
 use Rattle.registry_office.specs.declared.requests.Request.{Request}
 use Rattle.registry_office.specs.declared.words.Command.{Command}
-use Rattle.registry_office.specs.declared.words.Command.TheVariants.{Settle, SettleLines, Take}
+use Rattle.registry_office.specs.declared.words.Command.TheVariants.{Settle, SettleLines, Receive}
 
 -- the report of the journal that one registrar takes in the order of receipt
 unfoldable pub report_of : List Receipt → List ℕ
@@ -32,14 +33,21 @@ abbrev pub requests_of : Option Command → List ℕ → List Request
 requests_of None input = []
 requests_of (Some (Settle desks)) input = []
 requests_of (Some (SettleLines desks)) input = line_requests Stamped input
-requests_of (Some Take) input = line_requests Plain input
+requests_of (Some (Receive intake)) input = whole_of intake input
 
--- the replies to the lines that an LF ends in these bytes; nothing where the command reads none
-abbrev pub ended_replies : Option Command → Held → List ℕ → List ℕ
-ended_replies None held read = []
-ended_replies (Some (Settle desks)) held read = []
-ended_replies (Some (SettleLines desks)) held read = replies InMemory (holding [] []) (ended_requests Stamped [] read)
-ended_replies (Some Take) held read = replies OnDisk held (ended_requests Plain [] read)
+-- what it asks where it is cut here
+abbrev pub cut_requests_of : Option Command → List ℕ → List Request
+cut_requests_of None read = []
+cut_requests_of (Some (Settle desks)) read = []
+cut_requests_of (Some (SettleLines desks)) read = ended_requests Stamped [] read
+cut_requests_of (Some (Receive intake)) read = cut_of intake read
+
+-- the replies to these requests of the command
+abbrev pub replies_of : Option Command → Held → List Request → List ℕ
+replies_of None held requests = []
+replies_of (Some (Settle desks)) held requests = []
+replies_of (Some (SettleLines desks)) held requests = replies InMemory (holding [] []) requests
+replies_of (Some (Receive intake)) held requests = replies OnDisk held requests
 
 -- what a command writes, and the journal of the disk and the clock's ticks after it
 pub record Outcome : Type 0 where
@@ -52,10 +60,10 @@ abbrev pub outcome : Option Command → Held → List ℕ → Outcome
 outcome None held input = record { written = []; journal = held.journal; ticks = held.ticks }
 outcome (Some (Settle desks)) held input = record { written = settle_output held.journal; journal = held.journal; ticks = held.ticks }
 outcome (Some (SettleLines desks)) held input = record { written = settle_lines_output input; journal = held.journal; ticks = held.ticks }
-outcome (Some Take) held input = record {
-  written = replies OnDisk held (line_requests Plain input);
-  journal = (held_after OnDisk held (line_requests Plain input)).journal;
-  ticks = (held_after OnDisk held (line_requests Plain input)).ticks;
+outcome (Some (Receive intake)) held input = record {
+  written = replies OnDisk held (whole_of intake input);
+  journal = (held_after OnDisk held (whole_of intake input)).journal;
+  ticks = (held_after OnDisk held (whole_of intake input)).ticks;
 }
 
 -- the command reads the input
@@ -63,25 +71,25 @@ abbrev pub uses_input : Option Command → Bool
 uses_input None = false
 uses_input (Some (Settle desks)) = false
 uses_input (Some (SettleLines desks)) = true
-uses_input (Some Take) = true
+uses_input (Some (Receive intake)) = true
 
 -- the command uses the disk
 abbrev pub uses_disk : Option Command → Bool
 uses_disk None = false
 uses_disk (Some (Settle desks)) = true
 uses_disk (Some (SettleLines desks)) = false
-uses_disk (Some Take) = true
+uses_disk (Some (Receive intake)) = true
 
--- the command asks the clock for stamps
-abbrev pub uses_clock : Option Command → Bool
-uses_clock None = false
-uses_clock (Some (Settle desks)) = false
-uses_clock (Some (SettleLines desks)) = false
-uses_clock (Some Take) = true
+-- the command receives onto the disk, with the clock's stamps
+abbrev pub receives : Option Command → Bool
+receives None = false
+receives (Some (Settle desks)) = false
+receives (Some (SettleLines desks)) = false
+receives (Some (Receive intake)) = true
 
 -- The objects that the command uses tell what they hold: at first the disk's file stood for this journal, the clock had these ticks to give, and this was left of the input.
 pub record Told (command : Option Command) (tells : Bool) (file : List ℕ) (left : Option (List ℕ)) (known : Option (List DayMinute)) (held : Held) (input : List ℕ) : Type 0 where
   pub disk_tells : uses_disk command ≡ true → tells ≡ true
   pub disk_stands : uses_disk command ≡ true → StandsForJournal file held.journal
   pub source_left : uses_input command ≡ true → left ≡ Some input
-  pub clock_tells : uses_clock command ≡ true → known ≡ Some held.ticks
+  pub clock_tells : receives command ≡ true → known ≡ Some held.ticks

@@ -6,8 +6,6 @@ use Rattle.registry_office.specs.declared.faults.SessionFault.{SessionFault}
 use Rattle.registry_office.specs.declared.faults.SessionFault.TheVariants as session
 use Rattle.registry_office.specs.declared.faults.OutputFault.{OutputFault}
 use Rattle.registry_office.specs.declared.faults.OutputFault.TheVariants as output
-use Rattle.registry_office.specs.declared.faults.SettlingFault.{SettlingFault}
-use Rattle.registry_office.specs.declared.faults.SettlingFault.TheVariants as settling
 use Rattle.receipt_journal.specs.declared.faults.BookFault.{BookFault}
 use Rattle.receipt_journal.specs.declared.faults.BookFault.TheVariants as fault
 
@@ -96,16 +94,11 @@ status_of_fault fault.NotJournal = status.NotJournal
 status_of_fault (fault.BadRecord at) = status.BadRecord at
 status_of_fault fault.Memory = status.Memory
 
--- the status where a report could not be written
-abbrev pub status_of_output : OutputFault → Status
-status_of_output output.Write = status.WriteFault
-status_of_output output.Memory = status.Memory
-
--- the status of work over the disk's journal
-abbrev pub status_of_settling : {A : Type 0} → Result A SettlingFault → Status
-status_of_settling (Ok value) = status.Ok
-status_of_settling (Err (settling.Opening fault)) = status_of_fault fault
-status_of_settling (Err (settling.Output fault)) = status_of_output fault
+-- the status where a text is written to its end or could not be
+abbrev pub status_of_writing : {A : Type 0} → Result A OutputFault → Status
+status_of_writing (Ok value) = status.Ok
+status_of_writing (Err output.Write) = status.WriteFault
+status_of_writing (Err output.Memory) = status.Memory
 
 -- a session over an input ends so
 abbrev pub is_of_session : Status → Bool
@@ -119,3 +112,29 @@ is_of_session status.NotJournal = false
 is_of_session (status.BadRecord at) = false
 is_of_session status.InputTooLong = true
 is_of_session status.DoorFault = false
+
+-- only with an opened book does a command that uses the disk end so
+abbrev pub tells_of_opening : Status → Bool
+tells_of_opening status.Ok = true
+tells_of_opening status.Usage = false
+tells_of_opening status.ReadFault = true
+tells_of_opening status.WriteFault = true
+tells_of_opening status.DiskFault = false
+tells_of_opening status.Memory = false
+tells_of_opening status.NotJournal = false
+tells_of_opening (status.BadRecord at) = false
+tells_of_opening status.InputTooLong = true
+tells_of_opening status.DoorFault = false
+
+-- a text is written so
+abbrev pub is_of_writing : Status → Bool
+is_of_writing status.Ok = true
+is_of_writing status.Usage = false
+is_of_writing status.ReadFault = false
+is_of_writing status.WriteFault = true
+is_of_writing status.DiskFault = false
+is_of_writing status.Memory = true
+is_of_writing status.NotJournal = false
+is_of_writing (status.BadRecord at) = false
+is_of_writing status.InputTooLong = false
+is_of_writing status.DoorFault = false

@@ -1,10 +1,11 @@
 -- The words of the command line.
-use Rattle.std.specs.Prelude.{ℕ, ◌+◌, ◌-◌, ◌*◌, Bool, ◌&&◌, if◌then◌else◌, List, [], ◌∷◌, length, codes, Option, Some, None}
+use Rattle.std.specs.Prelude.{ℕ, ◌≤◌, ◌+◌, ◌-◌, ◌*◌, Bool, ◌&&◌, if◌then◌else◌, List, [], ◌∷◌, length, codes, Option, Some, None}
 use Rattle.std.specs.List.{list_all}
 use Rattle.std.specs.Str.{bytes_eq}
 use Rattle.gb_base.specs.Limits.{is_between}
+use Rattle.registry_office.specs.declared.intakes.Intake.TheVariants.{Lines}
 use Rattle.registry_office.specs.declared.words.Command.{Command}
-use Rattle.registry_office.specs.declared.words.Command.TheVariants.{Settle, SettleLines, Take}
+use Rattle.registry_office.specs.declared.words.Command.TheVariants.{Settle, SettleLines, Receive}
 
 -- the byte is an ASCII digit
 abbrev pub is_digit : ℕ → Bool
@@ -36,7 +37,7 @@ settle_lines_by None = None
 
 -- `take`, `settle --desks N`, and the same with `--lines`
 abbrev pub command_of : List (List ℕ) → Option Command
-command_of (name ∷ []) = if bytes_eq name (codes "take") then Some Take else None
+command_of (name ∷ []) = if bytes_eq name (codes "take") then Some (Receive Lines) else None
 command_of (name ∷ flag ∷ desks ∷ []) =
     if bytes_eq name (codes "settle") && bytes_eq flag (codes "--desks")
     then settle_by (value_in 1 64 desks) else None
@@ -44,3 +45,9 @@ command_of (name ∷ flag ∷ desks ∷ lines ∷ []) =
     if bytes_eq name (codes "settle") && bytes_eq flag (codes "--desks") && bytes_eq lines (codes "--lines")
     then settle_lines_by (value_in 1 64 desks) else None
 command_of other = None
+
+-- a command that settles has 1 to 64 desks
+abbrev pub HasDesks : Command → Type 0
+HasDesks (Settle desks) = (1 ≤ desks) × (desks ≤ 64)
+HasDesks (SettleLines desks) = (1 ≤ desks) × (desks ≤ 64)
+HasDesks (Receive intake) = Unit {0}

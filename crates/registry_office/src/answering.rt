@@ -6,11 +6,12 @@ ghost use Rattle.gb_outside.specs.Images.{LeavesOnly};
 ghost use Rattle.gb_outside.specs.Ticks.{Ticks};
 ghost use Rattle.act_model.specs.WellFormed.{well_formed};
 ghost use Rattle.receipt_journal.specs.Receiving.{receiving_failed};
+ghost use Rattle.registry_office.specs.EarlyEnds.{EndsEarly};
 ghost use Rattle.registry_office.specs.Faults.{answer_output_failed, answer_disk_failed};
 ghost use Rattle.registry_office.specs.Grown.{GrownFrom};
 ghost use Rattle.registry_office.specs.Requests.{InMemory, OnDisk, received, received_text, holding, replied, held_after};
 ghost use Rattle.registry_office.specs.inner.Asking.{asks_well, asks_clock, is_fault};
-ghost use Rattle.registry_office.specs.inner.Sessions.{IsReady, Knows, GotReply, MissedReply, Answered, Broken};
+ghost use Rattle.registry_office.specs.inner.Sessions.{IsReady, Knows, GotReply, MissedReply, Answered};
 
 use crate::faults::AnswerFault;
 use crate::receivers::Receiver;
@@ -39,13 +40,14 @@ pub(crate) fn answer_request<J: Receiver, D: Disk, C: Clock, K: Sink>(
         (C.ticks clock.new) (K.written sink.old) (K.written sink.new) (request.now ∷ [])) }
     ensures broken { (by_clock : Bool) (ticks : List DayMinute) → (asks_clock request.now ≡ true → by_clock ≡ true)
         → Knows by_clock J.medium D.tells (C.ticks clock.old) ticks
-        → OnErr result (Broken by_clock J.medium (holding (J.state receiver.old).journal ticks)
+        → OnErr result (EndsEarly by_clock J.medium (holding (J.state receiver.old).journal ticks)
         (C.ticks clock.new) (K.written sink.old) (K.written sink.new) (D.images disk.new) (request.now ∷ [])) }
     ensures any_moment { (by_clock : Bool) (ticks : List DayMinute) → (asks_clock request.now ≡ true → by_clock ≡ true)
         → Knows by_clock J.medium D.tells (C.ticks clock.old) ticks → J.medium ≡ OnDisk
         → LeavesOnly D.moment D.since disk.old disk.new (GrownFrom (J.state receiver.old).journal
         (held_after J.medium (holding (J.state receiver.old).journal ticks) (request.now ∷ [])).journal) }
-    ensures ready { OnOk result (IsReady J.medium D.tells (J.state receiver.new) (D.reads disk.new) (D.images disk.new)) }
+    ensures ready { answer_disk_failed result ≡ false → IsReady J.medium D.tells (J.state receiver.new) (D.reads disk.new) (D.images disk.new) }
+    ensures works { (J.state receiver.new).log.failed ≡ answer_disk_failed result }
     ensures in_memory { J.medium ≡ InMemory → disk.new ≡ disk.old }
     ensures no_disk { J.medium ≡ InMemory → answer_disk_failed result ≡ false }
     ensures own_stamp { asks_clock request.now ≡ false → clock.new ≡ clock.old }
@@ -101,7 +103,8 @@ fn answer_item<J: Receiver, D: Disk, K: Sink>(
         (K.written sink.old) (K.written sink.new) (D.images disk.new)) }
     ensures any_moment { (ticks : List DayMinute) → J.medium ≡ OnDisk → IsTrue D.tells → LeavesOnly D.moment D.since disk.old disk.new (GrownFrom (J.state receiver.old).journal
         (replied (J.state receiver.old).journal ticks stamp sender reference item.now (received J.medium (J.state receiver.old).journal stamp sender reference item.now)).held.journal) }
-    ensures ready { OnOk result (IsReady J.medium D.tells (J.state receiver.new) (D.reads disk.new) (D.images disk.new)) }
+    ensures ready { answer_disk_failed result ≡ false → IsReady J.medium D.tells (J.state receiver.new) (D.reads disk.new) (D.images disk.new) }
+    ensures works { (J.state receiver.new).log.failed ≡ answer_disk_failed result }
     ensures in_memory { J.medium ≡ InMemory → disk.new ≡ disk.old }
     ensures no_disk { J.medium ≡ InMemory → answer_disk_failed result ≡ false }
     ensures write_cause { Counts (K.faults sink.old) (K.faults sink.new) (answer_output_failed result) }

@@ -1,54 +1,85 @@
-// The command that settles the journal of the disk.
-ghost use Rattle.std.specs.Prelude.{◌≡◌, ℕ, List, OnOk, OnErr, IsTrue, Err};
+// The journal of a book is settled, and the command that settles the journal of the disk.
+ghost use Rattle.std.specs.Prelude.{◌≡◌, ◌≤◌, ℕ, List, true, false, OnOk, OnErr, IsTrue};
 ghost use Rattle.std.specs.List.{list_all};
 ghost use Rattle.std.specs.Io.KnownBytes.{Appends};
 ghost use Rattle.gb_outside.specs.Bytes.{AppendsFront};
 ghost use Rattle.gb_outside.specs.Faults.{Counts};
 ghost use Rattle.act_model.specs.declared.receipts.Receipt.{Receipt};
-ghost use Rattle.journal_disk.specs.Opening.{IsKept};
+ghost use Rattle.journal_disk.specs.Layout.{the_heading, IsMade};
+ghost use Rattle.journal_disk.specs.Opening.{IsKept, AnswersSynced};
 ghost use Rattle.receipt_journal.specs.Standing.{StandsForJournal};
-ghost use Rattle.receipt_journal.specs.declared.faults.BookFault.{BookFault};
 ghost use Rattle.registry_office.specs.Built.{is_built};
-ghost use Rattle.registry_office.specs.Disks.{Finds, IsJournalFile, KeepsDisk, KeepsGrown};
+ghost use Rattle.registry_office.specs.Disks.{FindsBy, IsJournalFile, KeepsGrown};
+ghost use Rattle.registry_office.specs.Faults.{output_failed};
 ghost use Rattle.registry_office.specs.Outcomes.{settle_output};
-ghost use Rattle.registry_office.specs.Faults.{output_failed, settling_disk_failed, settling_output_failed};
-ghost use Rattle.registry_office.specs.declared.faults.SettlingFault.TheVariants.{Opening};
+ghost use Rattle.registry_office.specs.Statuses.{read_fault, write_fault, disk_fault, door_fault, is_no_journal, is_of_writing, tells_of_opening};
 
 use crate::built::is_built;
-use crate::faults::{OutputFault, SettlingFault};
+use crate::faults::OutputFault;
 use crate::settling::write_report;
+use crate::statuses::{Status, status_of_opening, status_of_writing};
 use crate::writing::write_all;
 use act_model::{Journal, Receipt};
-use gb_outside::{Disk, Sink};
+use gb_outside::{DeskGate, Disk, Sink};
 use receipt_journal::Book;
 use std::alloc::Global;
 
-/// Opens the journal of the disk, settles it and writes the report. Where an item of it is not
-/// built, one line says so instead.
-pub fn settle_disk<D: Disk, K: Sink>(
-    alloc: Global,
+/// Settles a journal at so many desks, 1 to 64, and writes the report. Where an item of it is not
+/// built, one line says so instead. It answers `Ok`, `WriteFault` or `Memory`. The number of desks
+/// never changes what is written.
+pub fn settle<R: AllocGlobal, K: Sink, G: DeskGate>(
+    rt: &R,
+    journal: &Journal,
+    sink: &mut K,
+    _desks: u16,
+    _gate: &G,
+) -> Status
+    requires desks { (1 ≤ _desks) × (_desks ≤ 64) }
+    ensures written { result ≡ Status.Ok → Appends (K.written sink.old) (K.written sink.new) (settle_output journal.now.receipts) }
+    ensures part { AppendsFront (K.written sink.old) (K.written sink.new) (settle_output journal.now.receipts) }
+    ensures write { Counts (K.faults sink.old) (K.faults sink.new) (write_fault result) }
+    ensures others { IsTrue (is_of_writing result) }
+{
+    status_of_writing(write_settled(rt.alloc(), journal, sink))
+}
+
+/// Opens the journal of the disk and settles it.
+pub(crate) fn settle_disk<R: AllocGlobal, D: Disk, K: Sink, G: DeskGate>(
+    rt: &R,
     disk: &mut D,
     sink: &mut K,
-) -> Result<(), SettlingFault>
-    ensures output { IsTrue D.tells → (journal : List Receipt) → StandsForJournal (D.reads disk.old) journal
-        → OnOk result (Appends (K.written sink.old) (K.written sink.new) (settle_output journal)) }
+    desks: u16,
+    gate: &G,
+) -> Status
+    requires desks { (1 ≤ desks) × (desks ≤ 64) }
+    ensures written { IsTrue D.tells → (journal : List Receipt) → StandsForJournal (D.reads disk.old) journal → result ≡ Status.Ok
+        → Appends (K.written sink.old) (K.written sink.new) (settle_output journal) }
     ensures part { IsTrue D.tells → (journal : List Receipt) → StandsForJournal (D.reads disk.old) journal
-        → OnErr result (AppendsFront (K.written sink.old) (K.written sink.new) (settle_output journal)) }
-    ensures unopened { (fault : BookFault) → result ≡ Err (Opening fault) → sink.new ≡ sink.old }
-    ensures found { IsTrue D.tells → Finds (D.reads disk.old) result }
+        → AppendsFront (K.written sink.old) (K.written sink.new) (settle_output journal) }
+    ensures stands_at_end { IsTrue D.tells → (journal : List Receipt) (file : List ℕ) → StandsForJournal (D.reads disk.old) journal → result ≡ Status.Ok
+        → D.images disk.new file → StandsForJournal file journal }
+
+    // Of the file nothing changes, but that an unmade one is made.
+    ensures found { IsTrue D.tells → FindsBy (D.reads disk.old) result }
+    ensures made { IsTrue D.tells → tells_of_opening result ≡ true → IsMade the_heading (D.reads disk.new) }
     ensures kept { IsTrue D.tells → IsKept (D.reads disk.old) (D.reads disk.new) }
-    ensures any_moment { IsTrue D.tells → KeepsDisk D.reads D.images D.moment D.since disk.old disk.new (settling_disk_failed result) }
+    ensures kept_any_moment { IsTrue D.tells → AnswersSynced D.reads D.images D.moment D.since disk.old disk.new (disk_fault result) }
     ensures grown { IsTrue D.tells → (journal : List Receipt) → StandsForJournal (D.reads disk.old) journal
-        → KeepsGrown D.reads D.images D.moment D.since disk.old disk.new (settling_disk_failed result) journal journal }
-    ensures stands_at_end { IsTrue D.tells → (journal : List Receipt) (file : List ℕ) → StandsForJournal (D.reads disk.old) journal
-        → OnOk result (D.images disk.new file → StandsForJournal file journal) }
-    ensures none { IsTrue D.tells → (IsJournalFile (D.reads disk.old) → ⊥) → sink.new ≡ sink.old }
-    ensures disk_cause { Counts (D.faults disk.old) (D.faults disk.new) (settling_disk_failed result) }
-    ensures write_cause { Counts (K.faults sink.old) (K.faults sink.new) (settling_output_failed result) }
+        → KeepsGrown D.reads D.images D.moment D.since disk.old disk.new (disk_fault result) journal journal }
+    ensures unopened { IsTrue D.tells → (IsJournalFile (D.reads disk.old) → ⊥) → sink.new ≡ sink.old }
+    ensures unopened_by { is_no_journal result ≡ true → sink.new ≡ sink.old }
+
+    // Each fault has its cause.
+    ensures write { Counts (K.faults sink.old) (K.faults sink.new) (write_fault result) }
+    ensures disk { Counts (D.faults disk.old) (D.faults disk.new) (disk_fault result) }
+    ensures no_usage { result ≡ Status.Usage → ⊥ }
+    ensures no_input { (read_fault result ≡ false) × (result ≡ Status.InputTooLong → ⊥) }
+    ensures no_door { door_fault result ≡ false }
 {
-    let book = Book::open(alloc, disk)?;
-    write_settled(alloc, book.journal(), sink)?;
-    Ok(())
+    match Book::open(rt.alloc(), disk) {
+        Ok(book) => settle(rt, book.journal(), sink, desks, gate),
+        Err(fault) => status_of_opening(fault),
+    }
 }
 
 /// Writes the report of a journal, or the line that says that an item of it is not built.

@@ -4,7 +4,6 @@ ghost use Rattle.registry_office.specs.declared.faults.AnswerFault.TheVariants.{
 ghost use Rattle.registry_office.specs.declared.faults.SessionFault.TheVariants.{Memory as NoMemoryToGoOn};
 ghost use Rattle.std.specs.Prelude.{◌≡◌};
 
-use receipt_journal::BookFault;
 use std::alloc::{AllocError, AllocFailed};
 
 /// Why something was not written whole.
@@ -130,36 +129,5 @@ impl<T: Drop> From<AllocFailed<T>> for SessionFault {
 
     fn from(_: AllocFailed<T>) -> SessionFault {
         SessionFault::Memory
-    }
-}
-
-/// Why the journal of the disk was not settled.
-#[derive(Clone, Copy, Debug, PartialEq, Eq)]
-pub enum SettlingFault {
-    /// The book was not opened.
-    Opening(BookFault),
-    /// The report was not written whole.
-    Output(OutputFault),
-}
-
-impl From<BookFault> for SettlingFault {
-    ghost use Rattle.std.specs.Prelude.{◌≡◌};
-    ghost use Rattle.registry_office.specs.declared.faults.SettlingFault.TheVariants.{Opening};
-
-    ghost from_gives = { λ fault e. e ≡ Opening fault };
-
-    fn from(fault: BookFault) -> SettlingFault {
-        SettlingFault::Opening(fault)
-    }
-}
-
-impl From<OutputFault> for SettlingFault {
-    ghost use Rattle.std.specs.Prelude.{◌≡◌};
-    ghost use Rattle.registry_office.specs.declared.faults.SettlingFault.TheVariants.{Output};
-
-    ghost from_gives = { λ fault e. e ≡ Output fault };
-
-    fn from(fault: OutputFault) -> SettlingFault {
-        SettlingFault::Output(fault)
     }
 }

@@ -6,14 +6,15 @@ ghost use Rattle.gb_base.specs.DayMinute.{DayMinute};
 ghost use Rattle.gb_outside.specs.Bytes.{IsGot, Reads, read_failed as read_of_source_failed};
 ghost use Rattle.gb_outside.specs.Faults.{Counts};
 ghost use Rattle.gb_outside.specs.Images.{LeavesOnly};
+ghost use Rattle.registry_office.specs.EarlyEnds.{AreOf, EndsEarly};
 ghost use Rattle.registry_office.specs.Faults.{answer_output_failed, answer_disk_failed, session_input_failed, session_output_failed, session_disk_failed};
 ghost use Rattle.registry_office.specs.Grown.{GrownFrom};
 ghost use Rattle.registry_office.specs.Lines.{request_of_line, is_stamped_by_clock};
 ghost use Rattle.registry_office.specs.Requests.{InMemory, OnDisk, holding, held_after};
 ghost use Rattle.registry_office.specs.Sessions.{behind, ended_requests, line_requests, Took};
 ghost use Rattle.registry_office.specs.declared.requests.Request.{Request};
-ghost use Rattle.registry_office.specs.inner.Inputs.{AllAnswered, PartAnswered, LeavesGrown, AreOf};
-ghost use Rattle.registry_office.specs.inner.Sessions.{IsReady, Knows, Answered, Broken};
+ghost use Rattle.registry_office.specs.inner.Inputs.{AllAnswered, PartAnswered, LeavesGrown};
+ghost use Rattle.registry_office.specs.inner.Sessions.{IsReady, Knows, Answered};
 
 use crate::answering::answer_request;
 use crate::faults::{AnswerFault, SessionFault};
@@ -44,12 +45,13 @@ fn answer_line<J: Receiver, D: Disk, C: Clock, K: Sink>(
         → OnOk result (Answered (is_stamped_by_clock kind) J.medium (holding (J.state receiver.old).journal ticks) (J.state receiver.new).journal
         (C.ticks clock.new) (K.written sink.old) (K.written sink.new) (request_of_line kind line.now ∷ [])) }
     ensures broken { (ticks : List DayMinute) → Knows (is_stamped_by_clock kind) J.medium D.tells (C.ticks clock.old) ticks
-        → OnErr result (Broken (is_stamped_by_clock kind) J.medium (holding (J.state receiver.old).journal ticks)
+        → OnErr result (EndsEarly (is_stamped_by_clock kind) J.medium (holding (J.state receiver.old).journal ticks)
         (C.ticks clock.new) (K.written sink.old) (K.written sink.new) (D.images disk.new) (request_of_line kind line.now ∷ [])) }
     ensures any_moment { (ticks : List DayMinute) → Knows (is_stamped_by_clock kind) J.medium D.tells (C.ticks clock.old) ticks → J.medium ≡ OnDisk
         → LeavesOnly D.moment D.since disk.old disk.new (GrownFrom (J.state receiver.old).journal
         (held_after J.medium (holding (J.state receiver.old).journal ticks) (request_of_line kind line.now ∷ [])).journal) }
-    ensures ready { OnOk result (IsReady J.medium D.tells (J.state receiver.new) (D.reads disk.new) (D.images disk.new)) }
+    ensures ready { answer_disk_failed result ≡ false → IsReady J.medium D.tells (J.state receiver.new) (D.reads disk.new) (D.images disk.new) }
+    ensures works { (J.state receiver.new).log.failed ≡ answer_disk_failed result }
     ensures in_memory { J.medium ≡ InMemory → disk.new ≡ disk.old }
     ensures no_disk { J.medium ≡ InMemory → answer_disk_failed result ≡ false }
     ensures own_stamps { is_stamped_by_clock kind ≡ false → clock.new ≡ clock.old }
@@ -77,12 +79,13 @@ fn answer_ended<J: Receiver, D: Disk, C: Clock, K: Sink>(
         → OnOk result (Answered (is_stamped_by_clock kind) J.medium (holding (J.state receiver.old).journal ticks) (J.state receiver.new).journal
         (C.ticks clock.new) (K.written sink.old) (K.written sink.new) (ended_requests kind line.old.items (end.now ++ 10 ∷ []))) }
     ensures broken { (ticks : List DayMinute) → Knows (is_stamped_by_clock kind) J.medium D.tells (C.ticks clock.old) ticks
-        → OnErr result (Broken (is_stamped_by_clock kind) J.medium (holding (J.state receiver.old).journal ticks)
+        → OnErr result (EndsEarly (is_stamped_by_clock kind) J.medium (holding (J.state receiver.old).journal ticks)
         (C.ticks clock.new) (K.written sink.old) (K.written sink.new) (D.images disk.new) (ended_requests kind line.old.items (end.now ++ 10 ∷ []))) }
     ensures any_moment { (ticks : List DayMinute) → Knows (is_stamped_by_clock kind) J.medium D.tells (C.ticks clock.old) ticks → J.medium ≡ OnDisk
         → LeavesOnly D.moment D.since disk.old disk.new (GrownFrom (J.state receiver.old).journal
         (held_after J.medium (holding (J.state receiver.old).journal ticks) (ended_requests kind line.old.items (end.now ++ 10 ∷ []))).journal) }
-    ensures ready { OnOk result (IsReady J.medium D.tells (J.state receiver.new) (D.reads disk.new) (D.images disk.new)) }
+    ensures ready { answer_disk_failed result ≡ false → IsReady J.medium D.tells (J.state receiver.new) (D.reads disk.new) (D.images disk.new) }
+    ensures works { (J.state receiver.new).log.failed ≡ answer_disk_failed result }
     ensures in_memory { J.medium ≡ InMemory → disk.new ≡ disk.old }
     ensures no_disk { J.medium ≡ InMemory → answer_disk_failed result ≡ false }
     ensures own_stamps { is_stamped_by_clock kind ≡ false → clock.new ≡ clock.old }
@@ -126,12 +129,13 @@ fn answer_piece<J: Receiver, D: Disk, C: Clock, K: Sink>(
         → OnOk result (Answered (is_stamped_by_clock kind) J.medium (holding (J.state receiver.old).journal ticks) (J.state receiver.new).journal
         (C.ticks clock.new) (K.written sink.old) (K.written sink.new) (ended_requests kind line.old.items piece.now)) }
     ensures broken { (ticks : List DayMinute) → Knows (is_stamped_by_clock kind) J.medium D.tells (C.ticks clock.old) ticks
-        → OnErr result (Broken (is_stamped_by_clock kind) J.medium (holding (J.state receiver.old).journal ticks)
+        → OnErr result (EndsEarly (is_stamped_by_clock kind) J.medium (holding (J.state receiver.old).journal ticks)
         (C.ticks clock.new) (K.written sink.old) (K.written sink.new) (D.images disk.new) (ended_requests kind line.old.items piece.now)) }
     ensures any_moment { (ticks : List DayMinute) → Knows (is_stamped_by_clock kind) J.medium D.tells (C.ticks clock.old) ticks → J.medium ≡ OnDisk
         → LeavesOnly D.moment D.since disk.old disk.new (GrownFrom (J.state receiver.old).journal
         (held_after J.medium (holding (J.state receiver.old).journal ticks) (ended_requests kind line.old.items piece.now)).journal) }
-    ensures ready { OnOk result (IsReady J.medium D.tells (J.state receiver.new) (D.reads disk.new) (D.images disk.new)) }
+    ensures ready { answer_disk_failed result ≡ false → IsReady J.medium D.tells (J.state receiver.new) (D.reads disk.new) (D.images disk.new) }
+    ensures works { (J.state receiver.new).log.failed ≡ answer_disk_failed result }
     ensures in_memory { J.medium ≡ InMemory → disk.new ≡ disk.old }
     ensures no_disk { J.medium ≡ InMemory → answer_disk_failed result ≡ false }
     ensures own_stamps { is_stamped_by_clock kind ≡ false → clock.new ≡ clock.old }
@@ -195,14 +199,15 @@ pub(crate) fn answer_input<J: Receiver, D: Disk, C: Clock, S: Source, K: Sink>(
         × AllAnswered (is_stamped_by_clock kind) J.medium D.tells (C.ticks clock.old) (J.state receiver.old).journal (J.state receiver.new).journal (C.ticks clock.new) (K.written sink.old) (K.written sink.new) (line_requests kind read))) }
     ensures cut { (result ≡ Err SessionFault.Read) ⊎ (result ≡ Err SessionFault.TooLong)
         → Took (S.left source.old) (S.left source.new) (λ read. AllAnswered (is_stamped_by_clock kind) J.medium D.tells (C.ticks clock.old) (J.state receiver.old).journal (J.state receiver.new).journal (C.ticks clock.new) (K.written sink.old) (K.written sink.new) (ended_requests kind [] (take MAX_INPUT read))) }
-    ensures part { OnErr result (Took (S.left source.old) (S.left source.new) (λ read. (requests : List Request) × AreOf kind (S.left source.new) read requests
+    ensures part { OnErr result (Took (S.left source.old) (S.left source.new) (λ read. (requests : List Request) × AreOf (line_requests kind) (ended_requests kind []) (S.left source.new) read requests
         × PartAnswered (is_stamped_by_clock kind) J.medium D.tells (C.ticks clock.old) (J.state receiver.old).journal (C.ticks clock.new) (K.written sink.old) (K.written sink.new) (D.images disk.new) requests
         × LeavesGrown D.moment D.since disk.old disk.new (is_stamped_by_clock kind) J.medium D.tells (C.ticks clock.old) (J.state receiver.old).journal requests)) }
     ensures whole { OnOk result (Took (S.left source.old) (S.left source.new) (λ read. IsAtEnd (S.left source.new) × (length read ≤ MAX_INPUT)
         × LeavesGrown D.moment D.since disk.old disk.new (is_stamped_by_clock kind) J.medium D.tells (C.ticks clock.old) (J.state receiver.old).journal (line_requests kind read))) }
     ensures short { (result ≡ Err SessionFault.TooLong → ⊥) → Took (S.left source.old) (S.left source.new) (λ read. length read ≤ MAX_INPUT) }
-    ensures long { result ≡ Err SessionFault.TooLong → Took (S.left source.old) (S.left source.new) (λ read. MAX_INPUT < length read) }
-    ensures ready { OnOk result (IsReady J.medium D.tells (J.state receiver.new) (D.reads disk.new) (D.images disk.new)) }
+    ensures long { result ≡ Err SessionFault.TooLong → Took (S.left source.old) (S.left source.new) (λ read. length read ≡ MAX_INPUT + 1) }
+    ensures ready { session_disk_failed result ≡ false → IsReady J.medium D.tells (J.state receiver.new) (D.reads disk.new) (D.images disk.new) }
+    ensures works { (J.state receiver.new).log.failed ≡ session_disk_failed result }
     ensures in_memory { J.medium ≡ InMemory → disk.new ≡ disk.old }
     ensures no_disk { J.medium ≡ InMemory → session_disk_failed result ≡ false }
     ensures own_stamps { is_stamped_by_clock kind ≡ false → clock.new ≡ clock.old }

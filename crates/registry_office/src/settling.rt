@@ -1,7 +1,7 @@
 // The command that settles stamped lines in memory.
-ghost use Rattle.std.specs.Prelude.{◌≡◌, ◌⊎◌, ◌≤◌, ◌<◌, ◌^◌, [], Some, Err, OnOk, OnErr, IfSome, length, take, false, IsTrue};
+ghost use Rattle.std.specs.Prelude.{◌≡◌, ◌⊎◌, ◌≤◌, ◌<◌, ◌+◌, ◌^◌, [], Some, Err, OnOk, OnErr, IfSome, length, take, false, IsTrue};
 ghost use Rattle.std.specs.List.{list_all};
-ghost use Rattle.std.specs.Io.KnownBytes.{Appends};
+ghost use Rattle.std.specs.Io.KnownBytes.{Appends, IsAtEnd};
 ghost use Rattle.gb_outside.specs.Bytes.{AppendsFront};
 ghost use Rattle.gb_outside.specs.Faults.{Counts};
 ghost use Rattle.registry_office.specs.Built.{is_built};
@@ -34,12 +34,14 @@ pub(crate) fn settle_lines<D: Disk, C: Clock, S: Source, K: Sink>(
         Appends (K.written sink.old) (K.written sink.new) (settle_lines_output input))) }
     ensures at_end { OnOk result (IfSome (S.left source.old) (λ _. S.left source.new ≡ Some [])) }
     ensures short { (result ≡ Err SessionFault.TooLong → ⊥) → Took (S.left source.old) (S.left source.new) (λ read. length read ≤ most_input) }
-    ensures long { result ≡ Err SessionFault.TooLong → Took (S.left source.old) (S.left source.new) (λ read. most_input < length read) }
+    ensures long { result ≡ Err SessionFault.TooLong → Took (S.left source.old) (S.left source.new) (λ read. length read ≡ most_input + 1) }
     ensures cut { (result ≡ Err SessionFault.Read) ⊎ (result ≡ Err SessionFault.TooLong)
         → Took (S.left source.old) (S.left source.new) (λ read.
         Appends (K.written sink.old) (K.written sink.new) (replies InMemory (holding [] []) (ended_requests Stamped [] (take most_input read)))) }
     ensures part { OnErr result (IfSome (S.left source.old) (λ input.
         AppendsFront (K.written sink.old) (K.written sink.new) (settle_lines_output input))) }
+    ensures read_part { OnErr result ((IsAtEnd (S.left source.new) → ⊥) → Took (S.left source.old) (S.left source.new) (λ read.
+        AppendsFront (K.written sink.old) (K.written sink.new) (replies InMemory (holding [] []) (ended_requests Stamped [] (take most_input read))))) }
     ensures same_disk { disk.new ≡ disk.old }
     ensures same_clock { clock.new ≡ clock.old }
     ensures no_disk { session_disk_failed result ≡ false }

@@ -1,8 +1,8 @@
 // How a run ends.
 ghost use Rattle.std.specs.Prelude.{◌≡◌};
-ghost use Rattle.registry_office.specs.Statuses.{status_of, status_of_fault, status_of_settling};
+ghost use Rattle.registry_office.specs.Statuses.{status_of, status_of_fault, status_of_writing};
 
-use crate::faults::{OutputFault, SessionFault, SettlingFault};
+use crate::faults::{OutputFault, SessionFault};
 use receipt_journal::BookFault;
 
 /// How a run of the office ended.
@@ -44,18 +44,14 @@ pub fn status_of(done: Result<(), SessionFault>) -> Status
     }
 }
 
-/// The status of work over the journal of the disk.
-pub fn status_of_settling(done: Result<(), SettlingFault>) -> Status
-    ensures { result ≡ status_of_settling done }
+/// The status of a text that was to be written.
+pub fn status_of_writing(done: Result<(), OutputFault>) -> Status
+    ensures { result ≡ status_of_writing done }
 {
     match done {
         Ok(()) => Status::Ok,
-        Err(SettlingFault::Opening(BookFault::Disk)) => Status::DiskFault,
-        Err(SettlingFault::Opening(BookFault::NotJournal)) => Status::NotJournal,
-        Err(SettlingFault::Opening(BookFault::BadRecord { at })) => Status::BadRecord { at },
-        Err(SettlingFault::Opening(BookFault::Memory)) => Status::Memory,
-        Err(SettlingFault::Output(OutputFault::Write)) => Status::WriteFault,
-        Err(SettlingFault::Output(OutputFault::Memory)) => Status::Memory,
+        Err(OutputFault::Write) => Status::WriteFault,
+        Err(OutputFault::Memory) => Status::Memory,
     }
 }
 

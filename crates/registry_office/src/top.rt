@@ -1,33 +1,36 @@
 // The top call: the words, and the objects that stand outside.
-ghost use Rattle.std.specs.Prelude.{◌≡◌, ◌⊎◌, ◌↔◌, ◌<◌, ◌≤◌, ◌++◌, ℕ, [], Some, None, IfSome, IsTrue, List, map, length, take, true, false};
-ghost use Rattle.std.specs.Io.KnownBytes.{Appends};
+ghost use Rattle.std.specs.Prelude.{◌≡◌, ◌⊎◌, ◌↔◌, ◌≤◌, ◌+◌, ◌++◌, ℕ, [], Some, None, IfSome, IsTrue, List, map, length, take, true, false};
+ghost use Rattle.std.specs.Io.KnownBytes.{Appends, IsAtEnd};
 ghost use Rattle.std.specs.Rc.{rc_str_bytes};
 ghost use Rattle.gb_outside.specs.Bytes.{AppendsFront};
 ghost use Rattle.gb_outside.specs.Faults.{Counts};
-ghost use Rattle.journal_disk.specs.Opening.{IsKept};
+ghost use Rattle.journal_disk.specs.Layout.{the_heading, IsMade};
+ghost use Rattle.journal_disk.specs.Opening.{IsKept, AnswersSynced};
 ghost use Rattle.receipt_journal.specs.Standing.{StandsForJournal};
-ghost use Rattle.registry_office.specs.Disks.{FindsBy, IsJournalFile, KeepsDisk, KeepsGrown};
+ghost use Rattle.registry_office.specs.Disks.{FindsBy, IsJournalFile, KeepsGrown, LeftAnew};
+ghost use Rattle.registry_office.specs.EarlyEnds.{EndsEarly, AreOf};
 ghost use Rattle.registry_office.specs.Grown.{GrownFrom};
-ghost use Rattle.registry_office.specs.Outcomes.{outcome, requests_of, ended_replies, uses_disk, uses_input, uses_clock, Told};
+ghost use Rattle.registry_office.specs.Outcomes.{outcome, requests_of, cut_requests_of, replies_of, uses_disk, uses_input, receives, Told};
 ghost use Rattle.registry_office.specs.Requests.{OnDisk, Held, replies, held_after};
 ghost use Rattle.registry_office.specs.Sessions.{most_input, Took, HasWritten};
-ghost use Rattle.registry_office.specs.Statuses.{read_fault, write_fault, disk_fault, door_fault, is_no_journal};
+ghost use Rattle.registry_office.specs.Statuses.{read_fault, write_fault, disk_fault, door_fault, is_no_journal, tells_of_opening};
 ghost use Rattle.registry_office.specs.Words.{command_of};
 ghost use Rattle.registry_office.specs.declared.requests.Request.{Request};
 
 use crate::disk_settling::settle_disk;
+use crate::receiving::receive_disk;
 use crate::settling::settle_lines;
-use crate::statuses::{Status, status_of, status_of_settling};
-use crate::taking::take_disk;
+use crate::statuses::{Status, status_of};
 use crate::words::{Command, read_words};
 use gb_outside::{Clock, DeskGate, Disk, Listener, Sink, Source};
 use std::rc::RcStr;
 
 /// The office: does what the words say, over the objects that are handed in.
 ///
-/// Each status but `Ok`, `Usage` and `Memory` blames one object: its count of faults rose in this
-/// call, or, for the input, more bytes came than the office takes. Want of memory may be answered
-/// at any point. The number of desks never changes what is written.
+/// `ReadFault`, `WriteFault`, `DiskFault` and `DoorFault` blame one object, whose count of faults
+/// rose in this call; `InputTooLong` says that more bytes came than the office takes, and
+/// `NotJournal` and `BadRecord` what the disk's file stood for. Want of memory may be answered at
+/// any point. The number of desks never changes what is written.
 ///
 /// ```
 /// // The words are "settle", "--desks", "2", "--lines".
@@ -36,7 +39,7 @@ use std::rc::RcStr;
 ///     Status::Ok => {}
 ///     // It has the replies to the lines that were read whole.
 ///     Status::ReadFault => {}
-///     fault => eprintln!("{fault}"),
+///     status => panic!("{status:?}"),
 /// }
 /// ```
 pub fn run<R: AllocGlobal, S: Source, K: Sink, D: Disk, C: Clock, L: Listener, G: DeskGate>(
@@ -60,7 +63,7 @@ pub fn run<R: AllocGlobal, S: Source, K: Sink, D: Disk, C: Clock, L: Listener, G
         → IfSome (S.left source.old) (λ _. S.left source.new ≡ Some []) }
     ensures ticks { (held : Held) (input : List ℕ)
         → Told (command_of (map rc_str_bytes words.now)) D.tells (D.reads disk.old) (S.left source.old) (C.ticks clock.old) held input
-        → uses_clock (command_of (map rc_str_bytes words.now)) ≡ true → result ≡ Status.Ok
+        → receives (command_of (map rc_str_bytes words.now)) ≡ true → result ≡ Status.Ok
         → C.ticks clock.new ≡ Some (outcome (command_of (map rc_str_bytes words.now)) held input).ticks }
     ensures stands_at_end { (held : Held) (input file : List ℕ)
         → Told (command_of (map rc_str_bytes words.now)) D.tells (D.reads disk.old) (S.left source.old) (C.ticks clock.old) held input
@@ -69,19 +72,37 @@ pub fn run<R: AllocGlobal, S: Source, K: Sink, D: Disk, C: Clock, L: Listener, G
 
     // No more than 64 MiB are taken, unless the status says so.
     ensures short { (result ≡ Status.InputTooLong → ⊥) → Took (S.left source.old) (S.left source.new) (λ read. length read ≤ most_input) }
-    ensures long { result ≡ Status.InputTooLong → Took (S.left source.old) (S.left source.new) (λ read. most_input < length read) }
+    ensures long { result ≡ Status.InputTooLong → Took (S.left source.old) (S.left source.new) (λ read. length read ≡ most_input + 1) }
 
-    // On every other status a front of it was written; where the source failed or gave too much, just
-    // the replies to the lines that an LF ends in what was read, of which the first 64 MiB count.
+    // On every other status a front of it was written. While the source is not at its end, that is a
+    // front of the replies to the lines that an LF ends in what was read, of which the first 64 MiB
+    // count; all of these replies, and their receipts, where the source failed or gave too much.
     ensures part { (held : Held) (input : List ℕ)
         → Told (command_of (map rc_str_bytes words.now)) D.tells (D.reads disk.old) (S.left source.old) (C.ticks clock.old) held input
         → (result ≡ Status.Ok → ⊥)
         → AppendsFront (K.written sink.old) (K.written sink.new) (outcome (command_of (map rc_str_bytes words.now)) held input).written }
+    ensures read_part { (held : Held) (input : List ℕ)
+        → Told (command_of (map rc_str_bytes words.now)) D.tells (D.reads disk.old) (S.left source.old) (C.ticks clock.old) held input
+        → uses_input (command_of (map rc_str_bytes words.now)) ≡ true → (result ≡ Status.Ok → ⊥) → (IsAtEnd (S.left source.new) → ⊥)
+        → Took (S.left source.old) (S.left source.new) (λ read. AppendsFront (K.written sink.old) (K.written sink.new)
+        (replies_of (command_of (map rc_str_bytes words.now)) held (cut_requests_of (command_of (map rc_str_bytes words.now)) (take most_input read)))) }
     ensures cut { (held : Held) (input : List ℕ)
         → Told (command_of (map rc_str_bytes words.now)) D.tells (D.reads disk.old) (S.left source.old) (C.ticks clock.old) held input
         → (result ≡ Status.ReadFault) ⊎ (result ≡ Status.InputTooLong)
         → Took (S.left source.old) (S.left source.new) (λ read. Appends (K.written sink.old) (K.written sink.new)
-        (ended_replies (command_of (map rc_str_bytes words.now)) held (take most_input read))) }
+        (replies_of (command_of (map rc_str_bytes words.now)) held (cut_requests_of (command_of (map rc_str_bytes words.now)) (take most_input read)))) }
+    ensures cut_journal { (held : Held) (input file : List ℕ)
+        → Told (command_of (map rc_str_bytes words.now)) D.tells (D.reads disk.old) (S.left source.old) (C.ticks clock.old) held input
+        → receives (command_of (map rc_str_bytes words.now)) ≡ true → (result ≡ Status.ReadFault) ⊎ (result ≡ Status.InputTooLong) → D.images disk.new file
+        → Took (S.left source.old) (S.left source.new) (λ read. StandsForJournal file (held_after OnDisk held (cut_requests_of (command_of (map rc_str_bytes words.now)) (take most_input read))).journal) }
+
+    // Where a command that receives ends early, the first requests of what was read are replied to
+    // whole; at most one more was begun, and the clock asked for no other.
+    ensures early { (held : Held) (input : List ℕ)
+        → Told (command_of (map rc_str_bytes words.now)) D.tells (D.reads disk.old) (S.left source.old) (C.ticks clock.old) held input
+        → receives (command_of (map rc_str_bytes words.now)) ≡ true → (result ≡ Status.Ok → ⊥)
+        → Took (S.left source.old) (S.left source.new) (λ read. (requests : List Request) × AreOf (requests_of (command_of (map rc_str_bytes words.now))) (cut_requests_of (command_of (map rc_str_bytes words.now))) (S.left source.new) read requests
+        × EndsEarly true OnDisk held (C.ticks clock.new) (K.written sink.old) (K.written sink.new) (LeftAnew (disk_fault result) (D.images disk.old) (D.images disk.new)) requests) }
 
     // A stop at any moment after the first sync leaves the journal that was found, followed by the first
     // of the receipts that this call receives; each reply that stands whole has its receipts in every image.
@@ -91,16 +112,18 @@ pub fn run<R: AllocGlobal, S: Source, K: Sink, D: Disk, C: Clock, L: Listener, G
         → KeepsGrown D.reads D.images D.moment D.since disk.old disk.new (disk_fault result) held.journal (outcome (command_of (map rc_str_bytes words.now)) held input).journal }
     ensures acknowledged { (held : Held) (input : List ℕ) (front back : List Request) (file : List ℕ)
         → Told (command_of (map rc_str_bytes words.now)) D.tells (D.reads disk.old) (S.left source.old) (C.ticks clock.old) held input
-        → uses_clock (command_of (map rc_str_bytes words.now)) ≡ true → requests_of (command_of (map rc_str_bytes words.now)) input ≡ front ++ back
+        → receives (command_of (map rc_str_bytes words.now)) ≡ true → requests_of (command_of (map rc_str_bytes words.now)) input ≡ front ++ back
         → (replies OnDisk held front ≡ [] → ⊥) → HasWritten (K.written sink.old) (K.written sink.new) (replies OnDisk held front)
         → D.images disk.new file
         → GrownFrom (held_after OnDisk held front).journal (outcome (command_of (map rc_str_bytes words.now)) held input).journal file }
 
-    // A status tells what the disk's file stood for; where it stood for no journal, it stays, and nothing is written.
+    // A status tells what the disk's file stood for, and an unmade one is made. It stays where the
+    // command receives nothing, and where it stood for no journal; then nothing else is touched.
     ensures found { IsTrue D.tells → uses_disk (command_of (map rc_str_bytes words.now)) ≡ true → FindsBy (D.reads disk.old) result }
-    ensures kept { IsTrue D.tells → uses_disk (command_of (map rc_str_bytes words.now)) ≡ true → (IsJournalFile (D.reads disk.old) → ⊥) → IsKept (D.reads disk.old) (D.reads disk.new) }
-    ensures kept_any_moment { IsTrue D.tells → uses_disk (command_of (map rc_str_bytes words.now)) ≡ true → (IsJournalFile (D.reads disk.old) → ⊥)
-        → KeepsDisk D.reads D.images D.moment D.since disk.old disk.new (disk_fault result) }
+    ensures made { IsTrue D.tells → uses_disk (command_of (map rc_str_bytes words.now)) ≡ true → tells_of_opening result ≡ true → IsMade the_heading (D.reads disk.new) }
+    ensures kept { IsTrue D.tells → uses_disk (command_of (map rc_str_bytes words.now)) ≡ true → (receives (command_of (map rc_str_bytes words.now)) ≡ false) ⊎ (IsJournalFile (D.reads disk.old) → ⊥) → IsKept (D.reads disk.old) (D.reads disk.new) }
+    ensures kept_any_moment { IsTrue D.tells → uses_disk (command_of (map rc_str_bytes words.now)) ≡ true → (receives (command_of (map rc_str_bytes words.now)) ≡ false) ⊎ (IsJournalFile (D.reads disk.old) → ⊥)
+        → AnswersSynced D.reads D.images D.moment D.since disk.old disk.new (disk_fault result) }
     ensures unopened { IsTrue D.tells → uses_disk (command_of (map rc_str_bytes words.now)) ≡ true → (IsJournalFile (D.reads disk.old) → ⊥)
         → (source.new ≡ source.old) × (sink.new ≡ sink.old) × (clock.new ≡ clock.old) }
     ensures unopened_by { is_no_journal result ≡ true → (source.new ≡ source.old) × (sink.new ≡ sink.old) × (clock.new ≡ clock.old) }
@@ -109,7 +132,7 @@ pub fn run<R: AllocGlobal, S: Source, K: Sink, D: Disk, C: Clock, L: Listener, G
     ensures same_source { uses_input (command_of (map rc_str_bytes words.now)) ≡ false → source.new ≡ source.old }
     ensures same_sink { (command_of (map rc_str_bytes words.now)) ≡ None → sink.new ≡ sink.old }
     ensures same_disk { uses_disk (command_of (map rc_str_bytes words.now)) ≡ false → disk.new ≡ disk.old }
-    ensures same_clock { uses_clock (command_of (map rc_str_bytes words.now)) ≡ false → clock.new ≡ clock.old }
+    ensures same_clock { receives (command_of (map rc_str_bytes words.now)) ≡ false → clock.new ≡ clock.old }
     ensures same_door { door.new ≡ door.old }
 
     // Each fault has its cause, and a count rises with no other answer.
@@ -127,10 +150,10 @@ pub fn run<R: AllocGlobal, S: Source, K: Sink, D: Disk, C: Clock, L: Listener, G
 {
     match read_words(words) {
         None => Status::Usage,
-        Some(Command::Settle { .. }) => status_of_settling(settle_disk(rt.alloc(), disk, sink)),
+        Some(Command::Settle { desks }) => settle_disk(rt, disk, sink, desks, gate),
         Some(Command::SettleLines { .. }) => {
             status_of(settle_lines(rt.alloc(), disk, clock, source, sink))
         }
-        Some(Command::Take) => take_disk(rt, source, sink, disk, clock),
+        Some(Command::Receive { intake }) => receive_disk(rt, intake, source, sink, disk, clock),
     }
 }

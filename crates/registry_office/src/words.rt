@@ -2,8 +2,9 @@
 ghost use Rattle.std.specs.Prelude.{◌≡◌, ◌≤◌, ◌<◌, ◌^◌, length, map, IfSome, IsTrue};
 ghost use Rattle.std.specs.List.{list_all};
 ghost use Rattle.std.specs.Rc.{rc_str_bytes};
-ghost use Rattle.registry_office.specs.Words.{command_of, settle_by, settle_lines_by, is_digit, is_numeral, value_from, value_in};
+ghost use Rattle.registry_office.specs.Words.{HasDesks, command_of, settle_by, settle_lines_by, is_digit, is_numeral, value_from, value_in};
 
+use crate::intakes::Intake;
 use std::rc::RcStr;
 
 /// What the office is to do.
@@ -14,18 +15,21 @@ pub enum Command {
     /// Receive the stamped lines of the input into a journal in memory, settle it at so many desks
     /// and write the report.
     SettleLines { desks: u16 },
-    /// Receive the lines of the input into the journal of the disk.
-    Take,
+    /// Receive what the input has into the journal of the disk.
+    Receive { intake: Intake },
 }
 
 /// The command of these words; None where they are none.
 pub fn read_words(words: &[RcStr]) -> Option<Command>
-    ensures { result ≡ command_of (map rc_str_bytes words.now) }
+    ensures command { result ≡ command_of (map rc_str_bytes words.now) }
+    ensures desks { IfSome result HasDesks }
 {
     match words {
         [name] => {
             if &**name == "take" {
-                Some(Command::Take)
+                Some(Command::Receive {
+                    intake: Intake::Lines,
+                })
             } else {
                 None
             }
@@ -49,7 +53,8 @@ pub fn read_words(words: &[RcStr]) -> Option<Command>
 }
 
 fn settle(desks: &str) -> Option<Command>
-    ensures { result ≡ settle_by (value_in 1 64 desks.now) }
+    ensures command { result ≡ settle_by (value_in 1 64 desks.now) }
+    ensures desks { IfSome result HasDesks }
 {
     Some(Command::Settle {
         desks: number_of_desks(desks)?,
@@ -57,7 +62,8 @@ fn settle(desks: &str) -> Option<Command>
 }
 
 fn settle_lines(desks: &str) -> Option<Command>
-    ensures { result ≡ settle_lines_by (value_in 1 64 desks.now) }
+    ensures command { result ≡ settle_lines_by (value_in 1 64 desks.now) }
+    ensures desks { IfSome result HasDesks }
 {
     Some(Command::SettleLines {
         desks: number_of_desks(desks)?,
@@ -65,7 +71,8 @@ fn settle_lines(desks: &str) -> Option<Command>
 }
 
 fn number_of_desks(text: &str) -> Option<u16>
-    ensures { result ≡ value_in 1 64 text.now }
+    ensures value { result ≡ value_in 1 64 text.now }
+    ensures bounds { IfSome result (λ desks. (1 ≤ desks) × (desks ≤ 64)) }
 {
     let desks = value_in(text, 1, 64)?;
     Some(desks as u16)
@@ -74,7 +81,7 @@ fn number_of_desks(text: &str) -> Option<u16>
 /// The value of an option, where it is a number of 1 to 10 digits in the range.
 fn value_in(text: &str, low: u64, high: u64) -> Option<u64>
     ensures value { result ≡ value_in low high text.now }
-    ensures bound { IfSome result (λ value. value ≤ high) }
+    ensures bounds { IfSome result (λ value. (low ≤ value) × (value ≤ high)) }
 {
     let digits = text.as_bytes();
     if !is_numeral(digits) {

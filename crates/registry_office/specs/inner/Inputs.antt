@@ -1,15 +1,13 @@
 -- How far a session has come with its input.
-use Rattle.std.specs.Prelude.{◌≡◌, ◌⊎◌, ℕ, ◌≤◌, Bool, List, [], length, take, Option}
-use Rattle.std.specs.Io.KnownBytes.{IsAtEnd}
+use Rattle.std.specs.Prelude.{◌≡◌, ℕ, Bool, List, Option}
 use Rattle.gb_base.specs.DayMinute.{DayMinute}
 use Rattle.gb_outside.specs.Images.{LeavesOnly}
 use Rattle.act_model.specs.declared.receipts.Receipt.{Receipt}
+use Rattle.registry_office.specs.EarlyEnds.{EndsEarly}
 use Rattle.registry_office.specs.Grown.{GrownFrom}
 use Rattle.registry_office.specs.Requests.{Medium, OnDisk, holding, held_after}
-use Rattle.registry_office.specs.Sessions.{ended_requests, line_requests, most_input}
-use Rattle.registry_office.specs.declared.lines.LineKind.{LineKind}
 use Rattle.registry_office.specs.declared.requests.Request.{Request}
-use Rattle.registry_office.specs.inner.Sessions.{Knows, Answered, Broken}
+use Rattle.registry_office.specs.inner.Sessions.{Knows, Answered}
 
 -- All of these requests are answered, whatever the clock gives.
 abbrev pub AllAnswered : Bool → Medium → Bool → Option (List DayMinute) → List Receipt → List Receipt → Option (List DayMinute) → Option (List ℕ) → Option (List ℕ) → List Request → Type 0
@@ -19,16 +17,10 @@ AllAnswered by_clock medium tells known0 journal0 journal1 known1 written0 writt
 -- Some of these requests are answered.
 abbrev pub PartAnswered : Bool → Medium → Bool → Option (List DayMinute) → List Receipt → Option (List DayMinute) → Option (List ℕ) → Option (List ℕ) → (List ℕ → Type 0) → List Request → Type 0
 PartAnswered by_clock medium tells known0 journal0 known1 written0 written1 images requests =
-    (ticks : List DayMinute) → Knows by_clock medium tells known0 ticks → Broken by_clock medium (holding journal0 ticks) known1 written0 written1 images requests
+    (ticks : List DayMinute) → Knows by_clock medium tells known0 ticks → EndsEarly by_clock medium (holding journal0 ticks) known1 written0 written1 images requests
 
 -- A stop leaves a journal that has grown by some of these requests.
 abbrev pub LeavesGrown : {D : Type 0} → (D → ℕ) → (D → ℕ → List ℕ → Type 0) → D → D → Bool → Medium → Bool → Option (List DayMinute) → List Receipt → List Request → Type 0
 LeavesGrown moment since old new by_clock medium tells known0 journal0 requests =
     (ticks : List DayMinute) → Knows by_clock medium tells known0 ticks → medium ≡ OnDisk
     → LeavesOnly moment since old new (GrownFrom journal0 (held_after medium (holding journal0 ticks) requests).journal)
-
--- the requests of the bytes read: of the lines that an LF ends in the most that an input has, or of all lines where the source is at its end
-abbrev pub AreOf : LineKind → Option (List ℕ) → List ℕ → List Request → Type 0
-AreOf kind left1 read requests =
-    (requests ≡ ended_requests kind [] (take most_input read))
-    ⊎ (IsAtEnd left1 × (length read ≤ most_input) × (requests ≡ line_requests kind read))

@@ -1,5 +1,5 @@
 -- How far a session has come with its requests.
-use Rattle.std.specs.Prelude.{◌≡◌, ℕ, Bool, true, false, List, ◌++◌, Option, Some, IsTrue}
+use Rattle.std.specs.Prelude.{◌≡◌, ℕ, Bool, true, false, List, Option, Some, IsTrue}
 use Rattle.std.specs.Io.KnownBytes.{Appends}
 use Rattle.gb_outside.specs.Bytes.{AppendsFront}
 use Rattle.gb_base.specs.DayMinute.{DayMinute}
@@ -35,19 +35,3 @@ pub record Answered (by_clock : Bool) (medium : Medium) (held : Held) (journal :
   pub wrote : Appends written0 written1 (replies medium held requests)
   pub receipts : journal ≡ (held_after medium held requests).journal
   pub clock : by_clock ≡ true → known ≡ Some (held_after medium held requests).ticks
-
--- The clock was asked for the first of these requests.
-pub record AskedForFront (by_clock : Bool) (medium : Medium) (held : Held) (known : Option (List DayMinute)) (requests : List Request) : Type 0 where
-  pub asked : List Request
-  pub others : List Request
-  pub all : requests ≡ asked ++ others
-  pub clock : by_clock ≡ true → known ≡ Some (held_after medium held asked).ticks
-
--- Of these requests the first were received, what was written is a front of their replies, and every image has their receipts and at most those of the others.
-pub record Broken (by_clock : Bool) (medium : Medium) (held : Held) (known : Option (List DayMinute)) (written0 written1 : Option (List ℕ)) (images : List ℕ → Type 0) (requests : List Request) : Type 0 where
-  pub done : List Request
-  pub rest : List Request
-  pub whole : requests ≡ done ++ rest
-  pub wrote : AppendsFront written0 written1 (replies medium held done)
-  pub durable : medium ≡ OnDisk → (c : List ℕ) → images c → GrownFrom (held_after medium held done).journal (held_after medium held requests).journal c
-  pub ticks : AskedForFront by_clock medium held known requests

@@ -7,7 +7,7 @@ use Rattle.registry_office.specs.inner.Asking.{asks_clock, has_no_stamp}
 use Rattle.registry_office.specs.Grown.{GrownFrom}
 use Rattle.registry_office.specs.Requests.{holding}
 use Rattle.registry_office.proofs.Durable.{durable_stands}
-use Rattle.registry_office.proofs.OneRequest.{IsStamped, is_stamped, answered_nothing, answered_refused, answered_item, broken_refused, broken_item, item_grows}
+use Rattle.registry_office.proofs.OneRequest.{IsStamped, is_stamped, answered_nothing, answered_refused, answered_item, early_refused, early_item, item_grows}
 use Rattle.registry_office.proofs.Replies.{grows, grown_at, leaves_same}
 use Rattle.registry_office.proofs.answering.answer_request.Goals as goal
 
@@ -21,7 +21,7 @@ stamped g c by_clock ticks asks clock =
 pub returns-in_err-write_all-in-Refused-clause-broken : goal.returns-in_err-write_all-in-Refused-clause-broken
 returns-in_err-write_all-in-Refused-clause-broken g c = λ by_clock ticks asks knows.
     MatchResult-from_err c.from_residual.result _ _ c.from_residual.ensures.0
-    (λ _. broken_refused by_clock _ _ ticks _ _ _ _ _ c.in-Refused.reply c.in-Refused.is knows.clock (rw c.text.ensures at c.in_err-write_all-in-Refused.ensures.part)
+    (λ _. early_refused by_clock _ _ ticks _ _ _ _ _ c.in-Refused.reply c.in-Refused.is knows.clock (rw c.text.ensures at c.in_err-write_all-in-Refused.ensures.part)
     (λ on_disk file image. grown_at _ file (durable_stands _ _ _ file (c.requires.ready.durable on_disk (knows.disk on_disk)) image)))
 
 pub returns-in_err-write_all-in-Refused-clause-any_moment : goal.returns-in_err-write_all-in-Refused-clause-any_moment
@@ -57,7 +57,7 @@ returns-in-Receive-clause-answered g c = λ by_clock ticks asks knows.
 pub returns-in-Receive-clause-broken : goal.returns-in-Receive-clause-broken
 returns-in-Receive-clause-broken g c = λ by_clock ticks asks knows.
     let s = stamped g c by_clock ticks (subst (λ r. asks_clock r ≡ true → by_clock ≡ true) c.in-Receive.is asks) knows.clock in
-    on_err_weaker c.answer_item.result (λ missed. broken_item by_clock _ _ ticks _ _ _ _ _ _ _ _ _ _ c.in-Receive.is s missed) (c.answer_item.ensures.missed s.later knows.disk)
+    on_err_weaker c.answer_item.result (λ missed. early_item by_clock _ _ ticks _ _ _ _ _ _ _ _ _ _ c.in-Receive.is s missed) (c.answer_item.ensures.missed s.later knows.disk)
 
 pub returns-in-Receive-clause-any_moment : goal.returns-in-Receive-clause-any_moment
 returns-in-Receive-clause-any_moment g c = λ by_clock ticks asks knows on_disk.

@@ -1,40 +1,86 @@
-use Rattle.std.proofs.lemmas.Result.{MatchResult-from_err}
-use Rattle.std.proofs.Common.{List, sym, subst}
+use Rattle.std.proofs.Common.{◌≡◌, true, false, List, sym, ◌∙◌, subst}
 use Rattle.act_model.specs.declared.receipts.Receipt.{Receipt}
 use Rattle.journal_disk.specs.Opening.{AnswersSynced}
-use Rattle.receipt_journal.specs.Standing.{StandsForJournal}
+use Rattle.receipt_journal.specs.Standing.{records, StandsForJournal}
 use Rattle.receipt_journal.proofs.Standings.{journal_once, stands_by_frames}
+use Rattle.registry_office.specs.Statuses.{disk_fault}
 use Rattle.registry_office.proofs.Durable.{front_refl}
-use Rattle.registry_office.proofs.Opened.{keeps_grown, grows_synced, failed_at_opening, failed_at_output}
-use Rattle.registry_office.proofs.OnDisk.{whole_of_file, front_of_file}
+use Rattle.registry_office.proofs.OnDisk.{whole_of_file, front_of_file, is_writing, found_by_writing}
+use Rattle.registry_office.proofs.Opened.{keeps_grown, opening_status, disk_at_opening, found_at_opening, no_front, made_of_journal}
 use Rattle.registry_office.proofs.disk_settling.settle_disk.Goals as goal
 
-pub returns-in_err-write_settled-clause-part : goal.returns-in_err-write_settled-clause-part
-returns-in_err-write_settled-clause-part g c = λ tells journal stands.
-    MatchResult-from_err c.from_residual-in_err-write_settled.result _ _ c.from_residual-in_err-write_settled.ensures.0
-    (λ _. front_of_file _ _ _ c.journal.result.now.receipts c.in_ok-book.book.journal journal c.journal.ensures (c.in_ok-book.ensures.opened tells).found stands
-    c.in_err-write_settled.ensures.part)
+-- an opened book was synced, and settling touches no disk
+synced : (g : _) (c : goal.After-drop-book-inside-in-Ok g) → AnswersSynced g.D.Disk.reads g.D.Disk.images g.D.Disk.moment g.D.Disk.since c.args.disk.now c.open.new.disk false → AnswersSynced g.D.Disk.reads g.D.Disk.images g.D.Disk.moment g.D.Disk.since c.args.disk.now c.open.new.disk (disk_fault c.settle.result)
+synced g c first = subst (AnswersSynced g.D.Disk.reads g.D.Disk.images g.D.Disk.moment g.D.Disk.since c.args.disk.now c.open.new.disk) (sym (is_writing c.settle.result c.settle.ensures.others).no_disk) first
 
-pub returns-clause-output : goal.returns-clause-output
-returns-clause-output g c = λ tells journal stands.
-    whole_of_file _ _ _ c.journal.result.now.receipts c.in_ok-book.book.journal journal c.journal.ensures (c.in_ok-book.ensures.opened tells).found stands
-    c.in_ok-write_settled.ensures.whole
+pub returns-in-Ok-clause-written : goal.returns-in-Ok-clause-written
+returns-in-Ok-clause-written g c = λ tells journal stands ok.
+    whole_of_file _ _ _ c.journal.result.now.receipts c.in-Ok.book.journal journal c.journal.ensures (c.in-Ok.ensures.opened tells).found stands (c.settle.ensures.written ok)
 
-pub returns-in_err-book-clause-grown : goal.returns-in_err-book-clause-grown
-returns-in_err-book-clause-grown g c = λ tells journal stands.
-    keeps_grown g.D.Disk.reads g.D.Disk.images g.D.Disk.moment g.D.Disk.since c.args.disk.now c.open.new.disk journal journal _ stands (front_refl journal)
-    (subst (AnswersSynced g.D.Disk.reads g.D.Disk.images g.D.Disk.moment g.D.Disk.since c.args.disk.now c.open.new.disk) (sym (failed_at_opening c.from_residual.result c.in_err-book.field-0.0 c.from_residual.ensures.1)) (c.in_err-book.ensures.any_moment tells))
+pub returns-in-Ok-clause-part : goal.returns-in-Ok-clause-part
+returns-in-Ok-clause-part g c = λ tells journal stands.
+    front_of_file _ _ _ c.journal.result.now.receipts c.in-Ok.book.journal journal c.journal.ensures (c.in-Ok.ensures.opened tells).found stands c.settle.ensures.part
 
-pub returns-in_err-write_settled-clause-grown : goal.returns-in_err-write_settled-clause-grown
-returns-in_err-write_settled-clause-grown g c = λ tells journal stands.
-    keeps_grown g.D.Disk.reads g.D.Disk.images g.D.Disk.moment g.D.Disk.since c.args.disk.now c.open.new.disk journal journal _ stands (front_refl journal)
-    (subst (AnswersSynced g.D.Disk.reads g.D.Disk.images g.D.Disk.moment g.D.Disk.since c.args.disk.now c.open.new.disk) (sym (failed_at_output c.from_residual-in_err-write_settled.result c.in_err-write_settled.field-0.0 c.from_residual-in_err-write_settled.ensures.1)) (c.in_ok-book.ensures.any_moment tells))
+pub returns-in-Ok-clause-stands_at_end : goal.returns-in-Ok-clause-stands_at_end
+returns-in-Ok-clause-stands_at_end g c = λ tells journal file stands ok image.
+    subst (λ (j : List Receipt). StandsForJournal file j) (journal_once (g.D.Disk.reads c.args.disk.now) c.in-Ok.book.journal journal (c.in-Ok.ensures.opened tells).found stands)
+    (stands_by_frames file c.in-Ok.book.journal c.in-Ok.ensures.records.keepable ((c.in-Ok.ensures.opened tells).stands.durable file image))
 
-pub returns-clause-grown : goal.returns-clause-grown
-returns-clause-grown g c = λ tells journal stands.
-    grows_synced g.D.Disk.reads g.D.Disk.images g.D.Disk.moment g.D.Disk.since c.args.disk.now c.open.new.disk journal journal stands (front_refl journal) (c.in_ok-book.ensures.any_moment tells)
+pub returns-in-Ok-clause-found : goal.returns-in-Ok-clause-found
+returns-in-Ok-clause-found g c = λ tells. found_by_writing c.settle.result (g.D.Disk.reads c.args.disk.now) c.settle.ensures.others (c.in-Ok.book.journal, (c.in-Ok.ensures.opened tells).found)
 
-pub returns-clause-stands_at_end : goal.returns-clause-stands_at_end
-returns-clause-stands_at_end g c = λ tells journal file stands image.
-    subst (λ (j : List Receipt). StandsForJournal file j) (journal_once (g.D.Disk.reads c.args.disk.now) c.in_ok-book.book.journal journal (c.in_ok-book.ensures.opened tells).found stands)
-    (stands_by_frames file c.in_ok-book.book.journal c.in_ok-book.ensures.records.keepable ((c.in_ok-book.ensures.opened tells).stands.durable file image))
+pub returns-in-Ok-clause-made : goal.returns-in-Ok-clause-made
+returns-in-Ok-clause-made g c = λ tells told. made_of_journal (records c.in-Ok.book.journal) (g.D.Disk.reads c.open.new.disk) (c.in-Ok.ensures.opened tells).stands.journal
+
+pub returns-in-Ok-clause-kept_any_moment : goal.returns-in-Ok-clause-kept_any_moment
+returns-in-Ok-clause-kept_any_moment g c = λ tells. synced g c (c.in-Ok.ensures.any_moment tells)
+
+pub returns-in-Ok-clause-grown : goal.returns-in-Ok-clause-grown
+returns-in-Ok-clause-grown g c = λ tells journal stands.
+    keeps_grown g.D.Disk.reads g.D.Disk.images g.D.Disk.moment g.D.Disk.since c.args.disk.now c.open.new.disk journal journal _ stands (front_refl journal) (synced g c (c.in-Ok.ensures.any_moment tells))
+
+pub returns-in-Ok-clause-unopened : goal.returns-in-Ok-clause-unopened
+returns-in-Ok-clause-unopened g c = λ tells none. absurd (none (c.in-Ok.book.journal, (c.in-Ok.ensures.opened tells).found))
+
+pub returns-in-Ok-clause-unopened_by : goal.returns-in-Ok-clause-unopened_by
+returns-in-Ok-clause-unopened_by g c = λ none. let never : true ≡ false = sym none ∙ (is_writing c.settle.result c.settle.ensures.others).opened in absurd cc
+
+pub returns-in-Ok-clause-no_usage : goal.returns-in-Ok-clause-no_usage
+returns-in-Ok-clause-no_usage g c = (is_writing c.settle.result c.settle.ensures.others).not_usage
+
+pub returns-in-Ok-clause-no_input : goal.returns-in-Ok-clause-no_input
+returns-in-Ok-clause-no_input g c = ((is_writing c.settle.result c.settle.ensures.others).no_read, (is_writing c.settle.result c.settle.ensures.others).not_long)
+
+pub returns-in-Ok-clause-no_door : goal.returns-in-Ok-clause-no_door
+returns-in-Ok-clause-no_door g c = (is_writing c.settle.result c.settle.ensures.others).no_door
+
+pub returns-in-Err-clause-written : goal.returns-in-Err-clause-written
+returns-in-Err-clause-written g c = λ tells journal stands ok. absurd ((opening_status c.status_of_opening.result c.in-Err.fault c.status_of_opening.ensures).not_ok ok)
+
+pub returns-in-Err-clause-part : goal.returns-in-Err-clause-part
+returns-in-Err-clause-part g c = λ tells journal stands. no_front (g.K.Sink.written c.args.sink.now) _
+
+pub returns-in-Err-clause-stands_at_end : goal.returns-in-Err-clause-stands_at_end
+returns-in-Err-clause-stands_at_end g c = λ tells journal file stands ok image. absurd ((opening_status c.status_of_opening.result c.in-Err.fault c.status_of_opening.ensures).not_ok ok)
+
+pub returns-in-Err-clause-found : goal.returns-in-Err-clause-found
+returns-in-Err-clause-found g c = λ tells. found_at_opening c.status_of_opening.result c.in-Err.fault (g.D.Disk.reads c.args.disk.now) c.status_of_opening.ensures (c.in-Err.ensures.refused tells)
+
+pub returns-in-Err-clause-made : goal.returns-in-Err-clause-made
+returns-in-Err-clause-made g c = λ tells told. let never : true ≡ false = sym told ∙ (opening_status c.status_of_opening.result c.in-Err.fault c.status_of_opening.ensures).not_told in absurd cc
+
+pub returns-in-Err-clause-kept_any_moment : goal.returns-in-Err-clause-kept_any_moment
+returns-in-Err-clause-kept_any_moment g c = λ tells. subst (AnswersSynced g.D.Disk.reads g.D.Disk.images g.D.Disk.moment g.D.Disk.since c.args.disk.now c.open.new.disk) (sym (disk_at_opening c.status_of_opening.result c.in-Err.fault c.status_of_opening.ensures)) (c.in-Err.ensures.any_moment tells)
+
+pub returns-in-Err-clause-grown : goal.returns-in-Err-clause-grown
+returns-in-Err-clause-grown g c = λ tells journal stands.
+    keeps_grown g.D.Disk.reads g.D.Disk.images g.D.Disk.moment g.D.Disk.since c.args.disk.now c.open.new.disk journal journal _ stands (front_refl journal) (subst (AnswersSynced g.D.Disk.reads g.D.Disk.images g.D.Disk.moment g.D.Disk.since c.args.disk.now c.open.new.disk) (sym (disk_at_opening c.status_of_opening.result c.in-Err.fault c.status_of_opening.ensures)) (c.in-Err.ensures.any_moment tells))
+
+pub returns-in-Err-clause-no_usage : goal.returns-in-Err-clause-no_usage
+returns-in-Err-clause-no_usage g c = (opening_status c.status_of_opening.result c.in-Err.fault c.status_of_opening.ensures).not_usage
+
+pub returns-in-Err-clause-no_input : goal.returns-in-Err-clause-no_input
+returns-in-Err-clause-no_input g c = ((opening_status c.status_of_opening.result c.in-Err.fault c.status_of_opening.ensures).no_read, (opening_status c.status_of_opening.result c.in-Err.fault c.status_of_opening.ensures).not_long)
+
+pub returns-in-Err-clause-no_door : goal.returns-in-Err-clause-no_door
+returns-in-Err-clause-no_door g c = (opening_status c.status_of_opening.result c.in-Err.fault c.status_of_opening.ensures).no_door

@@ -6,15 +6,17 @@ use Rattle.registry_office.specs.Lines.{is_stamped_by_clock}
 use Rattle.registry_office.specs.Requests.{holding, held_after}
 use Rattle.registry_office.specs.Sessions.{ended_requests}
 use Rattle.registry_office.specs.declared.requests.Request.{Request}
-use Rattle.registry_office.specs.inner.Sessions.{Answered, Broken}
+use Rattle.registry_office.specs.EarlyEnds.{EndsEarly}
+use Rattle.registry_office.specs.inner.Sessions.{Answered}
 use Rattle.registry_office.proofs.LineRequests.{feed_requests, behind_with_feed}
-use Rattle.registry_office.proofs.Replies.{broken_before, leaves_same, grows}
+use Rattle.registry_office.proofs.EarlyEnds.{early_before}
+use Rattle.registry_office.proofs.Replies.{leaves_same, grows}
 use Rattle.registry_office.proofs.session.answer_ended.Goals as goal
 
 pub returns-in_err-extend_from_slice-clause-broken : goal.returns-in_err-extend_from_slice-clause-broken
 returns-in_err-extend_from_slice-clause-broken g c = λ ticks knows.
     MatchResult-from_err c.from_residual.result _ _ c.from_residual.ensures.0
-    (λ _. broken_before _ _ _ (g.J.Receiver.state c.args.receiver.now) ticks _ _ _ _ _ knows.clock knows.disk c.requires.ready)
+    (λ _. early_before _ _ _ (g.J.Receiver.state c.args.receiver.now) ticks _ _ _ _ _ knows.clock knows.disk c.requires.ready)
 
 pub returns-in_err-extend_from_slice-clause-any_moment : goal.returns-in_err-extend_from_slice-clause-any_moment
 returns-in_err-extend_from_slice-clause-any_moment g c = λ ticks knows on_disk.
@@ -25,7 +27,7 @@ returns-in_err-extend_from_slice-clause-any_moment g c = λ ticks knows on_disk.
 pub returns-in_err-answer_line-clause-broken : goal.returns-in_err-answer_line-clause-broken
 returns-in_err-answer_line-clause-broken g c = λ ticks knows.
     MatchResult-from_err c.from_residual-in_err-answer_line.result _ _ c.from_residual-in_err-answer_line.ensures.0
-    (λ _. subst (Broken (is_stamped_by_clock c.args.kind) _ _ _ _ _ _) (feed_requests c.args.kind c.args.line.now.items c.args.end.now _ c.requires.within_line (c.as_slice.ensures.value ∙ c.in_ok-extend_from_slice.ensures.items))
+    (λ _. subst (EndsEarly (is_stamped_by_clock c.args.kind) _ _ _ _ _ _) (feed_requests c.args.kind c.args.line.now.items c.args.end.now _ c.requires.within_line (c.as_slice.ensures.value ∙ c.in_ok-extend_from_slice.ensures.items))
     (c.in_err-answer_line.ensures.broken ticks knows))
 
 pub returns-in_err-answer_line-clause-any_moment : goal.returns-in_err-answer_line-clause-any_moment

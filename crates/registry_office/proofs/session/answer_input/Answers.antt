@@ -10,9 +10,11 @@ use Rattle.registry_office.specs.Grown.{GrownFrom}
 use Rattle.registry_office.specs.Lines.{request_of_line, is_stamped_by_clock}
 use Rattle.registry_office.specs.Requests.{holding}
 use Rattle.registry_office.specs.Sessions.{behind, ended_requests, line_requests}
-use Rattle.registry_office.specs.inner.Sessions.{Knows, Answered, Broken}
+use Rattle.registry_office.specs.EarlyEnds.{EndsEarly}
+use Rattle.registry_office.specs.inner.Sessions.{Knows, Answered}
 use Rattle.registry_office.proofs.LineRequests.{behind-append}
-use Rattle.registry_office.proofs.Replies.{answered_then, broken_then, broken_before, broken_all, left_within, leaves_same, grows, knows_then}
+use Rattle.registry_office.proofs.EarlyEnds.{early_then, early_before, early_all}
+use Rattle.registry_office.proofs.Replies.{answered_then, left_within, leaves_same, grows, knows_then}
 use Rattle.registry_office.proofs.SessionInputs.{took_none, took_more, took_same, are_ended, requests_of_more, requests_of_last, requests_of_most, requests_of_short}
 use Rattle.registry_office.proofs.session.answer_input.Goals as goal
 
@@ -22,7 +24,7 @@ returns-in_err-block-clause-part g c =
     (λ _. took_none _ _ (
       [],
       are_ended c.args.kind _ [] (omega arith),
-      (λ ticks knows. broken_before _ _ _ (g.J.Receiver.state c.args.receiver.now) ticks _ _ _ _ [] knows.clock knows.disk c.requires.ready),
+      (λ ticks knows. early_before _ _ _ (g.J.Receiver.state c.args.receiver.now) ticks _ _ _ _ [] knows.clock knows.disk c.requires.ready),
       (λ ticks knows on_disk.
           leaves_same g.D.Disk.moment g.D.Disk.since c.args.disk.now _ _ _ (g.J.Receiver.state c.args.receiver.now) _ _
           (grows g.J.Receiver.medium (holding (g.J.Receiver.state c.args.receiver.now).journal ticks) []) on_disk (knows.disk on_disk) c.requires.ready
@@ -40,16 +42,17 @@ returns-then-read-count-clause-part g c =
     (λ read did. (
       (ended_requests c.args.kind [] read),
       inl (ap (ended_requests c.args.kind []) (sym (take_at read _ 67108864 (did.0 ∙ grind (arith, c.room_for.ensures.left))))),
-      (λ ticks knows. broken_all _ _ _ _ ticks (g.J.Receiver.state c.loop.receiver) _ _ _ _ _ (ended_requests c.args.kind [] read) knows.disk (did.2 ticks knows) c.loop.invariant.ready),
+      (λ ticks knows. early_all _ _ _ _ ticks (g.J.Receiver.state c.loop.receiver) _ _ _ _ _ (ended_requests c.args.kind [] read) knows.disk (did.2 ticks knows) c.loop.invariant.ready),
       (λ ticks knows on_disk. subst (λ (j : List Receipt). LeavesOnly g.D.Disk.moment g.D.Disk.since c.args.disk.now c.loop.disk (GrownFrom (g.J.Receiver.state c.args.receiver.now).journal j)) (did.2 ticks knows).receipts (c.loop.invariant.left ticks knows on_disk)),
     ))
 
 pub returns-then-read-count-clause-long : goal.returns-then-read-count-clause-long
 returns-then-read-count-clause-long g c = λ which.
     took_more _ _ _ (take c.in-Bytes.read c.read_block.new.block) _ _ c.loop.invariant.took c.in-Bytes.ensures.content
-    (λ read did. let whole : length (take c.in-Bytes.read c.read_block.new.block) ≡ c.in-Bytes.read = grind (arith, common_steps) in
-    let size : length (read ++ take c.in-Bytes.read c.read_block.new.block) ≡ c.loop.count + c.in-Bytes.read = length-append read _ ∙ omega (arith, did.0, whole) in
-    omega (arith, size))
+    (λ read did. let full : c.loop.count ≡ 67108864 = grind (arith, c.room_for.ensures.left) in
+    let one : c.in-Bytes.read ≡ 1 = grind (arith, c.room_for.ensures.left) in
+    let whole : length (take c.in-Bytes.read c.read_block.new.block) ≡ c.in-Bytes.read = grind (arith, common_steps) in
+    length-append read _ ∙ omega (arith, did.0, whole, full, one))
 
 pub returns-in_err-answer_piece-in-Bytes-clause-part : goal.returns-in_err-answer_piece-in-Bytes-clause-part
 returns-in_err-answer_piece-in-Bytes-clause-part g c =
@@ -61,8 +64,8 @@ returns-in_err-answer_piece-in-Bytes-clause-part g c =
     let more = requests_of_more c.args.kind c.loop.line.items read (take c.in-Bytes.read c.read_block.new.block) did.1 in (
       ended_requests c.args.kind [] (read ++ (take c.in-Bytes.read c.read_block.new.block)),
       are_ended c.args.kind _ (read ++ (take c.in-Bytes.read c.read_block.new.block)) (omega (arith, size)),
-      (λ ticks knows. subst (Broken (is_stamped_by_clock c.args.kind) _ (holding (g.J.Receiver.state c.args.receiver.now).journal ticks) _ _ _ _) more
-          (broken_then _ _ (holding (g.J.Receiver.state c.args.receiver.now).journal ticks) _ _ _ _ _ _ _ (ended_requests c.args.kind [] read) (ended_requests c.args.kind c.loop.line.items (take c.in-Bytes.read c.read_block.new.block)) (did.2 ticks knows)
+      (λ ticks knows. subst (EndsEarly (is_stamped_by_clock c.args.kind) _ (holding (g.J.Receiver.state c.args.receiver.now).journal ticks) _ _ _ _) more
+          (early_then _ _ (holding (g.J.Receiver.state c.args.receiver.now).journal ticks) _ _ _ _ _ _ _ (ended_requests c.args.kind [] read) (ended_requests c.args.kind c.loop.line.items (take c.in-Bytes.read c.read_block.new.block)) (did.2 ticks knows)
           (rw is at (c.in_err-answer_piece-in-Bytes.ensures.broken _ (knows_then _ _ _ _ _ ticks (holding (g.J.Receiver.state c.args.receiver.now).journal ticks) _ _ _ (ended_requests c.args.kind [] read) knows (did.2 ticks knows)))))),
       (λ ticks knows on_disk. left_within g.D.Disk.moment g.D.Disk.since c.args.disk.now c.loop.disk c.answer_piece.new.disk _ _ _ _ ticks _ _ _ _ (ended_requests c.args.kind [] read) (ended_requests c.args.kind c.loop.line.items (take c.in-Bytes.read c.read_block.new.block)) [] (did.2 ticks knows)
           (sym more ∙ sym (append-nil ((ended_requests c.args.kind [] read) ++ (ended_requests c.args.kind c.loop.line.items (take c.in-Bytes.read c.read_block.new.block))))) (c.loop.invariant.left ticks knows on_disk)
@@ -81,8 +84,8 @@ returns-in_err-answer_line-in-End-clause-part g c =
     (λ read did. let last = requests_of_last c.args.kind c.loop.line.items read did.1 in (
       line_requests c.args.kind read,
       inr (subst IsAtEnd (sym c.in-End.ensures.content.1) c.in-End.ensures.content.0, omega (arith, did.0, c.loop.invariant.short), refl),
-      (λ ticks knows. subst (Broken (is_stamped_by_clock c.args.kind) _ (holding (g.J.Receiver.state c.args.receiver.now).journal ticks) _ _ _ _) last
-          (broken_then _ _ (holding (g.J.Receiver.state c.args.receiver.now).journal ticks) _ _ _ _ _ _ _ (ended_requests c.args.kind [] read) (request_of_line c.args.kind c.loop.line.items ∷ []) (did.2 ticks knows)
+      (λ ticks knows. subst (EndsEarly (is_stamped_by_clock c.args.kind) _ (holding (g.J.Receiver.state c.args.receiver.now).journal ticks) _ _ _ _) last
+          (early_then _ _ (holding (g.J.Receiver.state c.args.receiver.now).journal ticks) _ _ _ _ _ _ _ (ended_requests c.args.kind [] read) (request_of_line c.args.kind c.loop.line.items ∷ []) (did.2 ticks knows)
           (rw c.as_slice.ensures.value at (c.in_err-answer_line-in-End.ensures.broken _ (knows_then _ _ _ _ _ ticks (holding (g.J.Receiver.state c.args.receiver.now).journal ticks) _ _ _ (ended_requests c.args.kind [] read) knows (did.2 ticks knows)))))),
       (λ ticks knows on_disk. left_within g.D.Disk.moment g.D.Disk.since c.args.disk.now c.loop.disk c.answer_line.new.disk _ _ _ _ ticks _ _ _ _ (ended_requests c.args.kind [] read) (request_of_line c.args.kind c.loop.line.items ∷ []) [] (did.2 ticks knows)
           (sym last ∙ sym (append-nil ((ended_requests c.args.kind [] read) ++ request_of_line c.args.kind c.loop.line.items ∷ []))) (c.loop.invariant.left ticks knows on_disk)
@@ -122,7 +125,7 @@ returns-in-Failed-clause-part g c =
     (λ read did. (
       (ended_requests c.args.kind [] read),
       are_ended c.args.kind _ read (omega (arith, did.0, c.loop.invariant.short)),
-      (λ ticks knows. broken_all _ _ _ _ ticks (g.J.Receiver.state c.loop.receiver) _ _ _ _ _ (ended_requests c.args.kind [] read) knows.disk (did.2 ticks knows) c.loop.invariant.ready),
+      (λ ticks knows. early_all _ _ _ _ ticks (g.J.Receiver.state c.loop.receiver) _ _ _ _ _ (ended_requests c.args.kind [] read) knows.disk (did.2 ticks knows) c.loop.invariant.ready),
       (λ ticks knows on_disk. subst (λ (j : List Receipt). LeavesOnly g.D.Disk.moment g.D.Disk.since c.args.disk.now c.loop.disk (GrownFrom (g.J.Receiver.state c.args.receiver.now).journal j)) (did.2 ticks knows).receipts (c.loop.invariant.left ticks knows on_disk)),
     ))
 
@@ -152,7 +155,7 @@ loop-preserved g c =
           (left_within g.D.Disk.moment g.D.Disk.since c.args.disk.now c.loop.disk c.answer_piece.new.disk _ _ _ _ ticks _ _ _ ((ended_requests c.args.kind [] read) ++ (ended_requests c.args.kind c.loop.line.items (take c.in-Bytes.read c.read_block.new.block))) (ended_requests c.args.kind [] read) (ended_requests c.args.kind c.loop.line.items (take c.in-Bytes.read c.read_block.new.block)) [] first
           (sym (append-nil ((ended_requests c.args.kind [] read) ++ (ended_requests c.args.kind c.loop.line.items (take c.in-Bytes.read c.read_block.new.block))))) (c.loop.invariant.left ticks knows on_disk)
           (rw is at (c.in_ok-answer_piece-in-Bytes.ensures.any_moment _ (knows_then _ _ _ _ _ ticks (holding (g.J.Receiver.state c.args.receiver.now).journal ticks) _ _ _ (ended_requests c.args.kind [] read) knows first) on_disk)));
-      ready = c.in_ok-answer_piece-in-Bytes.ensures.ready;
+      ready = c.in_ok-answer_piece-in-Bytes.ensures.ready refl;
       in_memory = λ memory. c.in_ok-answer_piece-in-Bytes.ensures.in_memory memory ∙ c.loop.invariant.in_memory memory;
       own_stamps = λ own. c.in_ok-answer_piece-in-Bytes.ensures.own_stamps own ∙ c.loop.invariant.own_stamps own;
       quiet_source = c.in-Bytes.ensures.cause.else_same refl ∙ c.loop.invariant.quiet_source;

@@ -4,13 +4,14 @@ use Rattle.registry_office.specs.Lines.{request_of_line}
 use Rattle.registry_office.specs.Requests.{holding}
 use Rattle.registry_office.specs.inner.Asking.{asks_clock}
 use Rattle.registry_office.proofs.LineRequests.{asks_none, asks_by_kind}
-use Rattle.registry_office.proofs.Replies.{broken_before, leaves_same, grows}
+use Rattle.registry_office.proofs.EarlyEnds.{early_before}
+use Rattle.registry_office.proofs.Replies.{leaves_same, grows}
 use Rattle.registry_office.proofs.session.answer_line.Goals as goal
 
 pub returns-in_err-request-clause-broken : goal.returns-in_err-request-clause-broken
 returns-in_err-request-clause-broken g c = λ ticks knows.
     MatchResult-from_err c.from_residual.result _ _ c.from_residual.ensures.0
-    (λ _. broken_before _ _ _ (g.J.Receiver.state c.args.receiver.now) ticks _ _ _ _ _ knows.clock knows.disk c.requires.ready)
+    (λ _. early_before _ _ _ (g.J.Receiver.state c.args.receiver.now) ticks _ _ _ _ _ knows.clock knows.disk c.requires.ready)
 
 pub returns-in_err-request-clause-any_moment : goal.returns-in_err-request-clause-any_moment
 returns-in_err-request-clause-any_moment g c = λ ticks knows on_disk.

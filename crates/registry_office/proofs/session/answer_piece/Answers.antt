@@ -7,9 +7,11 @@ use Rattle.registry_office.specs.Grown.{GrownFrom}
 use Rattle.registry_office.specs.Lines.{is_stamped_by_clock}
 use Rattle.registry_office.specs.Requests.{holding, held_after}
 use Rattle.registry_office.specs.Sessions.{behind, ended_requests}
-use Rattle.registry_office.specs.inner.Sessions.{Knows, Answered, Broken}
+use Rattle.registry_office.specs.EarlyEnds.{EndsEarly}
+use Rattle.registry_office.specs.inner.Sessions.{Knows, Answered}
 use Rattle.registry_office.proofs.LineRequests.{behind-append, behind-none, requests_of_two, requests_of_piece, requests_at_end}
-use Rattle.registry_office.proofs.Replies.{answered_then, broken_then, broken_longer, broken_all, left_within, knows_then}
+use Rattle.registry_office.proofs.EarlyEnds.{early_then, early_longer, early_all}
+use Rattle.registry_office.proofs.Replies.{answered_then, left_within, knows_then}
 use Rattle.registry_office.proofs.session.answer_piece.Goals as goal
 
 pub returns-in_err-answer_ended-clause-broken : goal.returns-in_err-answer_ended-clause-broken
@@ -21,9 +23,9 @@ returns-in_err-answer_ended-clause-broken g c = λ ticks knows.
     let ys = ended_requests c.args.kind c.loop-end.line.items (c.in-Some.end.now ++ 10 ∷ []) in
     let later = knows_then _ _ _ _ _ ticks held _ _ _ xs knows first in
     MatchResult-from_err c.from_residual.result _ _ c.from_residual.ensures.0
-    (λ _. subst (Broken (is_stamped_by_clock c.args.kind) _ held _ _ _ _) (sym (requests_of_piece c.args.kind c.args.line.now.items c.loop-end.line.items c.args.piece.now so.done c.loop-end.rest.now c.in-Some.end.now c.in-Some.behind.now so.whole so.line c.in-Some.ensures.whole))
-    (broken_longer _ _ held _ _ _ _ (xs ++ ys) (ended_requests c.args.kind (behind c.loop-end.line.items (c.in-Some.end.now ++ 10 ∷ [])) c.in-Some.behind.now)
-    (broken_then _ _ held _ _ _ _ _ _ _ xs ys first (c.in_err-answer_ended.ensures.broken _ later))))
+    (λ _. subst (EndsEarly (is_stamped_by_clock c.args.kind) _ held _ _ _ _) (sym (requests_of_piece c.args.kind c.args.line.now.items c.loop-end.line.items c.args.piece.now so.done c.loop-end.rest.now c.in-Some.end.now c.in-Some.behind.now so.whole so.line c.in-Some.ensures.whole))
+    (early_longer _ _ held _ _ _ _ (xs ++ ys) (ended_requests c.args.kind (behind c.loop-end.line.items (c.in-Some.end.now ++ 10 ∷ [])) c.in-Some.behind.now)
+    (early_then _ _ held _ _ _ _ _ _ _ xs ys first (c.in_err-answer_ended.ensures.broken _ later))))
 
 pub returns-in_err-answer_ended-clause-any_moment : goal.returns-in_err-answer_ended-clause-any_moment
 returns-in_err-answer_ended-clause-any_moment g c = λ ticks knows on_disk.
@@ -64,7 +66,7 @@ loop-end-preserved g c =
           subst (λ (j : List Receipt). LeavesOnly g.D.Disk.moment g.D.Disk.since c.args.disk.now c.answer_ended.new.disk (GrownFrom (g.J.Receiver.state c.args.receiver.now).journal j)) (sym (both ticks knows).receipts)
           (left_within g.D.Disk.moment g.D.Disk.since c.args.disk.now c.loop-end.disk c.answer_ended.new.disk _ _ _ _ ticks _ _ _ (xs ++ ys) xs ys [] first
           (sym (append-nil (xs ++ ys))) (inv.left ticks knows on_disk) (c.in_ok-answer_ended.ensures.any_moment _ later on_disk));
-      ready = c.in_ok-answer_ended.ensures.ready;
+      ready = c.in_ok-answer_ended.ensures.ready refl;
       in_memory = λ memory. c.in_ok-answer_ended.ensures.in_memory memory ∙ inv.in_memory memory;
       own_stamps = λ own. c.in_ok-answer_ended.ensures.own_stamps own ∙ inv.own_stamps own;
       quiet_sink = c.in_ok-answer_ended.ensures.write_cause.else_same refl ∙ inv.quiet_sink;
@@ -78,8 +80,8 @@ returns-in_err-extend_from_slice-clause-broken g c = λ ticks knows.
     let held = holding (g.J.Receiver.state c.args.receiver.now).journal ticks in
     let xs = ended_requests c.args.kind c.args.line.now.items so.done in
     MatchResult-from_err c.from_residual-in_err-extend_from_slice.result _ _ c.from_residual-in_err-extend_from_slice.ensures.0
-    (λ _. subst (Broken (is_stamped_by_clock c.args.kind) _ held _ _ _ _) (sym (requests_at_end c.args.kind c.args.line.now.items c.loop-end.line.items c.args.piece.now so.done c.loop-end.rest.now so.whole c.in_default.ensures.none))
-    (broken_all _ _ _ _ ticks (g.J.Receiver.state c.loop-end.receiver) _ _ _ _ _ xs knows.disk first c.loop-end.invariant.ready))
+    (λ _. subst (EndsEarly (is_stamped_by_clock c.args.kind) _ held _ _ _ _) (sym (requests_at_end c.args.kind c.args.line.now.items c.loop-end.line.items c.args.piece.now so.done c.loop-end.rest.now so.whole c.in_default.ensures.none))
+    (early_all _ _ _ _ ticks (g.J.Receiver.state c.loop-end.receiver) _ _ _ _ _ xs knows.disk first c.loop-end.invariant.ready))
 
 pub returns-in_err-extend_from_slice-clause-any_moment : goal.returns-in_err-extend_from_slice-clause-any_moment
 returns-in_err-extend_from_slice-clause-any_moment g c = λ ticks knows on_disk.

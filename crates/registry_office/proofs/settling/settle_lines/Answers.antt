@@ -1,12 +1,17 @@
 use Rattle.std.proofs.Common.{inl, inr, ⊎_elim, refl, sym, ◌∙◌, Err}
 use Rattle.std.proofs.lemmas.Result.{MatchResult-from_err}
-use Rattle.registry_office.proofs.Whole.{front_of_report, whole_output, handed_on, all_of_input, built_of_input, end_of_input, cut_of_input, part_of_input}
+use Rattle.registry_office.proofs.Whole.{front_of_report, whole_output, handed_on, all_of_input, built_of_input, end_of_input, cut_of_input, part_of_input, read_part_of_input}
 use Rattle.registry_office.proofs.settling.settle_lines.Goals as goal
 
 pub returns-in_err-answer_input-clause-part : goal.returns-in_err-answer_input-clause-part
 returns-in_err-answer_input-clause-part g c =
     MatchResult-from_err c.from_residual.result _ _ c.from_residual.ensures.0
     (λ _. part_of_input _ _ _ c.new-journal.result.receipts c.answer_input.new.receiver.receipts _ _ _ _ c.new-journal.ensures _ _ c.in_err-answer_input.ensures.part)
+
+pub returns-in_err-answer_input-clause-read_part : goal.returns-in_err-answer_input-clause-read_part
+returns-in_err-answer_input-clause-read_part g c =
+    MatchResult-from_err c.from_residual.result _ _ c.from_residual.ensures.0
+    (λ _ unended. read_part_of_input _ _ _ c.new-journal.result.receipts c.answer_input.new.receiver.receipts _ _ _ _ c.new-journal.ensures _ _ c.in_err-answer_input.ensures.part unended)
 
 pub returns-in_err-answer_input-clause-short : goal.returns-in_err-answer_input-clause-short
 returns-in_err-answer_input-clause-short g c = λ other.
