@@ -49,9 +49,16 @@ returns-in-Ok-clause-part g c = λ held input told other.
 pub returns-in-Ok-clause-early : goal.returns-in-Ok-clause-early
 returns-in-Ok-clause-early g c = λ held input told other.
     let took = (session g c held input told).early other in
-    record { read = took.read; consumed = took.consumed; did = (took.did.0, took.did.1,
-      early_of_fewer true OnDisk held (g.C.Clock.ticks c.receive.new.clock) (g.K.Sink.written c.args.sink.now) (g.K.Sink.written c.receive.new.sink) (g.D.Disk.images c.receive.new.disk) (LeftAnew (disk_fault c.receive.result) (g.D.Disk.images c.args.disk.now) (g.D.Disk.images c.receive.new.disk)) took.did.0
-          (λ file left. left_of (disk_fault c.receive.result) (g.D.Disk.images c.args.disk.now) (g.D.Disk.images c.receive.new.disk) file left) took.did.2) }
+    record {
+      read = took.read;
+      consumed = took.consumed;
+      did = (
+        took.did.0,
+        took.did.1,
+        early_of_fewer true OnDisk held (g.C.Clock.ticks c.receive.new.clock) (g.K.Sink.written c.args.sink.now) (g.K.Sink.written c.receive.new.sink) (g.D.Disk.images c.receive.new.disk) (LeftAnew (disk_fault c.receive.result) (g.D.Disk.images c.args.disk.now) (g.D.Disk.images c.receive.new.disk)) took.did.0
+            (λ file left. left_of (disk_fault c.receive.result) (g.D.Disk.images c.args.disk.now) (g.D.Disk.images c.receive.new.disk) file left) took.did.2,
+      );
+    }
 
 pub returns-in-Ok-clause-cut : goal.returns-in-Ok-clause-cut
 returns-in-Ok-clause-cut g c = λ held input told which. (session g c held input told).cut_replies which
@@ -59,8 +66,12 @@ returns-in-Ok-clause-cut g c = λ held input told which. (session g c held input
 pub returns-in-Ok-clause-cut_journal : goal.returns-in-Ok-clause-cut_journal
 returns-in-Ok-clause-cut_journal g c = λ held input file told which image.
     let took = (session g c held input told).cut_journal which in
-    record { read = took.read; consumed = took.consumed; did = subst (λ (j : List Receipt). StandsForJournal file j) took.did
-      (durable_stands c.receive.new.book (g.D.Disk.reads c.receive.new.disk) (g.D.Disk.images c.receive.new.disk) file (c.receive.ensures.stands (told.disk_tells refl) (cut_by_source c.receive.result which)) image) }
+    record {
+      read = took.read;
+      consumed = took.consumed;
+      did = subst (λ (j : List Receipt). StandsForJournal file j) took.did
+          (durable_stands c.receive.new.book (g.D.Disk.reads c.receive.new.disk) (g.D.Disk.images c.receive.new.disk) file (c.receive.ensures.stands (told.disk_tells refl) (cut_by_source c.receive.result which)) image);
+    }
 
 pub returns-in-Ok-clause-acknowledged : goal.returns-in-Ok-clause-acknowledged
 returns-in-Ok-clause-acknowledged g c = λ held input front back file told split some wrote image. (session g c held input told).acknowledged front back file split wrote image
