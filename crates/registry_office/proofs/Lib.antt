@@ -6,6 +6,7 @@ pub mod Blocks
 pub mod Brought
 pub mod BuiltJournals
 pub mod CentPieces
+pub mod CsvSteps
 pub mod Durable
 pub mod Grounds
 pub mod InOrder

@@ -1,4 +1,5 @@
 -- What clauses of private functions say.
 pub mod Asking
+pub mod CsvRecords
 pub mod Inputs
 pub mod Sessions

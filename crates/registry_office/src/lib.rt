@@ -5,6 +5,7 @@ mod acts;
 mod answering;
 mod built;
 mod cent_line;
+mod csv_records;
 mod disk_settling;
 #[cfg(test)]
 mod disk_tests;
