@@ -14,6 +14,7 @@ pub mod LineRequests
 pub mod OnDisk
 pub mod OneRequest
 pub mod Opened
+pub mod OpeningRows
 pub mod Replies
 pub mod SessionInputs
 pub mod Settled

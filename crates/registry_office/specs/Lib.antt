@@ -7,6 +7,7 @@ pub mod Faults
 pub mod Grown
 pub mod Judging
 pub mod Lines
+pub mod OpeningLists
 pub mod Outcomes
 pub mod Ranks
 pub mod Reports

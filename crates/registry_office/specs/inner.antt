@@ -2,4 +2,5 @@
 pub mod Asking
 pub mod CsvRecords
 pub mod Inputs
+pub mod OpeningLists
 pub mod Sessions
