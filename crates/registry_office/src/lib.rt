@@ -19,6 +19,8 @@ mod lines;
 mod live_rights;
 mod numerals;
 mod opening_lists;
+#[cfg(test)]
+mod opening_tests;
 mod openings;
 mod rank_tables;
 mod ranks;
