@@ -6,6 +6,7 @@ pub mod Blocks
 pub mod Brought
 pub mod BuiltJournals
 pub mod CentPieces
+pub mod CsvSteps
 pub mod Durable
 pub mod EarlyEnds
 pub mod Grounds
@@ -14,6 +15,7 @@ pub mod LineRequests
 pub mod OnDisk
 pub mod OneRequest
 pub mod Opened
+pub mod OpeningRows
 pub mod Replies
 pub mod SessionInputs
 pub mod Settled

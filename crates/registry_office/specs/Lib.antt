@@ -9,6 +9,7 @@ pub mod Grown
 pub mod Intakes
 pub mod Judging
 pub mod Lines
+pub mod OpeningLists
 pub mod Outcomes
 pub mod Ranks
 pub mod Receivings

@@ -1,4 +1,6 @@
 -- What clauses of private functions say.
 pub mod Asking
+pub mod CsvRecords
 pub mod Inputs
+pub mod OpeningLists
 pub mod Sessions

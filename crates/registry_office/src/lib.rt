@@ -5,6 +5,7 @@ mod acts;
 mod answering;
 mod built;
 mod cent_line;
+mod csv_records;
 mod disk_settling;
 #[cfg(test)]
 mod disk_tests;
@@ -17,6 +18,11 @@ mod intakes;
 mod judging;
 mod lines;
 mod live_rights;
+mod numerals;
+mod opening_lists;
+#[cfg(test)]
+mod opening_tests;
+mod openings;
 mod rank_tables;
 mod ranks;
 mod reading;

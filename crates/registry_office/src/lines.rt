@@ -36,7 +36,7 @@ pub fn request_of_line(alloc: Global, kind: LineKind, line: &[u8]) -> Result<Req
         return Ok(Request::Nothing);
     }
     if line.len() > MAX_LINE {
-        return refused(alloc, b"malformed length\n");
+        return Request::refused(alloc, b"malformed length\n");
     }
     match kind {
         LineKind::Stamped => request_of_stamped(alloc, line),
@@ -98,7 +98,7 @@ fn request_of_item(
             item,
         });
     }
-    refused(alloc, b"not built\n")
+    Request::refused(alloc, b"not built\n")
 }
 
 /// A line that is no item is refused.
@@ -106,7 +106,7 @@ fn fault_line(alloc: Global, fault: &LineFault) -> Result<Request, NoMemory>
     ensures value { IfOk result (λ request. (request ≡ Request.Refused (fault_text fault.now ++ codes "\n")) × (fault.now ≢ LineFault.Memory)) }
 {
     match fault {
-        LineFault::NotJson => refused(alloc, b"malformed json\n"),
+        LineFault::NotJson => Request::refused(alloc, b"malformed json\n"),
         LineFault::NotItem(path) => {
             let mut text = Vec::from_slice(alloc, b"malformed ")?;
             text.extend_from_slice(path.text())?;
@@ -115,11 +115,4 @@ fn fault_line(alloc: Global, fault: &LineFault) -> Result<Request, NoMemory>
         }
         LineFault::Memory => Err(AllocError),
     }
-}
-
-/// A text that is refused with these bytes.
-fn refused(alloc: Global, text: &[u8]) -> Result<Request, NoMemory>
-    ensures { IfOk result (λ request. request ≡ Request.Refused text.now) }
-{
-    Ok(Request::Refused(Reply::new(Vec::from_slice(alloc, text)?)))
 }

@@ -1,6 +1,7 @@
 // What an input asks at one place.
 use act_model::Item;
-use gb_base::Stamp;
+use gb_base::{NoMemory, Stamp};
+use std::alloc::Global;
 use std::marker::Model;
 
 /// A reply line, with its LF.
@@ -50,4 +51,16 @@ pub enum Request {
         reference: u64,
         item: Item,
     },
+}
+
+impl Request {
+    ghost use Rattle.std.specs.Prelude.{◌≡◌, IfOk};
+    ghost use Rattle.registry_office.specs.declared.requests.Request.TheVariants.{Refused};
+
+    /// A text that is refused with these bytes.
+    pub fn refused(alloc: Global, text: &[u8]) -> Result<Request, NoMemory>
+        ensures { IfOk result (λ request. request ≡ Refused text.now) }
+    {
+        Ok(Request::Refused(Reply::new(Vec::from_slice(alloc, text)?)))
+    }
 }

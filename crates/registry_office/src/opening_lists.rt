@@ -1,0 +1,113 @@
+// An opening list: what its records ask, one after the other.
+ghost use Rattle.std.specs.Prelude.{◌≡◌, IfOk, IsTrue};
+ghost use Rattle.csv.specs.Records.{fields_of};
+ghost use Rattle.registry_office.specs.OpeningLists.{row_request};
+ghost use Rattle.registry_office.specs.inner.Asking.{asks_built, asks_well};
+
+use crate::csv_records::Records;
+use crate::openings::{filing_for, is_header, read_opening};
+use crate::requests::Request;
+use csv::ByteRecord;
+use gb_base::NoMemory;
+use std::alloc::Global;
+use std::marker::Model;
+
+/// Where the reading of a list stands.
+#[derive(Clone, Copy, Debug, PartialEq, Eq)]
+pub enum Place {
+    /// The first record was no header, which is still to be said.
+    WrongHeader,
+    /// Rows may come.
+    Rows,
+    /// Nothing comes any more.
+    End,
+}
+
+/// Reads an opening list, and gives what its records ask one after the other. In contracts it is
+/// what is still asked.
+#[derive(Drop)]
+pub struct OpeningList<'a> {
+    sender: u32,
+    records: Records<'a>,
+    row: ByteRecord,
+    place: Place,
+}
+
+impl<'a> Model for OpeningList<'a> {
+    ghost use Rattle.std.specs.Prelude.{List};
+    ghost use Rattle.registry_office.specs.declared.requests.Request.{Request};
+    ghost use Rattle.registry_office.specs.inner.OpeningLists.{requests_at};
+
+    ghost Value = { List Request };
+
+    ghost view = { λ a. requests_at a.place a.sender a.records };
+}
+
+impl<'a> OpeningList<'a> {
+    ghost use Rattle.std.specs.Prelude.{◌≡◌, ◌∷◌, [], IfOk, IfSome, IfNone, IsErr, IsTrue};
+    ghost use Rattle.registry_office.specs.OpeningLists.{row_requests};
+    ghost use Rattle.registry_office.specs.inner.Asking.{asks_built, asks_well};
+
+    /// The list of these bytes, from this sender.
+    #[tactic(auto, unfolding(crate::specs::OpeningLists::row_requests))]
+    pub fn new(alloc: Global, sender: u32, bytes: &'a [u8]) -> Result<OpeningList<'a>, NoMemory>
+        ensures { IfOk result (λ list. list ≡ row_requests sender bytes.now) }
+    {
+        let mut records = Records::new(alloc, bytes);
+        let mut row = ByteRecord::new(alloc);
+        let place = if !records.read(&mut row)? {
+            Place::End
+        } else if is_header(&row) {
+            Place::Rows
+        } else {
+            Place::WrongHeader
+        };
+        Ok(OpeningList {
+            sender,
+            records,
+            row,
+            place,
+        })
+    }
+
+    /// What is asked next; None at the end. After an error nothing is asked any more.
+    pub fn next(&mut self, alloc: Global) -> Result<Option<Request>, NoMemory>
+        ensures next { IfOk result (λ next. IfSome next (λ request. self.old ≡ request ∷ self.new)) }
+        ensures end { IfOk result (λ next. IfNone next ((self.old ≡ []) × (self.new ≡ []))) }
+        ensures failed { IsErr result → self.new ≡ [] }
+        ensures well_formed { IfOk result (λ next. IfSome next (λ request. IsTrue (asks_well request))) }
+        ensures built { IfOk result (λ next. IfSome next (λ request. IsTrue (asks_built request))) }
+    {
+        let place = self.place;
+        self.place = Place::End;
+        match place {
+            Place::WrongHeader => Ok(Some(Request::refused(alloc, b"malformed header\n")?)),
+            Place::Rows => {
+                if !self.records.read(&mut self.row)? {
+                    return Ok(None);
+                }
+                let request = request_of_row(alloc, self.sender, &self.row)?;
+                self.place = Place::Rows;
+                Ok(Some(request))
+            }
+            Place::End => Ok(None),
+        }
+    }
+}
+
+/// What a row asks.
+fn request_of_row(alloc: Global, sender: u32, row: &ByteRecord) -> Result<Request, NoMemory>
+    ensures value { IfOk result (λ request. request ≡ row_request sender (fields_of row.now)) }
+    ensures well_formed { IfOk result (λ request. IsTrue (asks_well request)) }
+    ensures built { IfOk result (λ request. IsTrue (asks_built request)) }
+{
+    match read_opening(row) {
+        Some(opening) => Ok(Request::Receive {
+            stamp: None,
+            sender,
+            reference: u64::from(opening.folio.get()),
+            item: filing_for(&opening),
+        }),
+        None => Request::refused(alloc, b"malformed row\n"),
+    }
+}
