@@ -17,6 +17,7 @@ pub mod OneRequest
 pub mod Opened
 pub mod OpeningRows
 pub mod Replies
+pub mod RowsAnswered
 pub mod SessionInputs
 pub mod Settled
 pub mod Takings

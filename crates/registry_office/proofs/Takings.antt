@@ -11,9 +11,10 @@ use Rattle.registry_office.specs.Grown.{IsFront, GrownFrom}
 use Rattle.registry_office.specs.Requests.{Medium, OnDisk, Held, holding, replies, held_after}
 use Rattle.registry_office.specs.Sessions.{Took, AllTell, HasWritten}
 use Rattle.registry_office.specs.Intakes.{whole_of, cut_of}
+use Rattle.registry_office.specs.OpeningLists.{row_requests}
 use Rattle.registry_office.specs.Receivings.{Receives}
 use Rattle.registry_office.specs.declared.intakes.Intake.{Intake}
-use Rattle.registry_office.specs.declared.intakes.Intake.TheVariants.{Lines}
+use Rattle.registry_office.specs.declared.intakes.Intake.TheVariants.{Lines, OpeningList}
 use Rattle.registry_office.specs.declared.lines.LineKind.TheVariants.{Plain}
 use Rattle.registry_office.specs.declared.requests.Request.{Request}
 use Rattle.registry_office.specs.inner.Inputs.{AllAnswered, PartAnswered, LeavesGrown}
@@ -129,6 +130,7 @@ module _ (whole cut : List ℕ → List Request) (begins : BeginsWith whole cut)
 -- what an input asks that is received onto the disk
 pub begins_of : (intake : Intake) → BeginsWith (whole_of intake) (cut_of intake)
 begins_of Lines = lines_begin Plain
+begins_of (OpeningList sender) = λ front behind. (row_requests sender (front ++ behind), refl)
 
 -- while the source was not at its end, replies to the lines of the bytes read alone were written
 pub read_part_of_early : (by_clock : Bool) (medium : Medium) (whole cut : List ℕ → List Request) (held : Held) (left0 left1 : Option (List ℕ)) (known1 : Option (List DayMinute)) (w0 w1 : Option (List ℕ)) (images : List ℕ → Type 0)

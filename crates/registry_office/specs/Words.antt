@@ -3,7 +3,7 @@ use Rattle.std.specs.Prelude.{ℕ, ◌≤◌, ◌+◌, ◌-◌, ◌*◌, Bool, �
 use Rattle.std.specs.List.{list_all}
 use Rattle.std.specs.Str.{bytes_eq}
 use Rattle.gb_base.specs.Limits.{is_between}
-use Rattle.registry_office.specs.declared.intakes.Intake.TheVariants.{Lines}
+use Rattle.registry_office.specs.declared.intakes.Intake.TheVariants.{Lines, OpeningList}
 use Rattle.registry_office.specs.declared.words.Command.{Command}
 use Rattle.registry_office.specs.declared.words.Command.TheVariants.{Settle, SettleLines, Receive}
 
@@ -35,12 +35,17 @@ abbrev pub settle_lines_by : Option ℕ → Option Command
 settle_lines_by (Some desks) = Some (SettleLines desks)
 settle_lines_by None = None
 
--- `take`, `settle --desks N`, and the same with `--lines`
+-- to receive the opening list of the input from this sender
+abbrev pub opening_by : Option ℕ → Option Command
+opening_by (Some sender) = Some (Receive (OpeningList sender))
+opening_by None = None
+
+-- `take`, `settle --desks N`, the same with `--lines`, and `opening --sender N`
 abbrev pub command_of : List (List ℕ) → Option Command
 command_of (name ∷ []) = if bytes_eq name (codes "take") then Some (Receive Lines) else None
-command_of (name ∷ flag ∷ desks ∷ []) =
-    if bytes_eq name (codes "settle") && bytes_eq flag (codes "--desks")
-    then settle_by (value_in 1 64 desks) else None
+command_of (name ∷ flag ∷ value ∷ []) =
+    if bytes_eq name (codes "settle") && bytes_eq flag (codes "--desks") then settle_by (value_in 1 64 value)
+    else (if bytes_eq name (codes "opening") && bytes_eq flag (codes "--sender") then opening_by (value_in 0 4294967295 value) else None)
 command_of (name ∷ flag ∷ desks ∷ lines ∷ []) =
     if bytes_eq name (codes "settle") && bytes_eq flag (codes "--desks") && bytes_eq lines (codes "--lines")
     then settle_lines_by (value_in 1 64 desks) else None

@@ -5,4 +5,6 @@
 pub enum Intake {
     /// Lines, each with an item that the clock stamps.
     Lines,
+    /// An opening list, sent by this sender.
+    OpeningList { sender: u32 },
 }

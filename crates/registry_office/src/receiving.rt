@@ -22,7 +22,7 @@ ghost use Rattle.registry_office.specs.declared.words.Command.TheVariants.{Recei
 
 use crate::intakes::Intake;
 use crate::statuses::{Status, status_of_opening};
-use crate::taking::take;
+use crate::taking::{take, take_list};
 use gb_outside::{Clock, Disk, Sink, Source};
 use receipt_journal::Book;
 
@@ -53,6 +53,7 @@ fn receive<R: AllocGlobal, S: Source, K: Sink, D: Disk, C: Clock>(
 {
     match intake {
         Intake::Lines => take(rt, source, sink, book, disk, clock),
+        Intake::OpeningList { sender } => take_list(rt, sender, source, sink, book, disk, clock),
     }
 }
 

@@ -18,17 +18,11 @@ ghost use Rattle.registry_office.specs.inner.Sessions.{IsReady, Knows, Answered}
 
 use crate::answering::answer_request;
 use crate::faults::{AnswerFault, SessionFault};
+use crate::inputs::{MAX_INPUT, empty_block, read_block, room_for};
 use crate::lines::{LineKind, request_of_line};
 use crate::receivers::Receiver;
-use gb_base::NoMemory;
 use gb_outside::{Clock, Disk, Got, Sink, Source};
 use std::alloc::Global;
-
-/// The most bytes of input that the office takes, 64 MiB.
-const MAX_INPUT: usize = 1 << 26;
-
-/// How many bytes are read at once.
-const BLOCK: usize = 1 << 16;
 
 /// Answers one line.
 fn answer_line<J: Receiver, D: Disk, C: Clock, K: Sink>(
@@ -150,35 +144,6 @@ fn answer_piece<J: Receiver, D: Disk, C: Clock, K: Sink>(
     }
     line.extend_from_slice(rest)?;
     Ok(())
-}
-
-/// How many bytes to ask for where so many were read: no more than are left of the most that the
-/// office takes, and one where none are, so that a byte more is noticed.
-fn room_for(count: usize) -> usize
-    requires { count ≤ MAX_INPUT }
-    ensures some { 1 ≤ result }
-    ensures block { result ≤ BLOCK }
-    ensures left { count + result ≤ MAX_INPUT ⊎ ((count ≡ MAX_INPUT) × (result ≡ 1)) }
-{
-    (MAX_INPUT - count).min(BLOCK).max(1)
-}
-
-/// A block to read into.
-fn empty_block(alloc: Global) -> Result<Vec<u8>, NoMemory>
-    ensures { IfOk result (λ block. vec_len block ≡ BLOCK) }
-{
-    vec![in alloc; 0; BLOCK]
-}
-
-/// Reads at most so many bytes to the front of the block.
-fn read_block<S: Source>(source: &mut S, block: &mut [u8], room: usize) -> Got
-    requires some { 1 ≤ room }
-    requires within { room ≤ length block.old }
-    ensures count { IsGot result room }
-    ensures content { Reads (S.left source.old) (S.left source.new) result block.new }
-    ensures cause { Counts (S.faults source.old) (S.faults source.new) (read_of_source_failed result) }
-{
-    source.read(&mut block[..room])
 }
 
 /// Answers all lines of the input.

@@ -1,4 +1,4 @@
-// Lines are received into the journal of a book.
+// Lines, or the rows of a list, are received into the journal of a book.
 ghost use Rattle.std.specs.Prelude.{◌≡◌, ◌≤◌, ◌+◌, ℕ, List, [], Some, false, length, IsTrue, IfSome};
 ghost use Rattle.gb_base.specs.DayMinute.{DayMinute};
 ghost use Rattle.gb_outside.specs.Faults.{Counts};
@@ -9,9 +9,10 @@ ghost use Rattle.registry_office.specs.Receivings.{Receives};
 ghost use Rattle.registry_office.specs.Requests.{OnDisk, holding, held_after};
 ghost use Rattle.registry_office.specs.Sessions.{most_input, Took, AllTell};
 ghost use Rattle.registry_office.specs.Statuses.{read_fault, write_fault, disk_fault, is_of_session};
-ghost use Rattle.registry_office.specs.declared.intakes.Intake.TheVariants.{Lines};
+ghost use Rattle.registry_office.specs.declared.intakes.Intake.TheVariants.{Lines, OpeningList as ListFrom};
 
 use crate::lines::LineKind;
+use crate::list_session::answer_list;
 use crate::session::answer_input;
 use crate::statuses::{Status, status_of};
 use gb_outside::{Clock, Disk, Sink, Source};
@@ -53,4 +54,33 @@ pub fn take<R: AllocGlobal, S: Source, K: Sink, D: Disk, C: Clock>(
     ensures others { IsTrue (is_of_session result) }
 {
     status_of(answer_input(rt.alloc(), LineKind::Plain, book, disk, clock, source, sink))
+}
+
+/// Receives the rows of the opening list that the input is, as `take` does lines.
+pub(crate) fn take_list<R: AllocGlobal, S: Source, K: Sink, D: Disk, C: Clock>(
+    rt: &R,
+    sender: u32,
+    source: &mut S,
+    sink: &mut K,
+    book: &mut Book,
+    disk: &mut D,
+    clock: &mut C,
+) -> Status
+    requires works { book.old.log.failed ≡ false }
+    requires stands { IsTrue D.tells → IsDurable book.old (D.reads disk.old) (D.images disk.old) }
+    ensures session { (ticks : List DayMinute) (input : List ℕ) → AllTell D.tells (C.ticks clock.old) (S.left source.old) ticks input
+        → Receives (whole_of (ListFrom sender)) (cut_of (ListFrom sender)) (holding book.old.journal ticks) input (S.left source.old) (S.left source.new) (C.ticks clock.new) (K.written sink.old) (K.written sink.new) book.new.journal (D.images disk.new) result }
+    ensures any_moment { (ticks : List DayMinute) (input : List ℕ) → AllTell D.tells (C.ticks clock.old) (S.left source.old) ticks input
+        → LeavesOnly D.moment D.since disk.old disk.new (GrownFrom book.old.journal (held_after OnDisk (holding book.old.journal ticks) (whole_of (ListFrom sender) input)).journal) }
+    ensures works { book.new.log.failed ≡ disk_fault result }
+    ensures stands { IsTrue D.tells → disk_fault result ≡ false → IsDurable book.new (D.reads disk.new) (D.images disk.new) }
+    ensures at_end { result ≡ Status.Ok → IfSome (S.left source.old) (λ _. S.left source.new ≡ Some []) }
+    ensures short { (result ≡ Status.InputTooLong → ⊥) → Took (S.left source.old) (S.left source.new) (λ read. length read ≤ most_input) }
+    ensures long { result ≡ Status.InputTooLong → Took (S.left source.old) (S.left source.new) (λ read. length read ≡ most_input + 1) }
+    ensures read { Counts (S.faults source.old) (S.faults source.new) (read_fault result) }
+    ensures write { Counts (K.faults sink.old) (K.faults sink.new) (write_fault result) }
+    ensures disk { Counts (D.faults disk.old) (D.faults disk.new) (disk_fault result) }
+    ensures others { IsTrue (is_of_session result) }
+{
+    status_of(answer_list(rt.alloc(), sender, book, disk, clock, source, sink))
 }

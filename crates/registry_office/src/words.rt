@@ -1,10 +1,10 @@
 // The words of the command line.
-ghost use Rattle.std.specs.Prelude.{◌≡◌, ◌≤◌, ◌<◌, ◌^◌, length, map, IfSome, IsTrue};
-ghost use Rattle.std.specs.List.{list_all};
+ghost use Rattle.std.specs.Prelude.{◌≡◌, ◌≤◌, map, IfSome};
 ghost use Rattle.std.specs.Rc.{rc_str_bytes};
-ghost use Rattle.registry_office.specs.Words.{HasDesks, command_of, settle_by, settle_lines_by, is_digit, is_numeral, value_from, value_in};
+ghost use Rattle.registry_office.specs.Words.{HasDesks, command_of, opening_by, settle_by, settle_lines_by, value_in};
 
 use crate::intakes::Intake;
+use crate::numerals::number_in;
 use std::rc::RcStr;
 
 /// What the office is to do.
@@ -34,9 +34,11 @@ pub fn read_words(words: &[RcStr]) -> Option<Command>
                 None
             }
         }
-        [name, flag, desks] => {
+        [name, flag, value] => {
             if &**name == "settle" && &**flag == "--desks" {
-                settle(&**desks)
+                settle(&**value)
+            } else if &**name == "opening" && &**flag == "--sender" {
+                opening(&**value)
             } else {
                 None
             }
@@ -74,47 +76,18 @@ fn number_of_desks(text: &str) -> Option<u16>
     ensures value { result ≡ value_in 1 64 text.now }
     ensures bounds { IfSome result (λ desks. (1 ≤ desks) × (desks ≤ 64)) }
 {
-    let desks = value_in(text, 1, 64)?;
+    let desks = number_in(text.as_bytes(), 1, 64)?;
     Some(desks as u16)
 }
 
-/// The value of an option, where it is a number of 1 to 10 digits in the range.
-fn value_in(text: &str, low: u64, high: u64) -> Option<u64>
-    ensures value { result ≡ value_in low high text.now }
-    ensures bounds { IfSome result (λ value. (low ≤ value) × (value ≤ high)) }
+fn opening(sender: &str) -> Option<Command>
+    ensures command { result ≡ opening_by (value_in 0 4294967295 sender.now) }
+    ensures desks { IfSome result HasDesks }
 {
-    let digits = text.as_bytes();
-    if !is_numeral(digits) {
-        return None;
-    }
-    let value = value_of(digits);
-    if low <= value && value <= high {
-        Some(value)
-    } else {
-        None
-    }
-}
-
-fn is_numeral(text: &[u8]) -> bool
-    ensures { result ≡ is_numeral text.now }
-{
-    1 <= text.len() && text.len() <= 10 && is_digits(text)
-}
-
-fn is_digits(text: &[u8]) -> bool
-    ensures { result ≡ list_all is_digit text.now }
-{
-    text.iter().all(|byte| b'0' <= *byte && *byte <= b'9')
-}
-
-/// The number that the digits write.
-fn value_of(digits: &[u8]) -> u64
-    requires { IsTrue (is_numeral digits.now) }
-    ensures { result ≡ value_from 0 digits.now }
-{
-    let mut value = 0;
-    for digit in digits {
-        value = value * 10 + u64::from(*digit - b'0');
-    }
-    value
+    let sender = number_in(sender.as_bytes(), 0, u64::from(u32::MAX))?;
+    Some(Command::Receive {
+        intake: Intake::OpeningList {
+            sender: sender as u32,
+        },
+    })
 }

@@ -11,13 +11,21 @@ use Rattle.registry_office.specs.Sessions.{Took}
 use Rattle.registry_office.specs.Statuses.{disk_fault}
 use Rattle.registry_office.specs.declared.requests.Request.{Request}
 use Rattle.registry_office.specs.declared.words.Command.{Command}
-use Rattle.registry_office.proofs.Takings.{cut_by_status, err_by_status, read_part_of_early}
+use Rattle.registry_office.proofs.Takings.{cut_by_status, err_by_status, short_by_status, read_part_of_early}
 use Rattle.registry_office.proofs.top.run.Goals as goal
 
 pub returns-in-Some-Settle-clause-part : goal.returns-in-Some-Settle-clause-part
 returns-in-Some-Settle-clause-part g c = λ held input told other.
     subst (λ (command : Option Command). AppendsFront (g.K.Sink.written c.args.sink.now) (g.K.Sink.written c.settle_disk.new.sink) (outcome command held input).written) (sym (sym c.read_words.ensures.command ∙ c.in-Some-Settle.is ∙ ap (λ (command : Command). Some command) c.in-Some-Settle.field-0-is))
     (c.settle_disk.ensures.part (told.disk_tells (ap uses_disk (sym c.read_words.ensures.command ∙ c.in-Some-Settle.is ∙ ap (λ (command : Command). Some command) c.in-Some-Settle.field-0-is))) held.journal (told.disk_stands (ap uses_disk (sym c.read_words.ensures.command ∙ c.in-Some-Settle.is ∙ ap (λ (command : Command). Some command) c.in-Some-Settle.field-0-is))))
+
+pub returns-in-Some-Settle-clause-stands_at_end : goal.returns-in-Some-Settle-clause-stands_at_end
+returns-in-Some-Settle-clause-stands_at_end g c = λ held input file told uses ok image.
+    subst (λ (command : Option Command). StandsForJournal file (outcome command held input).journal) (sym (sym c.read_words.ensures.command ∙ c.in-Some-Settle.is ∙ ap (λ (command : Command). Some command) c.in-Some-Settle.field-0-is))
+    (c.settle_disk.ensures.stands_at_end (told.disk_tells uses) held.journal file (told.disk_stands uses) ok image)
+
+pub returns-in-Some-SettleLines-clause-short : goal.returns-in-Some-SettleLines-clause-short
+returns-in-Some-SettleLines-clause-short g c = λ other. c.settle_lines.ensures.short (short_by_status c.settle_lines.result c.status_of.result c.status_of.ensures other)
 
 pub returns-in-Some-SettleLines-clause-read_part : goal.returns-in-Some-SettleLines-clause-read_part
 returns-in-Some-SettleLines-clause-read_part g c = λ held input told uses other unended.
