@@ -6,7 +6,7 @@ use Rattle.registry_office.specs.inner.OpeningLists.{names_columns, opening_at}
 
 pub header_of_six : (fields : List (List ℕ)) → length fields ≡ 6 → names_columns fields ≡ is_header fields
 unfolding field_at
-header_of_six [] six = cc six
+header_of_six [] six = absurd (omega (arith, six))
 header_of_six (a ∷ []) six = cc six
 header_of_six (a ∷ b ∷ []) six = cc six
 header_of_six (a ∷ b ∷ c ∷ []) six = cc six
@@ -27,7 +27,7 @@ header_of_others (a ∷ b ∷ c ∷ d ∷ e ∷ f ∷ g ∷ more) others = refl
 
 pub opening_of_six : (fields : List (List ℕ)) → length fields ≡ 6 → opening_at fields ≡ opening_of fields
 unfolding field_at
-opening_of_six [] six = cc six
+opening_of_six [] six = absurd (omega (arith, six))
 opening_of_six (a ∷ []) six = cc six
 opening_of_six (a ∷ b ∷ []) six = cc six
 opening_of_six (a ∷ b ∷ c ∷ []) six = cc six
