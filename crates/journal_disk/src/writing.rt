@@ -28,7 +28,7 @@ fn begin<D: Disk>(disk: &mut D) -> Result<(), DiskFailed>
     requires settled { IsTrue D.tells → Only (D.reads disk.old) (D.images disk.old) }
     ensures begun { OnOk result (IsTrue D.tells → D.reads disk.new ≡ 0 ∷ []) }
     ensures settled { OnOk result (IsTrue D.tells → Only (D.reads disk.new) (D.images disk.new)) }
-    ensures any_moment { IsTrue D.tells → LeavesOnly D.moment D.since disk.old disk.new (λ c. StandsFor c []) }
+    ensures any_moment { IsTrue D.tells → LeavesOnly D.moment D.since disk.old disk.new (λ c. StandsFor the_heading c []) }
     ensures cause { Counts (D.faults disk.old) (D.faults disk.new) (is_err result) }
 {
     put(disk, 0, &[0])
@@ -41,7 +41,7 @@ fn finish<D: Disk>(disk: &mut D) -> Result<(), DiskFailed>
     requires settled { IsTrue D.tells → Only (D.reads disk.old) (D.images disk.old) }
     ensures made { OnOk result (IsTrue D.tells → D.reads disk.new ≡ made_from the_heading (D.reads disk.old)) }
     ensures settled { OnOk result (IsTrue D.tells → Only (D.reads disk.new) (D.images disk.new)) }
-    ensures any_moment { IsTrue D.tells → LeavesOnly D.moment D.since disk.old disk.new (λ c. StandsFor c []) }
+    ensures any_moment { IsTrue D.tells → LeavesOnly D.moment D.since disk.old disk.new (λ c. StandsFor the_heading c []) }
     ensures cause { Counts (D.faults disk.old) (D.faults disk.new) (is_err result) }
 {
     let mut fresh = [CLOSED; FIRST_GATE as usize];
@@ -56,7 +56,7 @@ pub(crate) fn make<D: Disk>(disk: &mut D, begun: bool) -> Result<(), DiskFailed>
     requires settled { IsTrue D.tells → Only (D.reads disk.old) (D.images disk.old) }
     ensures made { OnOk result (IsTrue D.tells → D.reads disk.new ≡ made_from the_heading (D.reads disk.old)) }
     ensures settled { OnOk result (IsTrue D.tells → Only (D.reads disk.new) (D.images disk.new)) }
-    ensures any_moment { IsTrue D.tells → LeavesOnly D.moment D.since disk.old disk.new (λ c. StandsFor c []) }
+    ensures any_moment { IsTrue D.tells → LeavesOnly D.moment D.since disk.old disk.new (λ c. StandsFor the_heading c []) }
     ensures cause { Counts (D.faults disk.old) (D.faults disk.new) (is_err result) }
 {
     if !begun {

@@ -49,10 +49,10 @@ accepted_added old new stamp sender reference item answer accepts added =
 pub records_push : (journal : List Receipt) (r : Receipt) → records (journal ++ r ∷ []) ≡ records journal ++ spelling r ∷ []
 records_push journal r = map-append spelling journal (r ∷ [])
 
-pub with_or_without : (journal : List Receipt) (r : Receipt) (body c : List ℕ) → IsKeepable journal → IsKeepable (journal ++ r ∷ []) → body ≡ spelling r → frames.FramesWithOrWithout (records journal) body c → JournalWithOrWithout journal r c
+pub with_or_without : (journal : List Receipt) (r : Receipt) (body c : List ℕ) → IsKeepable journal → IsKeepable (journal ++ r ∷ []) → body ≡ spelling r → frames.FramesWithOrWithout the_heading (records journal) body c → JournalWithOrWithout journal r c
 with_or_without journal r body c is is_next spelled (inl without) = inl (stands_by_frames c journal is without)
 with_or_without journal r body c is is_next spelled (inr with_it) =
-    inr (stands_by_frames c (journal ++ r ∷ []) is_next (subst (StandsFor c) (ap (λ (b : List ℕ). records journal ++ b ∷ []) spelled ∙ sym (records_push journal r)) with_it))
+    inr (stands_by_frames c (journal ++ r ∷ []) is_next (subst (StandsFor the_heading c) (ap (λ (b : List ℕ). records journal ++ b ∷ []) spelled ∙ sym (records_push journal r)) with_it))
 
 -- the gate behind the frames of a journal with one receipt more
 pub gate_next : (journal : List Receipt) (r : Receipt) (gate : ℕ) (body : List ℕ) → gate ≡ gate_behind journal → body ≡ spelling r → gate + 5 + length body ≡ gate_behind (journal ++ r ∷ [])

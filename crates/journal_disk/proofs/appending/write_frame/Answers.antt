@@ -1,6 +1,7 @@
 use Rattle.std.proofs.Common.{ℕ, List, ◌∷◌, subst, inl, Result, Ok, Err, OnOk}
 use Rattle.gb_outside.specs.Images.{Holds}
 use Rattle.gb_outside.proofs.Moments.{followed, weakened}
+use Rattle.journal_disk.specs.Layout.{the_heading}
 use Rattle.journal_disk.specs.Appending.{FramesWithOrWithout}
 use Rattle.journal_disk.proofs.Puts.{put_twice}
 use Rattle.journal_disk.proofs.Appends.{record_put, record_written, gate_put, gate_written}
@@ -13,11 +14,11 @@ on_ok (Err e) p q then = tt
 
 pub returns-in_err-put-clause-any_moment : goal.returns-in_err-put-clause-any_moment
 returns-in_err-put-clause-any_moment g c = λ yes bodies stands.
-    weakened g.D.Disk.moment g.D.Disk.since _ _ _ (FramesWithOrWithout bodies c.args.body.now) (λ file from. inl (record_put _ bodies c.args.body.now _ _ stands _ file from)) (c.put.ensures.any_moment yes)
+    weakened g.D.Disk.moment g.D.Disk.since _ _ _ (FramesWithOrWithout the_heading bodies c.args.body.now) (λ file from. inl (record_put _ bodies c.args.body.now _ _ stands _ file from)) (c.put.ensures.any_moment yes)
 
 pub returns-clause-any_moment : goal.returns-clause-any_moment
 returns-clause-any_moment g c = λ yes bodies stands.
-    let P = FramesWithOrWithout bodies c.args.body.now in
+    let P = FramesWithOrWithout the_heading bodies c.args.body.now in
     let first = weakened g.D.Disk.moment g.D.Disk.since _ _ _ P (λ file from. inl (record_put _ bodies c.args.body.now _ _ stands _ file from)) (c.put.ensures.any_moment yes) in
     let staged = record_written _ bodies c.args.body.now _ _ stands _ _ c.fill.ensures (c.in_ok-put.ensures.written yes) in
     let second = weakened g.D.Disk.moment g.D.Disk.since _ _ _ P (gate_put _ bodies c.args.body.now _ _ stands c.requires.body _ _ _ staged (c.in_ok-put.ensures.settled yes)) (c.put-2.ensures.any_moment yes) in
