@@ -1,12 +1,10 @@
 -- What a write that is synced may leave on the way.
-use Rattle.std.proofs.Common.{◌≡◌, ℕ, ◌+◌, List, [], ◌∷◌, ◌++◌, length, take, drop, refl, sym, ◌∙◌, ap, arith, ◌<◌, append_assoc, length-take-le}
+use Rattle.std.proofs.Common.{◌≡◌, ℕ, ◌+◌, List, [], ◌∷◌, ◌++◌, length, take, drop, sym, ◌∙◌, ap, arith, ◌<◌, append_assoc, length-take-le}
 use Rattle.std.proofs.lemmas.List.{take-append-le, take-take, drop_at}
 use Rattle.gb_outside.specs.Images.{Holds, Torn, Follows, NoneNew, Elapses, LeavesOnly}
 use Rattle.gb_outside.proofs.Moments.{started, goes_on}
 use Rattle.journal_disk.specs.inner.Writing.{TornFrom}
-
-torn_nothing : (at n : ℕ) (c : List ℕ) → Torn at n c c
-torn_nothing at n c = record { before = refl; after = refl; no_shorter = omega arith; no_longer = omega arith }
+use Rattle.journal_disk.proofs.Torn.{torn_nothing}
 
 module _ {D : Type 0} (images : D → List ℕ → Type 0) (moment : D → ℕ) (since : D → ℕ → List ℕ → Type 0) where
   -- after the write
