@@ -12,7 +12,7 @@ use Rattle.act_model.specs.declared.added.Added.TheVariants as added
 use Rattle.act_model.specs.Receiving.{number_of, answer_to, journal_with}
 use Rattle.act_model.specs.Receiving as journals
 use Rattle.act_model.proofs.JournalLemmas.{IsJournal-push, stamp_after-last}
-use Rattle.act_codec.specs.Spelling.{spelling}
+use Rattle.act_codec.specs.Spelling.{longest_spelling, spelling}
 use Rattle.act_codec.specs.Values.{IsReceipt}
 use Rattle.act_codec.proofs.Lengths.{spelling_len, spelling_some}
 use Rattle.journal_disk.specs.Layout.{the_heading, file_limit, IsBody, StandsFor}
@@ -76,7 +76,7 @@ as_accepted added.Memory = refl
 
 -- what a book accepts fits into the file, since its spelling is short
 pub next_fits : (journal : List Receipt) (stamp : DayMinute) (sender reference : ℕ) (item : Item) → IsKeepable journal → journals.is_accepted (answer_to journal sender reference item) ≡ true
-    → length (spelling (next_receipt journal stamp sender reference item)) ≤ 522 → file_size the_heading (journal ++ next_receipt journal stamp sender reference item ∷ []) ≤ file_limit
+    → length (spelling (next_receipt journal stamp sender reference item)) ≤ longest_spelling → file_size the_heading (journal ++ next_receipt journal stamp sender reference item ∷ []) ≤ file_limit
 next_fits journal stamp sender reference item is accepts short =
     has_room_next journal (next_receipt journal stamp sender reference item) is (accepted_new journal item (number_of sender reference journal) accepts).1 short
 

@@ -7,7 +7,7 @@ ghost use Rattle.act_model.specs.WellFormed.{well_formed};
 ghost use Rattle.act_model.specs.Receiving.{receipt_at, answer_to};
 ghost use Rattle.act_model.specs.Receiving as journals;
 ghost use Rattle.act_model.specs.declared.items.Item.{Item};
-ghost use Rattle.act_codec.specs.Spelling.{spelling};
+ghost use Rattle.act_codec.specs.Spelling.{longest_spelling, spelling};
 ghost use Rattle.act_codec.specs.Values.{IsReceipt};
 ghost use Rattle.journal_disk.specs.Layout.{the_heading, first_gate, IsBody, IsUnmade, made_from, appended};
 ghost use Rattle.journal_disk.specs.Opening.{IsKept, AnswersSynced};
@@ -192,7 +192,7 @@ impl Book {
     ) -> Result<Vec<u8>, NoMemory>
         requires { IsTrue (well_formed item.now) }
         // Also where no memory is found for it, it has room on the disk.
-        ensures short { length (spelling (next_receipt self.now.journal stamp sender reference item.now)) ≤ 522 }
+        ensures short { length (spelling (next_receipt self.now.journal stamp sender reference item.now)) ≤ longest_spelling }
         ensures body { IfOk result (λ bytes. IsBody bytes.items) }
         ensures spelled { IfOk result (λ bytes. bytes.items ≡ spelling (next_receipt self.now.journal stamp sender reference item.now)) }
         ensures is_receipt { OnOk result (IsReceipt (next_receipt self.now.journal stamp sender reference item.now)) }
