@@ -75,7 +75,7 @@ pub(crate) fn spec(value: &Value, word: RightWord) -> Result<RightSpec, Path>
     ensures exact { result ≡ read_spec word (view value.now) }
     ensures short { IfErr result (λ path. length path ≤ 9) }
     ensures good { IfOk result (λ spec. IsTrue (is_right_spec spec)) }
-    ensures section { IfOk result (λ spec. is_in_division_three spec.kind ≡ is_charge word) }
+    ensures division { IfOk result (λ spec. is_in_division_three spec.kind ≡ is_charge word) }
 {
     let kind = kind(value, word)?;
     let capital = member(value, "capital")?;
@@ -94,7 +94,7 @@ fn kind(value: &Value, word: RightWord) -> Result<RightKind, Path>
     ensures exact { result ≡ read_kind word (view value.now) }
     ensures short { IfErr result (λ path. length path ≤ 4) }
     ensures good { IfOk result (λ kind. IsTrue (is_right_kind kind)) }
-    ensures section { IfOk result (λ kind. is_in_division_three kind ≡ is_charge word) }
+    ensures division { IfOk result (λ kind. is_in_division_three kind ≡ is_charge word) }
 {
     match word {
         RightWord::PersonalEasement => Ok(RightKind::PersonalEasement),

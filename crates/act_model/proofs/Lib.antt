@@ -5,3 +5,4 @@ mod ItemEquality
 pub mod JournalLemmas
 mod KeyLemmas
 mod KeyOrder
+mod KeysStay

@@ -71,9 +71,12 @@ is_accepted (added.Differs n) = false
 is_accepted added.Full = false
 is_accepted added.Memory = false
 
+-- the receipt that an item gets behind this journal
+abbrev pub next_receipt : List Receipt → DayMinute → ℕ → ℕ → Item → Receipt
+next_receipt journal stamp sender reference item =
+    record { stamp = stamp_after journal stamp; sender = sender; reference = reference; item = item }
+
 -- the journal after this answer
 abbrev pub journal_with : List Receipt → DayMinute → ℕ → ℕ → Item → Added → List Receipt
 journal_with journal stamp sender reference item answer =
-    if is_accepted answer
-    then journal ++ record { stamp = stamp_after journal stamp; sender = sender; reference = reference; item = item } ∷ []
-    else journal
+    if is_accepted answer then journal ++ next_receipt journal stamp sender reference item ∷ [] else journal

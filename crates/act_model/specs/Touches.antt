@@ -1,4 +1,4 @@
--- The keys that a filing touches. They follow from the receipts up to it alone, whatever became of these.
+-- The keys that a filing touches. They follow from the receipts up to it alone (law keys_stay), whatever became of these.
 use Rattle.std.specs.Prelude.{ℕ, ◌+◌, ◌-◌, Bool, false, ◌==◌, nat_lt, if◌then◌else◌, List, [], ◌∷◌, ◌++◌, map, slice_get, Option, Some, None, option_and_then}
 use Rattle.std.specs.Option.{option_map_or}
 use Rattle.std.specs.FinMap.{from_entries, keys}

@@ -10,7 +10,7 @@ pub enum Basis {
     FromRight { right: RightId },
 }
 
-/// A claim that is registered for the forced sale (ZVG §§ 37, 45).
+/// A registration for the forced sale (ZVG §§ 37, 45).
 #[derive(Clone, Copy, Debug, PartialEq, Eq)]
 pub enum Registration {
     /// An advance for keeping up the land, of class 1.

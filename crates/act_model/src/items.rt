@@ -34,7 +34,7 @@ pub enum Item {
         basis: Basis,
         served: Day,
     },
-    /// A claim is registered (ZVG § 37).
+    /// A registration for the forced sale (ZVG § 37).
     Register {
         folio: FolioId,
         what: Registration,

@@ -1,11 +1,12 @@
 //! What holds of all keys and of all items.
-ghost use Rattle.std.specs.Prelude.{◌≡◌, ◌↔◌, IsTrue, List, Contains};
+ghost use Rattle.std.specs.Prelude.{◌≡◌, ◌↔◌, ◌≤◌, ◌++◌, ℕ, IsTrue, List, Contains, length};
 ghost use Rattle.std.specs.List.Sorted.{IsStrictlySortedBy};
 ghost use Rattle.gb_base.specs.Keys.{key_cmp};
 ghost use Rattle.gb_base.specs.declared.keys.Key.{Key};
 ghost use Rattle.act_model.specs.declared.items.Item.{Item};
+ghost use Rattle.act_model.specs.declared.receipts.Receipt.{Receipt};
 ghost use Rattle.act_model.specs.Same.{same_item};
-ghost use Rattle.act_model.specs.Touches.{in_key_order};
+ghost use Rattle.act_model.specs.Touches.{in_key_order, keys_of_filing};
 
 /// Keys can be put in ascending order, each once.
 pub fn key_order()
@@ -17,6 +18,11 @@ pub fn key_order()
 pub fn one_key_order()
     ensures { (keys others : List Key) → IsStrictlySortedBy key_cmp keys → IsStrictlySortedBy key_cmp others
         → ((k : Key) → Contains keys k ↔ Contains others k) → keys ≡ others }
+{}
+
+/// A filing's keys follow from the receipts up to it alone.
+pub fn keys_stay()
+    ensures { (journal more : List Receipt) (m : ℕ) → m ≤ length journal → keys_of_filing (journal ++ more) m ≡ keys_of_filing journal m }
 {}
 
 /// `==` of two items is whether they are equal.

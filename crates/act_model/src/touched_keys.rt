@@ -181,17 +181,17 @@ fn insert_key(keys: &mut ArrayVec<Key, 18>, key: Key)
     if keys.as_slice().contains(&key) {
         return;
     }
-    let place = place_for(keys.as_slice(), key);
-    keys.insert(place, key);
+    let index = index_for(keys.as_slice(), key);
+    keys.insert(index, key);
 }
 
-/// The place of the first key that is greater, or behind the last.
-fn place_for(keys: &[Key], key: Key) -> usize
-    ensures place { insert keys.now result key ≡ insert_key key keys.now }
+/// The index of the first key that is greater, or the one behind the last.
+fn index_for(keys: &[Key], key: Key) -> usize
+    ensures index { insert keys.now result key ≡ insert_key key keys.now }
     ensures within { result ≤ length keys.now }
 {
     match keys {
-        [first, rest @ ..] if key >= *first => place_for(rest, key) + 1,
+        [first, rest @ ..] if key >= *first => index_for(rest, key) + 1,
         _ => 0,
     }
 }

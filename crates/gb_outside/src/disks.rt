@@ -32,7 +32,7 @@ pub trait Disk {
     fn len(&mut self) -> Result<u64, DiskFailed>
         ensures len { IsTrue tells → LenIs (reads self.old) result }
         ensures same { IsTrue tells → reads self.new ≡ reads self.old }
-        ensures crash { IsTrue tells → NoneNew (images self.old) (images self.new) }
+        ensures stop { IsTrue tells → NoneNew (images self.old) (images self.new) }
         ensures time { IsTrue tells
             → Elapses (moment self.old) (moment self.new) (since self.old) (since self.new) (images self.new) }
         ensures cause { Counts (faults self.old) (faults self.new) (is_err result) };
@@ -42,7 +42,7 @@ pub trait Disk {
         requires { IsTrue tells → at + length into.old ≤ length (reads self.old) }
         ensures bytes { IsTrue tells → ReadsAt (reads self.old) at result into.new }
         ensures same { IsTrue tells → reads self.new ≡ reads self.old }
-        ensures crash { IsTrue tells → NoneNew (images self.old) (images self.new) }
+        ensures stop { IsTrue tells → NoneNew (images self.old) (images self.new) }
         ensures time { IsTrue tells
             → Elapses (moment self.old) (moment self.new) (since self.old) (since self.new) (images self.new) }
         ensures cause { Counts (faults self.old) (faults self.new) (is_err result) };
@@ -51,7 +51,7 @@ pub trait Disk {
     fn write_at(&mut self, at: u64, bytes: &[u8]) -> Result<(), DiskFailed>
         requires { IsTrue tells → at ≤ length (reads self.old) }
         ensures written { IsTrue tells → WritesAt (reads self.old) (reads self.new) at result bytes.now }
-        ensures crash { IsTrue tells → Follows (Torn at (length bytes.now)) (images self.old) (images self.new) }
+        ensures stop { IsTrue tells → Follows (Torn at (length bytes.now)) (images self.old) (images self.new) }
         ensures time { IsTrue tells
             → Elapses (moment self.old) (moment self.new) (since self.old) (since self.new) (images self.new) }
         ensures cause { Counts (faults self.old) (faults self.new) (is_err result) };
@@ -60,7 +60,7 @@ pub trait Disk {
     fn sync(&mut self) -> Result<(), DiskFailed>
         ensures durable { IsTrue tells → Syncs (reads self.new) result (images self.new) }
         ensures same { IsTrue tells → reads self.new ≡ reads self.old }
-        ensures crash { IsTrue tells → NoneNew (images self.old) (images self.new) }
+        ensures stop { IsTrue tells → NoneNew (images self.old) (images self.new) }
         ensures time { IsTrue tells
             → Elapses (moment self.old) (moment self.new) (since self.old) (since self.new) (images self.new) }
         ensures cause { Counts (faults self.old) (faults self.new) (is_err result) };

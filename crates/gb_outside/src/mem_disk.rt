@@ -248,7 +248,7 @@ impl Disk for MemDisk {
         ensures fails { is_err result ≡ call_fails self.old }
         ensures left { self.new ≡ after_look self.old }
         ensures same { file_of self.new ≡ file_of self.old }
-        ensures crash { NoneNew (images_of self.old) (images_of self.new) }
+        ensures stop { NoneNew (images_of self.old) (images_of self.new) }
         ensures time { Elapses (moment_of self.old) (moment_of self.new) (since_of self.old) (since_of self.new) (images_of self.new) }
         ensures cause { Counts self.old.faults self.new.faults (is_err result) }
     {
@@ -262,7 +262,7 @@ impl Disk for MemDisk {
         ensures fails { is_err result ≡ call_fails self.old }
         ensures left { self.new ≡ after_look self.old }
         ensures same { file_of self.new ≡ file_of self.old }
-        ensures crash { NoneNew (images_of self.old) (images_of self.new) }
+        ensures stop { NoneNew (images_of self.old) (images_of self.new) }
         ensures time { Elapses (moment_of self.old) (moment_of self.new) (since_of self.old) (since_of self.new) (images_of self.new) }
         ensures cause { Counts self.old.faults self.new.faults (is_err result) }
     {
@@ -277,7 +277,7 @@ impl Disk for MemDisk {
         ensures written { WritesAt (file_of self.old) (file_of self.new) at result bytes.now }
         ensures fails { is_err result ≡ write_fails self.old at (length bytes.now) }
         ensures left { self.new ≡ after_write at bytes.now self.old }
-        ensures crash { Follows (Torn at (length bytes.now)) (images_of self.old) (images_of self.new) }
+        ensures stop { Follows (Torn at (length bytes.now)) (images_of self.old) (images_of self.new) }
         ensures time { Elapses (moment_of self.old) (moment_of self.new) (since_of self.old) (since_of self.new) (images_of self.new) }
         ensures cause { Counts self.old.faults self.new.faults (is_err result) }
     {
@@ -299,7 +299,7 @@ impl Disk for MemDisk {
         ensures fails { is_err result ≡ call_fails self.old }
         ensures left { self.new ≡ after_sync self.old }
         ensures same { file_of self.new ≡ file_of self.old }
-        ensures crash { NoneNew (images_of self.old) (images_of self.new) }
+        ensures stop { NoneNew (images_of self.old) (images_of self.new) }
         ensures time { Elapses (moment_of self.old) (moment_of self.new) (since_of self.old) (since_of self.new) (images_of self.new) }
         ensures cause { Counts self.old.faults self.new.faults (is_err result) }
     {

@@ -46,12 +46,12 @@ behind_torn bodies n d c is torn =
     journal c bodies is.mark is.gate (drop at c) is.made is.closed is.sizes
     (sym (take-append-drop at c) ∙ ap (λ (l : List ℕ). l ++ drop at c) kept ∙ append_assoc (front is.mark bodies) (is.gate ∷ []) (drop at c))
 
-module _ (gate : ℕ) (bodies : List (List ℕ)) (body file : List ℕ) (images : List ℕ → Type 0) (stands : StandsOn gate bodies file images) where
+module _ (gate : ℕ) (bodies : List (List ℕ)) (body file : List ℕ) (images : List ℕ → Type 0) (stands : StandsOn the_heading gate bodies file images) where
   abbrev was : IsJournal the_heading file bodies
   was = stands.journal
 
   -- while the record is written
-  pub record_put : (n : ℕ) (c : List ℕ) → TornFrom images (gate + 1) n c → StandsFor c bodies
+  pub record_put : (n : ℕ) (c : List ℕ) → TornFrom images (gate + 1) n c → StandsFor the_heading c bodies
   record_put n c from =
       let two : gate + 1 ≡ suc (suc (length (frames bodies) + 8)) = omega (arith, stands.ends) in
       let same : gate + 1 ≡ end_of the_heading bodies + 1 = ap (λ g. g + 1) stands.ends in
@@ -91,7 +91,7 @@ module _ (gate : ℕ) (bodies : List (List ℕ)) (body file : List ℕ) (images 
     ahead_of = ap (λ (l : List ℕ). take gate l) staged_is ∙ take_at (front was.mark bodies) (was.gate ∷ (measured body ++ 0 ∷ rest)) gate long
 
     -- whatever the gate becomes, the file has the frames with the new one or without it
-    any_gate : (c : List ℕ) (x : ℕ) → c ≡ front was.mark bodies ++ x ∷ (measured body ++ 0 ∷ rest) → FramesWithOrWithout bodies body c
+    any_gate : (c : List ℕ) (x : ℕ) → c ≡ front was.mark bodies ++ x ∷ (measured body ++ 0 ∷ rest) → FramesWithOrWithout the_heading bodies body c
     any_gate c x whole = elim (cases_eq x 1) [
       | inl opened ↦
           let shape : c ≡ front was.mark (bodies ++ body ∷ []) ++ 0 ∷ rest =
@@ -101,7 +101,7 @@ module _ (gate : ℕ) (bodies : List (List ℕ)) (body file : List ℕ) (images 
     ]
 
     -- while the gate is written
-    pub gate_put : (c : List ℕ) → TornFrom later gate 1 c → FramesWithOrWithout bodies body c
+    pub gate_put : (c : List ℕ) → TornFrom later gate 1 c → FramesWithOrWithout the_heading bodies body c
     gate_put c from =
         let torn : Torn gate 1 staged c = subst (λ (l : List ℕ). Torn gate 1 l c) (only from.0 from.1) from.2 in
         let longer : gate < length c = omega (arith, torn.no_shorter, ap length staged_is, length-append (front was.mark bodies) (was.gate ∷ (measured body ++ 0 ∷ rest)), long) in
@@ -110,7 +110,7 @@ module _ (gate : ℕ) (bodies : List (List ℕ)) (body file : List ℕ) (images 
         any_gate c x (sym (take-append-drop gate c) ∙ ap (λ (l : List ℕ). l ++ drop gate c) (torn.before ∙ ahead_of) ∙ ap (λ (l : List ℕ). front was.mark bodies ++ l) behind)
 
     -- and then the new frame is on the disk
-    pub gate_written : (new : List ℕ) (now : List ℕ → Type 0) → Holds staged gate (1 ∷ []) new → Only new now → StandsOn (gate + 5 + length body) (bodies ++ body ∷ []) new now
+    pub gate_written : (new : List ℕ) (now : List ℕ → Type 0) → Holds staged gate (1 ∷ []) new → Only new now → StandsOn the_heading (gate + 5 + length body) (bodies ++ body ∷ []) new now
     gate_written new now holds only_new =
         let whole : new ≡ front was.mark (bodies ++ body ∷ []) ++ 0 ∷ rest =
         holds

@@ -41,10 +41,10 @@ frames_from-append at (body ∷ bodies) more =
     ∙ ap (λ n. frames_from (at + 5 + length body) bodies ++ frames_from n more) offset)
 
 -- Frames and then those of a block, whatever was read.
-pub frames_none : AreFramesTo [] (first_gate the_heading)
+pub frames_none : AreFramesTo the_heading [] (first_gate the_heading)
 frames_none = record { bodies = []; sizes = All-nil IsBody; frames_are = refl; ends = refl }
 
-pub frames_more : (block : List ℕ) (at end : ℕ) (found now : List FrameAt) (ending : Ending) → AreFramesTo found at → Scanned at block found now end ending → AreFramesTo now end
+pub frames_more : (block : List ℕ) (at end : ℕ) (found now : List FrameAt) (ending : Ending) → AreFramesTo the_heading found at → Scanned at block found now end ending → AreFramesTo the_heading now end
 frames_more block at end found now ending are scanned = record {
   bodies = are.bodies ++ scanned.bodies;
   sizes = All-append IsBody are.bodies scanned.bodies are.sizes scanned.sizes;

@@ -90,7 +90,7 @@ read_from (suc n) (gate ∷ rest) few some small = elim (cases_eq gate 1) [
 ]
 
 -- a made file is a journal, or bad
-made_standing : (file : List ℕ) → AreBytes file → IsMade the_heading file → (s : Standing (List (List ℕ))) × HasStanding file s
+made_standing : (file : List ℕ) → AreBytes file → IsMade the_heading file → (s : Standing (List (List ℕ))) × HasStanding the_heading file s
 unfolding IsEnd
 made_standing file small is =
     let from : drop 9 file ≡ is.gate ∷ is.rest = ap (λ (l : List ℕ). drop 9 l) is.whole in
@@ -112,7 +112,7 @@ made_standing file small is =
     ]
 
 -- a mark that is not 0, and the bytes behind it
-with_mark : (mark next : ℕ) (rest : List ℕ) → mark ≢ 0 → AreBytes (mark ∷ next ∷ rest) → (s : Standing (List (List ℕ))) × HasStanding (mark ∷ next ∷ rest) s
+with_mark : (mark next : ℕ) (rest : List ℕ) → mark ≢ 0 → AreBytes (mark ∷ next ∷ rest) → (s : Standing (List (List ℕ))) × HasStanding the_heading (mark ∷ next ∷ rest) s
 with_mark mark next rest made small = elim (cases_Bool (bytes_eq (take 8 (next ∷ rest)) the_heading)) [
   | inl same ↦ headed ((bytes_eq-Decides (take 8 (next ∷ rest)) the_heading).0 same) (drop 8 (next ∷ rest)) refl
   | inr other ↦ (
@@ -127,7 +127,7 @@ with_mark mark next rest made small = elim (cases_Bool (bytes_eq (take 8 (next �
   )
 ]
   where
-    headed : take 8 (next ∷ rest) ≡ the_heading → (behind : List ℕ) → behind ≡ drop 8 (next ∷ rest) → (s : Standing (List (List ℕ))) × HasStanding (mark ∷ next ∷ rest) s
+    headed : take 8 (next ∷ rest) ≡ the_heading → (behind : List ℕ) → behind ≡ drop 8 (next ∷ rest) → (s : Standing (List (List ℕ))) × HasStanding the_heading (mark ∷ next ∷ rest) s
     headed heading [] nothing = (
       standing.Foreign,
       record { not_unmade = made; not_made = λ is. omega (arith, ap length nothing, length-drop 8 (next ∷ rest), ap length is.whole, length-append the_heading (is.gate ∷ is.rest)) },
@@ -144,7 +144,7 @@ with_mark mark next rest made small = elim (cases_Bool (bytes_eq (take 8 (next �
               ∙ ap (λ (l : List ℕ). mark ∷ (the_heading ++ l)) (sym behind);
         })
 
-of_bytes : (file : List ℕ) → AreBytes file → (s : Standing (List (List ℕ))) × HasStanding file s
+of_bytes : (file : List ℕ) → AreBytes file → (s : Standing (List (List ℕ))) × HasStanding the_heading file s
 of_bytes [] small = (standing.Unmade, tt)
 of_bytes (mark ∷ []) small = (standing.Unmade, tt)
 of_bytes (mark ∷ next ∷ rest) small = elim (cases_eq mark 0) [
@@ -163,5 +163,5 @@ are_bytes file all i = elim (cases_lt i (length file)) [
     get_or_past (x ∷ xs) zero past = absurd (omega arith)
     get_or_past (x ∷ xs) (suc i) past = get_or_past xs i (omega arith)
 
-pub has_standing : (file : List ℕ) → All (λ byte. byte < 256) file → (s : Standing (List (List ℕ))) × HasStanding file s
+pub has_standing : (file : List ℕ) → All (λ byte. byte < 256) file → (s : Standing (List (List ℕ))) × HasStanding the_heading file s
 has_standing file all = of_bytes file (are_bytes file all)

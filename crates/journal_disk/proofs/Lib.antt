@@ -9,3 +9,4 @@ pub mod OnlyRead
 pub mod Puts
 pub mod Refusing
 pub mod Standings
+pub mod Torn

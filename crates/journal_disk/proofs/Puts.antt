@@ -1,27 +1,25 @@
 -- What a write that is synced may leave on the way.
-use Rattle.std.proofs.Common.{◌≡◌, ℕ, ◌+◌, List, [], ◌∷◌, ◌++◌, length, take, drop, refl, sym, ◌∙◌, ap, arith, ◌<◌, append_assoc, length-take-le}
+use Rattle.std.proofs.Common.{◌≡◌, ℕ, ◌+◌, List, [], ◌∷◌, ◌++◌, length, take, drop, sym, ◌∙◌, ap, arith, ◌<◌, append_assoc, length-take-le}
 use Rattle.std.proofs.lemmas.List.{take-append-le, take-take, drop_at}
 use Rattle.gb_outside.specs.Images.{Holds, Torn, Follows, NoneNew, Elapses, LeavesOnly}
 use Rattle.gb_outside.proofs.Moments.{started, goes_on}
 use Rattle.journal_disk.specs.inner.Writing.{TornFrom}
-
-torn_nothing : (at n : ℕ) (c : List ℕ) → Torn at n c c
-torn_nothing at n c = record { before = refl; after = refl; no_shorter = omega arith; no_longer = omega arith }
+use Rattle.journal_disk.proofs.Torn.{torn_nothing}
 
 module _ {D : Type 0} (images : D → List ℕ → Type 0) (moment : D → ℕ) (since : D → ℕ → List ℕ → Type 0) where
   -- after the write
   pub put_written : (old new : D) (at n : ℕ) → ((c : List ℕ) → since old (moment old) c → images old c) → Elapses (moment old) (moment new) (since old) (since new) (images new)
       → Follows (Torn at n) (images old) (images new) → LeavesOnly moment since old new (TornFrom (images old) at n)
-  put_written old new at n only_now time crash =
+  put_written old new at n only_now time torn =
       goes_on moment since old old new (TornFrom (images old) at n) (images new)
-      (started moment since old (TornFrom (images old) at n) (λ c left. (c, only_now c left, torn_nothing at n c))) time crash
+      (started moment since old (TornFrom (images old) at n) (λ c left. (c, only_now c left, torn_nothing at n c))) time torn
 
   -- and after the sync
   pub put_synced : (old mid new : D) (at n : ℕ) → ((c : List ℕ) → since old (moment old) c → images old c) → Elapses (moment old) (moment mid) (since old) (since mid) (images mid)
       → Follows (Torn at n) (images old) (images mid) → Elapses (moment mid) (moment new) (since mid) (since new) (images new) → NoneNew (images mid) (images new)
       → LeavesOnly moment since old new (TornFrom (images old) at n)
-  put_synced old mid new at n only_now time crash later none_new =
-      goes_on moment since old mid new (TornFrom (images old) at n) (images new) (put_written old mid at n only_now time crash) later (λ c image. crash c (none_new c image))
+  put_synced old mid new at n only_now time torn later none_new =
+      goes_on moment since old mid new (TornFrom (images old) at n) (images new) (put_written old mid at n only_now time torn) later (λ c image. torn c (none_new c image))
 
 -- a piece behind a byte and then the byte are one piece
 pub put_twice : (old mid new piece : List ℕ) (gate x : ℕ) → gate < length old → Holds old (gate + 1) piece mid → Holds mid gate (x ∷ []) new → Holds old gate (x ∷ piece) new

@@ -94,13 +94,13 @@ bad_not_unmade [] ahead is unmade = let whole = is.whole in absurd cc
 bad_not_unmade (mark ∷ []) ahead is unmade = let whole = is.whole in absurd cc
 bad_not_unmade (mark ∷ next ∷ rest) ahead is unmade = let whole = is.whole in let same : mark ≡ is.mark = cc in is.made (sym same ∙ unmade)
 
-pub stands_once : (file : List ℕ) (a b : List (List ℕ)) → StandsFor file a → StandsFor file b → a ≡ b
+pub stands_once : (file : List ℕ) (a b : List (List ℕ)) → StandsFor the_heading file a → StandsFor the_heading file b → a ≡ b
 stands_once file a b (inl none_a) (inl none_b) = none_a.1 ∙ sym none_b.1
 stands_once file a b (inl none_a) (inr is_b) = absurd (journal_not_unmade file b is_b none_a.0)
 stands_once file a b (inr is_a) (inl none_b) = absurd (journal_not_unmade file a is_a none_b.0)
 stands_once file a b (inr is_a) (inr is_b) = journal_once file a b is_a is_b
 
-pub stands_not_bad : (file : List ℕ) (a b : List (List ℕ)) → StandsFor file a → IsBad the_heading file b → ⊥
+pub stands_not_bad : (file : List ℕ) (a b : List (List ℕ)) → StandsFor the_heading file a → IsBad the_heading file b → ⊥
 stands_not_bad file a b (inl none_a) is_b = bad_not_unmade file b is_b none_a.0
 stands_not_bad file a b (inr is_a) is_b = journal_not_bad file a b is_a is_b
 
@@ -118,14 +118,14 @@ bad_made file ahead is = made ahead is.whole
     made [] whole = record { mark = is.mark; gate = 1; rest = is.rest; made = is.made; whole = whole }
     made (body ∷ more) whole = record { mark = is.mark; gate = 1; rest = measured body ++ frames more ++ 1 ∷ is.rest; made = is.made; whole = whole }
 
-pub foreign_not_bad : (file : List ℕ) (ahead : List (List ℕ)) → IsForeign file → IsBad the_heading file ahead → ⊥
+pub foreign_not_bad : (file : List ℕ) (ahead : List (List ℕ)) → IsForeign the_heading file → IsBad the_heading file ahead → ⊥
 foreign_not_bad file ahead foreign is = foreign.not_made (bad_made file ahead is)
 
-pub foreign_stands_not : (file : List ℕ) (bodies : List (List ℕ)) → IsForeign file → StandsFor file bodies → ⊥
+pub foreign_stands_not : (file : List ℕ) (bodies : List (List ℕ)) → IsForeign the_heading file → StandsFor the_heading file bodies → ⊥
 foreign_stands_not file bodies foreign (inl none) = foreign.not_unmade none.0
 foreign_stands_not file bodies foreign (inr is) = foreign.not_made (journal_made file bodies is)
 
-pub standing_once : (file : List ℕ) (a b : Standing (List (List ℕ))) → HasStanding file a → HasStanding file b → a ≡ b
+pub standing_once : (file : List ℕ) (a b : Standing (List (List ℕ))) → HasStanding the_heading file a → HasStanding the_heading file b → a ≡ b
 standing_once file standing.Unmade standing.Unmade is_a is_b = refl
 standing_once file standing.Unmade standing.Foreign is_a is_b = absurd (is_b.not_unmade is_a)
 standing_once file standing.Unmade (standing.Bad at) is_a is_b = absurd (bad_not_unmade file is_b.0 is_b.1 is_a)

@@ -1,19 +1,19 @@
 -- A log on a disk, and what appending does to both.
 use Rattle.std.specs.Prelude.{◌≡◌, ◌⊎◌, ℕ, ◌+◌, Bool, true, false, List, [], ◌∷◌, ◌++◌, Result, Ok, Err}
 use Rattle.journal_disk.specs.LogState.{LogState}
-use Rattle.journal_disk.specs.Layout.{the_heading, frame_head, IsJournal, StandsFor, end_of}
+use Rattle.journal_disk.specs.Layout.{frame_head, IsJournal, StandsFor, end_of}
 use Rattle.journal_disk.specs.declared.faults.AppendFault.{AppendFault}
 use Rattle.journal_disk.specs.declared.faults.AppendFault.TheVariants.{Disk, Full, MustReopen}
 
 -- A log stands on a disk: what a read gives has these frames and ends them at the log's closed gate, and every image has them too.
-pub record StandsOn (gate : ℕ) (bodies : List (List ℕ)) (reads : List ℕ) (images : List ℕ → Type 0) : Type 0 where
-  pub journal : IsJournal the_heading reads bodies
-  pub ends : gate ≡ end_of the_heading bodies
-  pub durable : (c : List ℕ) → images c → StandsFor c bodies
+pub record StandsOn (heading : List ℕ) (gate : ℕ) (bodies : List (List ℕ)) (reads : List ℕ) (images : List ℕ → Type 0) : Type 0 where
+  pub journal : IsJournal heading reads bodies
+  pub ends : gate ≡ end_of heading bodies
+  pub durable : (c : List ℕ) → images c → StandsFor heading c bodies
 
 -- the frames before, or these and the new one
-abbrev pub FramesWithOrWithout : List (List ℕ) → List ℕ → List ℕ → Type 0
-FramesWithOrWithout bodies body c = StandsFor c bodies ⊎ StandsFor c (bodies ++ body ∷ [])
+abbrev pub FramesWithOrWithout : List ℕ → List (List ℕ) → List ℕ → List ℕ → Type 0
+FramesWithOrWithout heading bodies body c = StandsFor heading c bodies ⊎ StandsFor heading c (bodies ++ body ∷ [])
 
 -- whether an append answers that the disk failed
 abbrev pub append_failed : Result (Unit {0}) AppendFault → Bool

@@ -62,10 +62,10 @@ pub record IsMade (heading file : List ℕ) : Type 0 where
   pub made : mark ≢ 0
   pub whole : file ≡ mark ∷ (heading ++ gate ∷ rest)
 
--- A file that is neither is no journal.
-pub record IsForeign (file : List ℕ) : Type 0 where
+-- A file that is neither unmade nor made under this heading is no journal.
+pub record IsForeign (heading file : List ℕ) : Type 0 where
   pub not_unmade : IsUnmade file → ⊥
-  pub not_made : IsMade the_heading file → ⊥
+  pub not_made : IsMade heading file → ⊥
 
 -- A made file with these bodies, ended by a gate that is not open, whatever stands behind it.
 pub record IsJournal (heading file : List ℕ) (bodies : List (List ℕ)) : Type 0 where
@@ -91,16 +91,16 @@ pub record IsBad (heading file : List ℕ) (ahead : List (List ℕ)) : Type 0 wh
   pub none : IsNoFrame rest
   pub whole : file ≡ mark ∷ (heading ++ frames ahead ++ 1 ∷ rest)
 
--- the standing of a file, where a journal is the bodies of its frames
-abbrev pub HasStanding : List ℕ → Standing (List (List ℕ)) → Type 0
-HasStanding file standing.Unmade = IsUnmade file
-HasStanding file standing.Foreign = IsForeign file
-HasStanding file (standing.Bad at) = (ahead : List (List ℕ)) × IsBad the_heading file ahead × (at ≡ end_of the_heading ahead)
-HasStanding file (standing.Journal bodies) = IsJournal the_heading file bodies
+-- the standing of a file under a heading, where a journal is the bodies of its frames
+abbrev pub HasStanding : List ℕ → List ℕ → Standing (List (List ℕ)) → Type 0
+HasStanding heading file standing.Unmade = IsUnmade file
+HasStanding heading file standing.Foreign = IsForeign heading file
+HasStanding heading file (standing.Bad at) = (ahead : List (List ℕ)) × IsBad heading file ahead × (at ≡ end_of heading ahead)
+HasStanding heading file (standing.Journal bodies) = IsJournal heading file bodies
 
 -- The file stands for these bodies; an unmade one stands for none.
-abbrev pub StandsFor : List ℕ → List (List ℕ) → Type 0
-StandsFor file bodies = (HasStanding file standing.Unmade × (bodies ≡ [])) ⊎ HasStanding file (standing.Journal bodies)
+abbrev pub StandsFor : List ℕ → List ℕ → List (List ℕ) → Type 0
+StandsFor heading file bodies = (HasStanding heading file standing.Unmade × (bodies ≡ [])) ⊎ HasStanding heading file (standing.Journal bodies)
 
 -- a file that was just made from this one: the mark, the heading, a closed gate, and what stood behind
 abbrev pub made_from : List ℕ → List ℕ → List ℕ

@@ -18,37 +18,37 @@ opening_failed (Err (BadRecord at ahead)) = false
 opening_failed (Err Memory) = false
 
 -- Frames one behind the other from the first gate on, and the gate behind them.
-pub record AreFramesTo (frames : List FrameAt) (gate : ℕ) : Type 0 where
+pub record AreFramesTo (heading : List ℕ) (frames : List FrameAt) (gate : ℕ) : Type 0 where
   pub bodies : List (List ℕ)
   pub sizes : All IsBody bodies
-  pub frames_are : frames ≡ frames_from (first_gate the_heading) bodies
-  pub ends : gate ≡ end_of the_heading bodies
+  pub frames_are : frames ≡ frames_from (first_gate heading) bodies
+  pub ends : gate ≡ end_of heading bodies
 
 -- the frames ahead of a bad gate are one behind the other, and that gate is behind them
-abbrev pub HasFramesAhead : OpenFault → Type 0
-HasFramesAhead Disk = Unit {0}
-HasFramesAhead NotJournal = Unit {0}
-HasFramesAhead (BadRecord at ahead) = AreFramesTo ahead.items at
-HasFramesAhead Memory = Unit {0}
+abbrev pub HasFramesAhead : List ℕ → OpenFault → Type 0
+HasFramesAhead heading Disk = Unit {0}
+HasFramesAhead heading NotJournal = Unit {0}
+HasFramesAhead heading (BadRecord at ahead) = AreFramesTo heading ahead.items at
+HasFramesAhead heading Memory = Unit {0}
 
 -- The file stood for the frames that the opening gives, and the log works and stands on the disk with them.
-pub record LogOpens (file : List ℕ) (log : LogState) (frames : List FrameAt) (reads : List ℕ) (images : List ℕ → Type 0) : Type 0 where
+pub record LogOpens (heading file : List ℕ) (log : LogState) (frames : List FrameAt) (reads : List ℕ) (images : List ℕ → Type 0) : Type 0 where
   pub bodies : List (List ℕ)
-  pub found : StandsFor file bodies
-  pub frames_are : frames ≡ frames_from (first_gate the_heading) bodies
-  pub stands : StandsOn log.gate bodies reads images
+  pub found : StandsFor heading file bodies
+  pub frames_are : frames ≡ frames_from (first_gate heading) bodies
+  pub stands : StandsOn heading log.gate bodies reads images
 
 -- what a fault says of the file that was found: its standing, and with a bad one the frames ahead
-abbrev pub LogRefuses : List ℕ → OpenFault → Type 0
-LogRefuses file NotJournal = HasStanding file standing.Foreign
-LogRefuses file (BadRecord at ahead) = (bad : HasStanding file (standing.Bad at)) × (ahead.items ≡ frames_from (first_gate the_heading) bad.0)
-LogRefuses file Disk = Unit {0}
-LogRefuses file Memory = Unit {0}
+abbrev pub LogRefuses : List ℕ → List ℕ → OpenFault → Type 0
+LogRefuses heading file NotJournal = HasStanding heading file standing.Foreign
+LogRefuses heading file (BadRecord at ahead) = (bad : HasStanding heading file (standing.Bad at)) × (ahead.items ≡ frames_from (first_gate heading) bad.0)
+LogRefuses heading file Disk = Unit {0}
+LogRefuses heading file Memory = Unit {0}
 
 -- A file that is not unmade stays as it is, and each file stands for the same frames as before.
 pub record IsKept (file c : List ℕ) : Type 0 where
   pub same : (IsUnmade file → ⊥) → c ≡ file
-  pub frames : (bodies : List (List ℕ)) → StandsFor file bodies → StandsFor c bodies
+  pub frames : (bodies : List (List ℕ)) → StandsFor the_heading file bodies → StandsFor the_heading c bodies
 
 -- First a sync: until it is done a stop leaves what it might have left before, and from then on the file is kept.
 pub record SyncsFirst {D : Type 0} (reads : D → List ℕ) (images : D → List ℕ → Type 0) (moment : D → ℕ) (since : D → ℕ → List ℕ → Type 0) (old new : D) : Type 0 where

@@ -2,8 +2,8 @@
 ghost use Rattle.std.specs.Prelude.{◌≡◌, ◌+◌, ◌<◌, ◌≤◌, ◌^◌, ◌++◌, [], ◌∷◌, ℕ, List, IsTrue, OnOk, is_err, length, take};
 ghost use Rattle.std.specs.Int.{w32, to_be_bytes};
 ghost use Rattle.gb_outside.specs.Faults.{Counts};
-ghost use Rattle.gb_outside.specs.Images.{Holds, LeavesOnly};
-ghost use Rattle.journal_disk.specs.Layout.{frame_head, file_limit, IsBody, measured, appended};
+ghost use Rattle.gb_outside.specs.Images.{Holds, Torn, LeavesOnly};
+ghost use Rattle.journal_disk.specs.Layout.{the_heading, frame_head, file_limit, IsBody, measured, appended};
 ghost use Rattle.journal_disk.specs.Appending.{StandsOn, FramesWithOrWithout};
 
 use crate::layout::{CLOSED, FILE_LIMIT, FRAME_HEAD, LONGEST_BODY, OPEN};
@@ -31,11 +31,12 @@ pub(crate) fn write_frame<D: Disk>(disk: &mut D, gate: u64, body: &[u8]) -> Resu
     requires body { IsBody body.now }
     requires gate { gate < file_limit }
     requires within { IsTrue D.tells → gate < length (D.reads disk.old) }
-    ensures appended { OnOk result (IsTrue D.tells → (bodies : List (List ℕ)) → StandsOn gate bodies (D.reads disk.old) (D.images disk.old)
-        → StandsOn (gate + frame_head + length body.now) (bodies ++ body.now ∷ []) (D.reads disk.new) (D.images disk.new)) }
+    ensures appended { OnOk result (IsTrue D.tells → (bodies : List (List ℕ)) → StandsOn the_heading gate bodies (D.reads disk.old) (D.images disk.old)
+        → StandsOn the_heading (gate + frame_head + length body.now) (bodies ++ body.now ∷ []) (D.reads disk.new) (D.images disk.new)) }
     ensures written { OnOk result (IsTrue D.tells → Holds (D.reads disk.old) gate (appended body.now) (D.reads disk.new)) }
-    ensures any_moment { IsTrue D.tells → (bodies : List (List ℕ)) → StandsOn gate bodies (D.reads disk.old) (D.images disk.old)
-        → LeavesOnly D.moment D.since disk.old disk.new (FramesWithOrWithout bodies body.now) }
+    ensures any_moment { IsTrue D.tells → (bodies : List (List ℕ)) → StandsOn the_heading gate bodies (D.reads disk.old) (D.images disk.old)
+        → LeavesOnly D.moment D.since disk.old disk.new (FramesWithOrWithout the_heading bodies body.now) }
+    ensures torn { IsTrue D.tells → Torn gate (length (appended body.now)) (D.reads disk.old) (D.reads disk.new) }
     ensures cause { Counts (D.faults disk.old) (D.faults disk.new) (is_err result) }
 {
     let mut room = [CLOSED; MOST_BEHIND];

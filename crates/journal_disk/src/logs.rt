@@ -1,8 +1,8 @@
 // The log: opening it, and appending to it.
 ghost use Rattle.std.specs.Prelude.{◌≡◌, ◌↔◌, ◌+◌, ◌≤◌, ◌++◌, ◌^◌, [], ◌∷◌, ℕ, List, true, false, IsTrue, IfOk, IfErr, OnOk, length, drop};
 ghost use Rattle.gb_outside.specs.Faults.{Counts};
-ghost use Rattle.gb_outside.specs.Images.{Holds, Only, LeavesOnly};
-ghost use Rattle.journal_disk.specs.Layout.{the_heading, file_limit, frame_head, made_from, appended, IsBody, IsUnmade};
+ghost use Rattle.gb_outside.specs.Images.{Holds, Torn, Only, LeavesOnly};
+ghost use Rattle.journal_disk.specs.Layout.{the_heading, file_limit, frame_head, first_gate, made_from, appended, IsBody, IsUnmade};
 ghost use Rattle.journal_disk.specs.Opening.{opening_failed, AreFramesTo, HasFramesAhead, LogOpens, LogRefuses, IsKept, AnswersSynced};
 ghost use Rattle.journal_disk.specs.Appending.{StandsOn, FramesWithOrWithout, append_failed, log_after};
 
@@ -37,15 +37,16 @@ impl Log {
     /// An answer about the file comes only after a sync, so that a stop leaves what it says.
     pub fn open<D: Disk>(alloc: Global, disk: &mut D) -> Result<(Log, Vec<Frame>), OpenFault>
         // The frames that it gives and those ahead of a bad gate stand one behind the other, on any disk.
-        ensures frames { IfOk result (λ opened. AreFramesTo opened.1.items opened.0.gate) }
-        ensures ahead { IfErr result HasFramesAhead }
+        ensures frames { IfOk result (λ opened. AreFramesTo the_heading opened.1.items opened.0.gate) }
+        ensures ahead { IfErr result (HasFramesAhead the_heading) }
 
         // The answer is by the file's standing.
-        ensures opened { IsTrue D.tells → IfOk result (λ opened. LogOpens (D.reads disk.old) opened.0 opened.1.items (D.reads disk.new) (D.images disk.new)) }
+        ensures opened { IsTrue D.tells → IfOk result (λ opened. LogOpens the_heading (D.reads disk.old) opened.0 opened.1.items (D.reads disk.new) (D.images disk.new)) }
         ensures works { IfOk result (λ opened. opened.0.failed ≡ false) }
         ensures made { IsTrue D.tells → OnOk result (IsUnmade (D.reads disk.old) → D.reads disk.new ≡ made_from the_heading (D.reads disk.old)) }
-        ensures refused { IsTrue D.tells → IfErr result (LogRefuses (D.reads disk.old)) }
+        ensures refused { IsTrue D.tells → IfErr result (LogRefuses the_heading (D.reads disk.old)) }
         ensures kept { IsTrue D.tells → IsKept (D.reads disk.old) (D.reads disk.new) }
+        ensures torn { IsTrue D.tells → Torn 0 (first_gate the_heading + 1) (D.reads disk.old) (D.reads disk.new) }
 
         // It answers only after a sync, and a stop at any moment from then on leaves the frames that were found.
         ensures any_moment { IsTrue D.tells → AnswersSynced D.reads D.images D.moment D.since disk.old disk.new (opening_failed result) }
@@ -66,17 +67,20 @@ impl Log {
     /// a stop before leaves the frames with it or without. After `Disk` the log has failed.
     pub fn append<D: Disk>(&mut self, disk: &mut D, body: &[u8]) -> Result<(), AppendFault>
         requires body { IsBody body.now }
-        requires stands { IsTrue D.tells → self.old.failed ≡ false → (bodies : List (List ℕ)) × StandsOn self.old.gate bodies (D.reads disk.old) (D.images disk.old) }
+        requires stands { IsTrue D.tells → self.old.failed ≡ false → (bodies : List (List ℕ)) × StandsOn the_heading self.old.gate bodies (D.reads disk.old) (D.images disk.old) }
 
-        // After Ok the log stands on the disk with the new frame, whose bytes alone were written.
-        ensures appended { OnOk result (IsTrue D.tells → (bodies : List (List ℕ)) → StandsOn self.old.gate bodies (D.reads disk.old) (D.images disk.old)
-            → StandsOn self.new.gate (bodies ++ body.now ∷ []) (D.reads disk.new) (D.images disk.new)) }
+        // After Ok the log stands on the disk with the new frame.
+        ensures appended { OnOk result (IsTrue D.tells → (bodies : List (List ℕ)) → StandsOn the_heading self.old.gate bodies (D.reads disk.old) (D.images disk.old)
+            → StandsOn the_heading self.new.gate (bodies ++ body.now ∷ []) (D.reads disk.new) (D.images disk.new)) }
         ensures written { OnOk result (IsTrue D.tells → Holds (D.reads disk.old) self.old.gate (appended body.now) (D.reads disk.new)) }
         ensures log { self.new ≡ log_after self.old (length body.now) result }
 
+        // After any answer the bytes outside the new frame are as before.
+        ensures torn { IsTrue D.tells → Torn self.old.gate (length (appended body.now)) (D.reads disk.old) (D.reads disk.new) }
+
         // A stop at any moment leaves the frames before, with the new one or without.
-        ensures any_moment { IsTrue D.tells → (bodies : List (List ℕ)) → self.old.failed ≡ false → StandsOn self.old.gate bodies (D.reads disk.old) (D.images disk.old)
-            → LeavesOnly D.moment D.since disk.old disk.new (FramesWithOrWithout bodies body.now) }
+        ensures any_moment { IsTrue D.tells → (bodies : List (List ℕ)) → self.old.failed ≡ false → StandsOn the_heading self.old.gate bodies (D.reads disk.old) (D.images disk.old)
+            → LeavesOnly D.moment D.since disk.old disk.new (FramesWithOrWithout the_heading bodies body.now) }
 
         // Each fault has its cause, and two of them call no device.
         ensures must_reopen { (result ≡ Err AppendFault.MustReopen) ↔ (self.old.failed ≡ true) }
@@ -108,13 +112,14 @@ impl Log {
 /// Opens the journal of a disk of which a stop leaves what a read gives.
 fn open_synced<D: Disk>(alloc: Global, disk: &mut D) -> Result<(Log, Vec<Frame>), OpenFault>
     requires { IsTrue D.tells → Only (D.reads disk.old) (D.images disk.old) }
-    ensures frames { IfOk result (λ opened. AreFramesTo opened.1.items opened.0.gate) }
-    ensures ahead { IfErr result HasFramesAhead }
-    ensures opened { IsTrue D.tells → IfOk result (λ opened. LogOpens (D.reads disk.old) opened.0 opened.1.items (D.reads disk.new) (D.images disk.new)) }
+    ensures frames { IfOk result (λ opened. AreFramesTo the_heading opened.1.items opened.0.gate) }
+    ensures ahead { IfErr result (HasFramesAhead the_heading) }
+    ensures opened { IsTrue D.tells → IfOk result (λ opened. LogOpens the_heading (D.reads disk.old) opened.0 opened.1.items (D.reads disk.new) (D.images disk.new)) }
     ensures works { IfOk result (λ opened. opened.0.failed ≡ false) }
     ensures made { IsTrue D.tells → OnOk result (IsUnmade (D.reads disk.old) → D.reads disk.new ≡ made_from the_heading (D.reads disk.old)) }
-    ensures refused { IsTrue D.tells → IfErr result (LogRefuses (D.reads disk.old)) }
+    ensures refused { IsTrue D.tells → IfErr result (LogRefuses the_heading (D.reads disk.old)) }
     ensures any_moment { IsTrue D.tells → LeavesOnly D.moment D.since disk.old disk.new (IsKept (D.reads disk.old)) }
+    ensures torn { IsTrue D.tells → Torn 0 (first_gate the_heading + 1) (D.reads disk.old) (D.reads disk.new) }
     ensures cause { Counts (D.faults disk.old) (D.faults disk.new) (opening_failed result) }
 {
     match find(disk)? {

@@ -56,8 +56,8 @@ pub(crate) fn read_frames<D: Disk>(
     requires some { first_gate the_heading < len }
     requires length { IsTrue D.tells → len ≡ length (D.reads disk.old) }
     requires made { IsTrue D.tells → IsMade the_heading (D.reads disk.old) }
-    ensures frames { IfOk result (λ found. AreFramesTo found.1.items found.0) }
-    ensures ahead { IfErr result HasFramesAhead }
+    ensures frames { IfOk result (λ found. AreFramesTo the_heading found.1.items found.0) }
+    ensures ahead { IfErr result (HasFramesAhead the_heading) }
     ensures answer { IsTrue D.tells → FindsFrames (D.reads disk.old) result }
     ensures reads { IsTrue D.tells → OnlyReads D.reads D.images D.moment D.since disk.old disk.new }
     ensures cause { Counts (D.faults disk.old) (D.faults disk.new) (opening_failed result) }

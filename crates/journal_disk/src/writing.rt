@@ -1,8 +1,8 @@
 // Writes of which each is on the disk before the next begins.
 ghost use Rattle.std.specs.Prelude.{◌≡◌, ◌+◌, ◌≤◌, ◌++◌, [], ◌∷◌, IsTrue, OnOk, is_err, length, drop};
 ghost use Rattle.gb_outside.specs.Faults.{Counts};
-ghost use Rattle.gb_outside.specs.Images.{Holds, Only, LeavesOnly};
-ghost use Rattle.journal_disk.specs.Layout.{the_heading, made_from, StandsFor};
+ghost use Rattle.gb_outside.specs.Images.{Holds, Torn, Only, LeavesOnly};
+ghost use Rattle.journal_disk.specs.Layout.{the_heading, first_gate, made_from, StandsFor};
 ghost use Rattle.journal_disk.specs.inner.Heading.{BeginsWithZero, FoundIn};
 ghost use Rattle.journal_disk.specs.inner.Writing.{TornFrom};
 
@@ -16,6 +16,7 @@ pub(crate) fn put<D: Disk>(disk: &mut D, at: u64, piece: &[u8]) -> Result<(), Di
     ensures written { OnOk result (IsTrue D.tells → Holds (D.reads disk.old) at piece.now (D.reads disk.new)) }
     ensures settled { OnOk result (IsTrue D.tells → Only (D.reads disk.new) (D.images disk.new)) }
     ensures any_moment { IsTrue D.tells → LeavesOnly D.moment D.since disk.old disk.new (TornFrom (D.images disk.old) at (length piece.now)) }
+    ensures torn { IsTrue D.tells → Torn at (length piece.now) (D.reads disk.old) (D.reads disk.new) }
     ensures cause { Counts (D.faults disk.old) (D.faults disk.new) (is_err result) }
 {
     disk.write_at(at, piece)?;
@@ -28,7 +29,8 @@ fn begin<D: Disk>(disk: &mut D) -> Result<(), DiskFailed>
     requires settled { IsTrue D.tells → Only (D.reads disk.old) (D.images disk.old) }
     ensures begun { OnOk result (IsTrue D.tells → D.reads disk.new ≡ 0 ∷ []) }
     ensures settled { OnOk result (IsTrue D.tells → Only (D.reads disk.new) (D.images disk.new)) }
-    ensures any_moment { IsTrue D.tells → LeavesOnly D.moment D.since disk.old disk.new (λ c. StandsFor c []) }
+    ensures any_moment { IsTrue D.tells → LeavesOnly D.moment D.since disk.old disk.new (λ c. StandsFor the_heading c []) }
+    ensures torn { IsTrue D.tells → Torn 0 (first_gate the_heading + 1) (D.reads disk.old) (D.reads disk.new) }
     ensures cause { Counts (D.faults disk.old) (D.faults disk.new) (is_err result) }
 {
     put(disk, 0, &[0])
@@ -41,7 +43,8 @@ fn finish<D: Disk>(disk: &mut D) -> Result<(), DiskFailed>
     requires settled { IsTrue D.tells → Only (D.reads disk.old) (D.images disk.old) }
     ensures made { OnOk result (IsTrue D.tells → D.reads disk.new ≡ made_from the_heading (D.reads disk.old)) }
     ensures settled { OnOk result (IsTrue D.tells → Only (D.reads disk.new) (D.images disk.new)) }
-    ensures any_moment { IsTrue D.tells → LeavesOnly D.moment D.since disk.old disk.new (λ c. StandsFor c []) }
+    ensures any_moment { IsTrue D.tells → LeavesOnly D.moment D.since disk.old disk.new (λ c. StandsFor the_heading c []) }
+    ensures torn { IsTrue D.tells → Torn 0 (first_gate the_heading + 1) (D.reads disk.old) (D.reads disk.new) }
     ensures cause { Counts (D.faults disk.old) (D.faults disk.new) (is_err result) }
 {
     let mut fresh = [CLOSED; FIRST_GATE as usize];
@@ -56,7 +59,8 @@ pub(crate) fn make<D: Disk>(disk: &mut D, begun: bool) -> Result<(), DiskFailed>
     requires settled { IsTrue D.tells → Only (D.reads disk.old) (D.images disk.old) }
     ensures made { OnOk result (IsTrue D.tells → D.reads disk.new ≡ made_from the_heading (D.reads disk.old)) }
     ensures settled { OnOk result (IsTrue D.tells → Only (D.reads disk.new) (D.images disk.new)) }
-    ensures any_moment { IsTrue D.tells → LeavesOnly D.moment D.since disk.old disk.new (λ c. StandsFor c []) }
+    ensures any_moment { IsTrue D.tells → LeavesOnly D.moment D.since disk.old disk.new (λ c. StandsFor the_heading c []) }
+    ensures torn { IsTrue D.tells → Torn 0 (first_gate the_heading + 1) (D.reads disk.old) (D.reads disk.new) }
     ensures cause { Counts (D.faults disk.old) (D.faults disk.new) (is_err result) }
 {
     if !begun {

@@ -12,7 +12,7 @@ use Rattle.act_model.specs.declared.added.Added.TheVariants as added
 use Rattle.act_model.specs.Receiving.{number_of, answer_to, journal_with}
 use Rattle.act_model.specs.Receiving as journals
 use Rattle.act_model.proofs.JournalLemmas.{IsJournal-push, stamp_after-last}
-use Rattle.act_codec.specs.Spelling.{spelling}
+use Rattle.act_codec.specs.Spelling.{longest_spelling, spelling}
 use Rattle.act_codec.specs.Values.{IsReceipt}
 use Rattle.act_codec.proofs.Lengths.{spelling_len, spelling_some}
 use Rattle.journal_disk.specs.Layout.{the_heading, file_limit, IsBody, StandsFor}
@@ -49,10 +49,10 @@ accepted_added old new stamp sender reference item answer accepts added =
 pub records_push : (journal : List Receipt) (r : Receipt) → records (journal ++ r ∷ []) ≡ records journal ++ spelling r ∷ []
 records_push journal r = map-append spelling journal (r ∷ [])
 
-pub with_or_without : (journal : List Receipt) (r : Receipt) (body c : List ℕ) → IsKeepable journal → IsKeepable (journal ++ r ∷ []) → body ≡ spelling r → frames.FramesWithOrWithout (records journal) body c → JournalWithOrWithout journal r c
+pub with_or_without : (journal : List Receipt) (r : Receipt) (body c : List ℕ) → IsKeepable journal → IsKeepable (journal ++ r ∷ []) → body ≡ spelling r → frames.FramesWithOrWithout the_heading (records journal) body c → JournalWithOrWithout journal r c
 with_or_without journal r body c is is_next spelled (inl without) = inl (stands_by_frames c journal is without)
 with_or_without journal r body c is is_next spelled (inr with_it) =
-    inr (stands_by_frames c (journal ++ r ∷ []) is_next (subst (StandsFor c) (ap (λ (b : List ℕ). records journal ++ b ∷ []) spelled ∙ sym (records_push journal r)) with_it))
+    inr (stands_by_frames c (journal ++ r ∷ []) is_next (subst (StandsFor the_heading c) (ap (λ (b : List ℕ). records journal ++ b ∷ []) spelled ∙ sym (records_push journal r)) with_it))
 
 -- the gate behind the frames of a journal with one receipt more
 pub gate_next : (journal : List Receipt) (r : Receipt) (gate : ℕ) (body : List ℕ) → gate ≡ gate_behind journal → body ≡ spelling r → gate + 5 + length body ≡ gate_behind (journal ++ r ∷ [])
@@ -76,7 +76,7 @@ as_accepted added.Memory = refl
 
 -- what a book accepts fits into the file, since its spelling is short
 pub next_fits : (journal : List Receipt) (stamp : DayMinute) (sender reference : ℕ) (item : Item) → IsKeepable journal → journals.is_accepted (answer_to journal sender reference item) ≡ true
-    → length (spelling (next_receipt journal stamp sender reference item)) ≤ 522 → file_size the_heading (journal ++ next_receipt journal stamp sender reference item ∷ []) ≤ file_limit
+    → length (spelling (next_receipt journal stamp sender reference item)) ≤ longest_spelling → file_size the_heading (journal ++ next_receipt journal stamp sender reference item ∷ []) ≤ file_limit
 next_fits journal stamp sender reference item is accepts short =
     has_room_next journal (next_receipt journal stamp sender reference item) is (accepted_new journal item (number_of sender reference journal) accepts).1 short
 

@@ -7,7 +7,7 @@ use Rattle.receipt_journal.specs.declared.faults.BookFault.{BookFault}
 use Rattle.receipt_journal.specs.declared.faults.BookFault.TheVariants.{Disk, NotJournal, BadRecord, Memory}
 
 -- a frame that is refused makes the file bad
-pub frames_refused : (file : List ℕ) (bodies : List (List ℕ)) (fault : BookFault) → StandsFor file bodies ⊎ IsBad the_heading file bodies → RefusesFrames bodies fault → BookRefuses file fault
+pub frames_refused : (file : List ℕ) (bodies : List (List ℕ)) (fault : BookFault) → StandsFor the_heading file bodies ⊎ IsBad the_heading file bodies → RefusesFrames bodies fault → BookRefuses file fault
 frames_refused file bodies Disk read refused = tt
 frames_refused file bodies Memory read refused = tt
 frames_refused file bodies NotJournal read refused = absurd refused
@@ -17,7 +17,7 @@ frames_refused file bodies (BadRecord at) read refused = (
     keepable = refused.keepable;
     bad = inl (
       refused.body,
-      record { rest = refused.rest; frames = subst (λ (l : List (List ℕ)). StandsFor file l ⊎ IsBad the_heading file l) refused.whole read },
+      record { rest = refused.rest; frames = subst (λ (l : List (List ℕ)). StandsFor the_heading file l ⊎ IsBad the_heading file l) refused.whole read },
       refused.none,
     );
   },

@@ -17,7 +17,7 @@ use Rattle.act_model.specs.declared.auctions.Registration.TheVariants as registr
 use Rattle.act_model.specs.declared.items.Item.{Item}
 use Rattle.act_model.specs.declared.items.Item.TheVariants as item
 use Rattle.act_model.specs.declared.receipts.Receipt.{Receipt}
-use Rattle.act_codec.specs.Spelling.{u16_bytes, u32_bytes, u64_bytes, kind_bytes, reserve_bytes, act_bytes, form_bytes, doc_bytes, condition_bytes, basis_bytes, registration_bytes, item_bytes, spelling}
+use Rattle.act_codec.specs.Spelling.{u16_bytes, u32_bytes, u64_bytes, kind_bytes, reserve_bytes, act_bytes, form_bytes, doc_bytes, condition_bytes, basis_bytes, registration_bytes, item_bytes, longest_spelling, spelling}
 use Rattle.receipt_journal.specs.inner.Lists.{HasFewOwners, HasShortLists}
 
 u16_len : (n : ℕ) → length (u16_bytes n) ≡ 2
@@ -98,5 +98,5 @@ item_len (item.OpenBids f c) few = simp (length-append, u32_len, u64_len) (omega
 item_len (item.Award f p b) few = simp (length-append, u32_len, u64_len) (omega arith)
 item_len (item.Distribute f) few = omega (arith, u32_len f)
 
-pub receipt_len : (r : Receipt) → HasShortLists r.item → length (spelling r) ≤ 522
+pub receipt_len : (r : Receipt) → HasShortLists r.item → length (spelling r) ≤ longest_spelling
 receipt_len r few = simp (length-append, u16_len, u32_len, u64_len) (omega (arith, item_len r.item few))

@@ -2,7 +2,7 @@
 use Rattle.std.proofs.Common.{◌≡◌, ℕ, ◌+◌, ◌*◌, ◌<◌, ◌≤◌, List, [], ◌∷◌, ◌++◌, length, sum_by, refl, arith, length-append}
 use Rattle.std.proofs.lemmas.List.Sums.{sum_by-le, sum_by-cons, sum_by_push}
 use Rattle.act_model.specs.declared.receipts.Receipt.{Receipt}
-use Rattle.act_codec.specs.Spelling.{spelling}
+use Rattle.act_codec.specs.Spelling.{longest_spelling, spelling}
 use Rattle.act_codec.proofs.Lengths.{spelling_len}
 use Rattle.journal_disk.specs.Layout.{the_heading, file_limit, frame_head, measured, frames}
 use Rattle.journal_disk.proofs.FrameBytes.{length-measured}
@@ -20,7 +20,7 @@ has_room journal is =
     omega arith
 
 -- and neither does that of one receipt more
-pub has_room_next : (journal : List Receipt) (next : Receipt) → IsKeepable journal → length journal < 200000 → length (spelling next) ≤ 522 → file_size the_heading (journal ++ next ∷ []) ≤ file_limit
+pub has_room_next : (journal : List Receipt) (next : Receipt) → IsKeepable journal → length journal < 200000 → length (spelling next) ≤ longest_spelling → file_size the_heading (journal ++ next ∷ []) ≤ file_limit
 has_room_next journal next is few short =
     let small : sum_by record_size journal ≤ length journal * 527 = sum_by-le record_size 527 journal (λ k d in'. omega (arith, spelling_len _ (is.spelled k d in'))) in
     omega (arith, sum_by_push record_size journal next)

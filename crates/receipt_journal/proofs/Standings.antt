@@ -15,18 +15,18 @@ use Rattle.receipt_journal.specs.Standing.{records, gate_behind, IsKeepable, Has
 use Rattle.receipt_journal.proofs.Fronts.{IsEnd, end_nil, end_none, none_keepable, ended_once}
 
 -- a file stands for the journal that its frames keep, and they keep the one that it stands for
-pub stands_by_frames : (file : List ℕ) (journal : List Receipt) → IsKeepable journal → StandsFor file (records journal) → StandsForJournal file journal
+pub stands_by_frames : (file : List ℕ) (journal : List Receipt) → IsKeepable journal → StandsFor the_heading file (records journal) → StandsForJournal file journal
 stands_by_frames file [] is (inl none) = inl (none.0, refl)
 stands_by_frames file (r ∷ rs) is (inl none) = let nothing = none.1 in absurd cc
 stands_by_frames file journal is (inr has) = inr (is, has)
 
-pub kept_frames : (file : List ℕ) (journal : List Receipt) → StandsForJournal file journal → IsKeepable journal × StandsFor file (records journal)
+pub kept_frames : (file : List ℕ) (journal : List Receipt) → StandsForJournal file journal → IsKeepable journal × StandsFor the_heading file (records journal)
 kept_frames file journal (inl none) = (subst IsKeepable (sym none.1) none_keepable, inl (none.0, ap records none.1))
 kept_frames file journal (inr has) = (has.0, inr has.1)
 
 -- the file is read as these frames, ended or bad
 abbrev IsRead : List ℕ → List (List ℕ) → Type 0
-IsRead file bodies = StandsFor file bodies ⊎ IsBad the_heading file bodies
+IsRead file bodies = StandsFor the_heading file bodies ⊎ IsBad the_heading file bodies
 
 read_once : (file : List ℕ) (a b : List (List ℕ)) → IsRead file a → IsRead file b → a ≡ b
 read_once file a b (inl x) (inl y) = stands_once file a b x y
@@ -40,7 +40,7 @@ record EndsIn (file : List ℕ) (journal : List Receipt) : Type 0 where
   pub keepable : IsKeepable journal
   pub read : IsRead file (records journal ++ tail)
   pub ends : IsEnd journal tail
-  pub bad : StandsFor file (records journal) → ⊥
+  pub bad : StandsFor the_heading file (records journal) → ⊥
 
 ended : (file : List ℕ) (journal : List Receipt) → IsBadBehind file journal → EndsIn file journal
 ended file journal is = ⊎_elim (λ next. behind next.0 next.1 next.2) at_end is.bad
@@ -85,12 +85,12 @@ not_both file a b is_a is_b =
     let bt = ended file b is_b in
     let same : records a ++ [] ≡ records b ++ bt.tail = append-nil (records a) ∙ read_once file (records a) (records b ++ bt.tail) (inl keeps.1) bt.read in
     let one : a ≡ b = ended_once a b [] bt.tail keeps.0 bt.keepable (end_nil a) bt.ends same in
-    bt.bad (subst (λ (l : List Receipt). StandsFor file (records l)) one keeps.1)
+    bt.bad (subst (λ (l : List Receipt). StandsFor the_heading file (records l)) one keeps.1)
 
-pub foreign_no_journal : (file : List ℕ) (a : List Receipt) → IsForeign file → StandsForJournal file a → ⊥
+pub foreign_no_journal : (file : List ℕ) (a : List Receipt) → IsForeign the_heading file → StandsForJournal file a → ⊥
 foreign_no_journal file a foreign is = foreign_stands_not file (records a) foreign (kept_frames file a is).1
 
-pub foreign_not_behind : (file : List ℕ) (a : List Receipt) → IsForeign file → IsBadBehind file a → ⊥
+pub foreign_not_behind : (file : List ℕ) (a : List Receipt) → IsForeign the_heading file → IsBadBehind file a → ⊥
 foreign_not_behind file a foreign is =
     let at = ended file a is in
     ⊎_elim (λ stands. foreign_stands_not file _ foreign stands) (λ bad. foreign_not_bad file _ foreign bad) at.read
@@ -118,7 +118,7 @@ standing_once file (standing.Journal a) (standing.Journal b) is_a is_b = ap (λ 
 ends_somewhere : (file : List ℕ) (journal : List Receipt) (bodies : List (List ℕ)) → IsKeepable journal → IsRead file (records journal ++ bodies)
     → ((s : Standing (List Receipt)) → HasBookStanding file s → ⊥) → ⊥
 ends_somewhere file journal [] is (inl stands) none =
-    ⊎_elim (λ unmade. none standing.Unmade unmade.0) (λ has. none (standing.Journal journal) (is, has)) (subst (StandsFor file) (append-nil (records journal)) stands)
+    ⊎_elim (λ unmade. none standing.Unmade unmade.0) (λ has. none (standing.Journal journal) (is, has)) (subst (StandsFor the_heading file) (append-nil (records journal)) stands)
 ends_somewhere file journal [] is (inr bad) none =
     none (standing.Bad (gate_behind journal)) (journal, record { keepable = is; bad = inr (subst (IsBad the_heading file) (append-nil (records journal)) bad) }, refl)
 ends_somewhere file journal (body ∷ rest) is read none =
@@ -141,7 +141,7 @@ ends_somewhere file journal (body ∷ rest) is read none =
 pub has_standing : (file : List ℕ) → All (λ byte. byte < 256) file → ((s : Standing (List Receipt)) → HasBookStanding file s → ⊥) → ⊥
 has_standing file all none = let found = files.has_standing file all in by found.0 found.1
   where
-    by : (s : Standing (List (List ℕ))) → HasStanding file s → ⊥
+    by : (s : Standing (List (List ℕ))) → HasStanding the_heading file s → ⊥
     by standing.Unmade has = none standing.Unmade has
     by standing.Foreign has = none standing.Foreign has
     by (standing.Bad at) has = ends_somewhere file [] has.0 none_keepable (inr has.1) none

@@ -5,7 +5,8 @@ use Rattle.act_model.specs.declared.items.Item.{Item}
 use Rattle.act_model.specs.declared.receipts.Receipt.{Receipt}
 use Rattle.act_model.specs.declared.added.Added.{Added}
 use Rattle.act_model.specs.declared.added.Added.TheVariants as added
-use Rattle.act_model.specs.Receiving.{answer_to, stamp_after}
+use Rattle.act_model.specs.Receiving.{answer_to}
+pub use Rattle.act_model.specs.Receiving.{next_receipt}
 use Rattle.act_model.specs.Receiving as journals
 use Rattle.act_codec.specs.Spelling.{spelling}
 use Rattle.journal_disk.specs.Layout.{the_heading, first_gate, frame_head, file_limit}
@@ -16,11 +17,6 @@ use Rattle.receipt_journal.specs.declared.received.Received.TheVariants as recei
 -- the bytes of the file that keeps a journal under this heading: those ahead of the first gate, a gate, a length and a spelling for each receipt, and the last gate
 abbrev pub file_size : List ℕ → List Receipt → ℕ
 file_size heading journal = first_gate heading + sum_by (λ r. frame_head + length (spelling r)) journal + 1
-
--- the receipt that an item gets behind this journal
-abbrev pub next_receipt : List Receipt → DayMinute → ℕ → ℕ → Item → Receipt
-next_receipt journal stamp sender reference item =
-    record { stamp = stamp_after journal stamp; sender = sender; reference = reference; item = item }
 
 -- a journal's answer as a book's
 abbrev pub in_journal : Added → Received

@@ -30,7 +30,7 @@ IsNoRecord journal body = (r : Receipt) → IsReceipt r → body ≡ spelling r 
 -- behind these bodies the file has one more frame, whatever follows that
 pub record HasFrameBehind (file : List ℕ) (ahead : List (List ℕ)) (body : List ℕ) : Type 0 where
   pub rest : List (List ℕ)
-  pub frames : StandsFor file (ahead ++ body ∷ rest) ⊎ IsBad the_heading file (ahead ++ body ∷ rest)
+  pub frames : StandsFor the_heading file (ahead ++ body ∷ rest) ⊎ IsBad the_heading file (ahead ++ body ∷ rest)
 
 -- The file is bad behind a journal: the next frame is no record of it, or an open gate is followed by no whole frame.
 pub record IsBadBehind (file : List ℕ) (journal : List Receipt) : Type 0 where
@@ -40,9 +40,9 @@ pub record IsBadBehind (file : List ℕ) (journal : List Receipt) : Type 0 where
 -- the standing of a file, where a journal is the receipts that its frames spell
 abbrev pub HasBookStanding : List ℕ → Standing (List Receipt) → Type 0
 HasBookStanding file standing.Unmade = IsUnmade file
-HasBookStanding file standing.Foreign = IsForeign file
+HasBookStanding file standing.Foreign = IsForeign the_heading file
 HasBookStanding file (standing.Bad at) = (journal : List Receipt) × IsBadBehind file journal × (at ≡ gate_behind journal)
-HasBookStanding file (standing.Journal journal) = IsKeepable journal × HasStanding file (standing.Journal (records journal))
+HasBookStanding file (standing.Journal journal) = IsKeepable journal × HasStanding the_heading file (standing.Journal (records journal))
 
 -- The file stands for a journal; an unmade one stands for the empty journal.
 abbrev pub StandsForJournal : List ℕ → List Receipt → Type 0
@@ -55,4 +55,4 @@ pub record AreRecordsTo (journal : List Receipt) (gate : ℕ) : Type 0 where
 
 -- A book stands on a disk: its log does, with the records of its journal.
 abbrev pub Stands : BookState → List ℕ → (List ℕ → Type 0) → Type 0
-Stands book reads images = StandsOn book.log.gate (records book.journal) reads images
+Stands book reads images = StandsOn the_heading book.log.gate (records book.journal) reads images

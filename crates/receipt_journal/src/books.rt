@@ -1,15 +1,15 @@
 // The book: a journal and the log that keeps it.
-ghost use Rattle.std.specs.Prelude.{◌≡◌, ◌↔◌, ◌≤◌, true, false, ◌||◌, IsTrue, IfOk, IfErr, OnOk, length};
+ghost use Rattle.std.specs.Prelude.{◌≡◌, ◌↔◌, ◌+◌, ◌≤◌, true, false, ◌||◌, IsTrue, IfOk, IfErr, OnOk, length};
 ghost use Rattle.std.specs.Option.{option_copied};
 ghost use Rattle.gb_outside.specs.Faults.{Counts};
-ghost use Rattle.gb_outside.specs.Images.{Holds, LeavesOnly};
+ghost use Rattle.gb_outside.specs.Images.{Holds, Torn, LeavesOnly};
 ghost use Rattle.act_model.specs.WellFormed.{well_formed};
 ghost use Rattle.act_model.specs.Receiving.{receipt_at, answer_to};
 ghost use Rattle.act_model.specs.Receiving as journals;
 ghost use Rattle.act_model.specs.declared.items.Item.{Item};
-ghost use Rattle.act_codec.specs.Spelling.{spelling};
+ghost use Rattle.act_codec.specs.Spelling.{longest_spelling, spelling};
 ghost use Rattle.act_codec.specs.Values.{IsReceipt};
-ghost use Rattle.journal_disk.specs.Layout.{the_heading, IsBody, IsUnmade, made_from, appended};
+ghost use Rattle.journal_disk.specs.Layout.{the_heading, first_gate, IsBody, IsUnmade, made_from, appended};
 ghost use Rattle.journal_disk.specs.Opening.{IsKept, AnswersSynced};
 ghost use Rattle.receipt_journal.specs.Standing.{AreRecordsTo, Stands};
 ghost use Rattle.receipt_journal.specs.Opening.{BookOpens, BookRefuses, book_opening_failed};
@@ -70,6 +70,7 @@ impl Book {
         ensures made { IsTrue D.tells → OnOk result (IsUnmade (D.reads disk.old) → D.reads disk.new ≡ made_from the_heading (D.reads disk.old)) }
         ensures refused { IsTrue D.tells → IfErr result (BookRefuses (D.reads disk.old)) }
         ensures kept { IsTrue D.tells → IsKept (D.reads disk.old) (D.reads disk.new) }
+        ensures torn { IsTrue D.tells → Torn 0 (first_gate the_heading + 1) (D.reads disk.old) (D.reads disk.new) }
 
         // It answers only after a sync, and a stop at any moment from then on leaves the journal that was found.
         ensures any_moment { IsTrue D.tells → AnswersSynced D.reads D.images D.moment D.since disk.old disk.new (book_opening_failed result) }
@@ -139,13 +140,15 @@ impl Book {
         ensures answer { self.old.log.failed ≡ false → Answers (answer_on self.old.journal stamp sender reference item.now) result }
         ensures cause { Counts (D.faults disk.old) (D.faults disk.new) (receiving_failed result) }
 
-        // Only an accepted item changes the journal, and only `Disk` makes the book fail. Of the file the bytes of the new frame are written, and no others.
+        // Only an accepted item changes the journal, and only `Disk` makes the book fail. Of the file no bytes outside the new frame change, whatever the answer.
         ensures journal { self.new.journal ≡ journal_after self.old.journal stamp sender reference item.now result }
         ensures unchanged { is_received result ≡ false → receiving_failed result ≡ false → self.new ≡ self.old }
         ensures untouched { is_received result ≡ false → receiving_failed result ≡ false → disk.new ≡ disk.old }
         ensures failed { self.new.log.failed ≡ (self.old.log.failed || receiving_failed result) }
         ensures written { IsTrue D.tells → is_received result ≡ true
             → Holds (D.reads disk.old) self.old.log.gate (appended (spelling (next_receipt self.old.journal stamp sender reference item.now))) (D.reads disk.new) }
+        ensures torn { IsTrue D.tells
+            → Torn self.old.log.gate (length (appended (spelling (next_receipt self.old.journal stamp sender reference item.now)))) (D.reads disk.old) (D.reads disk.new) }
         ensures stands { IsTrue D.tells → self.new.log.failed ≡ false → Stands self.new (D.reads disk.new) (D.images disk.new) }
         ensures any_moment { IsTrue D.tells → self.old.log.failed ≡ false
             → LeavesOnly D.moment D.since disk.old disk.new (JournalWithOrWithout self.old.journal (next_receipt self.old.journal stamp sender reference item.now)) }
@@ -189,7 +192,7 @@ impl Book {
     ) -> Result<Vec<u8>, NoMemory>
         requires { IsTrue (well_formed item.now) }
         // Also where no memory is found for it, it has room on the disk.
-        ensures short { length (spelling (next_receipt self.now.journal stamp sender reference item.now)) ≤ 522 }
+        ensures short { length (spelling (next_receipt self.now.journal stamp sender reference item.now)) ≤ longest_spelling }
         ensures body { IfOk result (λ bytes. IsBody bytes.items) }
         ensures spelled { IfOk result (λ bytes. bytes.items ≡ spelling (next_receipt self.now.journal stamp sender reference item.now)) }
         ensures is_receipt { OnOk result (IsReceipt (next_receipt self.now.journal stamp sender reference item.now)) }

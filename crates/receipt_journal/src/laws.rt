@@ -14,7 +14,7 @@ pub fn one_standing()
     ensures journal { (file : List ℕ) (a b : List Receipt) → StandsForJournal file a → StandsForJournal file b → a ≡ b }
 {}
 
-/// The file of a journal never reaches its limit: 200,000 spellings of at most 522 bytes take less.
+/// The file of a journal never passes its limit: 200,000 spellings of at most 522 bytes take less.
 /// So an item that the journal accepts has room on the disk.
 pub fn all_have_room()
     ensures { (journal : List Receipt) → IsKeepable journal → file_size the_heading journal ≤ file_limit }

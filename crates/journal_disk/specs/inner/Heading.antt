@@ -11,5 +11,5 @@ BeginsWithZero file = (rest : List ℕ) × (file ≡ 0 ∷ rest)
 -- what a finding says of the file
 abbrev pub FoundIn : List ℕ → Found → Type 0
 FoundIn file (Unmade begun) = IsUnmade file × MatchBool begun (BeginsWithZero file) (length file ≤ 1)
-FoundIn file Foreign = IsForeign file
+FoundIn file Foreign = IsForeign the_heading file
 FoundIn file (Made len) = IsMade the_heading file × (len ≡ length file)

@@ -6,7 +6,7 @@ use Rattle.journal_disk.proofs.writing.finish.Goals as goal
 
 pub returns-clause-any_moment : goal.returns-clause-any_moment
 returns-clause-any_moment g c = λ yes.
-    let P : List ℕ → Type 0 = λ file. StandsFor file [] in
+    let P : List ℕ → Type 0 = λ file. StandsFor the_heading file [] in
     let rest = (c.requires.begun yes).0 in
     let first = weakened g.D.Disk.moment g.D.Disk.since _ _ _ P (name_put _ _ rest _ (c.requires.begun yes).1 (c.requires.settled yes)) (c.put.ensures.any_moment yes) in
     let is : g.D.Disk.reads c.put.new.disk ≡ 0 ∷ (the_heading ++ 0 ∷ drop 9 rest) =

@@ -7,6 +7,7 @@ use Rattle.act_model.specs.declared.added.Added.TheVariants as variants
 use Rattle.act_model.specs.Receiving.{answer_to}
 use Rattle.act_model.specs.Receiving as journals
 use Rattle.act_codec.specs.Spelling.{spelling}
+use Rattle.journal_disk.specs.Layout.{the_heading}
 use Rattle.journal_disk.specs.Appending as frames
 use Rattle.journal_disk.specs.Appending.{StandsOn}
 use Rattle.receipt_journal.specs.Standing.{records, gate_behind, IsKeepable}
@@ -60,13 +61,13 @@ returns-in-Ok-append-clause-stands g c = λ tells works_now.
     let journal = c.args.self.now.journal in
     let next = next_receipt journal c.args.stamp c.args.sender c.args.reference c.args.item.now in
     let works : c.self.inside.log.failed ≡ false = sym c.failed.ensures ∙ c.if-failed.false in
-    let stands : StandsOn c.self.inside.log.gate (records journal) (g.D.Disk.reads c.args.disk.now) (g.D.Disk.images c.args.disk.now) =
-    subst (λ (n : ℕ). StandsOn n (records journal) (g.D.Disk.reads c.args.disk.now) (g.D.Disk.images c.args.disk.now)) (sym (ap (λ b. b.log.gate) c.self.view_is))
+    let stands : StandsOn the_heading c.self.inside.log.gate (records journal) (g.D.Disk.reads c.args.disk.now) (g.D.Disk.images c.args.disk.now) =
+    subst (λ (n : ℕ). StandsOn the_heading n (records journal) (g.D.Disk.reads c.args.disk.now) (g.D.Disk.images c.args.disk.now)) (sym (ap (λ b. b.log.gate) c.self.view_is))
     (c.requires.stands tells (sym (ap (λ b. b.log.failed) c.self.view_is) ∙ works)) in
     let spelled : c.deref.result.now ≡ spelling next = c.deref.ensures.value ∙ c.in-Ok.ensures.spelled in
     let bodies : records c.add-in-Ok-append.new.self.receipts ≡ records journal ++ c.deref.result.now ∷ [] =
     ap records (whole g c) ∙ records_push journal next ∙ ap (λ (b : List ℕ). records journal ++ b ∷ []) (sym spelled) in
-    subst (λ (l : List (List ℕ)). StandsOn c.append.new.self.gate l (g.D.Disk.reads c.append.new.disk) (g.D.Disk.images c.append.new.disk)) (sym bodies)
+    subst (λ (l : List (List ℕ)). StandsOn the_heading c.append.new.self.gate l (g.D.Disk.reads c.append.new.disk) (g.D.Disk.images c.append.new.disk)) (sym bodies)
     (c.in-Ok-append.ensures.appended tells (records journal) stands)
 
 pub returns-in-Ok-append-clause-any_moment : goal.returns-in-Ok-append-clause-any_moment
@@ -77,11 +78,11 @@ returns-in-Ok-append-clause-any_moment g c = λ tells works_before.
     let is : IsKeepable journal = subst IsKeepable (ap (λ b. b.journal) c.self.view_is) c.self.invariant.keepable in
     let is_next : IsKeepable (journal ++ next ∷ []) = keepable_next journal c.args.stamp c.args.sender c.args.reference c.args.item.now is c.in-Ok.ensures.is_receipt accepted in
     let works : c.self.inside.log.failed ≡ false = sym c.failed.ensures ∙ c.if-failed.false in
-    let stands : StandsOn c.self.inside.log.gate (records journal) (g.D.Disk.reads c.args.disk.now) (g.D.Disk.images c.args.disk.now) =
-    subst (λ (n : ℕ). StandsOn n (records journal) (g.D.Disk.reads c.args.disk.now) (g.D.Disk.images c.args.disk.now)) (sym (ap (λ b. b.log.gate) c.self.view_is))
+    let stands : StandsOn the_heading c.self.inside.log.gate (records journal) (g.D.Disk.reads c.args.disk.now) (g.D.Disk.images c.args.disk.now) =
+    subst (λ (n : ℕ). StandsOn the_heading n (records journal) (g.D.Disk.reads c.args.disk.now) (g.D.Disk.images c.args.disk.now)) (sym (ap (λ b. b.log.gate) c.self.view_is))
     (c.requires.stands tells (sym (ap (λ b. b.log.failed) c.self.view_is) ∙ works)) in
     let spelled : c.deref.result.now ≡ spelling next = c.deref.ensures.value ∙ c.in-Ok.ensures.spelled in
-    weakened g.D.Disk.moment g.D.Disk.since c.args.disk.now c.append.new.disk (frames.FramesWithOrWithout (records journal) c.deref.result.now) (JournalWithOrWithout journal next)
+    weakened g.D.Disk.moment g.D.Disk.since c.args.disk.now c.append.new.disk (frames.FramesWithOrWithout the_heading (records journal) c.deref.result.now) (JournalWithOrWithout journal next)
     (λ file has. with_or_without journal next c.deref.result.now file is is_next spelled has)
     (c.in-Ok-append.ensures.any_moment tells (records journal) works stands)
 
@@ -113,11 +114,11 @@ returns-in-Err-Disk-clause-any_moment g c = λ tells works_before.
     let is : IsKeepable journal = subst IsKeepable (ap (λ b. b.journal) c.self.view_is) c.self.invariant.keepable in
     let is_next : IsKeepable (journal ++ next ∷ []) = keepable_next journal c.args.stamp c.args.sender c.args.reference c.args.item.now is c.in-Ok.ensures.is_receipt accepted in
     let works : c.self.inside.log.failed ≡ false = sym c.failed.ensures ∙ c.if-failed.false in
-    let stands : StandsOn c.self.inside.log.gate (records journal) (g.D.Disk.reads c.args.disk.now) (g.D.Disk.images c.args.disk.now) =
-    subst (λ (n : ℕ). StandsOn n (records journal) (g.D.Disk.reads c.args.disk.now) (g.D.Disk.images c.args.disk.now)) (sym (ap (λ b. b.log.gate) c.self.view_is))
+    let stands : StandsOn the_heading c.self.inside.log.gate (records journal) (g.D.Disk.reads c.args.disk.now) (g.D.Disk.images c.args.disk.now) =
+    subst (λ (n : ℕ). StandsOn the_heading n (records journal) (g.D.Disk.reads c.args.disk.now) (g.D.Disk.images c.args.disk.now)) (sym (ap (λ b. b.log.gate) c.self.view_is))
     (c.requires.stands tells (sym (ap (λ b. b.log.failed) c.self.view_is) ∙ works)) in
     let spelled : c.deref.result.now ≡ spelling next = c.deref.ensures.value ∙ c.in-Ok.ensures.spelled in
-    weakened g.D.Disk.moment g.D.Disk.since c.args.disk.now c.append.new.disk (frames.FramesWithOrWithout (records journal) c.deref.result.now) (JournalWithOrWithout journal next)
+    weakened g.D.Disk.moment g.D.Disk.since c.args.disk.now c.append.new.disk (frames.FramesWithOrWithout the_heading (records journal) c.deref.result.now) (JournalWithOrWithout journal next)
     (λ file has. with_or_without journal next c.deref.result.now file is is_next spelled has)
     (c.in-Err-Disk.ensures.any_moment tells (records journal) works stands)
 
