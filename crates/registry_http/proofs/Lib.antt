@@ -1,13 +1,15 @@
+pub mod FewKept
 pub mod FoundRows
+pub mod HeadLines
 pub mod Lengths
 pub mod Numbers
 pub mod OneFound
 pub mod OneRequest
 pub mod OneRoute
-pub mod Prompt
 pub mod ReadSoFar
 pub mod TargetEnds
 pub mod Tokens
 pub mod Walks
+pub mod Wanted
 pub mod WholeHeads
 pub mod Written

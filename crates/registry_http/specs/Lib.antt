@@ -1,4 +1,6 @@
+-- What contracts cite.
 pub mod Heads
+pub mod Lines
 pub mod Replies
 pub mod RequestParts
 pub mod Requests

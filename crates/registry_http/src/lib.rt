@@ -6,6 +6,7 @@ mod finding;
 mod headers;
 mod heads;
 pub mod laws;
+mod lines;
 mod replies;
 mod request_parts;
 mod requests;
