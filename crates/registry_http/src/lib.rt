@@ -2,7 +2,13 @@
 //! for, and the bytes of a reply.
 #![tactic(auto)]
 
+#[cfg(test)]
+mod cut_link;
+#[cfg(test)]
+mod cut_tests;
 mod finding;
+#[cfg(test)]
+mod head_tests;
 mod headers;
 mod heads;
 pub mod laws;
