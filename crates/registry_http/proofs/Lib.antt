@@ -1,6 +1,8 @@
+pub mod AlwaysOne
 pub mod FewKept
 pub mod FoundRows
 pub mod HeadLines
+pub mod InTurn
 pub mod Lengths
 pub mod Numbers
 pub mod OneFound

@@ -105,7 +105,7 @@ never_stays : (bytes more : List ℕ) → NeverHasRequest bytes → NeverHasRequ
 never_stays bytes more never = λ further. subst HasNoRequest (sym (append_assoc bytes more further)) (never (more ++ further))
 
 -- a head in a front of the bytes is one in the bytes
-none_in_front : (bytes : List ℕ) (n : ℕ) → HasNoRequest bytes → HasNoRequest (take n bytes)
+pub none_in_front : (bytes : List ℕ) (n : ℕ) → HasNoRequest bytes → HasNoRequest (take n bytes)
 none_in_front bytes n none = λ h rest reads.
     none h (rest ++ drop n bytes)
     (subst (λ l. ReadsRequest l h (rest ++ drop n bytes)) (take-append-drop n bytes) (ReadsRequest-append (take n bytes) h rest (drop n bytes) reads))

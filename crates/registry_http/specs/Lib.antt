@@ -2,6 +2,7 @@
 pub mod Heads
 pub mod Lines
 pub mod Replies
+pub mod RequestLists
 pub mod RequestParts
 pub mod Requests
 pub mod Routes

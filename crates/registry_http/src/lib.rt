@@ -19,6 +19,7 @@ mod requests;
 #[cfg(test)]
 mod route_tests;
 mod routes;
+mod sending;
 mod targets;
 #[cfg(test)]
 mod tests;
