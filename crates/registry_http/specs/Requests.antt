@@ -108,12 +108,7 @@ link_failed next.Memory = false
 -- the most bytes that are kept where some were read: behind a request those of one read, and else a head and a body too
 abbrev pub most_kept : Next → ℕ
 most_kept (next.Request request) = longest_read
-most_kept next.End = longest_head + longest_body + longest_read
-most_kept next.Cut = longest_head + longest_body + longest_read
-most_kept next.HeadFault = longest_head + longest_body + longest_read
-most_kept next.BodyTooLong = longest_head + longest_body + longest_read
-most_kept next.LinkFault = longest_head + longest_body + longest_read
-most_kept next.Memory = longest_head + longest_body + longest_read
+most_kept _ = longest_head + longest_body + longest_read
 
 -- no more bytes are kept than were kept before, or few
 abbrev pub KeepsFew : List ℕ → List ℕ → Next → Type 0
