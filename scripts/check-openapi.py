@@ -1,6 +1,6 @@
 #!/usr/bin/env python3
-"""Checks docs/http.yaml: that it is an OpenAPI description, and that it has the routes and statuses
-of docs/formats/http.md.
+"""Checks docs/http.yaml: that it is an OpenAPI description, and that it has the routes of
+docs/formats/http.md, each with its statuses, and no status but those of the page's table.
 
 Uses python's packages openapi_spec_validator and yaml. Where one is not installed, nothing is
 checked, and the script says so.
@@ -16,18 +16,11 @@ METHODS = ("get", "put", "post", "delete", "options", "head", "patch", "trace")
 
 
 def routes_of(description):
-    """The method and path of each route."""
+    """The method and path of each route, with the statuses that it may answer."""
     for path, item in description["paths"].items():
         for method in METHODS:
             if method in item:
-                yield method.upper(), path
-
-
-def statuses_of(description):
-    """Each status that a route may answer."""
-    for item in description["paths"].values():
-        for method in METHODS:
-            yield from item.get(method, {}).get("responses", {})
+                yield f"{method.upper()} {path}", sorted(item[method]["responses"])
 
 
 def main():
@@ -45,10 +38,14 @@ def main():
     except Exception as why:
         look.differs("openapi description is valid", why)
     page = PAGE.read_text()
-    routes = re.findall(r"^\| `([A-Z]+) (/\S*)` \|", page, re.M)
-    look.same("openapi has the routes of the page", sorted(routes_of(description)), sorted(routes))
-    statuses = re.findall(r"^\| (\d{3}) \|", page, re.M)
-    look.same("openapi has the statuses of the page", sorted(set(statuses_of(description))), sorted(statuses))
+    routes = dict(routes_of(description))
+    rows = re.findall(r"^\| `([A-Z]+ /\S*)` \|[^|]*\| ([\d ]+) \|$", page, re.M)
+    look.same("openapi has the routes of the page", sorted(routes), sorted(route for route, _ in rows))
+    for route, statuses in rows:
+        look.same(f"openapi has the statuses of {route}", routes.get(route), statuses.split())
+    said = {status for statuses in routes.values() for status in statuses}
+    phrases = re.findall(r"^\| (\d{3}) \|", page, re.M)
+    look.same("openapi has the statuses of the page", sorted(said), sorted(phrases))
     look.end()
 
 

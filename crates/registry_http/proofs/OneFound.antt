@@ -3,18 +3,18 @@ use Rattle.std.proofs.Common.{◌≡◌, ℕ, ◌<◌, ◌≤◌, ⊎_elim, true
 use Rattle.std.proofs.lemmas.Bool.{false≢true}
 use Rattle.std.proofs.lemmas.List.{take_at, append_cancel_left}
 use Rattle.std.proofs.lemmas.List.Elements.{All-nil, All-cons}
-use Rattle.httparse.specs.Grammar.{print_blank, print_version, print_end, print_section, RequestHead, NeverHasRequest, EndsInTarget, is_token_byte}
+use Rattle.httparse.specs.Grammar.{print_blank, print_version, print_end, print_section, RequestHead, ReadsRequest, NeverHasRequest, EndsInTarget, is_token_byte}
 use Rattle.httparse.proofs.GrammarLemmas.{print_request-append, request_unique}
 use Rattle.httparse.proofs.OpenLemmas.{letter_is_token}
 use Rattle.registry_http.specs.RequestParts.{RequestParts}
 use Rattle.registry_http.specs.Heads.{is_refused, body_length}
-use Rattle.registry_http.specs.Requests.{BeginsWith, BeginsRequest, HasNoHead, HasNoHeadYet, AtFront, Whole, Nothing, CutShort, HeadRefused, BodyTooLong, StandsIn, request_of}
+use Rattle.registry_http.specs.Requests.{BeginsWith, BeginsRequest, HasNoHead, HasNoHeadYet, LacksBody, AtFront, Whole, Nothing, Cut, HeadFault, BodyTooLong, StandsIn, request_of}
 use Rattle.registry_http.proofs.WholeHeads.{head_in_front, head_has_bytes}
 use Rattle.registry_http.proofs.OneRequest.{may_come}
 
 -- ---- what cannot stand together
 
-head_is_some : (bytes : List ℕ) (h : RequestHead) (behind : List ℕ) → BeginsWith bytes h behind → 0 < length bytes
+pub head_is_some : (bytes : List ℕ) (h : RequestHead) (behind : List ℕ) → BeginsWith bytes h behind → 0 < length bytes
 head_is_some bytes h behind b =
     let lengths = head_has_bytes (print_blank h.blank) h.method h.target (print_version h.minor ++ (print_end h.line_end ++ (print_section h.fields h.last ++ behind))) in
     omega (arith, ap length b.reads.1, ap length (print_request-append h behind), lengths)
@@ -28,7 +28,9 @@ head_or_not_yet bytes h behind b none = none.none h behind b.reads
 never_or_yet : (bytes : List ℕ) → HasNoHead bytes → HasNoHeadYet bytes → ⊥
 never_or_yet bytes x y =
     ⊎_elim (λ (full : 8192 ≤ length bytes). let room = y.room in absurd (omega (arith, full, room)))
-    (λ (never : NeverHasRequest bytes × ¬ (EndsInTarget bytes)). ⊎_elim (λ (may : ¬ (NeverHasRequest bytes)). may never.0) (λ (ends : EndsInTarget bytes). never.1 ends) y.may_come)
+    (λ (never : NeverHasRequest bytes × ¬ (EndsInTarget bytes)).
+    ⊎_elim (λ (may : (more : List ℕ) × (h : RequestHead) × ReadsRequest (bytes ++ more) h []). never.0 may.0 may.1 [] may.2)
+    (λ (ends : EndsInTarget bytes). never.1 ends) y.may_come)
     x.none_comes
 
 nothing_or_none : (bytes : List ℕ) → bytes ≡ [] → HasNoHead bytes → ⊥
@@ -74,14 +76,14 @@ whole_once bytes rest rest' request request' x y =
 whole_nothing : (bytes rest : List ℕ) (request : RequestParts) → StandsIn bytes (Whole request rest) → bytes ≡ [] → ⊥
 whole_nothing bytes rest request x empty = let some = head_is_some bytes x.0 _ x.2.head in absurd (omega (arith, some, ap length empty))
 
-whole_cut : (bytes rest : List ℕ) (request : RequestParts) → StandsIn bytes (Whole request rest) → StandsIn bytes CutShort → ⊥
+pub whole_cut : (bytes rest : List ℕ) (request : RequestParts) → StandsIn bytes (Whole request rest) → StandsIn bytes Cut → ⊥
 whole_cut bytes rest request x y =
     ⊎_elim (λ (none : HasNoHeadYet bytes). head_or_not_yet bytes x.0 _ x.2.head none)
-    (λ (cut : (h : RequestHead) × (behind : List ℕ) × (size : ℕ) × BeginsRequest bytes h behind size × (size ≤ 65536) × (length behind < size)).
+    (λ (cut : LacksBody bytes).
     let same = one_beginning bytes x.0 cut.0 (x.1 ++ rest) cut.1 (length x.1) cut.2 x.2 cut.3 in
     absurd (omega (arith, cut.5, same.size, ap length same.rest_is, length-append x.1 rest))) y.1
 
-whole_refused : (bytes rest : List ℕ) (request : RequestParts) → StandsIn bytes (Whole request rest) → StandsIn bytes HeadRefused → ⊥
+whole_refused : (bytes rest : List ℕ) (request : RequestParts) → StandsIn bytes (Whole request rest) → StandsIn bytes HeadFault → ⊥
 whole_refused bytes rest request x y =
     ⊎_elim (λ (none : HasNoHead bytes). head_or_none bytes x.0 _ x.2.head none)
     (λ (head : (h : RequestHead) × (behind : List ℕ) × BeginsWith bytes h behind × (is_refused h ≡ true)).
@@ -92,10 +94,10 @@ whole_long bytes rest request x y =
     let same = one_beginning bytes x.0 y.0 (x.1 ++ rest) y.1 (length x.1) y.2 x.2 y.3 in
     absurd (omega (arith, x.3, y.4, same.size))
 
-nothing_cut : (bytes : List ℕ) → bytes ≡ [] → StandsIn bytes CutShort → ⊥
+nothing_cut : (bytes : List ℕ) → bytes ≡ [] → StandsIn bytes Cut → ⊥
 nothing_cut bytes empty y = absurd (omega (arith, y.0, ap length empty))
 
-nothing_refused : (bytes : List ℕ) → bytes ≡ [] → StandsIn bytes HeadRefused → ⊥
+nothing_refused : (bytes : List ℕ) → bytes ≡ [] → StandsIn bytes HeadFault → ⊥
 nothing_refused bytes empty y =
     ⊎_elim (λ (none : HasNoHead bytes). nothing_or_none bytes empty none)
     (λ (head : (h : RequestHead) × (behind : List ℕ) × BeginsWith bytes h behind × (is_refused h ≡ true)).
@@ -104,24 +106,24 @@ nothing_refused bytes empty y =
 nothing_long : (bytes : List ℕ) → bytes ≡ [] → StandsIn bytes BodyTooLong → ⊥
 nothing_long bytes empty y = let some = head_is_some bytes y.0 y.1 y.3.head in absurd (omega (arith, some, ap length empty))
 
-cut_refused : (bytes : List ℕ) → StandsIn bytes CutShort → StandsIn bytes HeadRefused → ⊥
+cut_refused : (bytes : List ℕ) → StandsIn bytes Cut → StandsIn bytes HeadFault → ⊥
 cut_refused bytes x y =
     ⊎_elim (λ (yet : HasNoHeadYet bytes).
     ⊎_elim (λ (none : HasNoHead bytes). never_or_yet bytes none yet)
     (λ (head : (h : RequestHead) × (behind : List ℕ) × BeginsWith bytes h behind × (is_refused h ≡ true)). head_or_not_yet bytes head.0 head.1 head.2 yet) y)
-    (λ (cut : (h : RequestHead) × (behind : List ℕ) × (size : ℕ) × BeginsRequest bytes h behind size × (size ≤ 65536) × (length behind < size)).
+    (λ (cut : LacksBody bytes).
     ⊎_elim (λ (none : HasNoHead bytes). head_or_none bytes cut.0 cut.1 cut.3.head none)
     (λ (head : (h : RequestHead) × (behind : List ℕ) × BeginsWith bytes h behind × (is_refused h ≡ true)). taken_or_refused bytes cut.0 head.0 cut.1 head.1 cut.2 cut.3 head.2 head.3) y)
     x.1
 
-cut_long : (bytes : List ℕ) → StandsIn bytes CutShort → StandsIn bytes BodyTooLong → ⊥
+pub cut_long : (bytes : List ℕ) → StandsIn bytes Cut → StandsIn bytes BodyTooLong → ⊥
 cut_long bytes x y =
     ⊎_elim (λ (yet : HasNoHeadYet bytes). head_or_not_yet bytes y.0 y.1 y.3.head yet)
-    (λ (cut : (h : RequestHead) × (behind : List ℕ) × (size : ℕ) × BeginsRequest bytes h behind size × (size ≤ 65536) × (length behind < size)).
+    (λ (cut : LacksBody bytes).
     let same = one_beginning bytes cut.0 y.0 cut.1 y.1 cut.2 y.2 cut.3 y.3 in absurd (omega (arith, cut.4, y.4, same.size)))
     x.1
 
-refused_long : (bytes : List ℕ) → StandsIn bytes HeadRefused → StandsIn bytes BodyTooLong → ⊥
+refused_long : (bytes : List ℕ) → StandsIn bytes HeadFault → StandsIn bytes BodyTooLong → ⊥
 refused_long bytes x y =
     ⊎_elim (λ (none : HasNoHead bytes). head_or_none bytes y.0 y.1 y.3.head none)
     (λ (head : (h : RequestHead) × (behind : List ℕ) × BeginsWith bytes h behind × (is_refused h ≡ true)). taken_or_refused bytes y.0 head.0 y.1 head.1 y.2 y.3 head.2 head.3) x
@@ -129,26 +131,26 @@ refused_long bytes x y =
 pub one_found : (bytes : List ℕ) (a b : AtFront) → StandsIn bytes a → StandsIn bytes b → a ≡ b
 one_found bytes (Whole r s) (Whole q t) x y = whole_once bytes s t r q x y
 one_found bytes (Whole r s) Nothing x y = absurd (whole_nothing bytes s r x y)
-one_found bytes (Whole r s) CutShort x y = absurd (whole_cut bytes s r x y)
-one_found bytes (Whole r s) HeadRefused x y = absurd (whole_refused bytes s r x y)
+one_found bytes (Whole r s) Cut x y = absurd (whole_cut bytes s r x y)
+one_found bytes (Whole r s) HeadFault x y = absurd (whole_refused bytes s r x y)
 one_found bytes (Whole r s) BodyTooLong x y = absurd (whole_long bytes s r x y)
 one_found bytes Nothing (Whole q t) x y = absurd (whole_nothing bytes t q y x)
 one_found bytes Nothing Nothing x y = refl
-one_found bytes Nothing CutShort x y = absurd (nothing_cut bytes x y)
-one_found bytes Nothing HeadRefused x y = absurd (nothing_refused bytes x y)
+one_found bytes Nothing Cut x y = absurd (nothing_cut bytes x y)
+one_found bytes Nothing HeadFault x y = absurd (nothing_refused bytes x y)
 one_found bytes Nothing BodyTooLong x y = absurd (nothing_long bytes x y)
-one_found bytes CutShort (Whole q t) x y = absurd (whole_cut bytes t q y x)
-one_found bytes CutShort Nothing x y = absurd (nothing_cut bytes y x)
-one_found bytes CutShort CutShort x y = refl
-one_found bytes CutShort HeadRefused x y = absurd (cut_refused bytes x y)
-one_found bytes CutShort BodyTooLong x y = absurd (cut_long bytes x y)
-one_found bytes HeadRefused (Whole q t) x y = absurd (whole_refused bytes t q y x)
-one_found bytes HeadRefused Nothing x y = absurd (nothing_refused bytes y x)
-one_found bytes HeadRefused CutShort x y = absurd (cut_refused bytes y x)
-one_found bytes HeadRefused HeadRefused x y = refl
-one_found bytes HeadRefused BodyTooLong x y = absurd (refused_long bytes x y)
+one_found bytes Cut (Whole q t) x y = absurd (whole_cut bytes t q y x)
+one_found bytes Cut Nothing x y = absurd (nothing_cut bytes y x)
+one_found bytes Cut Cut x y = refl
+one_found bytes Cut HeadFault x y = absurd (cut_refused bytes x y)
+one_found bytes Cut BodyTooLong x y = absurd (cut_long bytes x y)
+one_found bytes HeadFault (Whole q t) x y = absurd (whole_refused bytes t q y x)
+one_found bytes HeadFault Nothing x y = absurd (nothing_refused bytes y x)
+one_found bytes HeadFault Cut x y = absurd (cut_refused bytes y x)
+one_found bytes HeadFault HeadFault x y = refl
+one_found bytes HeadFault BodyTooLong x y = absurd (refused_long bytes x y)
 one_found bytes BodyTooLong (Whole q t) x y = absurd (whole_long bytes t q y x)
 one_found bytes BodyTooLong Nothing x y = absurd (nothing_long bytes y x)
-one_found bytes BodyTooLong CutShort x y = absurd (cut_long bytes y x)
-one_found bytes BodyTooLong HeadRefused x y = absurd (refused_long bytes y x)
+one_found bytes BodyTooLong Cut x y = absurd (cut_long bytes y x)
+one_found bytes BodyTooLong HeadFault x y = absurd (refused_long bytes y x)
 one_found bytes BodyTooLong BodyTooLong x y = refl

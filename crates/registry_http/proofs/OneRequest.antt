@@ -10,7 +10,7 @@ use Rattle.httparse.specs.Grammar.{LineEnd, lf, print_blank, RequestHead, IsFiel
 use Rattle.httparse.proofs.GrammarLemmas.{print_request-append, ReadsRequest-append}
 use Rattle.registry_http.specs.RequestParts.{RequestParts}
 use Rattle.registry_http.specs.Heads.{is_refused}
-use Rattle.registry_http.specs.Requests.{BeginsWith, BeginsRequest, HasNoHead, Whole, HeadRefused, BodyTooLong, StandsIn}
+use Rattle.registry_http.specs.Requests.{BeginsWith, BeginsRequest, HasNoHead, Whole, HeadFault, BodyTooLong, StandsIn}
 use Rattle.registry_http.proofs.WholeHeads.{BeginsWith-append, BeginsRequest-append, none_now}
 
 -- ---- what more bytes change
@@ -66,13 +66,13 @@ may_come bytes m blank method token whole never =
     (some_reads blank method token))
 
 -- the first bytes of two lists joined
-shorter_front : (bytes more a b : List ℕ) → bytes ++ more ≡ a ++ b → length bytes ≤ length a → bytes ++ drop (length bytes) a ≡ a
+pub shorter_front : (bytes more a b : List ℕ) → bytes ++ more ≡ a ++ b → length bytes ≤ length a → bytes ++ drop (length bytes) a ≡ a
 shorter_front bytes more a b whole within =
     let front : take (length bytes) a ≡ bytes =
     sym (take-append-le (length bytes) a b within) ∙ sym (ap (take (length bytes)) whole) ∙ take_at bytes more (length bytes) refl in
     ap (λ l. l ++ drop (length bytes) a) (sym front) ∙ take-append-drop (length bytes) a
 
-longer_front : (bytes more a b : List ℕ) → bytes ++ more ≡ a ++ b → length a ≤ length bytes → bytes ≡ a ++ take (length bytes - length a) b
+pub longer_front : (bytes more a b : List ℕ) → bytes ++ more ≡ a ++ b → length a ≤ length bytes → bytes ≡ a ++ take (length bytes - length a) b
 longer_front bytes more a b whole within =
     let split : length bytes ≡ length a + (length bytes - length a) = omega arith in
     sym (take_at bytes more (length bytes) refl) ∙ ap (take (length bytes)) whole ∙ ap (λ n. take n (a ++ b)) split ∙ take-append-add a b (length bytes - length a)
@@ -105,7 +105,7 @@ never_stays : (bytes more : List ℕ) → NeverHasRequest bytes → NeverHasRequ
 never_stays bytes more never = λ further. subst HasNoRequest (sym (append_assoc bytes more further)) (never (more ++ further))
 
 -- a head in a front of the bytes is one in the bytes
-none_in_front : (bytes : List ℕ) (n : ℕ) → HasNoRequest bytes → HasNoRequest (take n bytes)
+pub none_in_front : (bytes : List ℕ) (n : ℕ) → HasNoRequest bytes → HasNoRequest (take n bytes)
 none_in_front bytes n none = λ h rest reads.
     none h (rest ++ drop n bytes)
     (subst (λ l. ReadsRequest l h (rest ++ drop n bytes)) (take-append-drop n bytes) (ReadsRequest-append (take n bytes) h rest (drop n bytes) reads))
@@ -125,7 +125,7 @@ no_head_stays bytes more x =
     })
     x.none_comes
 
-pub refused_stays : (bytes more : List ℕ) → StandsIn bytes HeadRefused → StandsIn (bytes ++ more) HeadRefused
+pub refused_stays : (bytes more : List ℕ) → StandsIn bytes HeadFault → StandsIn (bytes ++ more) HeadFault
 refused_stays bytes more x =
     ⊎_elim (λ (none : HasNoHead bytes). inl (no_head_stays bytes more none))
     (λ (head : (h : RequestHead) × (behind : List ℕ) × BeginsWith bytes h behind × (is_refused h ≡ true)).

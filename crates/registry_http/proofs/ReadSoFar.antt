@@ -1,5 +1,6 @@
 -- A request that is read piece by piece: what each piece leaves to be said.
-use Rattle.std.proofs.Common.{◌≡◌, ℕ, ◌+◌, ◌<◌, ◌≤◌, inl, inr, Bool, List, [], ◌++◌, length, take, drop, Option, Result, Ok, Err, IfErr, sym, ap, subst, ◌∙◌, arith, append_assoc, append-nil, length-append, length-take, take-append-drop, drop-drop}
+use Rattle.std.proofs.Common.{◌≡◌, ℕ, ◌+◌, ◌<◌, ◌≤◌, inl, inr, ⊎_elim, Bool, List, [], ◌++◌, length, take, drop, Option, Result, Ok, Err, IfErr, refl, sym, ap, subst, ◌∙◌, arith, append_assoc, append-nil, length-append, length-take, length-drop, take-append-drop, drop-drop}
+use Rattle.std.specs.Io.KnownBytes.{IsAtEnd}
 use Rattle.std.proofs.KnownBytes.{Consumes-nil, Consumes-trans}
 use Rattle.std.specs.Result.{IsErrAnd}
 use Rattle.std.proofs.lemmas.List.Prefix.{front_rest}
@@ -7,8 +8,8 @@ use Rattle.httparse.specs.Grammar.{RequestHead, print_request, print_blank, prin
 use Rattle.httparse.proofs.GrammarLemmas.{print_request-append}
 use Rattle.registry_http.specs.RequestParts.{RequestParts}
 use Rattle.registry_http.specs.Heads.{is_last}
-use Rattle.registry_http.specs.Requests.{BeginsRequest, HasNoHeadYet, StandsIn, Whole, CutShort, Tells, ReadsNext, request_of, KeepsFew}
-use Rattle.registry_http.specs.inner.Reading.{HasHead, ReadsOn, IsStop, Stops, IsCutOff, FallsShort, IsNoRequest}
+use Rattle.registry_http.specs.Requests.{BeginsRequest, LacksBody, WantsMore, IsWanted, StandsIn, Whole, Cut, Tells, ReadsNext, request_of}
+use Rattle.registry_http.specs.inner.Reading.{HasHead, Brings, IsBreak, Breaks, ReadsOn}
 use Rattle.registry_http.proofs.WholeHeads.{HasHead-append, head_has_bytes}
 use Rattle.registry_http.specs.declared.requests.Next.{Next}
 use Rattle.registry_http.specs.declared.requests.Next.TheVariants as next
@@ -16,12 +17,26 @@ use Rattle.registry_http.specs.declared.requests.Next.TheVariants as next
 -- ---- reads, one after another
 
 pub reads_none : (left : Option (List ℕ)) (had : List ℕ) → ReadsOn left left had had
-reads_none left had = record { read = []; consumed = Consumes-nil left; grown = sym (append-nil had) }
+reads_none left had = record { read = []; consumed = Consumes-nil left; wanted = inl refl; grown = sym (append-nil had) }
+
+-- what was read first and what was read then were wanted
+wanted_then : (old mid first second : List ℕ) → mid ≡ old ++ first → IsWanted old first → IsWanted mid second → IsWanted old (first ++ second)
+wanted_then old mid first second grown before now =
+    ⊎_elim (λ (none : second ≡ []). subst (IsWanted old) (sym (ap (λ l. first ++ l) none ∙ append-nil first)) before)
+    (λ (some : (front : List ℕ) × (last : List ℕ) × (second ≡ front ++ last) × (length last ≤ 4096) × WantsMore (mid ++ front)).
+    inr (
+      first ++ some.0,
+      some.1,
+      ap (λ l. first ++ l) some.2 ∙ sym (append_assoc first some.0 some.1),
+      some.3,
+      subst WantsMore (ap (λ l. l ++ some.0) grown ∙ append_assoc old first some.0) some.4,
+    )) now
 
 pub reads_then : (a b c : Option (List ℕ)) (old mid new : List ℕ) → ReadsOn a b old mid → ReadsOn b c mid new → ReadsOn a c old new
 reads_then a b c old mid new first second = record {
   read = first.read ++ second.read;
   consumed = Consumes-trans a b c first.read second.read first.consumed second.consumed;
+  wanted = wanted_then old mid first.read second.read first.grown first.wanted second.wanted;
   grown = second.grown ∙ ap (λ l. l ++ second.read) first.grown ∙ append_assoc old first.read second.read;
 }
 
@@ -31,64 +46,64 @@ pub answer_since : (a b c : Option (List ℕ)) (old mid kept : List ℕ) (answer
 answer_since a b c old mid kept answer before now = record {
   read = before.read ++ now.read;
   consumed = Consumes-trans a b c before.read now.read before.consumed now.consumed;
+  wanted = wanted_then old mid before.read now.read before.grown before.wanted now.wanted;
+  kept = omega (arith, now.kept, ap length before.grown, length-append old before.read, length-append before.read now.read);
   answered =
       subst (λ bytes. Tells bytes kept c answer)
       (ap (λ l. l ++ now.read) before.grown ∙ append_assoc old before.read now.read) now.answered;
 }
 
 -- an answer that needs no more bytes
-pub answer_now : (left : Option (List ℕ)) (bytes kept : List ℕ) (answer : Next) → Tells bytes kept left answer → ReadsNext left left bytes kept answer
-answer_now left bytes kept answer is = record {
+pub answer_now : (left : Option (List ℕ)) (bytes : List ℕ) (answer : Next) → Tells bytes bytes left answer → ReadsNext left left bytes bytes answer
+answer_now left bytes answer is = record {
   read = [];
   consumed = Consumes-nil left;
-  answered = subst (λ b. Tells b kept left answer) (sym (append-nil bytes)) is;
+  wanted = inl refl;
+  kept = omega arith;
+  answered = subst (λ b. Tells b bytes left answer) (sym (append-nil bytes)) is;
 }
 
--- ---- no more bytes come
+-- the same behind what was read before
+pub answer_then : (a b : Option (List ℕ)) (old bytes : List ℕ) (answer : Next) → ReadsOn a b old bytes → Tells bytes bytes b answer → ReadsNext a b old bytes answer
+answer_then a b old bytes answer before is = answer_since a b b old bytes bytes answer before (answer_now b bytes answer is)
 
-stopped_answers : (bytes read kept : List ℕ) (left : Option (List ℕ)) (answer : Next) → HasNoHeadYet bytes → IsStop bytes read left answer
-    → Tells (bytes ++ read) kept left answer
-stopped_answers bytes read kept left (next.Request request) none stop = absurd stop
-stopped_answers bytes read kept left next.End none stop = (ap (λ l. l ++ read) stop.0 ∙ stop.1, stop.2)
-stopped_answers bytes read kept left next.Cut none stop =
-    let whole : bytes ≡ bytes ++ read = sym (append-nil bytes) ∙ sym (ap (λ l. bytes ++ l) stop.1) in
-    (subst (λ l. StandsIn l CutShort) whole (stop.0, inl none), stop.2)
-stopped_answers bytes read kept left next.HeadFault none stop = absurd stop
-stopped_answers bytes read kept left next.BodyTooLong none stop = absurd stop
-stopped_answers bytes read kept left next.LinkFault none stop = tt
-stopped_answers bytes read kept left next.Memory none stop = tt
+-- ---- one read
 
--- where no head has come yet
-pub stopped_in_head : (left_old left_new : Option (List ℕ)) (bytes kept : List ℕ) (answer : Next) → HasNoHeadYet bytes
-    → Stops left_old left_new bytes answer → ReadsNext left_old left_new bytes kept answer
-stopped_in_head left_old left_new bytes kept answer none stops = record {
-  read = stops.read;
-  consumed = stops.consumed;
-  answered = stopped_answers bytes stops.read kept left_new answer none stops.stop;
-}
+wanted_now : (bytes read : List ℕ) → WantsMore bytes → length read ≤ 4096 → IsWanted bytes read
+wanted_now bytes read wants few = inr ([], read, refl, few, subst WantsMore (sym (append-nil bytes)) wants)
 
-short_of_end : (bytes read : List ℕ) (left : Option (List ℕ)) (end : ℕ) (answer : Next) → 0 < length bytes → length bytes < end
-    → IsStop bytes read left answer → IsCutOff end (bytes ++ read) left answer
-short_of_end bytes read left end (next.Request request) some short stop = stop
-short_of_end bytes read left end next.End some short stop = absurd (omega (arith, ap length stop.0))
-short_of_end bytes read left end next.Cut some short stop =
-    (omega (arith, length-append bytes read, ap length stop.1), stop.2)
-short_of_end bytes read left end next.HeadFault some short stop = stop
-short_of_end bytes read left end next.BodyTooLong some short stop = stop
-short_of_end bytes read left end next.LinkFault some short stop = tt
-short_of_end bytes read left end next.Memory some short stop = tt
+-- a read that was wanted
+pub brought : (a b c : Option (List ℕ)) (old mid new : List ℕ) → ReadsOn a b old mid → WantsMore mid → Brings b c mid new → ReadsOn a c old new
+brought a b c old mid new before wants more =
+    reads_then a b c old mid new before (record {
+      read = more.read;
+      consumed = more.consumed;
+      wanted = wanted_now mid more.read wants more.few;
+      grown = more.grown;
+    })
 
--- where not so many bytes came
-pub falls_short : (a b c : Option (List ℕ)) (old bytes : List ℕ) (end : ℕ) (answer : Next) → 0 < length bytes → length bytes < end
-    → ReadsOn a b old bytes → Stops b c bytes answer → FallsShort a c old end answer
-falls_short a b c old bytes end answer some short before stops = record {
-  read = before.read ++ stops.read;
-  consumed = Consumes-trans a b c before.read stops.read before.consumed stops.consumed;
-  short =
-      subst (λ l. IsCutOff end l c answer)
-      (ap (λ l. l ++ stops.read) before.grown ∙ append_assoc old before.read stops.read)
-      (short_of_end bytes stops.read c end answer some short stops.stop);
-}
+break_tells : (bytes read : List ℕ) (left : Option (List ℕ)) (answer : Next) → WantsMore bytes → IsBreak read answer → Tells (bytes ++ read) bytes left answer
+break_tells bytes read left (next.Request request) wants broken = absurd broken
+break_tells bytes read left next.End wants broken = absurd broken
+break_tells bytes read left next.Cut wants broken = absurd broken
+break_tells bytes read left next.HeadFault wants broken = absurd broken
+break_tells bytes read left next.BodyTooLong wants broken = absurd broken
+break_tells bytes read left next.LinkFault wants broken =
+    subst WantsMore (sym (append-nil bytes) ∙ sym (ap (λ l. bytes ++ l) broken)) wants
+break_tells bytes read left next.Memory wants broken = tt
+
+-- a read that was wanted and broke off
+pub broke_off : (a b c : Option (List ℕ)) (old mid kept : List ℕ) (answer : Next) → ReadsOn a b old mid → WantsMore mid → Breaks b c mid kept answer
+    → ReadsNext a c old kept answer
+broke_off a b c old mid kept answer before wants breaks =
+    subst (λ k. ReadsNext a c old k answer) (sym breaks.kept)
+    (answer_since a b c old mid mid answer before (record {
+      read = breaks.read;
+      consumed = breaks.consumed;
+      wanted = wanted_now mid breaks.read wants breaks.few;
+      kept = omega arith;
+      answered = break_tells mid breaks.read c answer wants breaks.broken;
+    }))
 
 -- ---- a head and its body
 
@@ -105,33 +120,48 @@ some_bytes bytes method path len body last x =
     let lengths = head_has_bytes (print_blank h.blank) h.method h.target (print_version h.minor ++ (print_end h.line_end ++ (print_section h.fields h.last ++ x.behind))) in
     omega (arith, ap length x.begins.head.reads.1, ap length printed, lengths)
 
-short_answers : (bytes read kept method path : List ℕ) (len body : ℕ) (last : Bool) (left : Option (List ℕ)) (answer : Next)
-    → HasHead bytes method path len body last → IsCutOff (len + body) (bytes ++ read) left answer → Tells (bytes ++ read) kept left answer
-short_answers bytes read kept method path len body last left (next.Request request) x short = absurd short
-short_answers bytes read kept method path len body last left next.End x short = absurd short
-short_answers bytes read kept method path len body last left next.Cut x short =
-    let y = HasHead-append bytes read method path len body last x in
-    let lengths = behind_length (bytes ++ read) method path len body last y in (
-      (
-        some_bytes (bytes ++ read) method path len body last y,
-        inr (y.h, y.behind, body, y.begins, y.small, omega (arith, short.0, lengths)),
-      ),
-      short.1,
-    )
-short_answers bytes read kept method path len body last left next.HeadFault x short = absurd short
-short_answers bytes read kept method path len body last left next.BodyTooLong x short = absurd short
-short_answers bytes read kept method path len body last left next.LinkFault x short = tt
-short_answers bytes read kept method path len body last left next.Memory x short = tt
+-- bytes with a head that lack some of its body
+pub lacks_body : (bytes method path : List ℕ) (len body : ℕ) (last : Bool) → HasHead bytes method path len body last → length bytes < len + body → LacksBody bytes
+lacks_body bytes method path len body last x short =
+    (x.h, x.behind, body, x.begins, x.small, omega (arith, short, behind_length bytes method path len body last x))
 
--- the head came, and its body does not
-pub short_in_body : (a b c : Option (List ℕ)) (old bytes kept method path : List ℕ) (len body : ℕ) (last : Bool) (answer : Next)
-    → ReadsOn a b old bytes → HasHead bytes method path len body last → FallsShort b c bytes (len + body) answer → ReadsNext a c old kept answer
-short_in_body a b c old bytes kept method path len body last answer before x short =
-    answer_since a b c old bytes kept answer before (record {
-      read = short.read;
-      consumed = short.consumed;
-      answered = short_answers bytes short.read kept method path len body last c answer x short.short;
-    })
+-- the bytes that were read behind a head leave it there
+pub head_stays : (a b : Option (List ℕ)) (old new method path : List ℕ) (len body : ℕ) (last : Bool) → HasHead old method path len body last → ReadsOn a b old new
+    → HasHead new method path len body last
+head_stays a b old new method path len body last x reads =
+    subst (λ l. HasHead l method path len body last) (sym reads.grown) (HasHead-append old reads.read method path len body last x)
+
+-- a head whose body lacks bytes is a request cut short
+pub body_cut : (bytes method path : List ℕ) (len body : ℕ) (last : Bool) → HasHead bytes method path len body last → length bytes < len + body
+    → StandsIn bytes Cut
+body_cut bytes method path len body last x short =
+    (some_bytes bytes method path len body last x, inr (lacks_body bytes method path len body last x short))
+
+-- the link ended ahead of the end of a body
+pub ended_in_body : (a b c : Option (List ℕ)) (old mid new method path : List ℕ) (len body : ℕ) (last : Bool)
+    → ReadsOn a b old mid → HasHead mid method path len body last → length mid < len + body → Brings b c mid new → new ≡ mid → IsAtEnd c
+    → ReadsNext a c old new next.Cut
+ended_in_body a b c old mid new method path len body last before x short more same end =
+    let wants : WantsMore mid = inr (lacks_body mid method path len body last x short) in
+    answer_then a c old new next.Cut (brought a b c old mid new before wants more)
+    (subst (λ l. StandsIn l Cut) (sym same) (body_cut mid method path len body last x short), end)
+
+-- the link broke off ahead of it
+pub broken_in_body : (a b c : Option (List ℕ)) (old mid new method path : List ℕ) (len body : ℕ) (last : Bool) (answer : Next)
+    → ReadsOn a b old mid → HasHead mid method path len body last → length mid < len + body → Breaks b c mid new answer → ReadsNext a c old new answer
+broken_in_body a b c old mid new method path len body last answer before x short breaks =
+    broke_off a b c old mid new answer before (inr (lacks_body mid method path len body last x short)) breaks
+
+-- more of a body came
+pub more_of_body : (a b c : Option (List ℕ)) (old mid new method path : List ℕ) (len body : ℕ) (last : Bool)
+    → ReadsOn a b old mid → HasHead mid method path len body last → length mid < len + body → Brings b c mid new → ReadsOn a c old new
+more_of_body a b c old mid new method path len body last before x short more =
+    brought a b c old mid new before (inr (lacks_body mid method path len body last x short)) more
+
+pub head_kept : (b c : Option (List ℕ)) (old new method path : List ℕ) (len body : ℕ) (last : Bool) → HasHead old method path len body last → Brings b c old new
+    → HasHead new method path len body last
+head_kept b c old new method path len body last x more =
+    subst (λ l. HasHead l method path len body last) (sym more.grown) (HasHead-append old more.read method path len body last x)
 
 parts_same : (h : RequestHead) (method path body rest : List ℕ) (last : Bool) → h.method ≡ method → h.target ≡ path → body ≡ rest → is_last h ≡ last
     → ◌≡◌ {A = RequestParts} (record { method = method; path = path; body = body; last = last }) (request_of h rest)
@@ -163,11 +193,13 @@ pub whole_request : (a b c : Option (List ℕ)) (old bytes1 bytes2 kept method p
     → request ≡ record { method = method; path = path; body = take body (drop len bytes2); last = last }
     → kept ≡ drop (len + body) bytes2 → ReadsNext a c old kept (next.Request request)
 whole_request a b c old bytes1 bytes2 kept method path len body last request before x more long is kept_is =
-    let y = subst (λ l. HasHead l method path len body last) (sym more.grown) (HasHead-append bytes1 more.read method path len body last x) in
+    let y = head_stays b c bytes1 bytes2 method path len body last x more in
     let both = reads_then a b c old bytes1 bytes2 before more in
     record {
       read = both.read;
       consumed = both.consumed;
+      wanted = both.wanted;
+      kept = omega (arith, ap length kept_is, length-drop (len + body) bytes2, ap length both.grown, length-append old both.read);
       answered = subst (λ l. StandsIn l (Whole request kept)) both.grown (taken bytes2 method path len body last request kept y long is kept_is);
     }
 
@@ -177,38 +209,11 @@ at_exit (Ok x) P answer is holds = absurd is
 at_exit (Err e) P answer is holds = subst P (sym is) holds
 
 -- want of memory leaves nothing to be said of the bytes
-pub memory_after : (a b : Option (List ℕ)) (old bytes kept : List ℕ) → ReadsOn a b old bytes → ReadsNext a b old kept next.Memory
-memory_after a b old bytes kept reads = record { read = reads.read; consumed = reads.consumed; answered = tt }
-
-stop_is_no_request : (bytes read : List ℕ) (left : Option (List ℕ)) (answer : Next) → IsStop bytes read left answer → IsNoRequest answer
-stop_is_no_request bytes read left (next.Request request) stop = stop
-stop_is_no_request bytes read left next.End stop = tt
-stop_is_no_request bytes read left next.Cut stop = tt
-stop_is_no_request bytes read left next.HeadFault stop = tt
-stop_is_no_request bytes read left next.BodyTooLong stop = tt
-stop_is_no_request bytes read left next.LinkFault stop = tt
-stop_is_no_request bytes read left next.Memory stop = tt
-
-pub stops_without_request : (a b : Option (List ℕ)) (bytes : List ℕ) (answer : Next) → Stops a b bytes answer → IsNoRequest answer
-stops_without_request a b bytes answer stops = stop_is_no_request bytes stops.read b answer stops.stop
-
-short_is_no_request : (bytes : List ℕ) (left : Option (List ℕ)) (end : ℕ) (answer : Next) → IsCutOff end bytes left answer → IsNoRequest answer
-short_is_no_request bytes left end (next.Request request) short = short
-short_is_no_request bytes left end next.End short = tt
-short_is_no_request bytes left end next.Cut short = tt
-short_is_no_request bytes left end next.HeadFault short = tt
-short_is_no_request bytes left end next.BodyTooLong short = tt
-short_is_no_request bytes left end next.LinkFault short = tt
-short_is_no_request bytes left end next.Memory short = tt
-
-pub falls_short_without_request : (a b : Option (List ℕ)) (bytes : List ℕ) (end : ℕ) (answer : Next) → FallsShort a b bytes end answer → IsNoRequest answer
-falls_short_without_request a b bytes end answer falls = short_is_no_request (bytes ++ falls.read) b end answer falls.short
-
-pub few_without_request : (old new : List ℕ) (answer : Next) → IsNoRequest answer → KeepsFew old new answer
-few_without_request old new (next.Request request) none = absurd none
-few_without_request old new next.End none = tt
-few_without_request old new next.Cut none = tt
-few_without_request old new next.HeadFault none = tt
-few_without_request old new next.BodyTooLong none = tt
-few_without_request old new next.LinkFault none = tt
-few_without_request old new next.Memory none = tt
+pub memory_after : (a b : Option (List ℕ)) (old bytes kept : List ℕ) → ReadsOn a b old bytes → length kept ≤ length bytes → ReadsNext a b old kept next.Memory
+memory_after a b old bytes kept reads few = record {
+  read = reads.read;
+  consumed = reads.consumed;
+  wanted = reads.wanted;
+  kept = omega (arith, few, ap length reads.grown, length-append old reads.read);
+  answered = tt;
+}

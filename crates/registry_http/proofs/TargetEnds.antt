@@ -57,14 +57,14 @@ no_blank : (b : ℕ) (bytes : List ℕ) → (b ≡ 10 → ⊥) → (b ≡ 13 →
 no_blank b [] not_lf not_cr = one_stays b not_lf
 no_blank b (c ∷ bytes) not_lf not_cr = two_stay b c bytes not_lf (and_left _ _ (ne_eqb b 13 not_cr))
 
-token_differs : (b c : ℕ) → is_token_byte b ≡ true → is_token_byte c ≡ false → b ≡ c → ⊥
+pub token_differs : (b c : ℕ) → is_token_byte b ≡ true → is_token_byte c ≡ false → b ≡ c → ⊥
 token_differs b c token other same = false≢true (sym other ∙ subst (λ (v : ℕ). is_token_byte v ≡ true) same token)
 
-lf_ends_token : is_token_byte 10 ≡ false
+pub lf_ends_token : is_token_byte 10 ≡ false
 unfolding is_token_byte
 lf_ends_token = refl
 
-cr_ends_token : is_token_byte 13 ≡ false
+pub cr_ends_token : is_token_byte 13 ≡ false
 unfolding is_token_byte
 cr_ends_token = refl
 

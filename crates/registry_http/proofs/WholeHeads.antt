@@ -1,18 +1,18 @@
 -- Heads at the front of bytes: what more bytes change, and how long a head is.
-use Rattle.std.proofs.Common.{◌≡◌, ◌≢◌, ℕ, ◌+◌, ◌-◌, ◌*◌, min, ◌<◌, ◌≤◌, ◌⊎◌, inl, inr, ⊎_elim, Bool, List, [], ◌∷◌, ◌++◌, length, take, refl, sym, ap, subst, ◌∙◌, arith, append-nil, length-append}
+use Rattle.std.proofs.Common.{◌≡◌, ◌≢◌, ℕ, ◌+◌, ◌-◌, ◌*◌, min, ◌<◌, ◌≤◌, inl, inr, ⊎_elim, Bool, List, [], ◌∷◌, ◌++◌, length, take, refl, sym, ap, subst, ◌∙◌, arith, append-nil, length-append}
 use Rattle.std.specs.Prelude.{All}
 use Rattle.std.specs.List.{flat_map}
 use Rattle.std.proofs.lemmas.Bool.{cases_lt}
-use Rattle.std.proofs.lemmas.List.{take_at, take_all, take_min}
+use Rattle.std.proofs.lemmas.List.{take_all, take_min}
 use Rattle.std.proofs.lemmas.List.Elements.{All-head, All-tail}
 use Rattle.std.proofs.Math.Seq.{take-append-add}
 use Rattle.httparse.specs.declared.Error.{Error}
 use Rattle.httparse.specs.declared.Error.TheVariants.{HeaderName, HeaderValue, NewLine, Status, Token, TooManyHeaders, Version}
-use Rattle.httparse.specs.Grammar.{LineEnd, crlf, lf, print_end, print_blank, print_version, Field, print_field, IsField, RequestHead, print_request, ReadsRequest, HasNoRequest, NeverHasRequest, EndsInTarget}
+use Rattle.httparse.specs.Grammar.{LineEnd, crlf, lf, print_end, print_blank, print_version, Field, print_field, IsField, RequestHead, print_request, ReadsRequest, HasNoRequest, NeverHasRequest, MayBecomeRequest, EndsInTarget}
 use Rattle.httparse.specs.Spans.{RequestExceeds}
 use Rattle.httparse.proofs.GrammarLemmas.{print_request-append, ReadsRequest-append}
 use Rattle.registry_http.specs.Requests.{BeginsWith, BeginsRequest, HasNoHead, HasNoHeadYet}
-use Rattle.registry_http.specs.inner.Reading.{HasHead, IsFront, IsJudged, FewBehind}
+use Rattle.registry_http.specs.inner.Reading.{HasHead, IsFront, IsJudged}
 use Rattle.registry_http.specs.declared.heads.Front.{Front}
 use Rattle.registry_http.specs.declared.heads.Front.TheVariants as front
 
@@ -101,11 +101,7 @@ never Version bytes room enough fits bad many = bad (λ e. cc)
 pub none_now : (bytes : List ℕ) → NeverHasRequest bytes → HasNoRequest bytes
 none_now bytes never = subst HasNoRequest (append-nil bytes) (never [])
 
--- ---- how much is read behind a head
-
--- nothing was read, or the bytes began with no head ahead of the last read
-abbrev pub FewRead : List ℕ → List ℕ → Type 0
-FewRead had bytes = (length bytes ≤ length had) ⊎ ((before : ℕ) × HasNoRequest (take before bytes) × (length bytes ≤ before + 4096))
+-- ---- fronts of the bytes
 
 pub head_in_front : (bytes : List ℕ) (before : ℕ) (h : RequestHead) (behind : List ℕ) → ReadsRequest bytes h behind → length (print_request h) ≤ before
     → ReadsRequest (take before bytes) h (take (before - length (print_request h)) behind)
@@ -113,27 +109,6 @@ head_in_front bytes before h behind reads within =
     let head = print_request h in
     let split : before ≡ length head + (before - length head) = omega arith in
     (reads.0, ap (take before) reads.1 ∙ ap (λ n. take n (head ++ behind)) split ∙ take-append-add head behind (before - length head))
-
-few_behind : (had bytes method path : List ℕ) (len body : ℕ) (last : Bool) → FewRead had bytes
-    → HasHead bytes method path len body last → FewBehind had bytes len
-few_behind had bytes method path len body last few x =
-    ⊎_elim (λ h. inl h)
-    (λ (read : (before : ℕ) × HasNoRequest (take before bytes) × (length bytes ≤ before + 4096)).
-    ⊎_elim (λ (short : read.0 < len). inr (omega (arith, read.2)))
-    (λ (long : len ≤ read.0). absurd (read.1 x.h _ (head_in_front bytes read.0 x.h x.behind x.begins.head.reads (omega (arith, x.len_is)))))
-    (cases_lt read.0 len))
-    few
-
--- the same where the head is read of a view of the bytes
-pub few_behind_at : (had bytes seen method path : List ℕ) (len end body : ℕ) (last : Bool) → seen ≡ bytes → end ≡ len → FewRead had bytes
-    → HasHead seen method path len body last → FewBehind had bytes end
-few_behind_at had bytes seen method path len end body last same is few x =
-    subst (FewBehind had bytes) (sym is)
-    (few_behind had bytes method path len body last few (subst (λ b. HasHead b method path len body last) same x))
-
-pub few_more : (had old new piece : List ℕ) → HasNoHeadYet old → new ≡ old ++ piece → length new ≤ length old + 4096 → FewRead had new
-few_more had old new piece none grown few =
-    inr (length old, subst HasNoRequest (sym (ap (take (length old)) grown ∙ take_at old piece (length old) refl)) none.none, few)
 
 -- the front of the bytes in which a head is looked for
 front_whole : (bytes : List ℕ) (m : ℕ) → m ≡ min 8192 (length bytes) → take m bytes ≡ take 8192 bytes
@@ -163,4 +138,13 @@ cut_target bytes m is never short ends = record {
   none = none_now bytes (subst NeverHasRequest (front_all bytes m is short) never);
   room = short;
   may_come = inr ends;
+}
+
+-- bytes that may become a head are cut
+pub cut_head : (bytes : List ℕ) (m : ℕ) → m ≡ min 8192 (length bytes) → HasNoRequest (take m bytes) → MayBecomeRequest (take m bytes) → length bytes < 8192
+    → HasNoHeadYet bytes
+cut_head bytes m is none may short = record {
+  none = subst HasNoRequest (front_all bytes m is short) none;
+  room = short;
+  may_come = subst MayBecomeRequest (front_all bytes m is short) may;
 }

@@ -1,5 +1,8 @@
+-- What contracts cite.
 pub mod Heads
+pub mod Lines
 pub mod Replies
+pub mod RequestLists
 pub mod RequestParts
 pub mod Requests
 pub mod Routes

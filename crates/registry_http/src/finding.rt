@@ -141,7 +141,7 @@ fn find(alloc: Global, path: &[u8]) -> Result<Option<Route>, RouteFault>
 
 /// The route of a method and a path. A path that is not UTF-8 has none.
 pub fn route(alloc: Global, method: &Method, path: &[u8]) -> Result<Route, RouteFault>
-    ensures found { IfOk result (λ route. (path.now ≡ path_of route) × (method.now ≡ method_of route)) }
+    ensures found { IfOk result (λ route. IsRoute route × (path.now ≡ path_of route) × (method.now ≡ method_of route)) }
     ensures not_found { result ≡ Err NotFound → (route : Route) → IsRoute route → path.now ≢ path_of route }
     ensures wrong_method { result ≡ Err WrongMethod
         → (route : Route) × IsRoute route × (path.now ≡ path_of route) × (method.now ≢ method_of route) }

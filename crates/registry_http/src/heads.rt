@@ -10,7 +10,7 @@ use httparse::Status;
 use httparse::spans::{HeaderSpan, RequestSpans, parse_request};
 
 /// The longest head, in bytes.
-const LONGEST_HEAD: usize = 8192;
+pub(crate) const LONGEST_HEAD: usize = 8192;
 
 /// The most header lines of a head.
 const MOST_HEADER_LINES: usize = 64;
@@ -29,7 +29,7 @@ pub(crate) struct Head<'b> {
     /// How many bytes the head has.
     pub(crate) len: usize,
     /// How many bytes the body has.
-    pub(crate) body: usize,
+    pub(crate) body_len: usize,
     /// Whether the connection ends after this request.
     pub(crate) last: bool,
 }
@@ -66,12 +66,12 @@ fn judge<'b>(bytes: &'b [u8], headers: &[HeaderSpan], head: &RequestSpans) -> Fr
     }
     match body_length(bytes, headers) {
         None => Front::Refused,
-        Some(body) if body > LONGEST_BODY => Front::TooLong,
-        Some(body) => Front::Head(Head {
+        Some(body_len) if body_len > LONGEST_BODY => Front::TooLong,
+        Some(body_len) => Front::Head(Head {
             method: head.method.of(bytes),
             path: head.path.of(bytes),
             len: head.len,
-            body,
+            body_len,
             last: head.version == 0 || says_close(bytes, headers),
         }),
     }

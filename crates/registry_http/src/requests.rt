@@ -1,13 +1,14 @@
 // The requests of a link, one after another.
-ghost use Rattle.std.specs.Prelude.{◌≡◌, ℕ, List, ◌+◌, ◌<◌, ◌≤◌, OnOk, IfOk, IfErr, Result, Ok, Err, length, take, drop, vec_len};
+ghost use Rattle.std.specs.Prelude.{◌≡◌, ◌+◌, ◌<◌, ◌≤◌, OnOk, IfOk, IfErr, Ok, true, false, length, take, drop, vec_len};
+ghost use Rattle.std.specs.Io.KnownBytes.{IsAtEnd};
 ghost use Rattle.gb_outside.specs.Faults.{Counts};
 ghost use Rattle.httparse.specs.Grammar.{IsToken};
-ghost use Rattle.registry_http.specs.RequestParts.{RequestParts};
-ghost use Rattle.registry_http.specs.Requests.{StandsIn, Whole, ReadsNext, KeepsFew, link_failed, longest_read};
-ghost use Rattle.registry_http.specs.inner.Reading.{HasHead, ReadsOn, Stops, FallsShort, FewBehind, IsNoRequest, work_failed, most_fields};
+ghost use Rattle.registry_http.specs.Requests.{LacksEnd, ReadsNext, KeepsFew, link_failed, longest_read};
+ghost use Rattle.registry_http.specs.inner.Reading.{HasHead, Brings, Breaks, ReadsOn, work_failed, most_fields};
 ghost use Rattle.registry_http.specs.declared.requests.Next.TheVariants.{Memory as OutOfMemory};
 
-use crate::heads::{Front, Head, MOST_FIELDS, read_front};
+use crate::heads::{Front, Head, LONGEST_HEAD, MOST_FIELDS, read_front};
+use crate::lines::Lines;
 use crate::request_parts::Request;
 use gb_base::NoMemory;
 use gb_outside::{Got, Link};
@@ -16,7 +17,7 @@ use httparse::spans::{EMPTY_HEADER_SPAN, HeaderSpan};
 use std::alloc::{AllocError, Global};
 
 /// How many bytes one read asks for at most.
-const BLOCK: usize = 4096;
+const LONGEST_READ: usize = 4096;
 
 /// What comes next of a link.
 #[derive(Debug, Drop)]
@@ -51,7 +52,7 @@ struct Begun {
     method: Method,
     path: Vec<u8>,
     len: usize,
-    body: usize,
+    body_len: usize,
     last: bool,
 }
 
@@ -59,7 +60,7 @@ struct Begun {
 fn new_block(alloc: Global) -> Result<Vec<u8>, NoMemory>
     ensures { IfOk result (λ block. vec_len block ≡ longest_read) }
 {
-    vec![in alloc; 0; BLOCK]
+    vec![in alloc; 0; LONGEST_READ]
 }
 
 /// Room for the headers of a head.
@@ -85,36 +86,59 @@ fn read_method(alloc: Global, name: &[u8]) -> Result<Method, NoMemory>
 fn begin(alloc: Global, head: Head<'_>) -> Result<Begun, NoMemory>
     requires { IsToken head.method.now }
     ensures { IfOk result (λ begun. (begun.method ≡ head.entry.method.now) × (begun.path.items ≡ head.entry.path.now)
-        × (begun.len ≡ head.entry.len) × (begun.body ≡ head.entry.body) × (begun.last ≡ head.entry.last)) }
+        × (begun.len ≡ head.entry.len) × (begun.body_len ≡ head.entry.body_len) × (begun.last ≡ head.entry.last)) }
 {
     Ok(Begun {
         method: read_method(alloc, head.method)?,
         path: Vec::from_slice(alloc, head.path)?,
         len: head.len,
-        body: head.body,
+        body_len: head.body_len,
         last: head.last,
     })
 }
 
-/// Reads some of the bytes to come behind those that are there.
-fn read_more<L: Link>(link: &mut L, bytes: &mut Vec<u8>, block: &mut [u8]) -> Result<(), Next>
+/// Reads some of the bytes to come behind those that are there; false at the end of the link.
+fn read_more<L: Link>(link: &mut L, bytes: &mut Vec<u8>, block: &mut [u8]) -> Result<bool, Next>
     requires { length block.old ≡ longest_read }
-    ensures some { OnOk result (length bytes.old.items < length bytes.new.items) }
-    ensures few { OnOk result (length bytes.new.items ≤ length bytes.old.items + longest_read) }
-    ensures reads { OnOk result (ReadsOn (L.left link.old) (L.left link.new) bytes.old.items bytes.new.items) }
-    ensures stops { IfErr result (Stops (L.left link.old) (L.left link.new) bytes.old.items) }
+    ensures more { OnOk result (Brings (L.left link.old) (L.left link.new) bytes.old.items bytes.new.items) }
+    ensures some { result ≡ Ok true → length bytes.old.items < length bytes.new.items }
+    ensures end { result ≡ Ok false → (bytes.new.items ≡ bytes.old.items) × IsAtEnd (L.left link.new) }
+    ensures fault { IfErr result (Breaks (L.left link.old) (L.left link.new) bytes.old.items bytes.new.items) }
     ensures written { L.written link.new ≡ L.written link.old }
     ensures cause { Counts (L.faults link.old) (L.faults link.new) (work_failed result) }
 {
     match link.read(block) {
-        Got::Bytes(count) => Ok(bytes.extend_from_slice(&block[..count])?),
-        Got::End if bytes.is_empty() => Err(Next::End),
-        Got::End => Err(Next::Cut),
+        Got::Bytes(count) => {
+            bytes.extend_from_slice(&block[..count])?;
+            Ok(true)
+        }
+        Got::End => Ok(false),
         Got::Failed => Err(Next::LinkFault),
     }
 }
 
-/// Reads on until a head has come.
+/// Reads on until a head is whole or none will come: to its empty line, to as many bytes as a head
+/// may have, or to the end of the link.
+fn read_lines<L: Link>(link: &mut L, bytes: &mut Vec<u8>, block: &mut [u8]) -> Result<(), Next>
+    requires { length block.old ≡ longest_read }
+    ensures reads { OnOk result (ReadsOn (L.left link.old) (L.left link.new) bytes.old.items bytes.new.items) }
+    ensures over { OnOk result (LacksEnd bytes.new.items → IsAtEnd (L.left link.new)) }
+    ensures answer { IfErr result (ReadsNext (L.left link.old) (L.left link.new) bytes.old.items bytes.new.items) }
+    ensures written { L.written link.new ≡ L.written link.old }
+    ensures cause { Counts (L.faults link.old) (L.faults link.new) (work_failed result) }
+{
+    let mut lines = Lines::Ahead.over(bytes);
+    while bytes.len() < LONGEST_HEAD && !lines.are_over() {
+        let looked = bytes.len();
+        if !read_more(link, bytes, block)? {
+            return Ok(());
+        }
+        lines = lines.over(&bytes[looked..]);
+    }
+    Ok(())
+}
+
+/// Reads the next head.
 fn read_head<L: Link>(
     alloc: Global,
     link: &mut L,
@@ -122,61 +146,60 @@ fn read_head<L: Link>(
     block: &mut [u8],
 ) -> Result<Begun, Next>
     requires { length block.old ≡ longest_read }
-    ensures head { IfOk result (λ begun. HasHead bytes.new.items begun.method begun.path.items begun.len begun.body begun.last) }
-    ensures few { IfOk result (λ begun. FewBehind bytes.old.items bytes.new.items begun.len) }
+    ensures head { IfOk result (λ begun. HasHead bytes.new.items begun.method begun.path.items begun.len begun.body_len begun.last) }
     ensures reads { OnOk result (ReadsOn (L.left link.old) (L.left link.new) bytes.old.items bytes.new.items) }
     ensures answer { IfErr result (ReadsNext (L.left link.old) (L.left link.new) bytes.old.items bytes.new.items) }
-    ensures no_request { IfErr result IsNoRequest }
-    ensures prompt { (request : RequestParts) (rest : List ℕ) → StandsIn bytes.old.items (Whole request rest) → L.left link.new ≡ L.left link.old }
     ensures written { L.written link.new ≡ L.written link.old }
     ensures cause { Counts (L.faults link.old) (L.faults link.new) (work_failed result) }
 {
+    read_lines(link, bytes, block)?;
     let mut spans = new_spans(alloc)?;
-    loop {
-        match read_front(bytes, &mut spans) {
-            Front::Head(head) => return Ok(begin(alloc, head)?),
-            Front::Refused => return Err(Next::HeadFault),
-            Front::TooLong => return Err(Next::BodyTooLong),
-            Front::Cut => read_more(link, bytes, block)?,
-        }
+    match read_front(bytes, &mut spans) {
+        Front::Head(head) => Ok(begin(alloc, head)?),
+        Front::Cut if bytes.is_empty() => Err(Next::End),
+        Front::Cut => Err(Next::Cut),
+        Front::Refused => Err(Next::HeadFault),
+        Front::TooLong => Err(Next::BodyTooLong),
     }
 }
 
-/// Reads on until so many bytes have come.
-fn read_to<L: Link>(
+/// Reads on until the body behind a head is whole.
+fn read_body<L: Link>(
     link: &mut L,
     bytes: &mut Vec<u8>,
     block: &mut [u8],
-    end: usize,
+    begun: &Begun,
 ) -> Result<(), Next>
     requires block { length block.old ≡ longest_read }
-    requires some { 0 < length bytes.old.items }
-    ensures long { OnOk result (end ≤ length bytes.new.items) }
-    ensures few { OnOk result (FewBehind bytes.old.items bytes.new.items end) }
+    requires head { HasHead bytes.old.items begun.now.method begun.now.path.items begun.now.len begun.now.body_len begun.now.last }
+    ensures long { OnOk result (begun.now.len + begun.now.body_len ≤ length bytes.new.items) }
     ensures reads { OnOk result (ReadsOn (L.left link.old) (L.left link.new) bytes.old.items bytes.new.items) }
-    ensures short { IfErr result (FallsShort (L.left link.old) (L.left link.new) bytes.old.items end) }
-    ensures prompt { end ≤ length bytes.old.items → L.left link.new ≡ L.left link.old }
+    ensures answer { IfErr result (ReadsNext (L.left link.old) (L.left link.new) bytes.old.items bytes.new.items) }
     ensures written { L.written link.new ≡ L.written link.old }
     ensures cause { Counts (L.faults link.old) (L.faults link.new) (work_failed result) }
 {
+    let end = begun.len + begun.body_len;
     while bytes.len() < end {
-        read_more(link, bytes, block)?;
+        if !read_more(link, bytes, block)? {
+            return Err(Next::Cut);
+        }
     }
     Ok(())
 }
 
 /// Takes a request, all of whose bytes have come, off their front.
 fn take_request(alloc: Global, bytes: &mut Vec<u8>, begun: Begun) -> Result<Request, NoMemory>
-    requires { begun.len + begun.body ≤ length bytes.old.items }
+    requires { begun.len + begun.body_len ≤ length bytes.old.items }
     ensures request { IfOk result (λ request. request ≡ record {
       method = begun.method;
       path = begun.path.items;
-      body = take begun.body (drop begun.len bytes.old.items);
+      body = take begun.body_len (drop begun.len bytes.old.items);
       last = begun.last;
     }) }
-    ensures rest { OnOk result (bytes.new.items ≡ drop (begun.len + begun.body) bytes.old.items) }
+    ensures rest { OnOk result (bytes.new.items ≡ drop (begun.len + begun.body_len) bytes.old.items) }
+    ensures few { length bytes.new.items ≤ length bytes.old.items }
 {
-    let end = begun.len + begun.body;
+    let end = begun.len + begun.body_len;
     let body = Vec::from_slice(alloc, &bytes[begun.len..end])?;
     let rest = Vec::from_slice(alloc, &bytes[end..])?;
     *bytes = rest;
@@ -187,27 +210,25 @@ fn take_request(alloc: Global, bytes: &mut Vec<u8>, begun: Begun) -> Result<Requ
 fn read_request<L: Link>(alloc: Global, link: &mut L, bytes: &mut Vec<u8>) -> Result<Request, Next>
     ensures request { IfOk result (λ request. ReadsNext (L.left link.old) (L.left link.new) bytes.old.items bytes.new.items
         (Next.Request request)) }
-    ensures few { IfOk result (λ request. KeepsFew bytes.old.items bytes.new.items (Next.Request request)) }
     ensures answer { IfErr result (ReadsNext (L.left link.old) (L.left link.new) bytes.old.items bytes.new.items) }
-    ensures no_request { IfErr result IsNoRequest }
-    ensures prompt { (request : RequestParts) (rest : List ℕ) → StandsIn bytes.old.items (Whole request rest) → L.left link.new ≡ L.left link.old }
     ensures written { L.written link.new ≡ L.written link.old }
     ensures cause { Counts (L.faults link.old) (L.faults link.new) (work_failed result) }
 {
     let mut block = new_block(alloc)?;
     let begun = read_head(alloc, link, bytes, &mut block)?;
-    read_to(link, bytes, &mut block, begun.len + begun.body)?;
+    read_body(link, bytes, &mut block, &begun)?;
     Ok(take_request(alloc, bytes, begun)?)
 }
 
 /// The next request of a link. `rest` has the bytes that were read behind the request before; those
-/// behind this one are kept there. Where a whole request stands in `rest`, nothing is read, so no
-/// reply waits for bytes that it does not need. After any other answer the connection is over, and
-/// what `rest` has is of no use.
+/// behind this one are kept there. The link is read only where more bytes are wanted: where no empty
+/// line has come behind a line, nor as many bytes as a head may have, or where a body lacks bytes.
+/// So no reply waits for bytes that it does not need, and a broken head is refused at its empty line
+/// at the latest. After any answer but a request the connection is over, and what `rest` has is of
+/// no use.
 pub fn next_request<L: Link>(alloc: Global, link: &mut L, rest: &mut Vec<u8>) -> Next
     ensures answer { ReadsNext (L.left link.old) (L.left link.new) rest.old.items rest.new.items result }
     ensures few { KeepsFew rest.old.items rest.new.items result }
-    ensures prompt { (request : RequestParts) (behind : List ℕ) → StandsIn rest.old.items (Whole request behind) → L.left link.new ≡ L.left link.old }
     ensures written { L.written link.new ≡ L.written link.old }
     ensures cause { Counts (L.faults link.old) (L.faults link.new) (link_failed result) }
 {

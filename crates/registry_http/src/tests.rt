@@ -17,7 +17,7 @@ fn answer(alloc: Global, bytes: &[u8], before: usize) -> Result<String, Fail> {
     spell(alloc, next, rest.len())
 }
 
-fn spell(alloc: Global, next: Next, kept: usize) -> Result<String, Fail> {
+pub(crate) fn spell(alloc: Global, next: Next, kept: usize) -> Result<String, Fail> {
     let Next::Request(request) = next else {
         return Ok(format!(in alloc; "{next:?}")?);
     };

@@ -8,7 +8,8 @@ use Rattle.act_model.specs.declared.items.Item.{Item}
 use Rattle.act_model.specs.declared.receipts.Receipt.{Receipt}
 use Rattle.act_json.specs.Lines.{longest_line, stamped_of, item_of}
 use Rattle.act_json.specs.declared.lines.LineFault.{LineFault}
-use Rattle.receipt_journal.specs.Receiving.{is_received, journal_after, next_receipt}
+use Rattle.act_model.specs.Receiving.{next_receipt}
+use Rattle.receipt_journal.specs.Receiving.{is_received, journal_after}
 use Rattle.receipt_journal.specs.declared.received.Received.{Received}
 use Rattle.registry_office.specs.Built.{is_built}
 use Rattle.registry_office.specs.Lines.{is_blank, request_of_line, request_of_item, request_of_stamped, request_of_plain, request_read}

@@ -13,7 +13,8 @@ use Rattle.journal_disk.specs.Layout.{StandsFor}
 use Rattle.journal_disk.proofs.Standings.{stands_once}
 use Rattle.receipt_journal.specs.BookState.{BookState}
 use Rattle.receipt_journal.specs.Standing.{records, IsKeepable, StandsForJournal}
-use Rattle.receipt_journal.specs.Receiving.{file_size, answer_on, is_received, receiving_failed, journal_after, next_receipt, JournalWithOrWithout, in_journal, on_disk, Answers}
+use Rattle.act_model.specs.Receiving.{next_receipt}
+use Rattle.receipt_journal.specs.Receiving.{file_size, answer_on, is_received, receiving_failed, journal_after, JournalWithOrWithout, in_journal, on_disk, Answers}
 use Rattle.act_model.specs.Receiving as journals
 use Rattle.journal_disk.specs.Layout.{file_limit, the_heading}
 use Rattle.receipt_journal.specs.declared.received.Received.TheVariants as answers
@@ -27,7 +28,7 @@ pub front_refl : {A : Type 0} (xs : List A) → IsFront xs xs
 front_refl xs = ([], sym (append-nil xs))
 
 -- a file with the new receipt's frame stands for a journal that frames can keep
-keepable_with : (journal : List Receipt) (r : Receipt) (file : List ℕ) → JournalWithOrWithout journal r file → StandsFor file (records (journal ++ r ∷ [])) → IsKeepable (journal ++ r ∷ [])
+keepable_with : (journal : List Receipt) (r : Receipt) (file : List ℕ) → JournalWithOrWithout journal r file → StandsFor the_heading file (records (journal ++ r ∷ [])) → IsKeepable (journal ++ r ∷ [])
 keepable_with journal r file (inr with_it) stands = (kept_frames file (journal ++ r ∷ []) with_it).0
 keepable_with journal r file (inl without) stands =
     let same : records journal ≡ records (journal ++ r ∷ []) = stands_once file (records journal) (records (journal ++ r ∷ [])) (kept_frames file journal without).1 stands in
@@ -36,11 +37,11 @@ keepable_with journal r file (inl without) stands =
 
 pub keepable_after : (journal : List Receipt) (stamp : DayMinute) (sender reference : ℕ) (item : Item) (answer : Received) (file : List ℕ) → IsKeepable journal
     → JournalWithOrWithout journal (next_receipt journal stamp sender reference item) file
-    → StandsFor file (records (journal_after journal stamp sender reference item answer))
+    → StandsFor the_heading file (records (journal_after journal stamp sender reference item answer))
     → IsKeepable (journal_after journal stamp sender reference item answer)
 keepable_after journal stamp sender reference item answer file keepable here =
     let next = next_receipt journal stamp sender reference item in
-    elim (is_received answer) as (λ b. StandsFor file (records (cond b (journal ++ next ∷ []) journal)) → IsKeepable (cond b (journal ++ next ∷ []) journal))
+    elim (is_received answer) as (λ b. StandsFor the_heading file (records (cond b (journal ++ next ∷ []) journal)) → IsKeepable (cond b (journal ++ next ∷ []) journal))
     [ true ↦ λ stands. keepable_with journal next file here stands | false ↦ λ stands. keepable ]
 
 no_disk_in_journal : (answer : Added) → receiving_failed (in_journal answer) ≡ false

@@ -9,7 +9,8 @@ use Rattle.gb_outside.proofs.Moments.{followed, weakened, started}
 use Rattle.act_model.specs.declared.items.Item.{Item}
 use Rattle.act_model.specs.declared.receipts.Receipt.{Receipt}
 use Rattle.receipt_journal.specs.BookState.{BookState}
-use Rattle.receipt_journal.specs.Receiving.{is_received, journal_after, next_receipt}
+use Rattle.act_model.specs.Receiving.{next_receipt}
+use Rattle.receipt_journal.specs.Receiving.{is_received, journal_after}
 use Rattle.receipt_journal.specs.Standing.{StandsForJournal}
 use Rattle.receipt_journal.specs.declared.received.Received.{Received}
 use Rattle.registry_office.specs.Grown.{IsFront, GrownFrom}

@@ -2,7 +2,7 @@
 use Rattle.std.specs.Prelude.{◌≡◌, ◌⊎◌, ℕ, Bool, true, false, List}
 use Rattle.gb_outside.specs.Images.{Only, LeavesOnly}
 use Rattle.act_model.specs.declared.receipts.Receipt.{Receipt}
-use Rattle.journal_disk.specs.Layout.{IsForeign}
+use Rattle.journal_disk.specs.Layout.{the_heading, IsForeign}
 use Rattle.receipt_journal.specs.Standing.{StandsForJournal, IsBadBehind, gate_behind}
 use Rattle.registry_office.specs.Grown.{GrownFrom}
 use Rattle.registry_office.specs.declared.statuses.Status.{Status}
@@ -20,7 +20,7 @@ FindsBy file status.ReadFault = IsJournalFile file
 FindsBy file status.WriteFault = IsJournalFile file
 FindsBy file status.DiskFault = Unit {0}
 FindsBy file status.Memory = Unit {0}
-FindsBy file status.NotJournal = IsForeign file
+FindsBy file status.NotJournal = IsForeign the_heading file
 FindsBy file (status.BadRecord at) = (journal : List Receipt) × IsBadBehind file journal × (at ≡ gate_behind journal)
 FindsBy file status.InputTooLong = IsJournalFile file
 FindsBy file status.DoorFault = Unit {0}

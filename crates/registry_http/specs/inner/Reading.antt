@@ -1,10 +1,10 @@
 -- How a request is read of a link: its head first, and then its body.
-use Rattle.std.specs.Prelude.{◌≡◌, ℕ, ◌+◌, ◌==◌, ◌<◌, ◌≤◌, ◌⊎◌, Bool, true, false, ◌&&◌, if◌then◌else◌, List, [], ◌∷◌, ◌++◌, length, Option, Result, Ok, Err}
+use Rattle.std.specs.Prelude.{◌≡◌, ℕ, ◌==◌, ◌≤◌, Bool, true, false, ◌&&◌, if◌then◌else◌, List, [], ◌∷◌, ◌++◌, length, Option, Result, Ok, Err}
 use Rattle.std.specs.List.{list_all}
-use Rattle.std.specs.Io.KnownBytes.{Consumes, IsAtEnd}
+use Rattle.std.specs.Io.KnownBytes.{Consumes}
 use Rattle.httparse.specs.Grammar.{RequestHead, print_request, IsToken, is_token_byte, is_uri_byte}
 use Rattle.registry_http.specs.Heads.{longest_body, is_last, is_refused}
-use Rattle.registry_http.specs.Requests.{BeginsWith, BeginsRequest, HasNoHeadYet, StandsIn, HeadRefused, BodyTooLong, longest_read, link_failed}
+use Rattle.registry_http.specs.Requests.{BeginsWith, BeginsRequest, HasNoHeadYet, StandsIn, HeadFault, BodyTooLong, IsWanted, longest_read, link_failed}
 use Rattle.registry_http.specs.declared.heads.Front.{Front}
 use Rattle.registry_http.specs.declared.heads.Front.TheVariants as front
 use Rattle.registry_http.specs.declared.requests.Next.{Next}
@@ -24,70 +24,50 @@ pub record HasHead (bytes method path : List ℕ) (len body : ℕ) (last : Bool)
 
 -- what is told of the front of the bytes
 abbrev pub IsFront : List ℕ → Front → Type 0
-IsFront bytes (front.Head head) = HasHead bytes head.method.now head.path.now head.len head.body head.last
+IsFront bytes (front.Head head) = HasHead bytes head.method.now head.path.now head.len head.body_len head.last
 IsFront bytes front.Cut = HasNoHeadYet bytes
-IsFront bytes front.Refused = StandsIn bytes HeadRefused
+IsFront bytes front.Refused = StandsIn bytes HeadFault
 IsFront bytes front.TooLong = StandsIn bytes BodyTooLong
 
 -- what is told of bytes that begin with a head
 abbrev pub IsJudged : List ℕ → Front → Type 0
-IsJudged bytes (front.Head head) = HasHead bytes head.method.now head.path.now head.len head.body head.last
+IsJudged bytes (front.Head head) = HasHead bytes head.method.now head.path.now head.len head.body_len head.last
 IsJudged bytes front.Cut = ⊥
 IsJudged bytes front.Refused =
     (h : RequestHead) × (behind : List ℕ) × BeginsWith bytes h behind × (is_refused h ≡ true)
 IsJudged bytes front.TooLong = StandsIn bytes BodyTooLong
 
--- the bytes that were read of the link stand behind those that were there
-pub record ReadsOn (left_old left_new : Option (List ℕ)) (old new : List ℕ) : Type 0 where
+-- one read brought these bytes behind those that were there
+pub record Brings (left_old left_new : Option (List ℕ)) (old new : List ℕ) : Type 0 where
   pub read : List ℕ
   pub consumed : Consumes left_old left_new read
   pub grown : new ≡ old ++ read
+  pub few : length read ≤ longest_read
 
--- why no more bytes came, where these were there
-abbrev pub IsStop : List ℕ → List ℕ → Option (List ℕ) → Next → Type 0
-IsStop had read left (next.Request request) = ⊥
-IsStop had read left next.End = (had ≡ []) × (read ≡ []) × IsAtEnd left
-IsStop had read left next.Cut = (0 < length had) × (read ≡ []) × IsAtEnd left
-IsStop had read left next.HeadFault = ⊥
-IsStop had read left next.BodyTooLong = ⊥
-IsStop had read left next.LinkFault = Unit {0}
-IsStop had read left next.Memory = Unit {0}
+-- why one read brought nothing that is kept
+abbrev pub IsBreak : List ℕ → Next → Type 0
+IsBreak read (next.Request request) = ⊥
+IsBreak read next.End = ⊥
+IsBreak read next.Cut = ⊥
+IsBreak read next.HeadFault = ⊥
+IsBreak read next.BodyTooLong = ⊥
+IsBreak read next.LinkFault = read ≡ []
+IsBreak read next.Memory = Unit {0}
 
--- no more bytes came
-pub record Stops (left_old left_new : Option (List ℕ)) (had : List ℕ) (answer : Next) : Type 0 where
+-- one read failed, or found no memory for what it brought
+pub record Breaks (left_old left_new : Option (List ℕ)) (old new : List ℕ) (answer : Next) : Type 0 where
   pub read : List ℕ
   pub consumed : Consumes left_old left_new read
-  pub stop : IsStop had read left_new answer
+  pub few : length read ≤ longest_read
+  pub kept : new ≡ old
+  pub broken : IsBreak read answer
 
--- the answer is no request
-abbrev pub IsNoRequest : Next → Type 0
-IsNoRequest (next.Request request) = ⊥
-IsNoRequest next.End = Unit {0}
-IsNoRequest next.Cut = Unit {0}
-IsNoRequest next.HeadFault = Unit {0}
-IsNoRequest next.BodyTooLong = Unit {0}
-IsNoRequest next.LinkFault = Unit {0}
-IsNoRequest next.Memory = Unit {0}
-
--- why not so many bytes came
-abbrev pub IsCutOff : ℕ → List ℕ → Option (List ℕ) → Next → Type 0
-IsCutOff end bytes left (next.Request request) = ⊥
-IsCutOff end bytes left next.End = ⊥
-IsCutOff end bytes left next.Cut = (length bytes < end) × IsAtEnd left
-IsCutOff end bytes left next.HeadFault = ⊥
-IsCutOff end bytes left next.BodyTooLong = ⊥
-IsCutOff end bytes left next.LinkFault = Unit {0}
-IsCutOff end bytes left next.Memory = Unit {0}
-
--- not so many bytes came
-pub record FallsShort (left_old left_new : Option (List ℕ)) (had : List ℕ) (end : ℕ) (answer : Next) : Type 0 where
+-- the bytes that were read of the link, because they were wanted, stand behind those that were there
+pub record ReadsOn (left_old left_new : Option (List ℕ)) (old new : List ℕ) : Type 0 where
   pub read : List ℕ
   pub consumed : Consumes left_old left_new read
-  pub short : IsCutOff end (had ++ read) left_new answer
-
--- nothing was read, or no more than one read brings stands behind `end`
-abbrev pub FewBehind : List ℕ → List ℕ → ℕ → Type 0
-FewBehind old new end = (length new ≤ length old) ⊎ (length new ≤ end + longest_read)
+  pub wanted : IsWanted old read
+  pub grown : new ≡ old ++ read
 
 -- the link failed
 abbrev pub work_failed : {A : Type 0} → Result A Next → Bool

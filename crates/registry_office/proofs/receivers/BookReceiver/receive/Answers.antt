@@ -1,8 +1,9 @@
 use Rattle.std.proofs.Common.{List, inr, refl, sym, subst}
 use Rattle.act_model.specs.declared.receipts.Receipt.{Receipt}
-use Rattle.receipt_journal.specs.Receiving.{answer_on, is_received, next_receipt}
+use Rattle.act_model.specs.Receiving.{next_receipt}
+use Rattle.receipt_journal.specs.Receiving.{answer_on, is_received}
 use Rattle.receipt_journal.specs.Standing.{IsKeepable, StandsForJournal, records}
-use Rattle.journal_disk.specs.Layout.{StandsFor}
+use Rattle.journal_disk.specs.Layout.{the_heading, StandsFor}
 use Rattle.gb_outside.specs.Images.{LeavesOnly}
 use Rattle.gb_outside.proofs.Moments.{started}
 use Rattle.registry_office.proofs.Durable.{keepable_after, grown_by, refused_on_disk, durable_stands}
@@ -15,7 +16,7 @@ returns-clause-durable g c = λ on_disk tells works.
     let stands = c.receive.ensures.stands tells works in record {
       keepable = subst IsKeepable (sym c.receive.ensures.journal)
           (keepable_after _ _ _ _ _ c.receive.result _ (c.requires.durable refl tells).keepable here
-          (subst (λ (j : List Receipt). StandsFor (g.D.Disk.reads c.receive.new.disk) (records j)) c.receive.ensures.journal (inr stands.journal)));
+          (subst (λ (j : List Receipt). StandsFor the_heading (g.D.Disk.reads c.receive.new.disk) (records j)) c.receive.ensures.journal (inr stands.journal)));
       stands = stands;
     }
 

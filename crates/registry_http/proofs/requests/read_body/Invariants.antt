@@ -1,6 +1,6 @@
-use Rattle.std.proofs.Common.{◌≤◌, ◌≡◌, ◌-◌, ◌<◌, length}
-use Rattle.registry_http.specs.inner.Reading.{ReadsOn, FewBehind}
-use Rattle.registry_http.proofs.requests.read_to.Given as goal
+use Rattle.std.proofs.Common.{◌≡◌, ◌-◌, length}
+use Rattle.registry_http.specs.inner.Reading.{HasHead, ReadsOn}
+use Rattle.registry_http.proofs.requests.read_body.Given as goal
 
 abbrev pub decreases-loop-link : goal.decreases-loop-link
 decreases-loop-link g l = l.end - length l.bytes.items
@@ -8,10 +8,8 @@ decreases-loop-link g l = l.end - length l.bytes.items
 abbrev pub invariant-loop-link : goal.invariant-loop-link
 invariant-loop-link g l = record {
   block : length l.block ≡ 4096;
-  some : 0 < length l.bytes.items;
-  few : FewBehind l.fn.bytes.items l.bytes.items l.end;
+  head : HasHead l.bytes.items l.begun.method l.begun.path.items l.begun.len l.begun.body_len l.begun.last;
   reads : ReadsOn (g.L.Link.left l.fn.link) (g.L.Link.left l.link) l.fn.bytes.items l.bytes.items;
-  prompt : l.end ≤ length l.fn.bytes.items → g.L.Link.left l.link ≡ g.L.Link.left l.fn.link;
   written : g.L.Link.written l.link ≡ g.L.Link.written l.fn.link;
   quiet : g.L.Link.faults l.link ≡ g.L.Link.faults l.fn.link;
 }

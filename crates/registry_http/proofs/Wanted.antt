@@ -1,0 +1,61 @@
+-- Where more bytes are wanted.
+use Rattle.std.proofs.Common.{ℕ, ◌-◌, ◌<◌, ◌≤◌, ◌⊎◌, inl, inr, ⊎_elim, List, ◌++◌, length, take, drop, refl, arith, length-append, length-take, length-drop}
+use Rattle.std.proofs.lemmas.Bool.{cases_lt}
+use Rattle.httparse.specs.Grammar.{print_request}
+use Rattle.registry_http.specs.RequestParts.{RequestParts}
+use Rattle.registry_http.specs.Requests.{HasNoHeadYet, LacksEnd, LacksBody, WantsMore, StandsIn, Whole, Nothing, Cut, BodyTooLong}
+use Rattle.registry_http.proofs.HeadLines.{yet_lacks_end, nothing_lacks_end, lacks_end_no_head, front_not_over, part_not_over}
+use Rattle.registry_http.proofs.OneFound.{head_is_some, whole_cut, cut_long}
+use Rattle.registry_http.proofs.OneRequest.{shorter_front, longer_front}
+
+pub lacking_wants : (bytes : List ℕ) → StandsIn bytes Nothing ⊎ StandsIn bytes Cut → WantsMore bytes
+lacking_wants bytes x =
+    ⊎_elim (λ (none : StandsIn bytes Nothing). inl (nothing_lacks_end bytes none))
+    (λ (cut : StandsIn bytes Cut).
+    ⊎_elim (λ (yet : HasNoHeadYet bytes). inl (yet_lacks_end bytes yet)) (λ (lacks : LacksBody bytes). inr lacks) cut.1) x
+
+pub whole_wants_none : (bytes rest : List ℕ) (request : RequestParts) → StandsIn bytes (Whole request rest) → ¬ (WantsMore bytes)
+whole_wants_none bytes rest request x wants =
+    ⊎_elim (λ (lacks : LacksEnd bytes). lacks_end_no_head bytes x.0 _ lacks x.2.head.reads)
+    (λ (lacks : LacksBody bytes). whole_cut bytes rest request x (head_is_some bytes x.0 _ x.2.head, inr lacks)) wants
+
+pub long_wants_none : (bytes : List ℕ) → StandsIn bytes BodyTooLong → ¬ (WantsMore bytes)
+long_wants_none bytes x wants =
+    ⊎_elim (λ (lacks : LacksEnd bytes). lacks_end_no_head bytes x.0 _ lacks x.3.head.reads)
+    (λ (lacks : LacksBody bytes). cut_long bytes (head_is_some bytes x.0 _ x.3.head, inr lacks) x) wants
+
+-- where more are wanted they were wanted ahead of that too
+pub front_wants : (bytes more : List ℕ) → WantsMore (bytes ++ more) → WantsMore bytes
+front_wants bytes more wants =
+    ⊎_elim
+    (λ (lacks : LacksEnd (bytes ++ more)).
+    let room = lacks.0 in
+    inl (omega (arith, room, length-append bytes more), front_not_over bytes more (bytes ++ more) refl lacks.1))
+    (λ (lacks : LacksBody (bytes ++ more)).
+    let head = print_request lacks.0 in
+    let begins = lacks.3 in
+    let reads = begins.head.reads in
+    ⊎_elim
+    (λ (short : length bytes < length head).
+    inl (
+      omega (arith, short, begins.head.fits),
+      part_not_over bytes (drop (length bytes) head) lacks.0 reads.0
+          (shorter_front bytes more head lacks.1 reads.1 (omega (arith, short)))
+          (omega (arith, short, length-drop (length bytes) head)),
+    ))
+    (λ (long : length head ≤ length bytes).
+    let behind = take (length bytes - length head) lacks.1 in
+    inr (
+      lacks.0,
+      behind,
+      lacks.2,
+      record {
+        head = record { reads = (reads.0, longer_front bytes more head lacks.1 reads.1 long); fits = begins.head.fits };
+        taken = begins.taken;
+        length_is = begins.length_is;
+      },
+      lacks.4,
+      omega (arith, lacks.5, length-take (length bytes - length head) lacks.1),
+    ))
+    (cases_lt (length bytes) (length head)))
+    wants

@@ -1,0 +1,14 @@
+use Rattle.registry_http.proofs.Wanted.{lacking_wants, whole_wants_none, long_wants_none, front_wants}
+use Rattle.registry_http.proofs.laws.wanted_bytes.Goals as goal
+
+pub returns-clause-lacking : goal.returns-clause-lacking
+returns-clause-lacking c = lacking_wants
+
+pub returns-clause-whole : goal.returns-clause-whole
+returns-clause-whole c = whole_wants_none
+
+pub returns-clause-too_long : goal.returns-clause-too_long
+returns-clause-too_long c = long_wants_none
+
+pub returns-clause-front : goal.returns-clause-front
+returns-clause-front c = front_wants

@@ -1,0 +1,58 @@
+// How far the lines of a head have come.
+ghost use Rattle.std.specs.Prelude.{◌≡◌};
+ghost use Rattle.registry_http.specs.Lines.{after_byte, after_bytes, are_over};
+
+/// How far the lines of a head have come, by which its end is found without a second look at any
+/// byte.
+#[derive(Clone, Copy)]
+pub enum Lines {
+    /// There are at most empty lines.
+    Ahead,
+    /// The same, and a CR.
+    AheadCr,
+    /// A line is still without its end.
+    Inside,
+    /// A line has ended.
+    Ended,
+    /// The same, and a CR came.
+    EndedCr,
+    /// An empty line came behind a line.
+    Over,
+}
+
+impl Lines {
+    /// One more byte comes.
+    fn after(self, byte: u8) -> Lines
+        ensures { result ≡ after_byte self byte }
+    {
+        match (self, byte) {
+            (Lines::Ahead | Lines::AheadCr, b'\n') => Lines::Ahead,
+            (Lines::Ahead, b'\r') => Lines::AheadCr,
+            (Lines::Inside, b'\n') => Lines::Ended,
+            (Lines::Ended, b'\r') => Lines::EndedCr,
+            (Lines::Ended | Lines::EndedCr, b'\n') | (Lines::Over, _) => Lines::Over,
+            _ => Lines::Inside,
+        }
+    }
+
+    /// More bytes come.
+    pub(crate) fn over(self, bytes: &[u8]) -> Lines
+        ensures { result ≡ after_bytes self bytes.now }
+    {
+        let mut lines = self;
+        for byte in bytes {
+            if lines.are_over() {
+                return lines;
+            }
+            lines = lines.after(*byte);
+        }
+        lines
+    }
+
+    /// Whether an empty line came behind a line.
+    pub(crate) fn are_over(self) -> bool
+        ensures { result ≡ are_over self }
+    {
+        matches!(self, Lines::Over)
+    }
+}
