@@ -1,4 +1,4 @@
--- The pieces of a cent line that is read claim by claim.
+-- The pieces of a cent line that is read capital by capital.
 use Rattle.std.proofs.Common.{◌≡◌, ℕ, zero, suc, ◌+◌, ◌<◌, Bool, true, false, cond, List, [], ◌∷◌, ◌++◌, length, get_or, set, replicate, refl, sym, ap, ◌∙◌, arith, add-one, add_comm}
 use Rattle.std.proofs.lemmas.Bool.Decides.{nat_tests}
 use Rattle.registry_office.specs.Ranks.{LiveRight, Piece, has_same_place, one_more_cent, pieces_of}
@@ -11,17 +11,17 @@ has_same_place_like : (x y z : LiveRight) → has_same_place x y ≡ true → ha
 has_same_place_like x y z same = grind (arith, nat_tests)
 
 abbrev pub piece : LiveRight → ℕ → Piece
-piece x n = record { owner = x; cents = n }
+piece x n = record { right = x; cents = n }
 
 -- pieces with so many cents of x before them
 abbrev after_cents : LiveRight → ℕ → List Piece → List Piece
 after_cents x n [] = piece x n ∷ []
-after_cents x n (p ∷ ps) = cond (has_same_place x p.owner) (piece x (n + p.cents) ∷ ps) (piece x n ∷ p ∷ ps)
+after_cents x n (p ∷ ps) = cond (has_same_place x p.right) (piece x (n + p.cents) ∷ ps) (piece x n ∷ p ∷ ps)
 
 -- pieces and those of the cents behind them, joined where they meet
 abbrev joined : List Piece → List Piece → List Piece
 joined [] qs = qs
-joined (p ∷ []) qs = after_cents p.owner p.cents qs
+joined (p ∷ []) qs = after_cents p.right p.cents qs
 joined (p ∷ q ∷ ps) qs = p ∷ joined (q ∷ ps) qs
 
 one_more_first : (x : LiveRight) (qs : List Piece) → one_more_cent x qs ≡ after_cents x 1 qs
@@ -32,8 +32,8 @@ one_more_alike : (x y : LiveRight) (n : ℕ) (qs : List Piece) → has_same_plac
     → one_more_cent x (after_cents y n qs) ≡ after_cents x (n + 1) qs
 one_more_alike x y n [] same = rw same refl
 one_more_alike x y n (q ∷ qs) same =
-    rw (has_same_place_like x y q.owner same)
-    (elim (has_same_place y q.owner)
+    rw (has_same_place_like x y q.right same)
+    (elim (has_same_place y q.right)
     as (λ b. one_more_cent x (cond b (piece y (n + q.cents) ∷ qs) (piece y n ∷ q ∷ qs))
     ≡ cond b (piece x (n + 1 + q.cents) ∷ qs) (piece x (n + 1) ∷ q ∷ qs))
     [ true ↦ rw same (ap (λ k. piece x k ∷ qs) (omega arith)) | false ↦ rw same refl ])
@@ -42,7 +42,7 @@ one_more_apart : (x y : LiveRight) (n : ℕ) (qs : List Piece) → has_same_plac
     → one_more_cent x (after_cents y n qs) ≡ piece x 1 ∷ after_cents y n qs
 one_more_apart x y n [] differs = rw differs refl
 one_more_apart x y n (q ∷ qs) differs =
-    elim (has_same_place y q.owner)
+    elim (has_same_place y q.right)
     as (λ b. one_more_cent x (cond b (piece y (n + q.cents) ∷ qs) (piece y n ∷ q ∷ qs))
     ≡ piece x 1 ∷ cond b (piece y (n + q.cents) ∷ qs) (piece y n ∷ q ∷ qs))
     [ true ↦ rw differs refl | false ↦ rw differs refl ]
@@ -50,14 +50,14 @@ one_more_apart x y n (q ∷ qs) differs =
 one_more_joined : (x : LiveRight) (ps qs : List Piece) → one_more_cent x (joined ps qs) ≡ joined (one_more_cent x ps) qs
 one_more_joined x [] qs = one_more_first x qs
 one_more_joined x (p ∷ []) qs =
-    let P : Bool → Type 0 = λ b. has_same_place x p.owner ≡ b
-    → one_more_cent x (after_cents p.owner p.cents qs) ≡ joined (cond b (piece x (p.cents + 1) ∷ []) (piece x 1 ∷ p ∷ [])) qs in
-    (elim (has_same_place x p.owner) as P [
-      | true ↦ λ same. one_more_alike x p.owner p.cents qs same
-      | false ↦ λ differs. one_more_apart x p.owner p.cents qs differs
+    let P : Bool → Type 0 = λ b. has_same_place x p.right ≡ b
+    → one_more_cent x (after_cents p.right p.cents qs) ≡ joined (cond b (piece x (p.cents + 1) ∷ []) (piece x 1 ∷ p ∷ [])) qs in
+    (elim (has_same_place x p.right) as P [
+      | true ↦ λ same. one_more_alike x p.right p.cents qs same
+      | false ↦ λ differs. one_more_apart x p.right p.cents qs differs
     ]) refl
 one_more_joined x (p ∷ r ∷ ps) qs =
-    elim (has_same_place x p.owner)
+    elim (has_same_place x p.right)
     as (λ b. cond b (piece x (p.cents + 1) ∷ joined (r ∷ ps) qs) (piece x 1 ∷ p ∷ joined (r ∷ ps) qs)
     ≡ joined (cond b (piece x (p.cents + 1) ∷ r ∷ ps) (piece x 1 ∷ p ∷ r ∷ ps)) qs)
     [ true ↦ refl | false ↦ refl ]
@@ -67,15 +67,15 @@ pub pieces_of-append : (xs ys : List LiveRight) → pieces_of (xs ++ ys) ≡ joi
 pieces_of-append [] ys = refl
 pieces_of-append (x ∷ xs) ys = ap (λ ps. one_more_cent x ps) (pieces_of-append xs ys) ∙ one_more_joined x (pieces_of xs) (pieces_of ys)
 
--- a claim is one piece
+-- a capital is one piece
 pub pieces_of-replicate : (n : ℕ) (x : LiveRight) → pieces_of (replicate (suc n) x) ≡ piece x (suc n) ∷ []
 pieces_of-replicate zero x = refl
 pieces_of-replicate (suc n) x = rw (pieces_of-replicate n x, has_same_place_self x) (ap (λ k. piece x k ∷ []) (add-one (suc n)))
 
--- a claim of the last piece's place lengthens that piece
+-- a capital of the last piece's place lengthens that piece
 joined_alike : (ps : List Piece) (i : ℕ) (d : Piece) (x : LiveRight) (n : ℕ) → length ps ≡ suc i
-    → has_same_place (get_or ps i d).owner x ≡ true
-    → joined ps (piece x n ∷ []) ≡ set ps i (piece (get_or ps i d).owner ((get_or ps i d).cents + n))
+    → has_same_place (get_or ps i d).right x ≡ true
+    → joined ps (piece x n ∷ []) ≡ set ps i (piece (get_or ps i d).right ((get_or ps i d).cents + n))
 joined_alike [] i d x n is same = absurd (omega arith)
 joined_alike (p ∷ []) zero d x n is same = rw same refl
 joined_alike (p ∷ []) (suc i) d x n is same = absurd (omega arith)
@@ -83,17 +83,17 @@ joined_alike (p ∷ q ∷ ps) zero d x n is same = absurd (omega arith)
 joined_alike (p ∷ q ∷ ps) (suc i) d x n is same = ap (λ rs. p ∷ rs) (joined_alike (q ∷ ps) i d x n (omega arith) same)
 
 pub pieces_with_alike : (line : List LiveRight) (ps : List Piece) (p : Piece) (x : LiveRight) (n i : ℕ) → ps ≡ pieces_of line
-    → length ps ≡ suc i → p ≡ get_or ps i p → has_same_place p.owner x ≡ true → 0 < n
-    → set ps i (piece p.owner (p.cents + n)) ≡ pieces_of (line ++ replicate n x)
+    → length ps ≡ suc i → p ≡ get_or ps i p → has_same_place p.right x ≡ true → 0 < n
+    → set ps i (piece p.right (p.cents + n)) ≡ pieces_of (line ++ replicate n x)
 pieces_with_alike line ps p x zero i are len last same some = absurd (omega arith)
 pieces_with_alike line ps p x (suc n) i are len last same some =
     rw (pieces_of-append line (replicate (suc n) x), pieces_of-replicate n x, ← are)
-    (ap (λ r. set ps i (piece r.owner (r.cents + suc n))) last
+    (ap (λ r. set ps i (piece r.right (r.cents + suc n))) last
     ∙ sym (joined_alike ps i p x (suc n) len (rw last at same)))
 
--- a claim of another place is a piece of its own
+-- a capital of another place is a piece of its own
 joined_apart : (ps : List Piece) (i : ℕ) (d : Piece) (x : LiveRight) (n : ℕ) → length ps ≡ suc i
-    → has_same_place (get_or ps i d).owner x ≡ false → joined ps (piece x n ∷ []) ≡ ps ++ piece x n ∷ []
+    → has_same_place (get_or ps i d).right x ≡ false → joined ps (piece x n ∷ []) ≡ ps ++ piece x n ∷ []
 joined_apart [] i d x n is differs = absurd (omega arith)
 joined_apart (p ∷ []) zero d x n is differs = rw differs refl
 joined_apart (p ∷ []) (suc i) d x n is differs = absurd (omega arith)
@@ -101,7 +101,7 @@ joined_apart (p ∷ q ∷ ps) zero d x n is differs = absurd (omega arith)
 joined_apart (p ∷ q ∷ ps) (suc i) d x n is differs = ap (λ rs. p ∷ rs) (joined_apart (q ∷ ps) i d x n (omega arith) differs)
 
 pub pieces_with_apart : (line : List LiveRight) (ps : List Piece) (p : Piece) (x : LiveRight) (n i : ℕ) → ps ≡ pieces_of line
-    → length ps ≡ suc i → p ≡ get_or ps i p → has_same_place p.owner x ≡ false → 0 < n
+    → length ps ≡ suc i → p ≡ get_or ps i p → has_same_place p.right x ≡ false → 0 < n
     → ps ++ piece x n ∷ [] ≡ pieces_of (line ++ replicate n x)
 pieces_with_apart line ps p x zero i are len last differs some = absurd (omega arith)
 pieces_with_apart line ps p x (suc n) i are len last differs some =

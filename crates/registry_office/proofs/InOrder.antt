@@ -10,7 +10,8 @@ use Rattle.act_model.specs.declared.filing_acts.Act.TheVariants.{Open, Transfer,
 use Rattle.gb_base.specs.declared.keys.Key.TheVariants.{Title, Right}
 use Rattle.registry_office.specs.Entering.{entered}
 use Rattle.registry_office.specs.Entries.{at, created_from}
-use Rattle.registry_office.specs.Ranks.{one_to, of_group, right_of, rights_of_filing, rights_in, rights_entered, live_right_by}
+use Rattle.registry_office.specs.Ranks.{one_to, of_group, right_of, rights_of_filing, rights_in}
+use Rattle.registry_office.specs.inner.LiveRights.{rights_entered, live_right_by}
 use Rattle.registry_office.specs.declared.entries.Created.{Created}
 use Rattle.registry_office.specs.declared.entries.Entry.{Entry}
 use Rattle.registry_office.specs.declared.entries.What.{What}

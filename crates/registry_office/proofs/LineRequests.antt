@@ -8,7 +8,8 @@ use Rattle.act_model.specs.declared.items.Item.{Item}
 use Rattle.act_json.specs.Lines.{longest_line, stamped_of}
 use Rattle.act_json.specs.declared.lines.LineFault.{LineFault}
 use Rattle.registry_office.specs.Built.{is_built}
-use Rattle.registry_office.specs.Lines.{is_blank, request_of_line, request_of_item, request_of_stamped, request_read, is_stamped_by_clock}
+use Rattle.registry_office.specs.Lines.{is_blank, request_of_line, request_of_item, request_of_stamped, request_read}
+use Rattle.registry_office.specs.inner.Asking.{is_stamped_by_clock}
 use Rattle.registry_office.specs.Sessions.{ended, behind, ended_requests}
 use Rattle.registry_office.specs.declared.lines.LineKind.{LineKind}
 use Rattle.registry_office.specs.declared.lines.LineKind.TheVariants.{Stamped, Plain}

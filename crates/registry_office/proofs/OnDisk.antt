@@ -8,7 +8,8 @@ use Rattle.receipt_journal.proofs.Standings.{journal_once}
 use Rattle.registry_office.specs.Outcomes.{settle_output}
 use Rattle.registry_office.specs.Disks.{IsJournalFile, FindsBy}
 use Rattle.registry_office.specs.Faults.{output_failed}
-use Rattle.registry_office.specs.Statuses.{status_of_writing, is_of_writing, is_no_journal, read_fault, write_fault, disk_fault, door_fault}
+use Rattle.registry_office.specs.Statuses.{is_of_writing, is_no_journal, read_fault, write_fault, disk_fault, door_fault}
+use Rattle.registry_office.specs.inner.Ends.{status_of_writing}
 use Rattle.registry_office.specs.declared.statuses.Status.{Status}
 use Rattle.registry_office.specs.declared.statuses.Status.TheVariants as status
 use Rattle.registry_office.specs.declared.faults.OutputFault.{OutputFault}

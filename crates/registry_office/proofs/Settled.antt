@@ -15,7 +15,8 @@ use Rattle.act_model.specs.declared.receipts.Receipt.{Receipt}
 use Rattle.registry_office.specs.Built.{has_one_built_act, is_built}
 use Rattle.registry_office.specs.Entering.{entered}
 use Rattle.registry_office.specs.Judging.{judged}
-use Rattle.registry_office.specs.Ranks.{rights_in, rights_entered}
+use Rattle.registry_office.specs.Ranks.{rights_in}
+use Rattle.registry_office.specs.inner.LiveRights.{rights_entered}
 use Rattle.registry_office.specs.Settling.{Settled, brought, brought_by, settled_by, settled_after, registrar}
 use Rattle.registry_office.specs.declared.entries.Entry.{Entry}
 use Rattle.registry_office.specs.declared.judging.Judgement.{Judgement}

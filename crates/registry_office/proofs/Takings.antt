@@ -21,7 +21,8 @@ use Rattle.registry_office.specs.inner.Inputs.{AllAnswered, PartAnswered, Leaves
 use Rattle.registry_office.specs.EarlyEnds.{AreOf, EndsEarly}
 use Rattle.registry_office.specs.inner.Sessions.{IsReady, Knows, Answered}
 use Rattle.registry_office.specs.Faults.{session_input_failed, session_output_failed, session_disk_failed}
-use Rattle.registry_office.specs.Statuses.{status_of, read_fault, write_fault, disk_fault, is_of_session}
+use Rattle.registry_office.specs.Statuses.{read_fault, write_fault, disk_fault, is_of_session}
+use Rattle.registry_office.specs.inner.Ends.{status_of}
 use Rattle.registry_office.specs.declared.faults.SessionFault.{SessionFault}
 use Rattle.registry_office.specs.declared.faults.SessionFault.TheVariants as session
 use Rattle.registry_office.specs.declared.statuses.Status.{Status}

@@ -1,5 +1,5 @@
 -- What a line of an input asks.
-use Rattle.std.specs.Prelude.{ℕ, Bool, true, false, ◌||◌, ◌==◌, nat_lt, if◌then◌else◌, List, [], ◌++◌, length, codes, Result, Ok, Err, Option, Some, None}
+use Rattle.std.specs.Prelude.{ℕ, Bool, ◌||◌, ◌==◌, nat_lt, if◌then◌else◌, List, [], ◌++◌, length, codes, Result, Ok, Err, Option, Some, None}
 use Rattle.std.specs.List.{list_all}
 use Rattle.gb_base.specs.DayMinute.{DayMinute}
 use Rattle.act_model.specs.declared.items.Item.{Item}
@@ -46,8 +46,3 @@ unfoldable pub request_of_line : LineKind → List ℕ → Request
 request_of_line kind line =
     if is_blank line then Nothing
     else (if nat_lt longest_line (length line) then Refused (codes "malformed length\n") else request_read kind line)
-
--- the clock stamps the items of such lines
-abbrev pub is_stamped_by_clock : LineKind → Bool
-is_stamped_by_clock Stamped = false
-is_stamped_by_clock Plain = true

@@ -1,9 +1,8 @@
 -- The rights that are live in a folio, their order and rank, and the cents that they take in turn.
 use Rattle.std.specs.Prelude.{ℕ, zero, suc, ◌+◌, Bool, true, false, not, ◌&&◌, ◌||◌, ◌==◌, nat_lt, nat_le, if◌then◌else◌, List, [], ◌∷◌, ◌++◌, filter, replicate, Option, Some, None}
-use Rattle.std.specs.List.{list_any, filter_map, flat_map}
+use Rattle.std.specs.List.{list_any, flat_map}
 use Rattle.gb_base.specs.RightNo.{RightNo}
-use Rattle.gb_base.specs.declared.keys.Key.{Key}
-use Rattle.gb_base.specs.declared.keys.Key.TheVariants.{Title, Right, Case}
+use Rattle.gb_base.specs.declared.keys.Key.TheVariants.{Title, Right}
 use Rattle.act_model.specs.Acts.{is_in_division_three}
 use Rattle.registry_office.specs.Entries.{at, created_from}
 use Rattle.registry_office.specs.declared.entries.Created.{Created}
@@ -91,40 +90,22 @@ rank_of places rights y = 1 + different_places (filter (λ x. is_ahead places x 
 
 -- ---- the cent line
 
--- the claims written cent by cent in order of place, each cent as a right of its place
+-- the capitals written cent by cent in order of place, each cent as a right of its place
 abbrev pub cent_line : List LiveRight → List LiveRight
 cent_line rights = flat_map (λ x. replicate x.created.spec.capital x) rights
 
 -- so many cents on end of one place
 pub record Piece : Type 0 where
-  pub owner : LiveRight
+  pub right : LiveRight
   pub cents : ℕ
 
 -- the pieces with one cent more at their front
 abbrev pub one_more_cent : LiveRight → List Piece → List Piece
-one_more_cent x [] = record { owner = x; cents = 1 } ∷ []
+one_more_cent x [] = record { right = x; cents = 1 } ∷ []
 one_more_cent x (p ∷ ps) =
-    if has_same_place x p.owner then record { owner = x; cents = p.cents + 1 } ∷ ps else record { owner = x; cents = 1 } ∷ p ∷ ps
+    if has_same_place x p.right then record { right = x; cents = p.cents + 1 } ∷ ps else record { right = x; cents = 1 } ∷ p ∷ ps
 
 -- the pieces of a cent line
 abbrev pub pieces_of : List LiveRight → List Piece
 pieces_of [] = []
 pieces_of (x ∷ xs) = one_more_cent x (pieces_of xs)
-
--- ---- a register in which rights are entered in the order of their entries
-
--- the right that a Created at this key creates in the folio
-abbrev pub live_right_at : ℕ → Created → Key → Option LiveRight
-live_right_at folio created (Title f) = None
-live_right_at folio created (Right f id) = if f == folio then Some (record { id = id; created = created }) else None
-live_right_at folio created (Case f) = None
-
--- the right that an entry with this content creates in the folio
-abbrev pub live_right_by : ℕ → Entry → What → Option LiveRight
-live_right_by folio e (what.Opened inventory owners) = None
-live_right_by folio e (what.Placed filing second third) = None
-live_right_by folio e (what.Created created) = live_right_at folio created e.key
-
--- the rights that entries of the folio created, in the order of the entries
-abbrev pub rights_entered : List Entry → ℕ → List LiveRight
-rights_entered entries folio = filter_map (λ e. live_right_by folio e e.what) entries

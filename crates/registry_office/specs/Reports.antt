@@ -109,17 +109,17 @@ rank_line places rights x =
     codes "rank " ++ (decimal (rank_of places rights x) ++ (codes " " ++ (right_text x.id ++ codes "\n")))
 
 -- a right by its number, and rights of one place as a group
-abbrev pub owner_text : List LiveRight → List ℕ
-owner_text [] = []
-owner_text (x ∷ []) = right_text x.id
-owner_text xs = codes "group" ++ flat_map (λ x. codes " " ++ right_text x.id) xs
+abbrev pub place_text : List LiveRight → List ℕ
+place_text [] = []
+place_text (x ∷ []) = right_text x.id
+place_text xs = codes "group" ++ flat_map (λ x. codes " " ++ right_text x.id) xs
 
 -- the first of these pieces begins with cent `from`
 abbrev pub cent_lines : List LiveRight → ℕ → List Piece → List ℕ
 cent_lines rights from [] = []
 cent_lines rights from (p ∷ ps) =
     codes "cents " ++ (decimal from ++ (codes "-" ++ (decimal (from + p.cents - 1) ++ (codes " "
-    ++ (owner_text (filter (has_same_place p.owner) rights) ++ (codes "\n" ++ cent_lines rights (from + p.cents) ps))))))
+    ++ (place_text (filter (has_same_place p.right) rights) ++ (codes "\n" ++ cent_lines rights (from + p.cents) ps))))))
 
 -- the rank table of a folio with these places and rights
 abbrev pub rank_table_of : List ℕ → List LiveRight → ℕ → List ℕ

@@ -1,6 +1,8 @@
 -- What clauses of private functions say.
 pub mod Asking
 pub mod CsvRecords
+pub mod Ends
 pub mod Inputs
+pub mod LiveRights
 pub mod OpeningLists
 pub mod Sessions

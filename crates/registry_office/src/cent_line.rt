@@ -13,7 +13,7 @@ use std::marker::Model;
 #[derive(Clone, Copy, Debug)]
 pub struct Piece {
     /// The first right of the place.
-    pub owner: LiveRight,
+    pub right: LiveRight,
     pub cents: u64,
 }
 
@@ -22,9 +22,9 @@ impl Model for Piece {
 
     ghost Value = { Piece };
 
-    ghost view = { λ a. record { owner = a.owner; cents = a.cents } };
+    ghost view = { λ a. record { right = a.right; cents = a.cents } };
 
-    ghost inverse = { λ p. record { owner = p.owner; cents = p.cents } };
+    ghost inverse = { λ p. record { right = p.right; cents = p.cents } };
 }
 
 /// The pieces of the cent line of these rights.
@@ -35,13 +35,13 @@ pub fn pieces(alloc: Global, rights: &[LiveRight]) -> Result<Vec<Piece>, NoMemor
 {
     let mut pieces = Vec::new(alloc);
     for right in rights {
-        add_claim(&mut pieces, right)?;
+        add_capital(&mut pieces, right)?;
     }
     Ok(pieces)
 }
 
-/// Adds a right's cents to the pieces of the cents before them.
-fn add_claim(pieces: &mut Vec<Piece>, right: &LiveRight) -> Result<(), NoMemory>
+/// Adds a right's capital to the pieces of the cents before them.
+fn add_capital(pieces: &mut Vec<Piece>, right: &LiveRight) -> Result<(), NoMemory>
     requires few { sum_by (λ p. p.cents) pieces.old.items ≤ most_cents * 400000 }
     ensures joined { OnOk result ((line : List LiveRight) → pieces.old.items ≡ pieces_of line
         → pieces.new.items ≡ pieces_of (line ++ replicate right.now.created.spec.capital right.now)) }
@@ -53,13 +53,13 @@ fn add_claim(pieces: &mut Vec<Piece>, right: &LiveRight) -> Result<(), NoMemory>
         return Ok(());
     }
     if let Some(piece) = pieces.last_mut()
-        && has_same_place(&piece.owner, right)
+        && has_same_place(&piece.right, right)
     {
         piece.cents += cents;
         return Ok(());
     }
     pieces.push(Piece {
-        owner: *right,
+        right: *right,
         cents,
     })?;
     Ok(())

@@ -6,7 +6,6 @@ ghost use Rattle.act_model.specs.WellFormed.{same_group, share_group};
 ghost use Rattle.registry_office.specs.Entries.{at};
 ghost use Rattle.registry_office.specs.Entering.{folios_of_creations, is_in_division, create_in_division, place, behind_by, behind_from, has_equal, content, entered};
 
-use crate::acts::{folio_of, is_in_division_three, right_created};
 use crate::entries::{Created, Entry, RightForm, What};
 use crate::folios::insert_folio;
 use act_model::{Act, Filing, RightSpec};
@@ -58,8 +57,8 @@ fn folios_of_creations(alloc: Global, acts: &[Act]) -> Result<Vec<FolioId>, NoMe
 {
     let mut folios = Vec::new(alloc);
     for act in acts {
-        if right_created(act).is_some() {
-            insert_folio(&mut folios, folio_of(act))?;
+        if act.right_created().is_some() {
+            insert_folio(&mut folios, act.folio())?;
         }
     }
     Ok(folios)
@@ -84,14 +83,14 @@ fn place(number: ReceiptNo, receipt: ReceiptNo, day: Day, acts: &[Act], folio: F
 fn create_in_division(third: bool, folio: FolioId, acts: &[Act]) -> bool
     ensures { result ≡ create_in_division third folio acts.now }
 {
-    acts.iter().any(|act| folio_of(act) == folio && is_in_division(third, right_created(act)))
+    acts.iter().any(|act| act.folio() == folio && is_in_division(third, act.right_created()))
 }
 
 fn is_in_division(third: bool, right: Option<RightSpec>) -> bool
     ensures { result ≡ is_in_division third right }
 {
     match right {
-        Some(spec) => is_in_division_three(spec.kind) == third,
+        Some(spec) => spec.kind.is_in_division_three() == third,
         None => false,
     }
 }
@@ -159,7 +158,7 @@ fn content(
                 reserve: *reserve,
                 ahead_of: None,
                 placed: day,
-                behind: behind(entries, *folio, day, is_in_division_three(spec.kind)),
+                behind: behind(entries, *folio, day, spec.kind.is_in_division_three()),
                 equal: has_equal(acts, id.act(), act),
             }),
         }),
@@ -223,7 +222,7 @@ fn has_equal(acts: &[Act], number: u8, act: &Act) -> bool
 fn share_group(act: &Act, other: &Act) -> bool
     ensures { result ≡ share_group act.now other.now }
 {
-    folio_of(act) == folio_of(other) && same_group(right_created(act), right_created(other))
+    act.folio() == other.folio() && same_group(act.right_created(), other.right_created())
 }
 
 fn same_group(right: Option<RightSpec>, other: Option<RightSpec>) -> bool

@@ -2,10 +2,10 @@
 ghost use Rattle.std.specs.Prelude.{◌≡◌, ◌++◌, ℕ, IfOk, OnOk, Option, Some, length, codes, map};
 ghost use Rattle.std.specs.List.{flat_map};
 ghost use Rattle.std.specs.String.{string_bytes};
-ghost use Rattle.registry_office.specs.Ranks.{rights_in, rights_entered};
+ghost use Rattle.registry_office.specs.Ranks.{rights_in};
+ghost use Rattle.registry_office.specs.inner.LiveRights.{rights_entered};
 ghost use Rattle.registry_office.specs.Reports.{inventory_line, owners_line, kind_text, division_of, rate_part, form_text, behind_part, equal_part, reserve_part, right_line, extract};
 
-use crate::acts::is_in_division_three;
 use crate::entries::{Created, RightForm};
 use crate::live_rights::{LiveRight, rights_entered};
 use crate::reading::{inventory_of, owners_of};
@@ -95,7 +95,7 @@ fn add_notes(text: &mut String, right: &Created) -> Result<(), NoMemory>
 fn division_of(kind: RightKind) -> &'static str
     ensures { result.now ≡ division_of kind }
 {
-    if is_in_division_three(kind) {
+    if kind.is_in_division_three() {
         "III"
     } else {
         "II"

@@ -6,7 +6,6 @@ ghost use Rattle.act_model.specs.Acts.{folio_of, right_created};
 ghost use Rattle.registry_office.specs.Judging.{some_act, holds, creates_in, creations_in, is_beyond_limit, opens, is_open_as_of, lacks_folio, owners_named, owners_as_of, affected, owner_side, may_not_apply, is_consent_of, is_strangers_consent, lacks_consent, judged};
 ghost use Rattle.registry_office.specs.Entries.{owners_of};
 
-use crate::acts::folio_of;
 use crate::entries::Entry;
 use crate::reading::{is_open, owners_of};
 use act_model::{Act, Doc, Filing, Item, Receipt};
@@ -111,7 +110,7 @@ fn is_beyond_limit(receipts: &[Receipt], number: ReceiptNo, before: &[Act], act:
     requires few_acts { length before.now < 8 }
     ensures { result ≡ is_beyond_limit receipts.now number before.now act.now }
 {
-    let folio = folio_of(act);
+    let folio = act.folio();
     let earlier = &receipts[..number.get() as usize - 1];
     creates(act) && creations(earlier, folio) + creations_among(before, folio) + 1 > MAX_CREATIONS
 }
@@ -150,7 +149,7 @@ fn creations_among(acts: &[Act], folio: FolioId) -> usize
     ensures bound { result ≤ length acts.now }
 {
     acts.iter()
-        .filter(|act| creates(act) && folio_of(act) == folio)
+        .filter(|act| creates(act) && act.folio() == folio)
         .count()
 }
 

@@ -1,7 +1,6 @@
 //! The office: reads lines, receives them, settles the journal and writes the report.
 #![tactic(auto)]
 
-mod acts;
 mod answering;
 mod built;
 mod cent_line;
@@ -19,6 +18,8 @@ mod intakes;
 mod judging;
 mod lines;
 mod list_session;
+#[cfg(test)]
+mod list_tests;
 mod live_rights;
 mod numerals;
 mod opening_lists;
@@ -40,6 +41,8 @@ mod statuses;
 #[cfg(test)]
 mod take_tests;
 mod taking;
+#[cfg(test)]
+mod test_runs;
 #[cfg(test)]
 mod tests;
 mod top;

@@ -1,6 +1,7 @@
 // The rights that are live in a folio.
 ghost use Rattle.std.specs.Prelude.{◌≡◌, IfOk, length, ◌≤◌};
-ghost use Rattle.registry_office.specs.Ranks.{rights_entered, live_right_by, live_right_at, places_in, placed_by};
+ghost use Rattle.registry_office.specs.Ranks.{places_in, placed_by};
+ghost use Rattle.registry_office.specs.inner.LiveRights.{rights_entered, live_right_by, live_right_at};
 
 use crate::entries::{Created, Entry, What};
 use gb_base::{FolioId, Key, NoMemory, ReceiptNo, RightId};

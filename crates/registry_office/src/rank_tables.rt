@@ -4,8 +4,9 @@ ghost use Rattle.gb_base.specs.Texts.{right_text};
 ghost use Rattle.std.specs.List.{flat_map};
 ghost use Rattle.std.specs.String.{string_bytes};
 ghost use Rattle.gb_base.specs.Limits.{most_cents};
-ghost use Rattle.registry_office.specs.Ranks.{rights_in, rights_entered, has_same_place, cent_line, pieces_of};
-ghost use Rattle.registry_office.specs.Reports.{rank_line, owner_text, cent_lines, rank_table_of, rank_table};
+ghost use Rattle.registry_office.specs.Ranks.{rights_in, has_same_place, cent_line, pieces_of};
+ghost use Rattle.registry_office.specs.inner.LiveRights.{rights_entered};
+ghost use Rattle.registry_office.specs.Reports.{rank_line, place_text, cent_lines, rank_table_of, rank_table};
 
 use crate::cent_line::{Piece, pieces};
 use crate::live_rights::{LiveRight, places_in, rights_entered};
@@ -83,27 +84,27 @@ fn add_pieces(
     for piece in pieces {
         let after = from + piece.cents;
         write!(text, "cents {from}-{} ", after - 1)?;
-        add_owner(alloc, text, rights, &piece.owner)?;
+        add_place(alloc, text, rights, &piece.right)?;
         text.push_str("\n")?;
         from = after;
     }
     Ok(())
 }
 
-/// Adds the rights of the owner's place.
-fn add_owner(
+/// Adds the rights of the right's place.
+fn add_place(
     alloc: Global,
     text: &mut String,
     rights: &[LiveRight],
-    owner: &LiveRight,
+    first: &LiveRight,
 ) -> Result<(), NoMemory>
     ensures { OnOk result (string_bytes text.new
-        ≡ string_bytes text.old ++ owner_text (filter (has_same_place owner.now) rights.now)) }
+        ≡ string_bytes text.old ++ place_text (filter (has_same_place first.now) rights.now)) }
 {
     let of_place: Vec<LiveRight> = rights
         .iter()
         .copied()
-        .filter(|right| has_same_place(owner, right))
+        .filter(|right| has_same_place(first, right))
         .collect(alloc)?;
     match of_place.as_slice() {
         [] => Ok(()),

@@ -3,7 +3,6 @@ ghost use Rattle.std.specs.Prelude.{◌≡◌, ◌≤◌, IfOk, length};
 ghost use Rattle.std.specs.List.{list_any};
 ghost use Rattle.registry_office.specs.Ranks.{has_earlier_place, is_behind, in_one_division, is_ahead, has_same_place, different_places, rank_of};
 
-use crate::acts::is_in_division_three;
 use crate::entries::Created;
 use crate::live_rights::LiveRight;
 use gb_base::{NoMemory, ReceiptNo};
@@ -89,7 +88,7 @@ fn is_behind(filing: ReceiptNo, behind: Option<ReceiptNo>) -> bool
 fn in_one_division(a: &Created, b: &Created) -> bool
     ensures { result ≡ in_one_division a.now b.now }
 {
-    is_in_division_three(a.spec.kind) == is_in_division_three(b.spec.kind)
+    a.spec.kind.is_in_division_three() == b.spec.kind.is_in_division_three()
 }
 
 /// Whether two rights of a folio have one place: they are of one filing and group.

@@ -5,7 +5,8 @@ ghost use Rattle.act_model.specs.Limits.{most_receipts};
 ghost use Rattle.act_model.specs.Receiving.{IsJournal};
 ghost use Rattle.registry_office.specs.Built.{is_built};
 ghost use Rattle.registry_office.specs.Entering.{entered};
-ghost use Rattle.registry_office.specs.Ranks.{rights_in, rights_entered};
+ghost use Rattle.registry_office.specs.Ranks.{rights_in};
+ghost use Rattle.registry_office.specs.inner.LiveRights.{rights_entered};
 ghost use Rattle.registry_office.specs.Settling.{brought, brought_by, registrar};
 
 use crate::entering::enter;

@@ -2,7 +2,8 @@
 ghost use Rattle.std.specs.Prelude.{◌≡◌, ◌++◌, ◌≤◌, ℕ, true, IfOk, OnOk, length};
 ghost use Rattle.std.specs.String.{string_bytes};
 ghost use Rattle.registry_office.specs.Entries.{is_opening};
-ghost use Rattle.registry_office.specs.Ranks.{rights_in, rights_entered};
+ghost use Rattle.registry_office.specs.Ranks.{rights_in};
+ghost use Rattle.registry_office.specs.inner.LiveRights.{rights_entered};
 ghost use Rattle.registry_office.specs.Reports.{folio_of_title, open_folios, folio_texts, report};
 
 use crate::entries::{Entry, What};

@@ -1,8 +1,8 @@
 // Lines that are taken onto a disk, and what stands there afterwards.
-use crate::{Status, run};
-use gb_base::{Day, NoMemory, Stamp};
-use gb_outside::{ListClock, MemDisk, MemSink, MemSource, OpenGate, SureListener};
-use std::rc::RcStr;
+use crate::Status;
+use crate::test_runs::done;
+use gb_outside::MemDisk;
+use receipt_journal::Book;
 use std::test::Fail;
 
 const LINES: &[u8] =
@@ -11,51 +11,22 @@ const LINES: &[u8] =
 const REPORT: &[u8] =
     b"receipt 1 entered\nreceipt 2 entered\nfolio 7\ninventory district 12 parcel 345/6 area 800\nowners 10\nright 2.1 III right land-charge 100000.00 rate 500 holder 20 placed 2024-03-01\nranks 7\nrank 1 2.1\ncents 1-10000000 2.1\nend receipts 2 folios 1\n";
 
-/// How these words ended over the disk and the lines, and what was written; these reads and
-/// writes fail.
-fn done<R: AllocGlobal>(
-    rt: &R,
-    command: &[&str],
-    disk: &mut MemDisk,
-    reads: &[u32],
-    writes: &[u32],
-) -> Result<(Status, Vec<u8>), NoMemory> {
-    let alloc = rt.alloc();
-    let mut words = Vec::new(alloc);
-    for word in command {
-        words.push(RcStr::from_str(alloc, word)?)?;
-    }
-    let stamps = [Stamp::new(Day::new(19_783).unwrap(), 540).unwrap()];
-    let mut sink = MemSink::new(alloc, 1 << 16, writes)?;
-    let status = run(
-        rt,
-        words.as_slice(),
-        &mut MemSource::new(LINES, reads),
-        &mut sink,
-        disk,
-        &mut ListClock::new(&stamps),
-        &mut SureListener::new(Vec::new(alloc)),
-        &OpenGate,
-    );
-    Ok((status, Vec::from_slice(alloc, sink.written())?))
-}
-
 #[test]
 fn lines_are_taken_once(rt: HostRuntime) -> Result<(), Fail> {
     let mut disk = MemDisk::new(rt.alloc(), &[], 4096, 8192, 256, &[])?;
-    let (status, text) = done(&rt, &["take"], &mut disk, &[], &[])?;
+    let (status, text) = done(&rt, &["take"], LINES, &mut disk, &[], &[])?;
     assert_eq!(rt; status, Status::Ok);
     assert_eq!(rt;
         text.as_slice(),
         b"accepted 1\nmalformed sender\naccepted 2\n".as_slice()
     );
-    let (status, text) = done(&rt, &["take"], &mut disk, &[], &[])?;
+    let (status, text) = done(&rt, &["take"], LINES, &mut disk, &[], &[])?;
     assert_eq!(rt; status, Status::Ok);
     assert_eq!(rt;
         text.as_slice(),
         b"repeated 1\nmalformed sender\nrepeated 2\n".as_slice()
     );
-    let (status, text) = done(&rt, &["settle", "--desks", "2"], &mut disk, &[], &[])?;
+    let (status, text) = done(&rt, &["settle", "--desks", "2"], &[], &mut disk, &[], &[])?;
     assert_eq!(rt; status, Status::Ok);
     assert_eq!(rt; text.as_slice(), REPORT);
     Ok(())
@@ -66,10 +37,10 @@ fn lines_are_taken_once(rt: HostRuntime) -> Result<(), Fail> {
 fn lines_are_taken_again_after_a_fault_of_the_disk(rt: HostRuntime) -> Result<(), Fail> {
     for call in 1..16 {
         let mut disk = MemDisk::new(rt.alloc(), &[], 4096, 8192, 256, &[call])?;
-        let _ = done(&rt, &["take"], &mut disk, &[], &[])?;
-        let (status, _) = done(&rt, &["take"], &mut disk, &[], &[])?;
+        let _ = done(&rt, &["take"], LINES, &mut disk, &[], &[])?;
+        let (status, _) = done(&rt, &["take"], LINES, &mut disk, &[], &[])?;
         assert_eq!(rt; status, Status::Ok);
-        let (status, text) = done(&rt, &["settle", "--desks", "2"], &mut disk, &[], &[])?;
+        let (status, text) = done(&rt, &["settle", "--desks", "2"], &[], &mut disk, &[], &[])?;
         assert_eq!(rt; status, Status::Ok);
         assert_eq!(rt; text.as_slice(), REPORT);
     }
@@ -87,12 +58,63 @@ fn lines_are_taken_again_after_a_fault_of_source_or_sink(rt: HostRuntime) -> Res
         ([].as_slice(), [3].as_slice(), Status::WriteFault),
     ] {
         let mut disk = MemDisk::new(rt.alloc(), &[], 4096, 8192, 256, &[])?;
-        let (status, _) = done(&rt, &["take"], &mut disk, reads, writes)?;
+        let (status, _) = done(&rt, &["take"], LINES, &mut disk, reads, writes)?;
         assert_eq!(rt; status, wanted);
-        let (status, _) = done(&rt, &["take"], &mut disk, &[], &[])?;
+        let (status, _) = done(&rt, &["take"], LINES, &mut disk, &[], &[])?;
         assert_eq!(rt; status, Status::Ok);
-        let (_, text) = done(&rt, &["settle", "--desks", "2"], &mut disk, &[], &[])?;
+        let (_, text) = done(&rt, &["settle", "--desks", "2"], &[], &mut disk, &[], &[])?;
         assert_eq!(rt; text.as_slice(), REPORT);
+    }
+    Ok(())
+}
+
+/// The number of the first call that an opening of this file does not make.
+fn calls_of_an_opening<R: AllocGlobal>(rt: &R, file: &[u8]) -> Result<u32, Fail> {
+    for call in 1..64 {
+        let mut disk = MemDisk::new(rt.alloc(), file, 4096, 8192, 256, &[call])?;
+        if Book::open(rt.alloc(), &mut disk).is_ok() {
+            return Ok(call);
+        }
+    }
+    Ok(0)
+}
+
+/// The number of the first call that `settle` over this file does not make.
+fn calls_of_settling<R: AllocGlobal>(rt: &R, file: &[u8]) -> Result<u32, Fail> {
+    for call in 1..64 {
+        let mut disk = MemDisk::new(rt.alloc(), file, 4096, 8192, 256, &[call])?;
+        let (status, _) = done(rt, &["settle", "--desks", "1"], &[], &mut disk, &[], &[])?;
+        if status == Status::Ok {
+            return Ok(call);
+        }
+    }
+    Ok(0)
+}
+
+#[test]
+fn the_journal_is_opened_once(rt: HostRuntime) -> Result<(), Fail> {
+    let mut disk = MemDisk::new(rt.alloc(), &[], 4096, 8192, 256, &[])?;
+    let (status, _) = done(&rt, &["take"], LINES, &mut disk, &[], &[])?;
+    assert_eq!(rt; status, Status::Ok);
+    let opening = calls_of_an_opening(&rt, disk.bytes())?;
+    assert!(rt; opening > 1);
+    assert_eq!(rt; calls_of_settling(&rt, disk.bytes())?, opening);
+    Ok(())
+}
+
+#[test]
+fn an_unmade_file_is_made(rt: HostRuntime) -> Result<(), Fail> {
+    for file in [
+        [].as_slice(),
+        [0].as_slice(),
+        [9].as_slice(),
+        [0, 1, 2].as_slice(),
+    ] {
+        let mut disk = MemDisk::new(rt.alloc(), file, 4096, 8192, 256, &[])?;
+        let (status, text) = done(&rt, &["settle", "--desks", "1"], &[], &mut disk, &[], &[])?;
+        assert_eq!(rt; status, Status::Ok);
+        assert_eq!(rt; text.as_slice(), b"end receipts 0 folios 0\n".as_slice());
+        assert_eq!(rt; &disk.bytes()[..10], b"GGBJOURN1\0".as_slice());
     }
     Ok(())
 }

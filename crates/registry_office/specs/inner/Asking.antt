@@ -5,6 +5,8 @@ use Rattle.act_model.specs.WellFormed.{well_formed}
 use Rattle.receipt_journal.specs.declared.received.Received.{Received}
 use Rattle.receipt_journal.specs.declared.received.Received.TheVariants as answer
 use Rattle.registry_office.specs.Built.{is_built}
+use Rattle.registry_office.specs.declared.lines.LineKind.{LineKind}
+use Rattle.registry_office.specs.declared.lines.LineKind.TheVariants.{Stamped, Plain}
 use Rattle.registry_office.specs.declared.requests.Request.{Request}
 use Rattle.registry_office.specs.declared.requests.Request.TheVariants.{Nothing, Refused, Receive}
 
@@ -40,3 +42,8 @@ is_fault answer.Full = false
 is_fault answer.Disk = true
 is_fault answer.MustReopen = true
 is_fault answer.Memory = true
+
+-- the clock stamps the items of such lines
+abbrev pub is_stamped_by_clock : LineKind → Bool
+is_stamped_by_clock Stamped = false
+is_stamped_by_clock Plain = true

@@ -2,7 +2,7 @@ use Rattle.std.proofs.Common.{◌∷◌, ◌++◌, [], List, ◌∙◌, sym, sub
 use Rattle.std.proofs.lemmas.Result.{MatchResult-from_err}
 use Rattle.gb_outside.specs.Images.{LeavesOnly}
 use Rattle.registry_office.specs.Grown.{GrownFrom}
-use Rattle.registry_office.specs.Lines.{is_stamped_by_clock}
+use Rattle.registry_office.specs.inner.Asking.{is_stamped_by_clock}
 use Rattle.registry_office.specs.Requests.{holding, held_after}
 use Rattle.registry_office.specs.Sessions.{ended_requests}
 use Rattle.registry_office.specs.declared.requests.Request.{Request}

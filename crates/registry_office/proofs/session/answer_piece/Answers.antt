@@ -4,7 +4,7 @@ use Rattle.gb_base.specs.DayMinute.{DayMinute}
 use Rattle.gb_outside.specs.Images.{LeavesOnly}
 use Rattle.act_model.specs.declared.receipts.Receipt.{Receipt}
 use Rattle.registry_office.specs.Grown.{GrownFrom}
-use Rattle.registry_office.specs.Lines.{is_stamped_by_clock}
+use Rattle.registry_office.specs.inner.Asking.{is_stamped_by_clock}
 use Rattle.registry_office.specs.Requests.{holding, held_after}
 use Rattle.registry_office.specs.Sessions.{behind, ended_requests}
 use Rattle.registry_office.specs.EarlyEnds.{EndsEarly}

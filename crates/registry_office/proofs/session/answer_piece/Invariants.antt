@@ -2,7 +2,7 @@ use Rattle.std.proofs.Common.{◌≡◌, false, List, length}
 use Rattle.gb_base.specs.DayMinute.{DayMinute}
 use Rattle.gb_outside.specs.Images.{LeavesOnly}
 use Rattle.registry_office.specs.Grown.{GrownFrom}
-use Rattle.registry_office.specs.Lines.{is_stamped_by_clock}
+use Rattle.registry_office.specs.inner.Asking.{is_stamped_by_clock}
 use Rattle.registry_office.specs.Requests.{InMemory, OnDisk, holding}
 use Rattle.registry_office.specs.Sessions.{ended_requests}
 use Rattle.registry_office.specs.inner.Sessions.{IsReady, Knows, Answered}
