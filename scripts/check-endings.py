@@ -20,6 +20,10 @@ def check_words(look):
         ["settle", "--desks", "0"],
         ["settle", "--desks", "65"],
         ["settle", "--desks", "1", "--lines", ""],
+        ["opening"],
+        ["opening", "--sender", "4294967296"],
+        ["opening", "--sender", "-1"],
+        ["take", "--sender", "1"],
         [b"settle", b"--desks", b"1", b"\xff"],
     ):
         with tempfile.TemporaryDirectory() as folder:
@@ -37,6 +41,14 @@ def check_length(look):
     look.same("64 MiB of blank lines", checks.run(LINES, input=b" \n" * (MOST // 2)), (0, report, b""))
     ran = checks.run(LINES, input=b" \n" * (MOST // 2) + b" ")
     look.same("a byte more", ran, (9, b"", b"input too long\n"))
+    row = b"folio,district,parcel,sub,area,owner\n7,12,345,6,800,10\n"
+    with tempfile.TemporaryDirectory() as folder:
+        ran = checks.run(["opening", "--sender", "9"], folder, input=row + b"\n" * (MOST - len(row)))
+        look.same("an opening list of 64 MiB", ran, (0, b"accepted 1\n", b""))
+    with tempfile.TemporaryDirectory() as folder:
+        ran = checks.run(["opening", "--sender", "9"], folder, input=row + b"\n" * (MOST - len(row) + 1))
+        look.same("a list with a byte more", ran, (9, b"", b"input too long\n"))
+        look.same("a list with a byte more: the journal", checks.run(["settle", "--desks", "1"], folder), (0, report, b""))
 
 
 def check_memory(look):
