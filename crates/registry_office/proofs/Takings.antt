@@ -95,6 +95,9 @@ module _ (whole cut : List ℕ → List Request) (begins : BeginsWith whole cut)
   pub cut_journal_of : Took left0 left1 (λ read. AllDone (cut (take 67108864 read))) → Took left0 left1 (λ read. book1.journal ≡ (held_after OnDisk held (cut (take 67108864 read))).journal)
   cut_journal_of took = record { read = took.read; consumed = took.consumed; did = (took.did ticks knows).receipts }
 
+  pub cut_ticks_of : Took left0 left1 (λ read. AllDone (cut (take 67108864 read))) → Took left0 left1 (λ read. known1 ≡ Some (held_after OnDisk held (cut (take 67108864 read))).ticks)
+  cut_ticks_of took = record { read = took.read; consumed = took.consumed; did = (took.did ticks knows).clock refl }
+
   module _ (Left : List Request → Type 0) where
     abbrev PartTaken : Type 0
     PartTaken = Took left0 left1 (λ read. (requests : List Request) × AreOf whole cut left1 read requests × PartDone requests × Left requests)

@@ -19,9 +19,10 @@ pub record Receives (whole cut : List ℕ → List Request) (held : Held) (input
   pub ticks : result ≡ status.Ok → known1 ≡ Some (held_after OnDisk held (whole input)).ticks
   -- it ended early, among what the bytes read ask
   pub early : (result ≡ status.Ok → ⊥) → Took left0 left1 (λ read. (requests : List Request) × AreOf whole cut left1 read requests × EndsEarly true OnDisk held known1 written0 written1 images1 requests)
-  -- the source failed or gave too much: all that the bytes read ask is received and replied to
+  -- the source failed or gave too much: all that the bytes read ask is received and replied to, and the clock asked for nothing else
   pub cut_replies : (result ≡ status.ReadFault) ⊎ (result ≡ status.InputTooLong) → Took left0 left1 (λ read. Appends written0 written1 (replies OnDisk held (cut (take most_input read))))
   pub cut_journal : (result ≡ status.ReadFault) ⊎ (result ≡ status.InputTooLong) → Took left0 left1 (λ read. journal1 ≡ (held_after OnDisk held (cut (take most_input read))).journal)
+  pub cut_ticks : (result ≡ status.ReadFault) ⊎ (result ≡ status.InputTooLong) → Took left0 left1 (λ read. known1 ≡ Some (held_after OnDisk held (cut (take most_input read))).ticks)
   -- what was replied to whole is in every image
   pub acknowledged : (front back : List Request) (file : List ℕ) → whole input ≡ front ++ back → HasWritten written0 written1 (replies OnDisk held front) → images1 file
       → GrownFrom (held_after OnDisk held front).journal (held_after OnDisk held (whole input)).journal file

@@ -5,7 +5,7 @@ ghost use Rattle.std.specs.Io.KnownBytes.{Appends};
 ghost use Rattle.gb_outside.specs.Bytes.{AppendsFront};
 ghost use Rattle.gb_outside.specs.Faults.{Counts};
 ghost use Rattle.act_model.specs.declared.receipts.Receipt.{Receipt};
-ghost use Rattle.journal_disk.specs.Layout.{the_heading, IsMade};
+ghost use Rattle.journal_disk.specs.Layout.{the_heading, made_from, IsMade, IsUnmade};
 ghost use Rattle.journal_disk.specs.Opening.{IsKept, AnswersSynced};
 ghost use Rattle.receipt_journal.specs.Standing.{StandsForJournal};
 ghost use Rattle.registry_office.specs.Built.{is_built};
@@ -62,6 +62,7 @@ pub(crate) fn settle_disk<R: AllocGlobal, D: Disk, K: Sink, G: DeskGate>(
     // Of the file nothing changes, but that an unmade one is made.
     ensures found { IsTrue D.tells → FindsBy (D.reads disk.old) result }
     ensures made { IsTrue D.tells → tells_of_opening result ≡ true → IsMade the_heading (D.reads disk.new) }
+    ensures made_so { IsTrue D.tells → tells_of_opening result ≡ true → IsUnmade (D.reads disk.old) → D.reads disk.new ≡ made_from the_heading (D.reads disk.old) }
     ensures kept { IsTrue D.tells → IsKept (D.reads disk.old) (D.reads disk.new) }
     ensures kept_any_moment { IsTrue D.tells → AnswersSynced D.reads D.images D.moment D.since disk.old disk.new (disk_fault result) }
     ensures grown { IsTrue D.tells → (journal : List Receipt) → StandsForJournal (D.reads disk.old) journal

@@ -88,18 +88,29 @@ fn words_of_an_opening(rt: HostRuntime) -> Result<(), Fail> {
     Ok(())
 }
 
-/// Each call of the disk fails in turn; the list is then received again, and stands once.
+/// Opening an empty disk takes nine calls, and each receipt four. Each fails in turn; the list is
+/// then received again, and stands once.
 #[test]
 fn a_list_is_received_again_after_a_fault_of_the_disk(rt: HostRuntime) -> Result<(), Fail> {
-    for call in 1..16 {
+    for call in 1..18 {
         let mut disk = MemDisk::new(rt.alloc(), &[], 4096, 8192, 256, &[call])?;
-        let (status, _) = done(&rt, OPENING, LIST, &mut disk, &[], &[])?;
+        let (status, text) = done(&rt, OPENING, LIST, &mut disk, &[], &[])?;
         assert_eq!(rt; status, Status::DiskFault);
+        let wanted = if call < 14 {
+            b"".as_slice()
+        } else {
+            b"accepted 1\nmalformed row\n"
+        };
+        assert_eq!(rt; text.as_slice(), wanted);
         let (status, _) = done(&rt, OPENING, LIST, &mut disk, &[], &[])?;
         assert_eq!(rt; status, Status::Ok);
         let (_, text) = done(&rt, SETTLE, &[], &mut disk, &[], &[])?;
         assert_eq!(rt; text.as_slice(), REPORT);
     }
+    let mut disk = MemDisk::new(rt.alloc(), &[], 4096, 8192, 256, &[18])?;
+    let (status, text) = done(&rt, OPENING, LIST, &mut disk, &[], &[])?;
+    assert_eq!(rt; status, Status::Ok);
+    assert_eq!(rt; text.as_slice(), TAKEN);
     Ok(())
 }
 

@@ -88,6 +88,9 @@ pub(crate) fn receive_disk<R: AllocGlobal, S: Source, K: Sink, D: Disk, C: Clock
     ensures cut_journal { (held : Held) (input : List ℕ) (file : List ℕ) → Told (Some (Receive intake)) D.tells (D.reads disk.old) (S.left source.old) (C.ticks clock.old) held input
         → (result ≡ Status.ReadFault) ⊎ (result ≡ Status.InputTooLong) → D.images disk.new file
         → Took (S.left source.old) (S.left source.new) (λ read. StandsForJournal file (held_after OnDisk held (cut_of intake (take most_input read))).journal) }
+    ensures cut_ticks { (held : Held) (input : List ℕ) → Told (Some (Receive intake)) D.tells (D.reads disk.old) (S.left source.old) (C.ticks clock.old) held input
+        → (result ≡ Status.ReadFault) ⊎ (result ≡ Status.InputTooLong)
+        → Took (S.left source.old) (S.left source.new) (λ read. C.ticks clock.new ≡ Some (held_after OnDisk held (cut_of intake (take most_input read))).ticks) }
 
     // What a stop leaves.
     ensures acknowledged { (held : Held) (input : List ℕ) (front back : List Request) (file : List ℕ)

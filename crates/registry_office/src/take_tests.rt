@@ -32,18 +32,34 @@ fn lines_are_taken_once(rt: HostRuntime) -> Result<(), Fail> {
     Ok(())
 }
 
-/// Each call of the disk fails in turn; the lines are then taken again, and stand once.
+/// Opening an empty disk takes nine calls, and each receipt four, of which two are syncs. Each
+/// fails in turn; the lines are then taken again, and stand once.
 #[test]
 fn lines_are_taken_again_after_a_fault_of_the_disk(rt: HostRuntime) -> Result<(), Fail> {
-    for call in 1..16 {
+    for call in 1..18 {
         let mut disk = MemDisk::new(rt.alloc(), &[], 4096, 8192, 256, &[call])?;
-        let _ = done(&rt, &["take"], LINES, &mut disk, &[], &[])?;
+        let (status, text) = done(&rt, &["take"], LINES, &mut disk, &[], &[])?;
+        assert_eq!(rt; status, Status::DiskFault);
+        let wanted = if call < 14 {
+            b"".as_slice()
+        } else {
+            b"accepted 1\nmalformed sender\n"
+        };
+        assert_eq!(rt; text.as_slice(), wanted);
         let (status, _) = done(&rt, &["take"], LINES, &mut disk, &[], &[])?;
         assert_eq!(rt; status, Status::Ok);
         let (status, text) = done(&rt, &["settle", "--desks", "2"], &[], &mut disk, &[], &[])?;
         assert_eq!(rt; status, Status::Ok);
         assert_eq!(rt; text.as_slice(), REPORT);
     }
+    Ok(())
+}
+
+#[test]
+fn no_other_call_of_the_disk_is_made(rt: HostRuntime) -> Result<(), Fail> {
+    let mut disk = MemDisk::new(rt.alloc(), &[], 4096, 8192, 256, &[18])?;
+    let (status, _) = done(&rt, &["take"], LINES, &mut disk, &[], &[])?;
+    assert_eq!(rt; status, Status::Ok);
     Ok(())
 }
 

@@ -4,7 +4,7 @@ ghost use Rattle.std.specs.Io.KnownBytes.{Appends, IsAtEnd};
 ghost use Rattle.std.specs.Rc.{rc_str_bytes};
 ghost use Rattle.gb_outside.specs.Bytes.{AppendsFront};
 ghost use Rattle.gb_outside.specs.Faults.{Counts};
-ghost use Rattle.journal_disk.specs.Layout.{the_heading, IsMade};
+ghost use Rattle.journal_disk.specs.Layout.{the_heading, made_from, IsMade, IsUnmade};
 ghost use Rattle.journal_disk.specs.Opening.{IsKept, AnswersSynced};
 ghost use Rattle.receipt_journal.specs.Standing.{StandsForJournal};
 ghost use Rattle.registry_office.specs.Disks.{FindsBy, IsJournalFile, KeepsGrown, LeftAnew};
@@ -95,6 +95,10 @@ pub fn run<R: AllocGlobal, S: Source, K: Sink, D: Disk, C: Clock, L: Listener, G
         → Told (command_of (map rc_str_bytes words.now)) D.tells (D.reads disk.old) (S.left source.old) (C.ticks clock.old) held input
         → receives (command_of (map rc_str_bytes words.now)) ≡ true → (result ≡ Status.ReadFault) ⊎ (result ≡ Status.InputTooLong) → D.images disk.new file
         → Took (S.left source.old) (S.left source.new) (λ read. StandsForJournal file (held_after OnDisk held (cut_requests_of (command_of (map rc_str_bytes words.now)) (take most_input read))).journal) }
+    ensures cut_ticks { (held : Held) (input : List ℕ)
+        → Told (command_of (map rc_str_bytes words.now)) D.tells (D.reads disk.old) (S.left source.old) (C.ticks clock.old) held input
+        → receives (command_of (map rc_str_bytes words.now)) ≡ true → (result ≡ Status.ReadFault) ⊎ (result ≡ Status.InputTooLong)
+        → Took (S.left source.old) (S.left source.new) (λ read. C.ticks clock.new ≡ Some (held_after OnDisk held (cut_requests_of (command_of (map rc_str_bytes words.now)) (take most_input read))).ticks) }
 
     // Where a command that receives ends early, the first requests of what was read are replied to
     // whole; at most one more was begun, and the clock asked for no other.
@@ -117,10 +121,12 @@ pub fn run<R: AllocGlobal, S: Source, K: Sink, D: Disk, C: Clock, L: Listener, G
         → D.images disk.new file
         → GrownFrom (held_after OnDisk held front).journal (outcome (command_of (map rc_str_bytes words.now)) held input).journal file }
 
-    // A status tells what the disk's file stood for, and an unmade one is made. It stays where the
-    // command receives nothing, and where it stood for no journal; then nothing else is touched.
+    // A status tells what the disk's file stood for, and an unmade one is made. Where the command
+    // receives nothing, no other byte changes; where the file stood for no journal, nothing else is touched.
     ensures found { IsTrue D.tells → uses_disk (command_of (map rc_str_bytes words.now)) ≡ true → FindsBy (D.reads disk.old) result }
     ensures made { IsTrue D.tells → uses_disk (command_of (map rc_str_bytes words.now)) ≡ true → tells_of_opening result ≡ true → IsMade the_heading (D.reads disk.new) }
+    ensures made_so { IsTrue D.tells → uses_disk (command_of (map rc_str_bytes words.now)) ≡ true → receives (command_of (map rc_str_bytes words.now)) ≡ false → tells_of_opening result ≡ true → IsUnmade (D.reads disk.old)
+        → D.reads disk.new ≡ made_from the_heading (D.reads disk.old) }
     ensures kept { IsTrue D.tells → uses_disk (command_of (map rc_str_bytes words.now)) ≡ true → (receives (command_of (map rc_str_bytes words.now)) ≡ false) ⊎ (IsJournalFile (D.reads disk.old) → ⊥) → IsKept (D.reads disk.old) (D.reads disk.new) }
     ensures kept_any_moment { IsTrue D.tells → uses_disk (command_of (map rc_str_bytes words.now)) ≡ true → (receives (command_of (map rc_str_bytes words.now)) ≡ false) ⊎ (IsJournalFile (D.reads disk.old) → ⊥)
         → AnswersSynced D.reads D.images D.moment D.since disk.old disk.new (disk_fault result) }

@@ -32,6 +32,9 @@ returns-in-Ok-clause-found g c = λ tells. found_by_writing c.settle.result (g.D
 pub returns-in-Ok-clause-made : goal.returns-in-Ok-clause-made
 returns-in-Ok-clause-made g c = λ tells told. made_of_journal (records c.in-Ok.book.journal) (g.D.Disk.reads c.open.new.disk) (c.in-Ok.ensures.opened tells).stands.journal
 
+pub returns-in-Ok-clause-made_so : goal.returns-in-Ok-clause-made_so
+returns-in-Ok-clause-made_so g c = λ tells told unmade. c.in-Ok.ensures.made tells unmade
+
 pub returns-in-Ok-clause-kept_any_moment : goal.returns-in-Ok-clause-kept_any_moment
 returns-in-Ok-clause-kept_any_moment g c = λ tells. synced g c (c.in-Ok.ensures.any_moment tells)
 
@@ -68,6 +71,9 @@ returns-in-Err-clause-found g c = λ tells. found_at_opening c.status_of_opening
 
 pub returns-in-Err-clause-made : goal.returns-in-Err-clause-made
 returns-in-Err-clause-made g c = λ tells told. let never : true ≡ false = sym told ∙ (opening_status c.status_of_opening.result c.in-Err.fault c.status_of_opening.ensures).not_told in absurd cc
+
+pub returns-in-Err-clause-made_so : goal.returns-in-Err-clause-made_so
+returns-in-Err-clause-made_so g c = λ tells told unmade. let never : true ≡ false = sym told ∙ (opening_status c.status_of_opening.result c.in-Err.fault c.status_of_opening.ensures).not_told in absurd cc
 
 pub returns-in-Err-clause-kept_any_moment : goal.returns-in-Err-clause-kept_any_moment
 returns-in-Err-clause-kept_any_moment g c = λ tells. subst (AnswersSynced g.D.Disk.reads g.D.Disk.images g.D.Disk.moment g.D.Disk.since c.args.disk.now c.open.new.disk) (sym (disk_at_opening c.status_of_opening.result c.in-Err.fault c.status_of_opening.ensures)) (c.in-Err.ensures.any_moment tells)

@@ -73,6 +73,9 @@ returns-in-Ok-clause-cut_journal g c = λ held input file told which image.
           (durable_stands c.receive.new.book (g.D.Disk.reads c.receive.new.disk) (g.D.Disk.images c.receive.new.disk) file (c.receive.ensures.stands (told.disk_tells refl) (cut_by_source c.receive.result which)) image);
     }
 
+pub returns-in-Ok-clause-cut_ticks : goal.returns-in-Ok-clause-cut_ticks
+returns-in-Ok-clause-cut_ticks g c = λ held input told which. (session g c held input told).cut_ticks which
+
 pub returns-in-Ok-clause-acknowledged : goal.returns-in-Ok-clause-acknowledged
 returns-in-Ok-clause-acknowledged g c = λ held input front back file told split some wrote image. (session g c held input told).acknowledged front back file split wrote image
 
@@ -137,6 +140,9 @@ returns-in-Err-clause-cut g c = λ held input told which. absurd (⊎_elim (open
 
 pub returns-in-Err-clause-cut_journal : goal.returns-in-Err-clause-cut_journal
 returns-in-Err-clause-cut_journal g c = λ held input file told which image. absurd (⊎_elim (opening_status c.status_of_opening.result c.in-Err.fault c.status_of_opening.ensures).not_read (opening_status c.status_of_opening.result c.in-Err.fault c.status_of_opening.ensures).not_long which)
+
+pub returns-in-Err-clause-cut_ticks : goal.returns-in-Err-clause-cut_ticks
+returns-in-Err-clause-cut_ticks g c = λ held input told which. absurd (⊎_elim (opening_status c.status_of_opening.result c.in-Err.fault c.status_of_opening.ensures).not_read (opening_status c.status_of_opening.result c.in-Err.fault c.status_of_opening.ensures).not_long which)
 
 pub returns-in-Err-clause-acknowledged : goal.returns-in-Err-clause-acknowledged
 returns-in-Err-clause-acknowledged g c = λ held input front back file told split some wrote image. absurd (some (none_written (g.K.Sink.written c.args.sink.now) _ wrote))

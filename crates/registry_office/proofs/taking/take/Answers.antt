@@ -6,7 +6,7 @@ use Rattle.registry_office.specs.declared.lines.LineKind.TheVariants.{Plain}
 use Rattle.registry_office.specs.declared.requests.Request.{Request}
 use Rattle.registry_office.specs.inner.Inputs.{LeavesGrown}
 use Rattle.registry_office.proofs.SessionInputs.{lines_begin}
-use Rattle.registry_office.proofs.Takings.{acknowledged, answered_input, cut_input, cut_journal_of, early_input, early_read, left_input, ok_by_status, err_by_status, long_by_status, cut_by_status, short_by_status, of_session}
+use Rattle.registry_office.proofs.Takings.{acknowledged, answered_input, cut_input, cut_journal_of, cut_ticks_of, early_input, early_read, left_input, ok_by_status, err_by_status, long_by_status, cut_by_status, short_by_status, of_session}
 use Rattle.registry_office.proofs.Whole.{ends_some}
 use Rattle.registry_office.proofs.taking.take.Goals as goal
 
@@ -19,6 +19,7 @@ returns-clause-session g c = λ ticks input told.
       early = λ other. early_read (line_requests Plain) (ended_requests Plain []) (lines_begin Plain) g.D.Disk.tells (g.C.Clock.ticks c.args.clock.now) (g.C.Clock.ticks c.answer_input.new.clock) c.args.book.now c.answer_input.new.receiver (g.S.Source.left c.args.source.now) (g.S.Source.left c.answer_input.new.source) (g.K.Sink.written c.args.sink.now) (g.K.Sink.written c.answer_input.new.sink) (g.D.Disk.reads c.answer_input.new.disk) (g.D.Disk.images c.answer_input.new.disk) ticks input told Left (err_by_status c.answer_input.result c.status_of.result _ c.status_of.ensures other c.answer_input.ensures.part);
       cut_replies = λ which. cut_input (line_requests Plain) (ended_requests Plain []) (lines_begin Plain) g.D.Disk.tells (g.C.Clock.ticks c.args.clock.now) (g.C.Clock.ticks c.answer_input.new.clock) c.args.book.now c.answer_input.new.receiver (g.S.Source.left c.args.source.now) (g.S.Source.left c.answer_input.new.source) (g.K.Sink.written c.args.sink.now) (g.K.Sink.written c.answer_input.new.sink) (g.D.Disk.reads c.answer_input.new.disk) (g.D.Disk.images c.answer_input.new.disk) ticks input told (c.answer_input.ensures.cut (cut_by_status c.answer_input.result c.status_of.result c.status_of.ensures which));
       cut_journal = λ which. cut_journal_of (line_requests Plain) (ended_requests Plain []) (lines_begin Plain) g.D.Disk.tells (g.C.Clock.ticks c.args.clock.now) (g.C.Clock.ticks c.answer_input.new.clock) c.args.book.now c.answer_input.new.receiver (g.S.Source.left c.args.source.now) (g.S.Source.left c.answer_input.new.source) (g.K.Sink.written c.args.sink.now) (g.K.Sink.written c.answer_input.new.sink) (g.D.Disk.reads c.answer_input.new.disk) (g.D.Disk.images c.answer_input.new.disk) ticks input told (c.answer_input.ensures.cut (cut_by_status c.answer_input.result c.status_of.result c.status_of.ensures which));
+      cut_ticks = λ which. cut_ticks_of (line_requests Plain) (ended_requests Plain []) (lines_begin Plain) g.D.Disk.tells (g.C.Clock.ticks c.args.clock.now) (g.C.Clock.ticks c.answer_input.new.clock) c.args.book.now c.answer_input.new.receiver (g.S.Source.left c.args.source.now) (g.S.Source.left c.answer_input.new.source) (g.K.Sink.written c.args.sink.now) (g.K.Sink.written c.answer_input.new.sink) (g.D.Disk.reads c.answer_input.new.disk) (g.D.Disk.images c.answer_input.new.disk) ticks input told (c.answer_input.ensures.cut (cut_by_status c.answer_input.result c.status_of.result c.status_of.ensures which));
       acknowledged = λ front back file split wrote image. acknowledged ticks _ _ _ _ _ (line_requests Plain input) front back file
           (early_input (line_requests Plain) (ended_requests Plain []) (lines_begin Plain) g.D.Disk.tells (g.C.Clock.ticks c.args.clock.now) (g.C.Clock.ticks c.answer_input.new.clock) c.args.book.now c.answer_input.new.receiver (g.S.Source.left c.args.source.now) (g.S.Source.left c.answer_input.new.source) (g.K.Sink.written c.args.sink.now) (g.K.Sink.written c.answer_input.new.sink) (g.D.Disk.reads c.answer_input.new.disk) (g.D.Disk.images c.answer_input.new.disk) ticks input told Left c.answer_input.result c.answer_input.ensures.all (λ worked. c.answer_input.ensures.ready worked) c.answer_input.ensures.part) split wrote image;
     }

@@ -5,7 +5,7 @@ use Rattle.registry_office.specs.Intakes.{whole_of, cut_of}
 use Rattle.registry_office.specs.declared.intakes.Intake.TheVariants.{OpeningList}
 use Rattle.registry_office.specs.declared.requests.Request.{Request}
 use Rattle.registry_office.specs.inner.Inputs.{LeavesGrown}
-use Rattle.registry_office.proofs.Takings.{begins_of, acknowledged, answered_input, cut_input, cut_journal_of, early_input, early_read, left_input, ok_by_status, err_by_status, long_by_status, cut_by_status, short_by_status, of_session}
+use Rattle.registry_office.proofs.Takings.{begins_of, acknowledged, answered_input, cut_input, cut_journal_of, cut_ticks_of, early_input, early_read, left_input, ok_by_status, err_by_status, long_by_status, cut_by_status, short_by_status, of_session}
 use Rattle.registry_office.proofs.Whole.{ends_some}
 use Rattle.registry_office.proofs.taking.take_list.Goals as goal
 
@@ -18,6 +18,7 @@ returns-clause-session g c = λ ticks input told.
       early = λ other. early_read (whole_of (OpeningList c.args.sender)) (cut_of (OpeningList c.args.sender)) (begins_of (OpeningList c.args.sender)) g.D.Disk.tells (g.C.Clock.ticks c.args.clock.now) (g.C.Clock.ticks c.answer_list.new.clock) c.args.book.now c.answer_list.new.receiver (g.S.Source.left c.args.source.now) (g.S.Source.left c.answer_list.new.source) (g.K.Sink.written c.args.sink.now) (g.K.Sink.written c.answer_list.new.sink) (g.D.Disk.reads c.answer_list.new.disk) (g.D.Disk.images c.answer_list.new.disk) ticks input told Left (err_by_status c.answer_list.result c.status_of.result _ c.status_of.ensures other c.answer_list.ensures.part);
       cut_replies = λ which. cut_input (whole_of (OpeningList c.args.sender)) (cut_of (OpeningList c.args.sender)) (begins_of (OpeningList c.args.sender)) g.D.Disk.tells (g.C.Clock.ticks c.args.clock.now) (g.C.Clock.ticks c.answer_list.new.clock) c.args.book.now c.answer_list.new.receiver (g.S.Source.left c.args.source.now) (g.S.Source.left c.answer_list.new.source) (g.K.Sink.written c.args.sink.now) (g.K.Sink.written c.answer_list.new.sink) (g.D.Disk.reads c.answer_list.new.disk) (g.D.Disk.images c.answer_list.new.disk) ticks input told (c.answer_list.ensures.cut (cut_by_status c.answer_list.result c.status_of.result c.status_of.ensures which));
       cut_journal = λ which. cut_journal_of (whole_of (OpeningList c.args.sender)) (cut_of (OpeningList c.args.sender)) (begins_of (OpeningList c.args.sender)) g.D.Disk.tells (g.C.Clock.ticks c.args.clock.now) (g.C.Clock.ticks c.answer_list.new.clock) c.args.book.now c.answer_list.new.receiver (g.S.Source.left c.args.source.now) (g.S.Source.left c.answer_list.new.source) (g.K.Sink.written c.args.sink.now) (g.K.Sink.written c.answer_list.new.sink) (g.D.Disk.reads c.answer_list.new.disk) (g.D.Disk.images c.answer_list.new.disk) ticks input told (c.answer_list.ensures.cut (cut_by_status c.answer_list.result c.status_of.result c.status_of.ensures which));
+      cut_ticks = λ which. cut_ticks_of (whole_of (OpeningList c.args.sender)) (cut_of (OpeningList c.args.sender)) (begins_of (OpeningList c.args.sender)) g.D.Disk.tells (g.C.Clock.ticks c.args.clock.now) (g.C.Clock.ticks c.answer_list.new.clock) c.args.book.now c.answer_list.new.receiver (g.S.Source.left c.args.source.now) (g.S.Source.left c.answer_list.new.source) (g.K.Sink.written c.args.sink.now) (g.K.Sink.written c.answer_list.new.sink) (g.D.Disk.reads c.answer_list.new.disk) (g.D.Disk.images c.answer_list.new.disk) ticks input told (c.answer_list.ensures.cut (cut_by_status c.answer_list.result c.status_of.result c.status_of.ensures which));
       acknowledged = λ front back file split wrote image. acknowledged ticks _ _ _ _ _ (whole_of (OpeningList c.args.sender) input) front back file
           (early_input (whole_of (OpeningList c.args.sender)) (cut_of (OpeningList c.args.sender)) (begins_of (OpeningList c.args.sender)) g.D.Disk.tells (g.C.Clock.ticks c.args.clock.now) (g.C.Clock.ticks c.answer_list.new.clock) c.args.book.now c.answer_list.new.receiver (g.S.Source.left c.args.source.now) (g.S.Source.left c.answer_list.new.source) (g.K.Sink.written c.args.sink.now) (g.K.Sink.written c.answer_list.new.sink) (g.D.Disk.reads c.answer_list.new.disk) (g.D.Disk.images c.answer_list.new.disk) ticks input told Left c.answer_list.result c.answer_list.ensures.all (λ worked. c.answer_list.ensures.ready worked) c.answer_list.ensures.part) split wrote image;
     }

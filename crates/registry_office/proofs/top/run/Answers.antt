@@ -1,4 +1,4 @@
-use Rattle.std.proofs.Common.{Option, Some, List, take, true, subst, sym, ap, ◌∙◌}
+use Rattle.std.proofs.Common.{◌≡◌, Option, Some, List, take, true, subst, sym, ap, ◌∙◌}
 use Rattle.std.specs.Io.KnownBytes.{Appends}
 use Rattle.gb_outside.specs.Bytes.{AppendsFront}
 use Rattle.receipt_journal.specs.Standing.{StandsForJournal}
@@ -52,6 +52,11 @@ pub returns-in-Some-Receive-clause-cut_journal : goal.returns-in-Some-Receive-cl
 returns-in-Some-Receive-clause-cut_journal g c = λ held input file told receiving which image.
     subst (λ (command : Option Command). Took (g.S.Source.left c.args.source.now) (g.S.Source.left c.receive_disk.new.source) (λ read. StandsForJournal file (held_after OnDisk held (cut_requests_of command (take 67108864 read))).journal)) (sym (sym c.read_words.ensures.command ∙ c.in-Some-Receive.is ∙ ap (λ (command : Command). Some command) c.in-Some-Receive.field-0-is))
     (c.receive_disk.ensures.cut_journal held input file (subst (λ (command : Option Command). Told command g.D.Disk.tells (g.D.Disk.reads c.args.disk.now) (g.S.Source.left c.args.source.now) (g.C.Clock.ticks c.args.clock.now) held input) (sym c.read_words.ensures.command ∙ c.in-Some-Receive.is ∙ ap (λ (command : Command). Some command) c.in-Some-Receive.field-0-is) told) which image)
+
+pub returns-in-Some-Receive-clause-cut_ticks : goal.returns-in-Some-Receive-clause-cut_ticks
+returns-in-Some-Receive-clause-cut_ticks g c = λ held input told receiving which.
+    subst (λ (command : Option Command). Took (g.S.Source.left c.args.source.now) (g.S.Source.left c.receive_disk.new.source) (λ read. g.C.Clock.ticks c.receive_disk.new.clock ≡ Some (held_after OnDisk held (cut_requests_of command (take 67108864 read))).ticks)) (sym (sym c.read_words.ensures.command ∙ c.in-Some-Receive.is ∙ ap (λ (command : Command). Some command) c.in-Some-Receive.field-0-is))
+    (c.receive_disk.ensures.cut_ticks held input (subst (λ (command : Option Command). Told command g.D.Disk.tells (g.D.Disk.reads c.args.disk.now) (g.S.Source.left c.args.source.now) (g.C.Clock.ticks c.args.clock.now) held input) (sym c.read_words.ensures.command ∙ c.in-Some-Receive.is ∙ ap (λ (command : Command). Some command) c.in-Some-Receive.field-0-is) told) which)
 
 pub returns-in-Some-Receive-clause-early : goal.returns-in-Some-Receive-clause-early
 returns-in-Some-Receive-clause-early g c = λ held input told receiving other.
