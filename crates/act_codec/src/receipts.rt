@@ -13,8 +13,12 @@ use act_model::{Receipt, well_formed};
 use gb_base::{NoMemory, Stamp};
 use std::alloc::Global;
 
-/// The most bytes of a spelling.
-const MAX_LEN: usize = 522;
+/// The most bytes of a spelling: room for them is taken at once.
+fn most_bytes() -> usize
+    ensures { result ≡ longest_spelling }
+{
+    522
+}
 
 #[tactic(auto, unfolding(crate::specs::inner::Reading::read_stamp))]
 fn read_stamp(from: &mut Reader) -> Option<Stamp>
@@ -100,7 +104,7 @@ pub fn encode(alloc: Global, receipt: &Receipt) -> Result<Vec<u8>, NoMemory>
     // So `decode` gives this receipt again.
     ensures is_receipt { OnOk result (IsReceipt receipt.now) }
 {
-    let mut to = Writer::new(alloc, MAX_LEN)?;
+    let mut to = Writer::new(alloc, most_bytes())?;
     put_receipt(&mut to, receipt)?;
     Ok(to.finish())
 }

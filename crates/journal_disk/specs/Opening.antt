@@ -50,7 +50,7 @@ pub record IsKept (file c : List ℕ) : Type 0 where
   pub same : (IsUnmade file → ⊥) → c ≡ file
   pub frames : (bodies : List (List ℕ)) → StandsFor the_heading file bodies → StandsFor the_heading c bodies
 
--- First a sync: until it is done a stop leaves what it might have left before, and from then on the file is kept.
+-- A sync ahead of every write, though reads may come before it: until it is done a stop leaves what it might have left before, and from then on the file is kept.
 pub record SyncsFirst {D : Type 0} (reads : D → List ℕ) (images : D → List ℕ → Type 0) (moment : D → ℕ) (since : D → ℕ → List ℕ → Type 0) (old new : D) : Type 0 where
   pub synced : D
   pub until : LeavesOnly moment since old synced (images old)

@@ -44,11 +44,12 @@ impl Log {
         ensures opened { IsTrue D.tells → IfOk result (λ opened. LogOpens the_heading (D.reads disk.old) opened.0 opened.1.items (D.reads disk.new) (D.images disk.new)) }
         ensures works { IfOk result (λ opened. opened.0.failed ≡ false) }
         ensures made { IsTrue D.tells → OnOk result (IsUnmade (D.reads disk.old) → D.reads disk.new ≡ made_from the_heading (D.reads disk.old)) }
+        ensures settled { OnOk result (IsTrue D.tells → Only (D.reads disk.new) (D.images disk.new)) }
         ensures refused { IsTrue D.tells → IfErr result (LogRefuses the_heading (D.reads disk.old)) }
         ensures kept { IsTrue D.tells → IsKept (D.reads disk.old) (D.reads disk.new) }
         ensures torn { IsTrue D.tells → Torn 0 (first_gate the_heading + 1) (D.reads disk.old) (D.reads disk.new) }
 
-        // It answers only after a sync, and a stop at any moment from then on leaves the frames that were found.
+        // Every answer but `Disk` comes only after a sync, done ahead of every write: a stop at any moment from then on leaves the frames that were found.
         ensures any_moment { IsTrue D.tells → AnswersSynced D.reads D.images D.moment D.since disk.old disk.new (opening_failed result) }
         ensures cause { Counts (D.faults disk.old) (D.faults disk.new) (opening_failed result) }
     {
@@ -117,6 +118,7 @@ fn open_synced<D: Disk>(alloc: Global, disk: &mut D) -> Result<(Log, Vec<Frame>)
     ensures opened { IsTrue D.tells → IfOk result (λ opened. LogOpens the_heading (D.reads disk.old) opened.0 opened.1.items (D.reads disk.new) (D.images disk.new)) }
     ensures works { IfOk result (λ opened. opened.0.failed ≡ false) }
     ensures made { IsTrue D.tells → OnOk result (IsUnmade (D.reads disk.old) → D.reads disk.new ≡ made_from the_heading (D.reads disk.old)) }
+    ensures settled { OnOk result (IsTrue D.tells → Only (D.reads disk.new) (D.images disk.new)) }
     ensures refused { IsTrue D.tells → IfErr result (LogRefuses the_heading (D.reads disk.old)) }
     ensures any_moment { IsTrue D.tells → LeavesOnly D.moment D.since disk.old disk.new (IsKept (D.reads disk.old)) }
     ensures torn { IsTrue D.tells → Torn 0 (first_gate the_heading + 1) (D.reads disk.old) (D.reads disk.new) }

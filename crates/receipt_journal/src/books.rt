@@ -2,7 +2,7 @@
 ghost use Rattle.std.specs.Prelude.{◌≡◌, ◌↔◌, ◌+◌, ◌≤◌, true, false, ◌||◌, IsTrue, IfOk, IfErr, OnOk, length};
 ghost use Rattle.std.specs.Option.{option_copied};
 ghost use Rattle.gb_outside.specs.Faults.{Counts};
-ghost use Rattle.gb_outside.specs.Images.{Holds, Torn, LeavesOnly};
+ghost use Rattle.gb_outside.specs.Images.{Holds, Torn, Only, LeavesOnly};
 ghost use Rattle.act_model.specs.WellFormed.{well_formed};
 ghost use Rattle.act_model.specs.Receiving.{receipt_at, answer_to};
 ghost use Rattle.act_model.specs.Receiving as journals;
@@ -68,11 +68,12 @@ impl Book {
         ensures opened { IsTrue D.tells → IfOk result (λ book. BookOpens (D.reads disk.old) book (D.reads disk.new) (D.images disk.new)) }
         ensures works { IfOk result (λ book. book.log.failed ≡ false) }
         ensures made { IsTrue D.tells → OnOk result (IsUnmade (D.reads disk.old) → D.reads disk.new ≡ made_from the_heading (D.reads disk.old)) }
+        ensures settled { OnOk result (IsTrue D.tells → Only (D.reads disk.new) (D.images disk.new)) }
         ensures refused { IsTrue D.tells → IfErr result (BookRefuses (D.reads disk.old)) }
         ensures kept { IsTrue D.tells → IsKept (D.reads disk.old) (D.reads disk.new) }
         ensures torn { IsTrue D.tells → Torn 0 (first_gate the_heading + 1) (D.reads disk.old) (D.reads disk.new) }
 
-        // It answers only after a sync, and a stop at any moment from then on leaves the journal that was found.
+        // Every answer but `Disk` comes only after a sync, done ahead of every write: a stop at any moment from then on leaves the journal that was found.
         ensures any_moment { IsTrue D.tells → AnswersSynced D.reads D.images D.moment D.since disk.old disk.new (book_opening_failed result) }
         ensures cause { Counts (D.faults disk.old) (D.faults disk.new) (book_opening_failed result) }
     {
