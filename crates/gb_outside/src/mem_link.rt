@@ -67,7 +67,7 @@ impl<'a> MemLink<'a> {
 impl Link for MemLink<'_> {
     ghost use Rattle.std.specs.Prelude.{◌<◌, ◌-◌, length, Some};
     ghost use Rattle.gb_outside.specs.Bytes.{IsGot, Reads, read_failed, IsTaken, Writes, write_failed};
-    ghost use Rattle.gb_outside.specs.Faults.{Counts};
+    ghost use Rattle.gb_outside.specs.Faults.{Counts, faults_after};
     ghost use Rattle.gb_outside.specs.InMemory.{fails_next, after_call, read_answer, write_answer};
 
     ghost left = { λ s. Some s.left };
@@ -82,6 +82,7 @@ impl Link for MemLink<'_> {
         ensures content { Reads (Some self.old.left) (Some self.new.left) result into.new }
         ensures written { Some self.new.written ≡ Some self.old.written }
         ensures cause { Counts self.old.faults self.new.faults (read_failed result) }
+        ensures once { self.new.faults ≡ faults_after self.old.faults (read_failed result) }
         ensures answer { result ≡ read_answer (fails_next self.old.plan) self.old.left (length into.old) }
         ensures plan { self.new.plan ≡ after_call self.old.plan }
         ensures room { self.new.room ≡ self.old.room }
@@ -103,6 +104,7 @@ impl Link for MemLink<'_> {
         ensures content { Writes (Some self.old.written) (Some self.new.written) result piece.now }
         ensures left { Some self.new.left ≡ Some self.old.left }
         ensures cause { Counts self.old.faults self.new.faults (write_failed result) }
+        ensures once { self.new.faults ≡ faults_after self.old.faults (write_failed result) }
         ensures answer { result
             ≡ write_answer (fails_next self.old.plan) (length piece.now) (self.old.room - length self.old.written) }
         ensures plan { self.new.plan ≡ after_call self.old.plan }

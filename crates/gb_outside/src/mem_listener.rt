@@ -74,7 +74,7 @@ impl<'a> Listener for MemListener<'a> {
 
     ghost use Rattle.std.specs.Prelude.{◌≡◌, ◌+◌, ◌≤◌, ◌++◌, ◌∷◌, [], Some, IsSome};
     ghost use Rattle.gb_outside.specs.Doors.{Accepts, Serves, out_after, accept_failed};
-    ghost use Rattle.gb_outside.specs.Faults.{Counts};
+    ghost use Rattle.gb_outside.specs.Faults.{Counts, faults_after};
     ghost use Rattle.gb_outside.specs.InMemory.{fails_next, after_call, accept_answer, links_left, bytes_waiting, pairs_served};
 
     ghost waiting = { λ s. Some (bytes_waiting s.waiting) };
@@ -93,6 +93,7 @@ impl<'a> Listener for MemListener<'a> {
             ≡ Some (pairs_served self.old.served) }
         ensures out { IsSome (Some (pairs_served self.old.served)) → self.new.out ≡ out_after self.old.out result }
         ensures cause { Counts self.old.faults self.new.faults (accept_failed result) }
+        ensures once { self.new.faults ≡ faults_after self.old.faults (accept_failed result) }
         ensures answer { result ≡ accept_answer (fails_next self.old.plan) self.old.waiting }
         ensures left { self.new.waiting ≡ links_left (fails_next self.old.plan) self.old.waiting }
         ensures kept { self.new.served ≡ self.old.served }

@@ -57,7 +57,7 @@ impl<'a> MemSink<'a> {
 impl Sink for MemSink<'_> {
     ghost use Rattle.std.specs.Prelude.{◌-◌, length, Some};
     ghost use Rattle.gb_outside.specs.Bytes.{IsTaken, Writes, write_failed};
-    ghost use Rattle.gb_outside.specs.Faults.{Counts};
+    ghost use Rattle.gb_outside.specs.Faults.{Counts, faults_after};
     ghost use Rattle.gb_outside.specs.InMemory.{fails_next, after_call, write_answer};
 
     ghost written = { λ s. Some s.written };
@@ -68,6 +68,7 @@ impl Sink for MemSink<'_> {
         ensures count { IsTaken result (length piece.now) }
         ensures content { Writes (Some self.old.written) (Some self.new.written) result piece.now }
         ensures cause { Counts self.old.faults self.new.faults (write_failed result) }
+        ensures once { self.new.faults ≡ faults_after self.old.faults (write_failed result) }
         ensures answer { result
             ≡ write_answer (fails_next self.old.plan) (length piece.now) (self.old.room - length self.old.written) }
         ensures plan { self.new.plan ≡ after_call self.old.plan }

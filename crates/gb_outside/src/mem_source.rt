@@ -41,7 +41,7 @@ impl<'a> MemSource<'a> {
 impl Source for MemSource<'_> {
     ghost use Rattle.std.specs.Prelude.{◌<◌, length, Some};
     ghost use Rattle.gb_outside.specs.Bytes.{IsGot, Reads, read_failed};
-    ghost use Rattle.gb_outside.specs.Faults.{Counts};
+    ghost use Rattle.gb_outside.specs.Faults.{Counts, faults_after};
     ghost use Rattle.gb_outside.specs.InMemory.{fails_next, after_call, read_answer};
 
     ghost left = { λ s. Some s.left };
@@ -53,6 +53,7 @@ impl Source for MemSource<'_> {
         ensures count { IsGot result (length into.new) }
         ensures content { Reads (Some self.old.left) (Some self.new.left) result into.new }
         ensures cause { Counts self.old.faults self.new.faults (read_failed result) }
+        ensures once { self.new.faults ≡ faults_after self.old.faults (read_failed result) }
         ensures answer { result ≡ read_answer (fails_next self.old.plan) self.old.left (length into.old) }
         ensures plan { self.new.plan ≡ after_call self.old.plan }
     {

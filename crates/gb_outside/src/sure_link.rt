@@ -25,6 +25,8 @@ impl<'a> SureLink<'a> {
 
 impl Link for SureLink<'_> {
     ghost use Rattle.std.specs.Prelude.{◌≡◌, Some, None, length};
+    ghost use Rattle.gb_outside.specs.Bytes.{IsTaken, Writes, write_failed};
+    ghost use Rattle.gb_outside.specs.Faults.{Counts};
     ghost use Rattle.gb_outside.specs.declared.streams.Wrote.TheVariants.{Took};
 
     ghost left = { λ s. Some s.bytes.now };
@@ -42,7 +44,13 @@ impl Link for SureLink<'_> {
         Got::Bytes(n)
     }
 
-    fn write(&mut self, piece: &[u8]) -> Wrote {
+    fn write(&mut self, piece: &[u8]) -> Wrote
+        ensures count { IsTaken result (length piece.now) }
+        ensures content { Writes None None result piece.now }
+        ensures left { Some self.new.bytes.now ≡ Some self.old.bytes.now }
+        ensures cause { Counts 0 0 (write_failed result) }
+        ensures all { result ≡ Took (length piece.now) }
+    {
         Wrote::Took(piece.len())
     }
 }

@@ -1,15 +1,10 @@
 -- What the adapters of standard input and output do, over what their reader or writer tells.
-use Rattle.std.specs.Prelude.{ℕ, ◌+◌, ◌-◌, ◌^◌, min, List, take, Option, Bool, true, false}
+use Rattle.std.specs.Prelude.{ℕ, List, take, Option}
 use Rattle.std.specs.Io.KnownBytes.{Appends, Consumes, IsAtEnd, Keeps}
 use Rattle.gb_outside.specs.declared.streams.Got.{Got}
 use Rattle.gb_outside.specs.declared.streams.Got.TheVariants as got
 use Rattle.gb_outside.specs.declared.streams.Wrote.{Wrote}
 use Rattle.gb_outside.specs.declared.streams.Wrote.TheVariants as wrote
-
--- the count of faults behind a call: one more where it failed, up to the type's end
-abbrev pub faults_after : ℕ → Bool → ℕ
-faults_after before false = before
-faults_after before true = min (before + 1) (2 ^ 64 - 1)
 
 -- the bytes that are handed on are the next of those that the reader has left; at the end it has none, and a failure takes none
 abbrev pub HandsOn : Option (List ℕ) → Option (List ℕ) → Got → List ℕ → Type 0

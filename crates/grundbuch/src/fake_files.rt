@@ -32,6 +32,14 @@ impl Notes {
         }
     }
 
+    /// Whether the notes are the first lines and then the second ones.
+    pub fn are_both(&self, first: &str, second: &str) -> bool {
+        match self.lines.try_borrow() {
+            Ok(noted) => noted.as_str().strip_prefix(first) == Some(second),
+            Err(_) => false,
+        }
+    }
+
     fn note(&self, what: &str) -> io::Result<()> {
         self.add(what);
         self.add("\n");

@@ -1,7 +1,6 @@
 // How the adapters count the faults of what stands outside.
 ghost use Rattle.std.specs.Prelude.{◌≡◌, is_err};
-ghost use Rattle.gb_outside.specs.Faults.{Counts};
-ghost use Rattle.grundbuch.specs.Adapters.{faults_after};
+ghost use Rattle.gb_outside.specs.Faults.{Counts, faults_after};
 
 use std::io;
 

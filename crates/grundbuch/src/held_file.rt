@@ -45,6 +45,19 @@ impl<R: Files> HeldFile<'_, R>
 where
     R::File: FileExt + Lock,
 {
+    ghost use Rattle.std.specs.Prelude.{◌≡◌, None, IsErr};
+
+    /// Opens the file where it is shut. Where that fails it stays shut.
+    pub fn open(&mut self) -> io::Result<()>
+        ensures shut { IsErr result → self.new.opened ≡ None }
+    {
+        if self.opened.is_none() {
+            let file = self.open_and_lock()?;
+            self.opened = Some(file);
+        }
+        Ok(())
+    }
+
     /// The open file.
     pub fn get(&mut self) -> io::Result<&R::File> {
         let file = match self.opened.take() {

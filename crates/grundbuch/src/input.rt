@@ -32,8 +32,8 @@ impl<R: Read + Drop> Input<R> {
 impl<R: Read + Drop> Source for Input<R> {
     ghost use Rattle.std.specs.Prelude.{◌≡◌, ◌<◌, length, None};
     ghost use Rattle.gb_outside.specs.Bytes.{IsGot, Reads, read_failed};
-    ghost use Rattle.gb_outside.specs.Faults.{Counts};
-    ghost use Rattle.grundbuch.specs.Adapters.{faults_after, HandsOn};
+    ghost use Rattle.gb_outside.specs.Faults.{Counts, faults_after};
+    ghost use Rattle.grundbuch.specs.Adapters.{HandsOn};
 
     ghost left = { λ source. None };
 

@@ -1,7 +1,6 @@
 // The journal's file as the office's disk.
-ghost use Rattle.std.specs.Prelude.{◌≡◌, is_err, IsOk, IsErr, IsTrue};
-ghost use Rattle.gb_outside.specs.Faults.{Counts};
-ghost use Rattle.grundbuch.specs.Adapters.{faults_after};
+ghost use Rattle.std.specs.Prelude.{◌≡◌, ◌⊎◌, None, is_err, IsOk, IsErr, IsTrue};
+ghost use Rattle.gb_outside.specs.Faults.{Counts, faults_after};
 
 use crate::faults::counted;
 use crate::held_file::{HeldFile, Lock, open_beside_streams};
@@ -23,7 +22,7 @@ pub struct JournalFile<'a, R: Files> {
     /// Whether the folder was synced, so that a stop leaves the file's entry there.
     has_entry: bool,
 
-    /// Whether a sync failed.
+    /// Whether a sync of the open file failed.
     lost: bool,
     faults: u64,
 }
@@ -55,37 +54,39 @@ impl<R: Files> JournalFile<'_, R>
 where
     R::File: FileExt + Lock,
 {
-    /// Brings the file onto the disk, and the first time also its entry in the folder, which an
-    /// earlier run may have made and not synced. A sync that failed may have given up what was
-    /// written, and a later one would say nothing of it: so each later one fails.
+    /// Brings the file onto the disk, where no sync of it has failed. One that failed may have
+    /// given up what was written, and a later one would say nothing of it: so each later one fails.
+    /// A file that could not be opened had nothing to give up.
     fn bring_to_disk(&mut self) -> io::Result<()>
         ensures entry { IsOk result → IsTrue self.new.has_entry }
-        ensures lost { IsTrue self.old.lost → IsErr result × IsTrue self.new.lost }
+        ensures lost { IsErr result → (self.new.file.opened ≡ None) ⊎ IsTrue self.new.lost }
+        ensures stays_lost { IsTrue self.old.lost → IsErr result × IsTrue self.new.lost }
         ensures uncounted { self.new.faults ≡ self.old.faults }
     {
         if self.lost {
             return Err(io::Error::from(io::ErrorKind::Other));
         }
-        let synced = self.file.get()?.sync_all();
-        self.note(synced)?;
+        self.file.open()?;
+        let synced = self.sync_with_entry();
+        self.lost = synced.is_err();
+        synced
+    }
+
+    /// Syncs the file, and the first time also the folder with its entry, which an earlier run may
+    /// have made and not synced.
+    fn sync_with_entry(&mut self) -> io::Result<()>
+        ensures entry { IsOk result → IsTrue self.new.has_entry }
+        ensures uncounted { self.new.faults ≡ self.old.faults }
+    {
+        self.file.get()?.sync_all()?;
         if !self.has_entry {
             let mut how = OpenOptions::new();
             how.read(true);
             let folder = open_beside_streams(self.files, &how, self.folder)?;
-            self.note(folder.sync_all())?;
+            folder.sync_all()?;
             self.has_entry = true;
         }
         Ok(())
-    }
-
-    /// Notes whether a sync failed.
-    fn note(&mut self, synced: io::Result<()>) -> io::Result<()>
-        ensures answer { result ≡ synced }
-        ensures lost { self.new.lost ≡ is_err synced }
-        ensures uncounted { self.new.faults ≡ self.old.faults }
-    {
-        self.lost = synced.is_err();
-        synced
     }
 }
 
@@ -93,7 +94,8 @@ impl<R: Files> Disk for JournalFile<'_, R>
 where
     R::File: FileExt + Lock,
 {
-    ghost use Rattle.std.specs.Prelude.{◌≡◌, false, []};
+    ghost use Rattle.std.specs.Prelude.{◌≡◌, ◌⊎◌, None, is_err, IsOk, IsErr, IsTrue, false, []};
+    ghost use Rattle.gb_outside.specs.Faults.{Counts, faults_after};
 
     ghost tells = { false };
 
@@ -107,19 +109,34 @@ where
 
     ghost faults = { λ disk. disk.faults };
 
-    fn len(&mut self) -> Result<u64, DiskFailed> {
+    fn len(&mut self) -> Result<u64, DiskFailed>
+        ensures cause { Counts self.old.faults self.new.faults (is_err result) }
+        ensures once { self.new.faults ≡ faults_after self.old.faults (is_err result) }
+    {
         told(&mut self.faults, self.file.len())
     }
 
-    fn read_at(&mut self, at: u64, into: &mut [u8]) -> Result<(), DiskFailed> {
+    fn read_at(&mut self, at: u64, into: &mut [u8]) -> Result<(), DiskFailed>
+        ensures cause { Counts self.old.faults self.new.faults (is_err result) }
+        ensures once { self.new.faults ≡ faults_after self.old.faults (is_err result) }
+    {
         told(&mut self.faults, self.file.read_at(at, into))
     }
 
-    fn write_at(&mut self, at: u64, bytes: &[u8]) -> Result<(), DiskFailed> {
+    fn write_at(&mut self, at: u64, bytes: &[u8]) -> Result<(), DiskFailed>
+        ensures cause { Counts self.old.faults self.new.faults (is_err result) }
+        ensures once { self.new.faults ≡ faults_after self.old.faults (is_err result) }
+    {
         told(&mut self.faults, self.file.write_at(at, bytes))
     }
 
-    fn sync(&mut self) -> Result<(), DiskFailed> {
+    fn sync(&mut self) -> Result<(), DiskFailed>
+        ensures entry { IsOk result → IsTrue self.new.has_entry }
+        ensures lost { IsErr result → (self.new.file.opened ≡ None) ⊎ IsTrue self.new.lost }
+        ensures stays_lost { IsTrue self.old.lost → IsErr result × IsTrue self.new.lost }
+        ensures cause { Counts self.old.faults self.new.faults (is_err result) }
+        ensures once { self.new.faults ≡ faults_after self.old.faults (is_err result) }
+    {
         let brought = self.bring_to_disk();
         told(&mut self.faults, brought)
     }
@@ -135,6 +152,7 @@ where
 
 /// What the office is told of a call, where an error is a fault that is counted.
 fn told<T: Drop>(faults: &mut u64, answer: io::Result<T>) -> Result<T, DiskFailed>
+    ensures answer { is_err result ≡ is_err answer }
     ensures cause { Counts faults.old faults.new (is_err result) }
     ensures once { faults.new ≡ faults_after faults.old (is_err result) }
 {
@@ -224,15 +242,43 @@ mod tests {
     }
 
     #[test]
+    fn a_descriptor_that_is_not_copied_is_not_used(rt: HostRuntime) {
+        let notes = Notes::new(String::new(rt.alloc()), Some("copy"));
+        let files = FakeFiles::new(&notes);
+        let mut disk = JournalFile::new(&files);
+        assert!(rt; disk.len().is_err());
+        assert_eq!(rt; disk.faults, 1);
+        assert!(rt; notes.are("open grundbuch.journal read write create\ncopy\nclose\n"));
+    }
+
+    #[test]
     fn no_sync_follows_one_that_failed(rt: HostRuntime) {
-        let notes = Notes::new(String::new(rt.alloc()), Some("sync folder"));
+        let file = "open grundbuch.journal read write create\ncopy\nclose\nlock\nsync\n";
+        let copied = "open . read\ncopy folder\nclose folder\n";
+        let synced = "open . read\ncopy folder\nclose folder\nsync folder\nclose folder\n";
+        for (refused, asked_of_folder) in [
+            ("sync", ""),
+            ("copy folder", copied),
+            ("sync folder", synced),
+        ] {
+            let notes = Notes::new(String::new(rt.alloc()), Some(refused));
+            let files = FakeFiles::new(&notes);
+            let mut disk = JournalFile::new(&files);
+            assert!(rt; disk.sync().is_err());
+            assert!(rt; disk.sync().is_err());
+            assert_eq!(rt; disk.faults, 2);
+            assert!(rt; notes.are_both(file, asked_of_folder), "{refused}");
+        }
+    }
+
+    #[test]
+    fn a_sync_follows_an_opening_that_failed(rt: HostRuntime) {
+        let notes = Notes::new(String::new(rt.alloc()), Some("lock"));
         let files = FakeFiles::new(&notes);
         let mut disk = JournalFile::new(&files);
         assert!(rt; disk.sync().is_err());
         assert!(rt; disk.sync().is_err());
-        assert_eq!(rt; disk.faults, 2);
-        let asked = "open grundbuch.journal read write create\ncopy\nclose\nlock\nsync\n\
-            open . read\ncopy folder\nclose folder\nsync folder\nclose folder\n";
-        assert!(rt; notes.are(asked));
+        let asked = "open grundbuch.journal read write create\ncopy\nclose\nlock\nclose\n";
+        assert!(rt; notes.are_both(asked, asked));
     }
 }

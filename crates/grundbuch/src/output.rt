@@ -32,8 +32,8 @@ impl<W: Write + Drop> Output<W> {
 impl<W: Write + Drop> Sink for Output<W> {
     ghost use Rattle.std.specs.Prelude.{◌≡◌, length, None};
     ghost use Rattle.gb_outside.specs.Bytes.{IsTaken, Writes, write_failed};
-    ghost use Rattle.gb_outside.specs.Faults.{Counts};
-    ghost use Rattle.grundbuch.specs.Adapters.{faults_after, PutsIn};
+    ghost use Rattle.gb_outside.specs.Faults.{Counts, faults_after};
+    ghost use Rattle.grundbuch.specs.Adapters.{PutsIn};
 
     ghost written = { λ sink. None };
 
