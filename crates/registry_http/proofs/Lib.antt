@@ -8,6 +8,7 @@ pub mod Numbers
 pub mod OneFound
 pub mod OneRequest
 pub mod OneRoute
+pub mod Phrases
 pub mod ReadSoFar
 pub mod TargetEnds
 pub mod Tokens
