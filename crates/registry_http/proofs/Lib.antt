@@ -1,4 +1,5 @@
 pub mod AlwaysOne
+pub mod EmptyLines
 pub mod FewKept
 pub mod FoundRows
 pub mod HeadLines

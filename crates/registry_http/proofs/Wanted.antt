@@ -1,11 +1,12 @@
 -- Where more bytes are wanted.
-use Rattle.std.proofs.Common.{ℕ, ◌-◌, ◌<◌, ◌≤◌, ◌≡◌, ◌⊎◌, inl, inr, ⊎_elim, true, List, ◌++◌, length, take, drop, refl, arith, length-append, length-take, length-drop}
+use Rattle.std.proofs.Common.{ℕ, ◌-◌, ◌<◌, ◌≤◌, ◌≡◌, ◌⊎◌, inl, inr, ⊎_elim, true, List, ◌++◌, length, take, drop, arith, length-append, length-take, length-drop}
 use Rattle.std.proofs.lemmas.Bool.{cases_lt}
 use Rattle.httparse.specs.Grammar.{RequestHead, print_request}
 use Rattle.registry_http.specs.Heads.{is_refused}
 use Rattle.registry_http.specs.RequestParts.{RequestParts}
 use Rattle.registry_http.specs.Requests.{BeginsWith, HasNoHeadYet, LacksEnd, LacksBody, WantsMore, StandsIn, Whole, Nothing, Cut, HeadFault, BodyTooLong}
-use Rattle.registry_http.proofs.HeadLines.{yet_lacks_end, nothing_lacks_end, lacks_end_no_head, front_not_over, part_not_over}
+use Rattle.registry_http.proofs.EmptyLines.{no_line, no_line_in_front}
+use Rattle.registry_http.proofs.HeadLines.{yet_lacks_end, nothing_lacks_end, lacks_end_no_head, part_not_over}
 use Rattle.registry_http.proofs.OneFound.{head_is_some, taken_or_refused, whole_cut, cut_refused, cut_long}
 use Rattle.registry_http.proofs.OneRequest.{shorter_front, longer_front}
 
@@ -41,7 +42,7 @@ front_wants bytes more wants =
     ⊎_elim
     (λ (lacks : LacksEnd (bytes ++ more)).
     let room = lacks.0 in
-    inl (omega (arith, room, length-append bytes more), front_not_over bytes more (bytes ++ more) refl lacks.1))
+    inl (omega (arith, room, length-append bytes more), no_line_in_front bytes more lacks.1))
     (λ (lacks : LacksBody (bytes ++ more)).
     let head = print_request lacks.0 in
     let begins = lacks.3 in
@@ -50,9 +51,9 @@ front_wants bytes more wants =
     (λ (short : length bytes < length head).
     inl (
       omega (arith, short, begins.head.fits),
-      part_not_over bytes (drop (length bytes) head) lacks.0 reads.0
+      no_line bytes (part_not_over bytes (drop (length bytes) head) lacks.0 reads.0
           (shorter_front bytes more head lacks.1 reads.1 (omega (arith, short)))
-          (omega (arith, short, length-drop (length bytes) head)),
+          (omega (arith, short, length-drop (length bytes) head))),
     ))
     (λ (long : length head ≤ length bytes).
     let behind = take (length bytes - length head) lacks.1 in

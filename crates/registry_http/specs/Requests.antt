@@ -3,7 +3,7 @@ use Rattle.std.specs.Prelude.{◌≡◌, ℕ, ◌+◌, ◌<◌, ◌≤◌, ◌�
 use Rattle.std.specs.Io.KnownBytes.{Consumes, IsAtEnd}
 use Rattle.httparse.specs.Grammar.{RequestHead, print_request, ReadsRequest, HasNoRequest, NeverHasRequest, MayBecomeRequest, EndsInTarget}
 use Rattle.registry_http.specs.Heads.{longest_head, longest_request_body, body_length, is_refused, is_last}
-use Rattle.registry_http.specs.Lines.{has_empty_line}
+use Rattle.registry_http.specs.Lines.{HasEmptyLine}
 use Rattle.registry_http.specs.RequestParts.{RequestParts}
 use Rattle.registry_http.specs.declared.requests.Next.{Next}
 use Rattle.registry_http.specs.declared.requests.Next.TheVariants as next
@@ -61,7 +61,7 @@ StandsIn bytes BodyTooLong =
 
 -- fewer bytes came than a head may have, and no empty line
 abbrev pub LacksEnd : List ℕ → Type 0
-LacksEnd bytes = (length bytes < longest_head) × (has_empty_line bytes ≡ false)
+LacksEnd bytes = (length bytes < longest_head) × ¬ (HasEmptyLine bytes)
 
 -- more bytes are wanted: they may be a head that lacks its end, or are one that lacks some of its body
 abbrev pub WantsMore : List ℕ → Type 0
