@@ -9,29 +9,19 @@ use Rattle.httparse.proofs.GrammarLemmas.{print_request-append}
 use Rattle.httparse.proofs.PieceLemmas.{print_field-append}
 use Rattle.registry_http.specs.declared.lines.Lines.{Lines}
 use Rattle.registry_http.specs.declared.lines.Lines.TheVariants.{Ahead, AheadCr, Inside, Ended, EndedCr, Over}
-use Rattle.registry_http.specs.Lines.{after_byte, after_bytes, are_over, has_empty_line}
+use Rattle.registry_http.specs.inner.Lines.{after_byte, after_bytes, are_over, has_empty_line}
 use Rattle.registry_http.specs.Requests.{HasNoHeadYet, LacksEnd, WantsMore, ReadsNext}
 use Rattle.registry_http.specs.inner.Reading.{ReadsOn}
 use Rattle.registry_http.specs.declared.requests.Next.TheVariants as next
 use Rattle.std.specs.Io.KnownBytes.{IsAtEnd}
 use Rattle.std.proofs.lemmas.List.{take_all}
 use Rattle.std.proofs.Math.Seq.{drop-append_seam}
+use Rattle.registry_http.proofs.EmptyLines.{after-append, after_then, over_stays, blank_ahead, no_line, found_line}
 use Rattle.registry_http.proofs.ReadSoFar.{answer_then}
 use Rattle.registry_http.proofs.OneRequest.{shorter_front}
 use Rattle.registry_http.proofs.TargetEnds.{token_differs, lf_ends_token, cr_ends_token}
 
--- ---- one list of bytes behind another
-
-pub after-append : (lines : Lines) (a b : List ℕ) → after_bytes lines (a ++ b) ≡ after_bytes (after_bytes lines a) b
-after-append lines [] b = refl
-after-append lines (x ∷ a) b = after-append (after_byte lines x) a b
-
-after_then : (l m : Lines) (a b : List ℕ) → after_bytes l a ≡ m → after_bytes l (a ++ b) ≡ after_bytes m b
-after_then l m a b is = after-append l a b ∙ ap (λ x. after_bytes x b) is
-
-over_stays : (bytes : List ℕ) → after_bytes Over bytes ≡ Over
-over_stays [] = refl
-over_stays (b ∷ bytes) = over_stays bytes
+-- ---- where they are over
 
 over_is : (l : Lines) → are_over l ≡ true → l ≡ Over
 over_is Ahead is = absurd (false≢true is)
@@ -57,11 +47,6 @@ front_not_over bytes more whole is none =
     (cases_Bool (has_empty_line bytes))
 
 -- ---- the parts of a head
-
-blank_ahead : (ends : List LineEnd) → after_bytes Ahead (print_blank ends) ≡ Ahead
-blank_ahead [] = refl
-blank_ahead (crlf ∷ ends) = blank_ahead ends
-blank_ahead (lf ∷ ends) = blank_ahead ends
 
 test_differs : (test : ℕ → Bool) (b c : ℕ) → test b ≡ true → test c ≡ false → b ≡ c → ⊥
 test_differs test b c pass other same = false≢true (sym other ∙ subst (λ (v : ℕ). test v ≡ true) same pass)
@@ -194,26 +179,30 @@ some_more bytes (b ∷ more) h none reads = omega arith
 pub yet_lacks_end : (bytes : List ℕ) → HasNoHeadYet bytes → LacksEnd bytes
 yet_lacks_end bytes x = (
   x.room,
-  ⊎_elim
+  no_line bytes (⊎_elim
       (λ (may : (more : List ℕ) × (h : RequestHead) × ReadsRequest (bytes ++ more) h []).
       part_not_over bytes may.0 may.1 may.2.0 (may.2.1 ∙ append-nil (print_request may.1)) (some_more bytes may.0 may.1 x.none may.2))
       (λ (ends : EndsInTarget bytes). target_not_over bytes ends)
-      x.may_come,
+      x.may_come),
 )
 
 pub nothing_lacks_end : (bytes : List ℕ) → bytes ≡ [] → LacksEnd bytes
-nothing_lacks_end bytes empty = (omega (arith, ap length empty), ap has_empty_line empty)
+nothing_lacks_end bytes empty = (omega (arith, ap length empty), no_line bytes (ap has_empty_line empty))
 
 -- bytes that lack the end of a head have no head
 pub lacks_end_no_head : (bytes : List ℕ) (h : RequestHead) (behind : List ℕ) → LacksEnd bytes → ReadsRequest bytes h behind → ⊥
-lacks_end_no_head bytes h behind lacks reads = false≢true (sym lacks.1 ∙ whole_over bytes h behind reads)
+lacks_end_no_head bytes h behind lacks reads = lacks.1 (found_line bytes (whole_over bytes h behind reads))
 
 -- ---- bytes that are read on
 
 -- fewer bytes than a head may have, and no empty line
 pub open_lines : (bytes : List ℕ) (lines : Lines) (over : Bool) → length bytes < 8192 → lines ≡ after_bytes Ahead bytes → over ≡ are_over lines → over ≡ false
     → WantsMore bytes
-open_lines bytes lines over room is over_is not = inl (room, sym (ap are_over is) ∙ sym over_is ∙ not)
+open_lines bytes lines over room is over_is not = inl (room, no_line bytes (sym (ap are_over is) ∙ sym over_is ∙ not))
+
+-- bytes whose lines are over do not lack their end
+pub over_lines : (bytes : List ℕ) (lines : Lines) (over : Bool) → lines ≡ after_bytes Ahead bytes → over ≡ are_over lines → over ≡ true → ¬ (LacksEnd bytes)
+over_lines bytes lines over is over_is yes_over lacks = lacks.1 (found_line bytes (ap are_over (sym is) ∙ sym over_is ∙ yes_over))
 
 -- the lines of bytes that grew
 pub lines_on : (mid new seen read : List ℕ) (lines now : Lines) (looked : ℕ) → now ≡ after_bytes lines (take (length seen - looked) (drop looked seen)) → seen ≡ new

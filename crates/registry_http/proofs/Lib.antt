@@ -1,4 +1,5 @@
 pub mod AlwaysOne
+pub mod EmptyLines
 pub mod FewKept
 pub mod FoundRows
 pub mod HeadLines
@@ -8,6 +9,7 @@ pub mod Numbers
 pub mod OneFound
 pub mod OneRequest
 pub mod OneRoute
+pub mod Phrases
 pub mod ReadSoFar
 pub mod TargetEnds
 pub mod Tokens

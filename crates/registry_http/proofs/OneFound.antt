@@ -41,7 +41,7 @@ nothing_or_none bytes empty x =
     (ap (λ l. l ++ 65 ∷ []) empty) never.0)
     x.none_comes
 
-taken_or_refused : (bytes : List ℕ) (h k : RequestHead) (behind rest : List ℕ) (size : ℕ) → BeginsRequest bytes h behind size → BeginsWith bytes k rest → is_refused k ≡ true → ⊥
+pub taken_or_refused : (bytes : List ℕ) (h k : RequestHead) (behind rest : List ℕ) (size : ℕ) → BeginsRequest bytes h behind size → BeginsWith bytes k rest → is_refused k ≡ true → ⊥
 taken_or_refused bytes h k behind rest size x y refused =
     let same = request_unique bytes h k behind rest x.head.reads y.reads in
     false≢true (sym x.taken ∙ ap is_refused same.0 ∙ refused)
@@ -106,7 +106,7 @@ nothing_refused bytes empty y =
 nothing_long : (bytes : List ℕ) → bytes ≡ [] → StandsIn bytes BodyTooLong → ⊥
 nothing_long bytes empty y = let some = head_is_some bytes y.0 y.1 y.3.head in absurd (omega (arith, some, ap length empty))
 
-cut_refused : (bytes : List ℕ) → StandsIn bytes Cut → StandsIn bytes HeadFault → ⊥
+pub cut_refused : (bytes : List ℕ) → StandsIn bytes Cut → StandsIn bytes HeadFault → ⊥
 cut_refused bytes x y =
     ⊎_elim (λ (yet : HasNoHeadYet bytes).
     ⊎_elim (λ (none : HasNoHead bytes). never_or_yet bytes none yet)

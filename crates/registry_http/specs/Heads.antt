@@ -16,8 +16,8 @@ abbrev pub most_header_lines : ℕ
 most_header_lines = 64
 
 -- the longest body, in bytes
-abbrev pub longest_body : ℕ
-longest_body = 65536
+abbrev pub longest_request_body : ℕ
+longest_request_body = 65536
 
 -- headers: the name of each, and its value without the white space around it
 abbrev pub Headers : Type 0

@@ -1,31 +1,19 @@
--- How far the lines of a head have come.
-use Rattle.std.specs.Prelude.{ℕ, ◌==◌, Bool, true, false, if◌then◌else◌, List, [], ◌∷◌}
-use Rattle.registry_http.specs.declared.lines.Lines.{Lines}
-use Rattle.registry_http.specs.declared.lines.Lines.TheVariants.{Ahead, AheadCr, Inside, Ended, EndedCr, Over}
+-- Where the empty line of a head stands.
+use Rattle.std.specs.Prelude.{◌≡◌, ℕ, ◌==◌, Bool, false, ◌||◌, ◌&&◌, List, [], ◌∷◌, ◌++◌}
+use Rattle.httparse.specs.Grammar.{LineEnd, print_end, print_blank}
 
--- one more byte came: a line ends with LF, and a CR may stand ahead of that; an empty line behind a line is the end of a head
-abbrev pub after_byte : Lines → ℕ → Lines
-after_byte Ahead b = if b == 10 then Ahead else (if b == 13 then AheadCr else Inside)
-after_byte AheadCr b = if b == 10 then Ahead else Inside
-after_byte Inside b = if b == 10 then Ended else Inside
-after_byte Ended b = if b == 10 then Over else (if b == 13 then EndedCr else Inside)
-after_byte EndedCr b = if b == 10 then Over else Inside
-after_byte Over b = Over
+-- the bytes begin with a line end: LF, or CR and LF
+abbrev pub begins_with_end : List ℕ → Bool
+begins_with_end [] = false
+begins_with_end (a ∷ []) = a == 10
+begins_with_end (a ∷ b ∷ bytes) = a == 10 || (a == 13 && b == 10)
 
--- more bytes came
-abbrev pub after_bytes : Lines → List ℕ → Lines
-after_bytes lines [] = lines
-after_bytes lines (b ∷ bytes) = after_bytes (after_byte lines b) bytes
-
--- an empty line came behind a line
-abbrev pub are_over : Lines → Bool
-are_over Ahead = false
-are_over AheadCr = false
-are_over Inside = false
-are_over Ended = false
-are_over EndedCr = false
-are_over Over = true
-
--- an empty line stands in the bytes, behind a line that is none
-abbrev pub has_empty_line : List ℕ → Bool
-has_empty_line bytes = are_over (after_bytes Ahead bytes)
+-- an empty line stands in the bytes, behind a line that is none: line ends, which do not count; lines, the first of
+-- which is not empty, up to an LF; and a line end right behind it
+pub record HasEmptyLine (bytes : List ℕ) : Type 0 where
+  pub blank : List LineEnd
+  pub lines : List ℕ
+  pub end : LineEnd
+  pub rest : List ℕ
+  pub bytes_are : bytes ≡ print_blank blank ++ (lines ++ 10 ∷ (print_end end ++ rest))
+  pub first_is_some : begins_with_end (lines ++ 10 ∷ []) ≡ false

@@ -2,8 +2,8 @@
 use Rattle.std.specs.Prelude.{◌≡◌, ℕ, ◌+◌, ◌<◌, ◌≤◌, ◌⊎◌, Bool, true, false, List, [], ◌++◌, length, take, Option, Some}
 use Rattle.std.specs.Io.KnownBytes.{Consumes, IsAtEnd}
 use Rattle.httparse.specs.Grammar.{RequestHead, print_request, ReadsRequest, HasNoRequest, NeverHasRequest, MayBecomeRequest, EndsInTarget}
-use Rattle.registry_http.specs.Heads.{longest_head, longest_body, body_length, is_refused, is_last}
-use Rattle.registry_http.specs.Lines.{has_empty_line}
+use Rattle.registry_http.specs.Heads.{longest_head, longest_request_body, body_length, is_refused, is_last}
+use Rattle.registry_http.specs.Lines.{HasEmptyLine}
 use Rattle.registry_http.specs.RequestParts.{RequestParts}
 use Rattle.registry_http.specs.declared.requests.Next.{Next}
 use Rattle.registry_http.specs.declared.requests.Next.TheVariants as next
@@ -34,7 +34,7 @@ pub record BeginsRequest (bytes : List ℕ) (h : RequestHead) (behind : List ℕ
 abbrev pub LacksBody : List ℕ → Type 0
 LacksBody bytes =
     (h : RequestHead) × (behind : List ℕ) × (size : ℕ)
-    × BeginsRequest bytes h behind size × (size ≤ longest_body) × (length behind < size)
+    × BeginsRequest bytes h behind size × (size ≤ longest_request_body) × (length behind < size)
 
 -- the request of a head and its body
 abbrev pub request_of : RequestHead → List ℕ → RequestParts
@@ -50,18 +50,18 @@ pub data AtFront : Type 0 where
 abbrev pub StandsIn : List ℕ → AtFront → Type 0
 StandsIn bytes (Whole request rest) =
     (h : RequestHead) × (body : List ℕ) × BeginsRequest bytes h (body ++ rest) (length body)
-    × (length body ≤ longest_body) × (request ≡ request_of h body)
+    × (length body ≤ longest_request_body) × (request ≡ request_of h body)
 StandsIn bytes Nothing = bytes ≡ []
 StandsIn bytes Cut =
     (0 < length bytes) × (HasNoHeadYet bytes ⊎ LacksBody bytes)
 StandsIn bytes HeadFault =
     HasNoHead bytes ⊎ ((h : RequestHead) × (behind : List ℕ) × BeginsWith bytes h behind × (is_refused h ≡ true))
 StandsIn bytes BodyTooLong =
-    (h : RequestHead) × (behind : List ℕ) × (size : ℕ) × BeginsRequest bytes h behind size × (longest_body < size)
+    (h : RequestHead) × (behind : List ℕ) × (size : ℕ) × BeginsRequest bytes h behind size × (longest_request_body < size)
 
 -- fewer bytes came than a head may have, and no empty line
 abbrev pub LacksEnd : List ℕ → Type 0
-LacksEnd bytes = (length bytes < longest_head) × (has_empty_line bytes ≡ false)
+LacksEnd bytes = (length bytes < longest_head) × ¬ (HasEmptyLine bytes)
 
 -- more bytes are wanted: they may be a head that lacks its end, or are one that lacks some of its body
 abbrev pub WantsMore : List ℕ → Type 0
@@ -108,7 +108,7 @@ link_failed next.Memory = false
 -- the most bytes that are kept where some were read: behind a request those of one read, and else a head and a body too
 abbrev pub most_kept : Next → ℕ
 most_kept (next.Request request) = longest_read
-most_kept _ = longest_head + longest_body + longest_read
+most_kept _ = longest_head + longest_request_body + longest_read
 
 -- no more bytes are kept than were kept before, or few
 abbrev pub KeepsFew : List ℕ → List ℕ → Next → Type 0

@@ -1,3 +1,4 @@
 -- Definitions that only private clauses and proofs use.
 pub mod Finding
+pub mod Lines
 pub mod Reading

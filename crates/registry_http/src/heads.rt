@@ -16,7 +16,7 @@ pub(crate) const LONGEST_HEAD: usize = 8192;
 const MOST_HEADER_LINES: usize = 64;
 
 /// The longest body, in bytes.
-const LONGEST_BODY: usize = 65536;
+const LONGEST_REQUEST_BODY: usize = 65536;
 
 /// No head of at most 8,192 bytes has more header lines, since each takes three bytes at least.
 pub(crate) const MOST_FIELDS: usize = 2731;
@@ -66,7 +66,7 @@ fn judge<'b>(bytes: &'b [u8], headers: &[HeaderSpan], head: &RequestSpans) -> Fr
     }
     match body_length(bytes, headers) {
         None => Front::Refused,
-        Some(body_len) if body_len > LONGEST_BODY => Front::TooLong,
+        Some(body_len) if body_len > LONGEST_REQUEST_BODY => Front::TooLong,
         Some(body_len) => Front::Head(Head {
             method: head.method.of(bytes),
             path: head.path.of(bytes),

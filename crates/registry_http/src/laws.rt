@@ -1,9 +1,11 @@
 //! Laws of the requests of a link, and of routes.
-ghost use Rattle.std.specs.Prelude.{◌≡◌, ◌++◌, ◌⊎◌, ℕ, List, Some};
+ghost use Rattle.std.specs.Prelude.{◌≡◌, ◌++◌, ◌⊎◌, ℕ, true, List, Some};
+ghost use Rattle.httparse.specs.Grammar.{RequestHead};
+ghost use Rattle.registry_http.specs.Heads.{is_refused};
 ghost use Rattle.registry_http.specs.RequestParts.{RequestParts};
 ghost use Rattle.registry_http.specs.Routes.{path_of, IsRoute};
 ghost use Rattle.registry_http.specs.declared.routes.Route.{Route};
-ghost use Rattle.registry_http.specs.Requests.{AtFront, StandsIn, Whole, Nothing, Cut, HeadFault, BodyTooLong, WantsMore, ReadsNext};
+ghost use Rattle.registry_http.specs.Requests.{AtFront, BeginsWith, StandsIn, Whole, Nothing, Cut, HeadFault, BodyTooLong, LacksEnd, WantsMore, ReadsNext};
 ghost use Rattle.registry_http.specs.RequestLists.{AreRequests, IsNext};
 ghost use Rattle.registry_http.specs.declared.requests.Next.{Next};
 
@@ -38,11 +40,14 @@ pub fn requests_in_turn()
 {}
 
 /// More bytes are wanted where nothing or a part of a request stands at the front, and not behind a
-/// whole request or too long a body. Where they are wanted, they were wanted ahead of that too: so
-/// where the last read of an answer was wanted, each read was.
+/// whole request, a whole head that is refused, an end without a head, or too long a body. Where
+/// they are wanted, they were wanted ahead of that too: so where the last read of an answer was
+/// wanted, each read was.
 pub fn wanted_bytes()
     ensures lacking { (bytes : List ℕ) → StandsIn bytes Nothing ⊎ StandsIn bytes Cut → WantsMore bytes }
     ensures whole { (bytes rest : List ℕ) (request : RequestParts) → StandsIn bytes (Whole request rest) → ¬ (WantsMore bytes) }
+    ensures refused { (bytes behind : List ℕ) (h : RequestHead) → BeginsWith bytes h behind → is_refused h ≡ true → ¬ (WantsMore bytes) }
+    ensures no_head { (bytes : List ℕ) → StandsIn bytes HeadFault → ¬ (LacksEnd bytes) → ¬ (WantsMore bytes) }
     ensures too_long { (bytes : List ℕ) → StandsIn bytes BodyTooLong → ¬ (WantsMore bytes) }
     ensures front { (bytes more : List ℕ) → WantsMore (bytes ++ more) → WantsMore bytes }
 {}

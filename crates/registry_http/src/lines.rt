@@ -1,6 +1,6 @@
 // How far the lines of a head have come.
 ghost use Rattle.std.specs.Prelude.{◌≡◌};
-ghost use Rattle.registry_http.specs.Lines.{after_byte, after_bytes, are_over};
+ghost use Rattle.registry_http.specs.inner.Lines.{after_byte, after_bytes, are_over};
 
 /// How far the lines of a head have come, by which its end is found without a second look at any
 /// byte.

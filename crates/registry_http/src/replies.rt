@@ -1,13 +1,14 @@
 // The replies that are written to a link.
-ghost use Rattle.std.specs.Prelude.{◌≡◌, ◌<◌, IsTrue, IfOk, OnOk, OnErr, Some, Err, length};
+ghost use Rattle.std.specs.Prelude.{◌≡◌, ◌<◌, IfOk, OnOk, OnErr, Some, Err, length};
 ghost use Rattle.std.specs.Io.KnownBytes.{Appends};
 ghost use Rattle.gb_outside.specs.Bytes.{AppendsFront};
 ghost use Rattle.gb_outside.specs.Faults.{Counts};
-ghost use Rattle.registry_http.specs.Replies.{phrase_of, has_phrase, reply_head, reply_bytes, reply_failed};
+ghost use Rattle.registry_http.specs.Replies.{phrase_of, reply_head, reply_bytes, reply_failed};
 ghost use Rattle.registry_http.specs.declared.replies.ReplyFault.TheVariants.{LinkFault, Memory};
 
 use gb_base::NoMemory;
 use gb_outside::{Link, Wrote};
+use http::StatusCode;
 use std::alloc::{AllocError, Global};
 
 /// Why a reply was not written whole.
@@ -27,35 +28,20 @@ impl From<AllocError> for ReplyFault {
     }
 }
 
-/// The phrase of a status.
-fn phrase(status: u16) -> &'static str
-    requires { IsTrue (has_phrase status) }
-    ensures { phrase_of status ≡ Some result.now }
+/// The phrase of a status; an empty one where `http` has none.
+fn phrase(status: StatusCode) -> &'static str
+    ensures { result.now ≡ phrase_of status }
 {
-    match status {
-        200 => "OK",
-        201 => "Created",
-        400 => "Bad Request",
-        403 => "Forbidden",
-        404 => "Not Found",
-        405 => "Method Not Allowed",
-        409 => "Conflict",
-        413 => "Payload Too Large",
-        422 => "Unprocessable Entity",
-        500 => "Internal Server Error",
-        503 => "Service Unavailable",
-        507 => "Insufficient Storage",
-        _ => unreachable!(),
-    }
+    status.canonical_reason().unwrap_or("")
 }
 
 /// A whole reply.
-fn reply(alloc: Global, status: u16, body: &[u8]) -> Result<Vec<u8>, NoMemory>
-    requires { IsTrue (has_phrase status) }
+fn reply(alloc: Global, status: StatusCode, body: &[u8]) -> Result<Vec<u8>, NoMemory>
     ensures { IfOk result (λ reply. reply.items ≡ reply_bytes status body.now) }
 {
     let head = format!(in alloc;
-        "HTTP/1.1 {status} {}\r\nContent-Type: text/plain\r\nContent-Length: {}\r\n\r\n",
+        "HTTP/1.1 {} {}\r\nContent-Type: text/plain\r\nContent-Length: {}\r\n\r\n",
+        status.as_u16(),
         phrase(status),
         body.len()
     )?;
@@ -82,15 +68,13 @@ fn write_all<L: Link>(link: &mut L, bytes: &[u8]) -> Result<(), ReplyFault>
     Ok(())
 }
 
-/// Writes a reply of this status and body, as one piece, so that a small one goes out at once. The
-/// status is one that replies have.
+/// Writes a reply of this status and body, as one piece, so that a small one goes out at once.
 pub fn write_reply<L: Link>(
     alloc: Global,
     link: &mut L,
-    status: u16,
+    status: StatusCode,
     body: &[u8],
 ) -> Result<(), ReplyFault>
-    requires { IsTrue (has_phrase status) }
     ensures whole { OnOk result (Appends (L.written link.old) (L.written link.new) (reply_bytes status body.now)) }
     ensures part { result ≡ Err LinkFault → AppendsFront (L.written link.old) (L.written link.new) (reply_bytes status body.now) }
     ensures nothing { result ≡ Err Memory → L.written link.new ≡ L.written link.old }

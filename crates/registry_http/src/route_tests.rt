@@ -2,7 +2,7 @@
 use crate::{ReplyFault, Route, RouteFault, route, write_reply};
 use gb_base::{FolioId, ReceiptNo};
 use gb_outside::MemLink;
-use http::Method;
+use http::{Method, StatusCode};
 use std::test::Fail;
 
 #[test]
@@ -30,6 +30,8 @@ fn each_route_has_its_path(rt: HostRuntime) -> Result<(), Fail> {
         Ok(Route::Post)
     );
     let got = route(rt.alloc(), &Method::GET, b"/receipts");
+    assert_eq!(rt; got, Err(RouteFault::WrongMethod));
+    let got = route(rt.alloc(), &Method::DELETE, b"/report");
     assert_eq!(rt; got, Err(RouteFault::WrongMethod));
     Ok(())
 }
@@ -66,9 +68,10 @@ fn neighbours_of_paths_have_no_route(rt: HostRuntime) {
 
 #[test]
 fn a_reply_is_written_byte_for_byte(rt: HostRuntime) -> Result<(), Fail> {
-    let mut link = MemLink::new(rt.alloc(), b"", 200, &[])?;
+    // A second write would fail.
+    let mut link = MemLink::new(rt.alloc(), b"", 200, &[2])?;
     assert_eq!(rt;
-        write_reply(rt.alloc(), &mut link, 201, b"accepted 1\n"),
+        write_reply(rt.alloc(), &mut link, StatusCode::CREATED, b"accepted 1\n"),
         Ok(())
     );
     let wanted =
@@ -80,11 +83,11 @@ fn a_reply_is_written_byte_for_byte(rt: HostRuntime) -> Result<(), Fail> {
 #[test]
 fn a_link_without_room_takes_a_front_of_the_reply(rt: HostRuntime) -> Result<(), Fail> {
     let mut link = MemLink::new(rt.alloc(), b"", 20, &[])?;
-    let got = write_reply(rt.alloc(), &mut link, 404, b"not found\n");
+    let got = write_reply(rt.alloc(), &mut link, StatusCode::NOT_FOUND, b"not found\n");
     assert_eq!(rt; got, Err(ReplyFault::LinkFault));
     assert_eq!(rt; link.written(), b"HTTP/1.1 404 Not Fou".as_slice());
     let mut link = MemLink::new(rt.alloc(), b"", 20, &[1])?;
-    let got = write_reply(rt.alloc(), &mut link, 404, b"not found\n");
+    let got = write_reply(rt.alloc(), &mut link, StatusCode::NOT_FOUND, b"not found\n");
     assert_eq!(rt; got, Err(ReplyFault::LinkFault));
     assert_eq!(rt; link.written(), b"".as_slice());
     Ok(())

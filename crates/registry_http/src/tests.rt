@@ -119,6 +119,16 @@ fn a_head_has_8192_bytes_at_most(rt: HostRuntime) -> Result<(), Fail> {
 }
 
 #[test]
+fn a_head_without_an_end_is_refused_at_8192_bytes(rt: HostRuntime) -> Result<(), Fail> {
+    let head = long_head(rt.alloc(), 9000)?;
+    for (count, wanted) in [(8191, "Cut"), (8192, "HeadFault"), (8193, "HeadFault")] {
+        let front = head.get(..count).ok_or("no front")?;
+        assert_eq!(rt; answer(rt.alloc(), front, 0)?.as_str(), wanted, "{count}");
+    }
+    Ok(())
+}
+
+#[test]
 fn a_head_has_64_lines_at_most(rt: HostRuntime) -> Result<(), Fail> {
     for (lines, wanted) in [
         (64, "GET /  false 0"),

@@ -3,7 +3,7 @@ use Rattle.std.specs.Prelude.{◌≡◌, ℕ, ◌==◌, ◌≤◌, Bool, true, f
 use Rattle.std.specs.List.{list_all}
 use Rattle.std.specs.Io.KnownBytes.{Consumes}
 use Rattle.httparse.specs.Grammar.{RequestHead, print_request, IsToken, is_token_byte, is_uri_byte}
-use Rattle.registry_http.specs.Heads.{longest_body, is_last, is_refused}
+use Rattle.registry_http.specs.Heads.{longest_request_body, is_last, is_refused}
 use Rattle.registry_http.specs.Requests.{BeginsWith, BeginsRequest, HasNoHeadYet, StandsIn, HeadFault, BodyTooLong, IsWanted, longest_read, link_failed}
 use Rattle.registry_http.specs.declared.heads.Front.{Front}
 use Rattle.registry_http.specs.declared.heads.Front.TheVariants as front
@@ -15,7 +15,7 @@ pub record HasHead (bytes method path : List ℕ) (len body : ℕ) (last : Bool)
   pub h : RequestHead
   pub behind : List ℕ
   pub begins : BeginsRequest bytes h behind body
-  pub small : body ≤ longest_body
+  pub small : body ≤ longest_request_body
   pub method_is : h.method ≡ method
   pub path_is : h.target ≡ path
   pub len_is : length (print_request h) ≡ len

@@ -1,8 +1,9 @@
 use Rattle.std.proofs.Common.{◌∙◌, refl, arith}
 use Rattle.std.proofs.lemmas.Grind.{common_steps}
 use Rattle.registry_http.specs.Requests.{ReadsNext}
-use Rattle.registry_http.proofs.HeadLines.{open_lines, lines_on}
+use Rattle.registry_http.proofs.HeadLines.{open_lines, over_lines, lines_on}
 use Rattle.registry_http.proofs.ReadSoFar.{brought, broke_off, at_exit}
+use Rattle.registry_http.proofs.requests.read_lines.Goals.{then-loop-lines-test+else-not-are_over, else-loop-lines-test}
 use Rattle.registry_http.proofs.requests.read_lines.Goals as goal
 
 pub returns-in_err-read_more-clause-answer : goal.returns-in_err-read_more-clause-answer
@@ -29,3 +30,11 @@ loop-lines-preserved g c =
       written = c.read_more.ensures.written ∙ c.loop-lines.invariant.written;
       quiet = c.in_ok-read_more.ensures.cause.else_same refl ∙ c.loop-lines.invariant.quiet;
     }
+
+pub returns-clause-over : goal.returns-clause-over
+returns-clause-over g c lacks =
+    elim c.loop-lines-test.branch [
+      | then-loop-lines-test+else-not-are_over w ↦
+          absurd (over_lines c.loop-lines.bytes.items c.loop-lines.lines _ c.loop-lines.invariant.lines w.are_over.ensures w.if-not-are_over.false lacks)
+      | else-loop-lines-test w ↦ let room = lacks.0 in absurd (omega (arith, room))
+    ]

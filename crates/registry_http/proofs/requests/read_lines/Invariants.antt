@@ -1,6 +1,6 @@
 use Rattle.std.proofs.Common.{◌≡◌, ◌-◌, length}
 use Rattle.registry_http.specs.declared.lines.Lines.TheVariants.{Ahead}
-use Rattle.registry_http.specs.Lines.{after_bytes}
+use Rattle.registry_http.specs.inner.Lines.{after_bytes}
 use Rattle.registry_http.specs.inner.Reading.{ReadsOn}
 use Rattle.registry_http.proofs.requests.read_lines.Given as goal
 

@@ -1,5 +1,5 @@
 use Rattle.std.proofs.Common.{◌≡◌, drop}
-use Rattle.registry_http.specs.Lines.{after_bytes}
+use Rattle.registry_http.specs.inner.Lines.{after_bytes}
 use Rattle.registry_http.proofs.lines.Lines.over.Given as goal
 
 abbrev pub invariant-loop-byte : goal.invariant-loop-byte
