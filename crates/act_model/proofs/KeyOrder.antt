@@ -22,13 +22,13 @@ use Rattle.act_model.specs.declared.receipts.Receipt.{Receipt}
 use Rattle.act_model.specs.Touches.{filing_at, in_key_order, keys_of_acts, keys_of_filing}
 use Rattle.act_model.specs.inner.KeyInsertion.{insert_key, with_key, with_keys}
 
-total : IsTotalOrder key_cmp
+pub total : IsTotalOrder key_cmp
 total = order.total-law
 
-ties : (x y : Key) → same_key x y ≡ eq_by_cmp key_cmp x y
+pub ties : (x y : Key) → same_key x y ≡ eq_by_cmp key_cmp x y
 ties = order.matches_eq-law
 
-same_is : (x y : Key) → same_key x y ≡ true → x ≡ y
+pub same_is : (x y : Key) → same_key x y ≡ true → x ≡ y
 same_is (Title f) (Title g) h = ap (λ n. Title n) (eqb-true f g (and_parts (eqb f g) true h).0)
 same_is (Title f) (Right g s) h = absurd (false≢true (and_parts (eqb f g) false h).1)
 same_is (Title f) (Case g) h = absurd (false≢true (and_parts (eqb f g) false h).1)
@@ -42,7 +42,7 @@ same_is (Case f) (Title g) h = absurd (false≢true (and_parts (eqb f g) false h
 same_is (Case f) (Right g s) h = absurd (false≢true (and_parts (eqb f g) false h).1)
 same_is (Case f) (Case g) h = ap (λ n. Case n) (eqb-true f g (and_parts (eqb f g) true h).0)
 
-itself : (x : Key) → same_key x x ≡ true
+pub itself : (x : Key) → same_key x x ≡ true
 itself x = ties x x ∙ ap is_eq (tied_itself total x)
 
 -- whether the key stands among these

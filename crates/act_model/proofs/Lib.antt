@@ -1,8 +1,12 @@
 -- Lemmas.
+pub mod CreationOrder
+pub mod CreationRanks
 mod DerivedEquality
 mod FolioLemmas
 mod ItemEquality
+pub mod ItemIndexLemmas
 pub mod JournalLemmas
 mod KeyLemmas
-mod KeyOrder
+pub mod KeyOrder
 mod KeysStay
+pub mod ReadyLemmas

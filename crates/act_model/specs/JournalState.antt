@@ -1,13 +1,15 @@
 -- What is seen of a journal.
-use Rattle.std.specs.Prelude.{Bool, List}
+use Rattle.std.specs.Prelude.{Bool, false, List, Option}
+use Rattle.std.specs.Option.{option_map_or}
 use Rattle.act_model.specs.declared.items.Item.{Item}
 use Rattle.act_model.specs.declared.receipts.Receipt.{Receipt}
+use Rattle.act_model.specs.Same.{same_item}
 
--- its receipts, and whether room is kept for one more
+-- its receipts, and the item for whose receipt room is kept
 pub record JournalState : Type 0 where
   pub receipts : List Receipt
-  pub room_for_one : Bool
+  pub ready_for : Option Item
 
--- whether room is kept for a receipt of this item, so that receiving it takes no memory; today that room serves any item
+-- whether room is kept for a receipt of this item, so that receiving it takes no memory
 abbrev pub has_room : JournalState → Item → Bool
-has_room journal item = journal.room_for_one
+has_room journal item = option_map_or (λ ready. same_item ready item) journal.ready_for false

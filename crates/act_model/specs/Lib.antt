@@ -1,5 +1,7 @@
 -- What contracts cite.
 pub mod Acts
+pub mod Creations
+pub mod Cures
 pub mod JournalState
 pub mod Limits
 pub mod Persons

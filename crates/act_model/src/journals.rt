@@ -1,18 +1,23 @@
 // The journal of the office.
-ghost use Rattle.std.specs.Prelude.{◌≡◌, ◌⊎◌, ◌≤◌, ◌-◌, true, false, [], length, drop, IsTrue, IsOk, OnOk, OnErr};
+ghost use Rattle.std.specs.Prelude.{◌≡◌, ◌⊎◌, ◌≤◌, ◌+◌, ◌-◌, ◌*◌, true, false, [], option_map, position, length, drop, IsTrue, IsOk, OnOk, OnErr};
 ghost use Rattle.std.specs.Option.{option_copied};
 ghost use Rattle.act_model.specs.Receiving.{answer_again, stamp_after, IsJournal};
+ghost use Rattle.gb_base.specs.RightNo.{same_right};
+ghost use Rattle.act_model.specs.Limits.{most_receipts};
+ghost use Rattle.act_model.specs.inner.CreationOrder.{Rises};
 ghost use Rattle.act_model.specs.inner.Index.{IsIndexOf, IsIndexed};
 
+use crate::item_indexes::ItemIndexes;
+use crate::touched_keys::folio_of_right;
 use crate::{Added, Item, Receipt};
-use gb_base::{NoMemory, ReceiptNo, Stamp};
+use gb_base::{FolioId, NoMemory, ReceiptNo, RightId, Stamp};
 use std::alloc::Global;
 use std::collections::BTreeMap;
 use std::marker::Model;
 
 /// The receipts of the office, numbered from 1 (GBO § 13): at most 200,000, no two of the same
 /// sender and reference, with stamps that never fall. In contracts it is the list of its receipts,
-/// and whether room is kept for one more.
+/// and the item for whose receipt room is kept.
 ///
 /// ```
 /// let mut journal = Journal::new(alloc);
@@ -32,27 +37,32 @@ pub struct Journal {
     /// for each new key, so the last receipt may wait for the next call that may take memory.
     numbers: BTreeMap<(u32, u64), ReceiptNo>,
     indexed: usize,
-    /// Whether all receipts are in the index, and the list has room for one more.
-    ready: bool,
+    /// What follows from what the receipts say. It takes a receipt into room that is kept, without
+    /// memory, so none waits for it.
+    indexes: ItemIndexes,
+    /// The item for whose receipt there is room in all of these; then no receipt waits.
+    ready_for: Option<Item>,
 }
 
 impl Model for Journal {
     ghost use Rattle.std.specs.Prelude.{vec_len, vec_capacity};
     ghost use Rattle.act_model.specs.JournalState.{JournalState};
     ghost use Rattle.act_model.specs.Receiving.{IsJournal};
-    ghost use Rattle.act_model.specs.inner.Index.{IsIndexed, IsReady};
+    ghost use Rattle.act_model.specs.inner.Index.{IsIndexed};
+    ghost use Rattle.act_model.specs.inner.ItemIndexes.{AreIndexesOf, IsReady};
 
     ghost Value = { JournalState };
 
-    ghost view = { λ a. record { receipts = a.receipts.items; room_for_one = a.ready } };
+    ghost view = { λ a. record { receipts = a.receipts.items; ready_for = a.ready_for } };
 
-    ghost invariant = { λ a. IsJournal a.receipts.items × IsIndexed a.numbers a.indexed a.receipts.items × IsReady a.ready a.indexed (vec_len a.receipts) (vec_capacity a.receipts) };
+    ghost invariant = { λ a. IsJournal a.receipts.items × IsIndexed a.numbers a.indexed a.receipts.items × AreIndexesOf a.indexes a.receipts.items × IsReady a.ready_for a.indexes a.indexed (vec_len a.receipts) (vec_capacity a.receipts) };
 }
 
 impl Journal {
     ghost use Rattle.act_model.specs.Receiving.{answer_by, answer_to, journal_with, number_from, number_of, receipt_at, is_accepted, IsJournal};
+    ghost use Rattle.act_model.specs.Creations.{creating_rank, creations_in};
+    ghost use Rattle.act_model.specs.Cures.{cures_of};
     ghost use Rattle.act_model.specs.JournalState.{has_room};
-    ghost use Rattle.act_model.specs.Limits.{most_receipts};
     ghost use Rattle.act_model.specs.WellFormed.{well_formed};
 
     /// The most receipts that a journal holds.
@@ -66,7 +76,8 @@ impl Journal {
             receipts: Vec::new(alloc),
             numbers: BTreeMap::new(alloc),
             indexed: 0,
-            ready: false,
+            indexes: ItemIndexes::new(alloc),
+            ready_for: None,
         }
     }
 
@@ -117,6 +128,28 @@ impl Journal {
         }
     }
 
+    /// The numbers of the cures of filing n that stand behind it, ascending.
+    pub fn cures_of(&self, n: ReceiptNo) -> &[ReceiptNo]
+        ensures { result.now ≡ cures_of self.now.receipts n }
+    {
+        self.indexes.cures_of(n)
+    }
+
+    /// The creating acts of the folio, by receipt and act, whatever became of them.
+    pub fn creations_in(&self, folio: FolioId) -> &[RightId]
+        ensures { result.now ≡ creations_in self.now.receipts folio }
+    {
+        self.indexes.creations_in(folio)
+    }
+
+    /// The place of a creating act, from 1, among all of its folio; None where the id names none.
+    pub fn creating_rank(&self, right: RightId) -> Option<u32>
+        ensures { result ≡ creating_rank self.now.receipts right }
+    {
+        let folio = folio_of_right(self.receipts(), right)?;
+        rank_among(self.creations_in(folio), right)
+    }
+
     /// The stamp that a receipt gets behind the last one: the last one's where that is later.
     pub fn next_stamp(&self, stamp: Stamp) -> Stamp
         ensures { result ≡ stamp_after self.now.receipts stamp }
@@ -127,23 +160,35 @@ impl Journal {
         }
     }
 
-    /// Keeps room for one receipt more: the next `add`, where it is of this item, does not answer
-    /// `Memory`. Where no memory is found the journal is unchanged.
+    /// Keeps room for one receipt of this item: the next `add`, where it is of the same item, does
+    /// not answer `Memory`. Room for another item is given up. Where no memory is found the journal
+    /// is unchanged.
     pub fn reserve_one(&mut self, item: &Item) -> Result<(), NoMemory>
         ensures receipts { self.new.receipts ≡ self.old.receipts }
         ensures room { OnOk result (IsTrue (has_room self.new item.now)) }
         ensures unchanged { OnErr result (self.new ≡ self.old) }
         ensures succeeds { IsTrue (has_room self.old item.now) → IsOk result }
     {
-        // The item is not read: no index goes by what an item says, so room for one serves any.
-        if self.ready {
+        if self.is_ready_for(item) {
             return Ok(());
         }
         index_waiting(&mut self.numbers, self.indexed, self.receipts.as_slice())?;
         self.indexed = self.receipts.len();
         self.receipts.reserve(1)?;
-        self.ready = true;
+        let n = ReceiptNo::new(self.len() + 1).unwrap();
+        self.indexes.reserve(n, item)?;
+        self.ready_for = Some(item.copy());
         Ok(())
+    }
+
+    /// Whether room is kept for a receipt of this item.
+    fn is_ready_for(&self, item: &Item) -> bool
+        ensures { result ≡ has_room self.now item.now }
+    {
+        match &self.ready_for {
+            Some(ready) => *ready == *item,
+            None => false,
+        }
     }
 
     /// Receives an item. One number acts once: an item whose sender and reference stand already is
@@ -183,13 +228,14 @@ impl Journal {
             return Added::Memory;
         }
         let stamp = self.next_stamp(stamp);
+        self.indexes.add(n, item);
         self.receipts.push_reserved(Receipt {
             stamp,
             sender,
             reference,
             item: item.copy(),
         });
-        self.ready = false;
+        self.ready_for = None;
         Added::Accepted(n)
     }
 }
@@ -212,6 +258,18 @@ fn index_waiting(
             Ok(())
         }
         None => Ok(()),
+    }
+}
+
+/// The place of the right, from 1, in a list that ascends; None where it is not in it.
+fn rank_among(rights: &[RightId], right: RightId) -> Option<u32>
+    requires rising { Rises 0 0 rights.now }
+    requires few { length rights.now ≤ 8 * most_receipts }
+    ensures { result ≡ option_map (λ i. i + 1) (position (same_right right) rights.now) }
+{
+    match rights.binary_search(&right) {
+        Ok(i) => Some(i as u32 + 1),
+        Err(_) => None,
     }
 }
 

@@ -1,10 +1,12 @@
-//! What holds of all keys and of all items.
-ghost use Rattle.std.specs.Prelude.{◌≡◌, ◌↔◌, ◌≤◌, ◌++◌, ℕ, IsTrue, List, Contains, length};
+//! What holds of all keys, of all items and of all creating acts.
+ghost use Rattle.std.specs.Prelude.{◌≡◌, ◌↔◌, ◌≤◌, ◌++◌, ℕ, IsTrue, List, Contains, is_some, length};
 ghost use Rattle.std.specs.List.Sorted.{IsStrictlySortedBy};
 ghost use Rattle.gb_base.specs.Keys.{key_cmp};
 ghost use Rattle.gb_base.specs.declared.keys.Key.{Key};
 ghost use Rattle.act_model.specs.declared.items.Item.{Item};
 ghost use Rattle.act_model.specs.declared.receipts.Receipt.{Receipt};
+ghost use Rattle.gb_base.specs.RightNo.{RightNo};
+ghost use Rattle.act_model.specs.Creations.{creating_rank, folio_of_right};
 ghost use Rattle.act_model.specs.Same.{same_item};
 ghost use Rattle.act_model.specs.Touches.{in_key_order, keys_of_filing};
 
@@ -28,4 +30,9 @@ pub fn keys_stay()
 /// `==` of two items is whether they are equal.
 pub fn equal_items()
     ensures { (a b : Item) → IsTrue (same_item a b) ↔ (a ≡ b) }
+{}
+
+/// A right has a creating rank just where the journal has its creating act.
+pub fn creating_acts_have_ranks()
+    ensures { (journal : List Receipt) (right : RightNo) → is_some (creating_rank journal right) ≡ is_some (folio_of_right journal right) }
 {}

@@ -7,10 +7,14 @@ mod auctions;
 mod documents;
 mod filing_acts;
 mod filing_rules;
+#[cfg(test)]
+mod index_tests;
+mod item_indexes;
 mod items;
 mod journals;
 mod land;
 pub mod laws;
+mod lists;
 mod people;
 mod ranges;
 mod receipts;

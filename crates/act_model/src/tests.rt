@@ -8,31 +8,31 @@ use gb_base::{Cents, Day, FolioId, Key, Person, ReceiptNo, RightId, Stamp};
 use std::process::Abort;
 use std::test::Fail;
 
-fn folio(rt: &impl Abort, n: u32) -> FolioId {
+pub(crate) fn folio(rt: &impl Abort, n: u32) -> FolioId {
     FolioId::new(n).expect(rt, "a folio")
 }
 
-fn person(rt: &impl Abort, n: u32) -> Person {
+pub(crate) fn person(rt: &impl Abort, n: u32) -> Person {
     Person::new(n).expect(rt, "a person")
 }
 
-fn receipt(rt: &impl Abort, n: u32) -> ReceiptNo {
+pub(crate) fn receipt(rt: &impl Abort, n: u32) -> ReceiptNo {
     ReceiptNo::new(n).expect(rt, "a receipt")
 }
 
-fn stamp(rt: &impl Abort, minute: u16) -> Stamp {
+pub(crate) fn stamp(rt: &impl Abort, minute: u16) -> Stamp {
     let day = Day::new(19_782).expect(rt, "a day");
     Stamp::new(day, minute).expect(rt, "a stamp")
 }
 
-fn lapse(rt: &impl Abort, n: u32) -> Item {
+pub(crate) fn lapse(rt: &impl Abort, n: u32) -> Item {
     Item::Lapse {
         filing: receipt(rt, n),
     }
 }
 
 /// A filing of these acts without documents.
-fn filing(rt: &impl Abort, acts: ArrayVec<Act, 8>) -> Item {
+pub(crate) fn filing(rt: &impl Abort, acts: ArrayVec<Act, 8>) -> Item {
     Item::Filing(Filing {
         applicant: person(rt, 10),
         conditional: false,
@@ -41,7 +41,7 @@ fn filing(rt: &impl Abort, acts: ArrayVec<Act, 8>) -> Item {
     })
 }
 
-fn opening(rt: &impl Abort, n: u32) -> Act {
+pub(crate) fn opening(rt: &impl Abort, n: u32) -> Act {
     let mut owners = ArrayVec::new();
     owners.push(person(rt, 10));
     Act::Open {
@@ -56,7 +56,7 @@ fn opening(rt: &impl Abort, n: u32) -> Act {
     }
 }
 
-fn land_charge(rt: &impl Abort, n: u32) -> Act {
+pub(crate) fn land_charge(rt: &impl Abort, n: u32) -> Act {
     Act::Create {
         folio: folio(rt, n),
         spec: RightSpec {

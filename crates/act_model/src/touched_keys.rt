@@ -5,6 +5,7 @@ ghost use Rattle.std.specs.Option.{option_copied};
 ghost use Rattle.gb_base.specs.Keys.{key_cmp};
 ghost use Rattle.gb_base.specs.Limits.{most_acts};
 ghost use Rattle.gb_base.specs.declared.keys.Key.{Key};
+ghost use Rattle.act_model.specs.Creations.{folio_of_right};
 ghost use Rattle.act_model.specs.WellFormed.{names_few_folios};
 ghost use Rattle.act_model.specs.Touches.{filing_in, filing_at, act_at, created_in, created_before, was_in_division_three, keys_of_act, keys_of_acts, keys_of_filing, new_right};
 ghost use Rattle.act_model.specs.inner.KeyInsertion.{with_key, with_keys, insert_key};
@@ -51,6 +52,19 @@ fn act_at(filing: &Filing, a: u8) -> Option<&Act>
     ensures { option_copied result ≡ act_at filing.now a }
 {
     filing.acts.list().get(a as usize - 1)
+}
+
+/// The folio in which the receipts have the creating act of this right; None where they have none.
+pub(crate) fn folio_of_right(receipts: &[Receipt], right: RightId) -> Option<FolioId>
+    ensures { result ≡ folio_of_right receipts.now right }
+{
+    let filing = filing_at(receipts, right.receipt())?;
+    let act = act_at(filing, right.act())?;
+    if act.right_created().is_some() {
+        Some(act.folio())
+    } else {
+        None
+    }
 }
 
 /// The right that an act creates in this folio.
@@ -139,7 +153,7 @@ fn keys_of_act(receipts: &[Receipt], m: ReceiptNo, a: u8, act: &Act) -> ArrayVec
 }
 
 /// The right that act a of filing m creates.
-fn new_right(m: ReceiptNo, a: u8) -> RightId
+pub(crate) fn new_right(m: ReceiptNo, a: u8) -> RightId
     requires from_one { 1 ≤ a }
     requires to_eight { a ≤ most_acts }
     ensures { result ≡ new_right m a }

@@ -1,5 +1,5 @@
 -- The index of a journal by sender and reference.
-use Rattle.std.specs.Prelude.{◌≡◌, ℕ, ◌+◌, ◌<◌, ◌≤◌, Bool, List, length, take, IsTrue}
+use Rattle.std.specs.Prelude.{◌≡◌, ℕ, ◌+◌, ◌≤◌, List, length, take}
 use Rattle.std.specs.declared.cmp.Ordering.{Ordering}
 use Rattle.std.specs.Ordering.{nat_cmp, ordering_then}
 use Rattle.std.specs.BTreeMap.{BTreeMap, get}
@@ -20,7 +20,3 @@ pub record IsIndexed (numbers : BTreeMap (ℕ × ℕ) ℕ) (indexed : ℕ) (jour
   pub index : IsIndexOf numbers (take indexed journal)
   pub not_beyond : indexed ≤ length journal
   pub nearly_all : length journal ≤ indexed + 1
-
--- a journal that is ready has room for one more receipt, and none that waits for the index
-abbrev pub IsReady : Bool → ℕ → ℕ → ℕ → Type 0
-IsReady ready indexed count capacity = IsTrue ready → (indexed ≡ count) × (count < capacity)

@@ -1,0 +1,117 @@
+// The indexes of a journal by what its items say.
+ghost use Rattle.std.specs.Prelude.{◌≡◌, ◌≤◌, ◌+◌, ℕ, [], length, OnOk};
+ghost use Rattle.gb_base.specs.Limits.{most_acts};
+ghost use Rattle.act_model.specs.inner.ItemIndexes.{cures_by, creations_by, creations_by_acts, AreIndexesOf, HaveRoomFor};
+ghost use Rattle.act_model.specs.inner.Lists.{listed, Adds, HasRoom, Widens};
+
+use crate::lists::{listed, push, reserve};
+use crate::touched_keys::new_right;
+use crate::{Act, Item};
+use gb_base::{FolioId, NoMemory, ReceiptNo, RightId};
+use std::alloc::Global;
+use std::collections::BTreeMap;
+
+/// The cures of each filing that stand behind it, and the creating acts of each folio.
+#[derive(Drop)]
+pub struct ItemIndexes {
+    alloc: Global,
+    /// By the number of the filing.
+    cures: BTreeMap<u32, Vec<ReceiptNo>>,
+    /// By the number of the folio.
+    creations: BTreeMap<u32, Vec<RightId>>,
+}
+
+impl ItemIndexes {
+    /// The indexes of the empty journal.
+    pub fn new(alloc: Global) -> ItemIndexes
+        ensures { AreIndexesOf result [] }
+    {
+        ItemIndexes {
+            alloc,
+            cures: BTreeMap::new(alloc),
+            creations: BTreeMap::new(alloc),
+        }
+    }
+
+    /// The cures of filing n.
+    pub fn cures_of(&self, n: ReceiptNo) -> &[ReceiptNo]
+        ensures { result.now ≡ listed self.now.cures n }
+    {
+        listed(&self.cures, n.get())
+    }
+
+    /// The creating acts of the folio.
+    pub fn creations_in(&self, folio: FolioId) -> &[RightId]
+        ensures { result.now ≡ listed self.now.creations folio }
+    {
+        listed(&self.creations, folio.get())
+    }
+
+    /// Keeps room for item n.
+    pub fn reserve(&mut self, n: ReceiptNo, item: &Item) -> Result<(), NoMemory>
+        ensures cures { Widens self.old.cures self.new.cures }
+        ensures creations { Widens self.old.creations self.new.creations }
+        ensures room { OnOk result (HaveRoomFor self.new n item.now) }
+    {
+        match item {
+            Item::Cure { filing, .. } if *filing < n => {
+                reserve(&mut self.cures, filing.get(), 1, self.alloc)
+            }
+            Item::Filing(filing) => {
+                reserve_creations(&mut self.creations, filing.acts.list(), self.alloc)
+            }
+            _ => Ok(()),
+        }
+    }
+
+    /// Takes item n, for which there is room.
+    pub fn add(&mut self, n: ReceiptNo, item: &Item)
+        requires { HaveRoomFor self.old n item.now }
+        ensures cures { Adds self.old.cures self.new.cures (cures_by n item.now) }
+        ensures creations { Adds self.old.creations self.new.creations (creations_by n item.now) }
+    {
+        match item {
+            Item::Cure { filing, .. } if *filing < n => push(&mut self.cures, filing.get(), n),
+            Item::Filing(filing) => {
+                push_creations(&mut self.creations, n, 1, filing.acts.list())
+            }
+            _ => {}
+        }
+    }
+}
+
+/// Keeps room for what these acts create.
+fn reserve_creations(
+    creations: &mut BTreeMap<u32, Vec<RightId>>,
+    acts: &[Act],
+    alloc: Global,
+) -> Result<(), NoMemory>
+    ensures widens { Widens creations.old creations.new }
+    ensures room { OnOk result ((n a : ℕ) → HasRoom creations.new (creations_by_acts n a acts.now)) }
+{
+    match acts {
+        [] => Ok(()),
+        [act, rest @ ..] => {
+            reserve_creations(creations, rest, alloc)?;
+            if act.right_created().is_some() {
+                reserve(creations, act.folio().get(), acts.len(), alloc)?;
+            }
+            Ok(())
+        }
+    }
+}
+
+/// Takes what acts a, a + 1, .. of filing n create.
+fn push_creations(creations: &mut BTreeMap<u32, Vec<RightId>>, n: ReceiptNo, a: u8, acts: &[Act])
+    requires from_one { 1 ≤ a }
+    requires to_eight { a + length acts.now ≤ most_acts + 1 }
+    requires room { HasRoom creations.old (creations_by_acts n a acts.now) }
+    ensures { Adds creations.old creations.new (creations_by_acts n a acts.now) }
+{
+    if let [act, rest @ ..] = acts {
+        if act.right_created().is_some() {
+            push(creations, act.folio().get(), new_right(n, a));
+        }
+        push_creations(creations, n, a + 1, rest);
+    }
+}
