@@ -1,0 +1,196 @@
+-- What a list of parts says of each key, and what becomes of it where one part changes or all grow.
+use Rattle.std.specs.Prelude.{IfSome}
+use Rattle.std.proofs.Common.{◌≡◌, ℕ, suc, zero, ◌+◌, ◌<◌, ◌≤◌, Bool, true, false, cond, not, ◌||◌, nat_lt, List, [], ◌∷◌, ◌++◌, length, get_or, set, take, drop, All, Option, Some, None, is_some, find, position, IsTrue, refl, sym, ap, subst, ◌∙◌, arith}
+use Rattle.std.specs.List.{AllZip, position_or_len}
+use Rattle.std.specs.BTreeMap.{BTreeMap, Updates, get}
+use Rattle.std.specs.Option.{option_map_or, option_or}
+use Rattle.std.specs.Ordering.{is_eq}
+use Rattle.std.proofs.lemmas.Bool.{false≢true}
+use Rattle.std.proofs.lemmas.List.{take_at}
+use Rattle.std.proofs.lemmas.List.Elements.{All-head, All-tail, length_all_zip}
+use Rattle.std.proofs.lemmas.List.Folds.{find-set, find_past}
+use Rattle.std.proofs.lemmas.List.Quantifiers.{position-Some}
+use Rattle.std.proofs.lemmas.Option.{slice_get-get_or}
+use Rattle.gb_base.specs.Keys.{key_cmp, same_key}
+use Rattle.gb_base.specs.declared.keys.Key.{Key}
+use Rattle.act_model.proofs.KeyOrder.{itself, same_is, ties}
+use Rattle.folio_sections.specs.Adding.{Adds}
+use Rattle.folio_sections.specs.Held.{entries_at, is_held, room_at}
+use Rattle.folio_sections.specs.PartState.{PartState}
+use Rattle.folio_sections.specs.declared.entries.Entry.{Entry}
+use Rattle.folio_sections.specs.inner.PartIndex.{Grows, IsIndexOf}
+use Rattle.folio_sections.proofs.Places.{find_passes, find-position, is_some-find, is_some-position, position-at, position-set, position_push, is_none}
+
+-- whether a part is of the key
+abbrev pub is_at : Key → PartState → Bool
+is_at k p = same_key p.key k
+
+-- the part that is found has the key
+pub key_found : (parts : List PartState) (k : Key) (p : PartState) → find (is_at k) parts ≡ Some p → p.key ≡ k
+key_found parts k p h = same_is p.key k (find_passes (is_at k) parts p h)
+
+pub held_found : (parts : List PartState) (k : Key) (p : PartState) → find (is_at k) parts ≡ Some p → is_held parts k ≡ true
+held_found parts k p h = sym (is_some-find (is_at k) parts) ∙ ap is_some h
+
+pub held_none : (parts : List PartState) (k : Key) → find (is_at k) parts ≡ None → is_held parts k ≡ false
+held_none parts k h = sym (is_some-find (is_at k) parts) ∙ ap is_some h
+
+-- the part at a key's place is found there
+pub found_there : (parts : List PartState) (k : Key) (i : ℕ) (p : PartState) → position (is_at k) parts ≡ Some i → p ≡ get_or parts i p → find (is_at k) parts ≡ Some p
+found_there parts k i p h e =
+    find-position (is_at k) parts i h ∙ slice_get-get_or parts i p (position-Some (is_at k) parts i p h).0 ∙ ap Some (sym e)
+
+-- a key that is held has a place
+pub no_place : (parts : List PartState) (k : Key) → position (is_at k) parts ≡ None → IsTrue (is_held parts k) → ⊥
+no_place parts k h held = false≢true (sym (ap is_some h) ∙ is_some-position (is_at k) parts ∙ held)
+
+-- another part of the same key leaves the place of every key
+pub place_kept : (parts : List PartState) (i : ℕ) (p q : PartState) → p ≡ get_or parts i p → q.key ≡ p.key → (k : Key) → position (is_at k) (set parts i q) ≡ position (is_at k) parts
+place_kept parts i p q e same k =
+    position-set (is_at k) parts i q p (ap (λ key. same_key key k) same ∙ ap (is_at k) e)
+
+pub held_kept : (parts : List PartState) (i : ℕ) (p q : PartState) → p ≡ get_or parts i p → q.key ≡ p.key → is_held (set parts i q) ≡ is_held parts
+held_kept parts i p q e same = λ j k.
+    (sym (is_some-position (is_at k) (set parts i q)) ∙ ap is_some (place_kept parts i p q e same k) ∙ is_some-position (is_at k) parts) j
+
+-- the part at the entry's key, with that entry at its end and room for one less
+adds_at : (parts : List PartState) (i : ℕ) (p q : PartState) (entry : Entry) → position (is_at entry.key) parts ≡ Some i → p ≡ get_or parts i p → q.key ≡ p.key → q.entries ≡ p.entries ++ entry ∷ [] → q.room + 1 ≡ p.room → Adds (entries_at parts) (entries_at (set parts i q)) (room_at parts) (room_at (set parts i q)) entry
+adds_at parts i p q entry h e key entries room =
+    let k = entry.key in
+    let own : p.key ≡ k = key_found parts k p (found_there parts k i p h e) in
+    let passes : is_at k q ≡ true = ap (λ x. same_key x k) (key ∙ own) ∙ itself k in
+    let old : find (is_at k) parts ≡ Some p = found_there parts k i p h e in
+    let new : find (is_at k) (set parts i q) ≡ Some q =
+    find-set (is_at k) parts i q (sym (position-at (is_at k) parts i h)) (position-Some (is_at k) parts i p h).0 passes in
+    let past : (j : Key) → same_key k j ≡ false → find (is_at j) (set parts i q) ≡ find (is_at j) parts = λ j apart.
+    find_past (is_at j) parts i q p (ap (is_at j) (sym e) ∙ ap (λ x. same_key x j) own ∙ apart) (ap (λ x. same_key x j) (key ∙ own) ∙ apart) in
+    record {
+      there = ap (λ o. option_map_or (λ (x : PartState). x.entries) o []) new ∙ entries ∙ ap (λ o. option_map_or (λ (x : PartState). x.entries) o [] ++ entry ∷ []) (sym old);
+      room = ap (λ o. option_map_or (λ (x : PartState). x.room) o 0 + 1) new ∙ room ∙ ap (λ o. option_map_or (λ (x : PartState). x.room) o 0) (sym old);
+      others = λ j apart. ap (λ o. option_map_or (λ (x : PartState). x.entries) o []) (past j apart);
+      others_room = λ j apart. ap (λ o. option_map_or (λ (x : PartState). x.room) o 0) (past j apart);
+    }
+
+pub adds_there : (now parts : List PartState) (i : ℕ) (p q : PartState) (entry : Entry) → parts ≡ now → position (is_at entry.key) now ≡ Some i → p ≡ get_or parts i p → q.key ≡ p.key → q.entries ≡ p.entries ++ entry ∷ [] → q.room + 1 ≡ p.room → Adds (entries_at now) (entries_at (set parts i q)) (room_at now) (room_at (set parts i q)) entry
+adds_there now parts i p q entry is h e key entries room =
+    let place = subst (λ xs. position (is_at entry.key) xs ≡ Some i) (sym is) h in
+    subst (λ xs. Adds (entries_at xs) (entries_at (set parts i q)) (room_at xs) (room_at (set parts i q)) entry) is (adds_at parts i p q entry place e key entries room)
+
+grows_self : (p : PartState) → Grows p p
+grows_self p = record { key = refl; entries = refl; room = omega arith }
+
+grows_on : (p q r : PartState) → Grows p q → Grows q r → Grows p r
+grows_on p q r g h = record { key = h.key ∙ g.key; entries = h.entries ∙ g.entries; room = omega arith }
+
+pub all_grow_self : (parts : List PartState) → AllZip Grows parts parts
+all_grow_self [] = tt
+all_grow_self (p ∷ ps) = (grows_self p, all_grow_self ps)
+
+pub all_grow_set : (before parts : List PartState) (i : ℕ) (d q : PartState) → AllZip Grows before parts → i < length parts → Grows (get_or parts i d) q → AllZip Grows before (set parts i q)
+all_grow_set [] [] i d q all within g = absurd (omega arith)
+all_grow_set [] (y ∷ ys) i d q all within g = absurd all
+all_grow_set (x ∷ xs) [] i d q all within g = absurd all
+all_grow_set (x ∷ xs) (y ∷ ys) zero d q all within g = (grows_on x y q all.0 g, all.1)
+all_grow_set (x ∷ xs) (y ∷ ys) (suc i) d q all within g = (all.0, all_grow_set xs ys i d q all.1 (omega arith) g)
+
+map_or_cond : {A B : Type 0} (f : A → B) (b : Bool) (x : A) (o : Option A) (d : B) → option_map_or f (cond b (Some x) o) d ≡ cond b (f x) (option_map_or f o d)
+map_or_cond f true x o d = refl
+map_or_cond f false x o d = refl
+
+cond_le : (b : Bool) (m n i j : ℕ) → m ≤ n → i ≤ j → cond b m i ≤ cond b n j
+cond_le true m n i j h g = h
+cond_le false m n i j h g = g
+
+pub held_grown : (before after : List PartState) → AllZip Grows before after → (k : Key) → is_held after k ≡ is_held before k
+held_grown [] [] all k = refl
+held_grown [] (y ∷ ys) all k = absurd all
+held_grown (x ∷ xs) [] all k = absurd all
+held_grown (x ∷ xs) (y ∷ ys) all k = λ i. same_key (all.0.key i) k || held_grown xs ys all.1 k i
+
+place_grown : (before after : List PartState) → AllZip Grows before after → (k : Key) → position_or_len (is_at k) after ≡ position_or_len (is_at k) before
+place_grown [] [] all k = refl
+place_grown [] (y ∷ ys) all k = absurd all
+place_grown (x ∷ xs) [] all k = absurd all
+place_grown (x ∷ xs) (y ∷ ys) all k = λ i. cond (not (same_key (all.0.key i) k)) (1 + place_grown xs ys all.1 k i) 0
+
+pub position_grown : (before after : List PartState) → AllZip Grows before after → (k : Key) → position (is_at k) after ≡ position (is_at k) before
+position_grown before after all k = λ i.
+    cond (nat_lt (place_grown before after all k i) (sym (length_all_zip Grows before after all) i)) (Some (place_grown before after all k i)) None
+
+pub entries_grown : (before after : List PartState) → AllZip Grows before after → (k : Key) → entries_at after k ≡ entries_at before k
+entries_grown [] [] all k = refl
+entries_grown [] (y ∷ ys) all k = absurd all
+entries_grown (x ∷ xs) [] all k = absurd all
+entries_grown (x ∷ xs) (y ∷ ys) all k =
+    map_or_cond (λ (p : PartState). p.entries) (is_at k y) y (find (is_at k) ys) []
+    ∙ (λ i. cond (same_key (all.0.key i) k) (all.0.entries i) (entries_grown xs ys all.1 k i))
+    ∙ sym (map_or_cond (λ (p : PartState). p.entries) (is_at k x) x (find (is_at k) xs) [])
+
+pub room_grown : (before after : List PartState) → AllZip Grows before after → (k : Key) → room_at before k ≤ room_at after k
+room_grown [] [] all k = omega arith
+room_grown [] (y ∷ ys) all k = absurd all
+room_grown (x ∷ xs) [] all k = absurd all
+room_grown (x ∷ xs) (y ∷ ys) all k =
+    let old : room_at (x ∷ xs) k ≡ cond (is_at k x) x.room (room_at xs k) = map_or_cond (λ (p : PartState). p.room) (is_at k x) x (find (is_at k) xs) 0 in
+    let new : room_at (y ∷ ys) k ≡ cond (is_at k x) y.room (room_at ys k) =
+    map_or_cond (λ (p : PartState). p.room) (is_at k y) y (find (is_at k) ys) 0 ∙ (λ i. cond (same_key (all.0.key i) k) y.room (room_at ys k)) in
+    let P : ℕ → Type 0 = λ n. n ≤ room_at (y ∷ ys) k in
+    let Q : ℕ → Type 0 = λ n. cond (is_at k x) x.room (room_at xs k) ≤ n in
+    subst P (sym old) (subst Q (sym new) (cond_le (is_at k x) x.room y.room (room_at xs k) (room_at ys k) all.0.room (room_grown xs ys all.1 k)))
+
+-- where each part has room, so has each key that is held
+pub room_at_held : (n : ℕ) (parts : List PartState) → All (λ p. n ≤ p.room) parts → (k : Key) → IsTrue (is_held parts k) → n ≤ room_at parts k
+room_at_held n [] all k held = absurd (false≢true held)
+room_at_held n (p ∷ ps) all k held =
+    elim (is_at k p) as (λ b. IsTrue (b || is_held ps k) → n ≤ option_map_or (λ (x : PartState). x.room) (cond b (Some p) (find (is_at k) ps)) 0) [
+      | true ↦ λ _. All-head (λ (x : PartState). n ≤ x.room) p ps all
+      | false ↦ λ there. room_at_held n ps (All-tail (λ (x : PartState). n ≤ x.room) p ps all) k there
+    ] held
+
+or_absorbs : (a b : Bool) → (b ≡ true → a ≡ true) → a ≡ (a || b)
+or_absorbs true b h = refl
+or_absorbs false true h = h refl
+or_absorbs false false h = refl
+
+-- a key that is held already adds nothing
+pub held_again : (parts : List PartState) (key : Key) → is_held parts key ≡ true → (k : Key) → is_held parts k ≡ (is_held parts k || same_key key k)
+held_again parts key h k = or_absorbs (is_held parts k) (same_key key k) (λ same. subst (λ x. is_held parts x ≡ true) (same_is key k same) h)
+
+or_none : (o : Option ℕ) → option_or o None ≡ o
+or_none None = refl
+or_none (Some n) = refl
+
+-- a new part at the end, whose key is not held, and its place in the index
+index_with : (index index' : BTreeMap Key ℕ) (parts : List PartState) (key : Key) (new : PartState) → IsIndexOf index parts → Updates key_cmp index index' key (Some (length parts)) → new.key ≡ key → is_held parts key ≡ false → IsIndexOf index' (parts ++ new ∷ [])
+index_with index index' parts key new indexed updates own apart k =
+    let tie : same_key key k ≡ is_eq (key_cmp key k) = ties key k in
+    let pushed = position_push (is_at k) parts new in
+    let here : same_key new.key k ≡ same_key key k = ap (λ x. same_key x k) own in
+    elim (same_key key k) as (λ b. same_key key k ≡ b → get key_cmp index' k ≡ position (is_at k) (parts ++ new ∷ [])) [
+      | true ↦ λ same.
+          let none : position (is_at k) parts ≡ None =
+          is_none (position (is_at k) parts) (is_some-position (is_at k) parts ∙ subst (λ x. is_held parts x ≡ false) (same_is key k same) apart) in
+          updates.0 k ∙ ap (λ b. cond b (Some (length parts)) (get key_cmp index k)) (sym tie ∙ same)
+          ∙ sym (pushed ∙ ap (λ o. option_or o (cond (is_at k new) (Some (length parts)) None)) none ∙ ap (λ b. cond b (Some (length parts)) None) (here ∙ same))
+      | false ↦ λ other.
+          updates.2 k (sym tie ∙ other) ∙ indexed k
+          ∙ sym (pushed ∙ ap (λ b. option_or (position (is_at k) parts) (cond b (Some (length parts)) None)) (here ∙ other) ∙ or_none (position (is_at k) parts))
+    ] refl
+
+pub index_pushed : (index index' : BTreeMap Key ℕ) (parts pushed : List PartState) (key : Key) (new : PartState) (n : ℕ) → IsIndexOf index parts → Updates key_cmp index index' key (Some n) → n ≡ length parts → pushed ≡ parts ++ new ∷ [] → new.key ≡ key → is_held parts key ≡ false → IsIndexOf index' pushed
+index_pushed index index' parts pushed key new n indexed updates count is own apart =
+    let updates' = subst (λ m. Updates key_cmp index index' key (Some m)) count updates in
+    subst (λ xs. IsIndexOf index' xs) (sym is) (index_with index index' parts key new indexed updates' own apart)
+
+-- what a slice that was lent and grew leaves in the vector
+pub written : (P : List PartState → Type 0) (now old lent new : List PartState) (n : ℕ) → n ≡ length old → lent ≡ old → old ≡ now → AllZip Grows lent new → (AllZip Grows now new → P new) → P (take n (new ++ drop (length new) old))
+written P now old lent new n count whole is all f =
+    let grown : AllZip Grows old new = subst (λ xs. AllZip Grows xs new) whole all in
+    let same : length new ≡ n = sym (length_all_zip Grows old new grown) ∙ sym count in
+    subst P (sym (take_at new (drop (length new) old) n same)) (f (subst (λ xs. AllZip Grows xs new) is grown))
+
+-- a part that is lent, where it is the one found, has the key
+pub keyed : {A : Type 0} (o : Option A) (view : A → PartState) (state : PartState) (key : Key) → state.key ≡ key
+    → IfSome o (λ part. view part ≡ state) → IfSome o (λ part. (view part).key ≡ key)
+keyed None view state key is same = tt
+keyed (Some part) view state key is same = ap (λ (s : PartState). s.key) same ∙ is

@@ -1,0 +1,77 @@
+-- Entries that are added without changing which notices or places stand.
+use Rattle.std.proofs.Common.{◌≡◌, ℕ, true, false, cond, List, [], ◌∷◌, ◌++◌, Option, Some, None, find, fold, option_map, is_some, refl, ap, ◌∙◌}
+use Rattle.std.specs.List.{AllByRecursion}
+use Rattle.std.specs.Option.{option_or}
+use Rattle.std.proofs.lemmas.List.{append-nil}
+use Rattle.std.proofs.lemmas.List.Elements.{filter_map-append}
+use Rattle.std.proofs.lemmas.List.Folds.{find-append}
+use Rattle.std.proofs.lemmas.List.Sums.{fold-append}
+use Rattle.gb_base.specs.Keys.{same_key}
+use Rattle.gb_base.specs.declared.keys.Key.{Key}
+use Rattle.act_model.specs.declared.receipts.Receipt.{Receipt}
+use Rattle.folio_sections.specs.Entries.{at}
+use Rattle.folio_sections.specs.Places.{place_by, places_among}
+use Rattle.folio_sections.specs.Waiting.{is_notice_of, notice, pending, until_by}
+use Rattle.folio_sections.specs.declared.entries.Entry.{Entry}
+
+-- what holds of all entries of a list holds of those at a key
+pub all_at : (P : Entry → Type 0) (es : List Entry) (k : Key) → AllByRecursion P es → AllByRecursion P (at es k)
+all_at P [] k all = tt
+all_at P (e ∷ es) k all =
+    elim (same_key e.key k) as (λ b. AllByRecursion P (cond b (e ∷ at es k) (at es k))) [
+      | true ↦ (all.0, all_at P es k all.1)
+      | false ↦ all_at P es k all.1
+    ]
+
+pub all_both : {X : Type 0} (P : X → Type 0) (xs ys : List X) → AllByRecursion P xs → AllByRecursion P ys → AllByRecursion P (xs ++ ys)
+all_both P [] ys first second = second
+all_both P (x ∷ xs) ys first second = (first.0, all_both P xs ys first.1 second)
+
+-- the entry sets no filing to wait, settles none, and is no official notice
+abbrev pub KeepsNotices : Entry → Type 0
+KeepsNotices e = (m : ℕ) (before : Option ℕ) → (until_by m before e.what ≡ before) × (is_notice_of m e.what ≡ false)
+
+fold_keeps : (m : ℕ) (before : Option ℕ) (es : List Entry) → AllByRecursion KeepsNotices es → fold (λ b e. until_by m b e.what) before es ≡ before
+fold_keeps m before [] all = refl
+fold_keeps m before (e ∷ es) all =
+    ap (λ b. fold (λ b e. until_by m b e.what) b es) (all.0 m before).0 ∙ fold_keeps m before es all.1
+
+pending_stays : (m : ℕ) (xs ys : List Entry) → AllByRecursion KeepsNotices ys → pending m (xs ++ ys) ≡ pending m xs
+pending_stays m xs ys all =
+    fold-append (λ b e. until_by m b e.what) None xs ys ∙ fold_keeps m (pending m xs) ys all
+
+none_found : (m : ℕ) (es : List Entry) → AllByRecursion KeepsNotices es → find (λ e. is_notice_of m e.what) es ≡ None
+none_found m [] all = refl
+none_found m (e ∷ es) all = rw (all.0 m None).1 (none_found m es all.1)
+
+or_none : {X : Type 0} (o : Option X) → option_or o None ≡ o
+or_none (Some x) = refl
+or_none None = refl
+
+found_stays : (m : ℕ) (xs ys : List Entry) → AllByRecursion KeepsNotices ys → find (λ e. is_notice_of m e.what) (xs ++ ys) ≡ find (λ e. is_notice_of m e.what) xs
+found_stays m xs ys all =
+    find-append (λ e. is_notice_of m e.what) xs ys
+    ∙ ap (λ o. option_or (find (λ e. is_notice_of m e.what) xs) o) (none_found m ys all)
+    ∙ or_none (find (λ e. is_notice_of m e.what) xs)
+
+-- the official notice of a filing stands as before
+pub notice_stays : (m : ℕ) (xs ys : List Entry) → AllByRecursion KeepsNotices ys → notice m (xs ++ ys) ≡ notice m xs
+notice_stays m xs ys all =
+    let waits = pending_stays m xs ys all in
+    let finds = found_stays m xs ys all in
+    λ i. cond (is_some (waits i)) (option_map (λ e. e.day) (finds i)) None
+
+-- the entry sets no place
+abbrev pub SetsNoPlace : Entry → Type 0
+SetsNoPlace e = (journal : List Receipt) (folio : ℕ) → place_by journal folio e.day e.what ≡ None
+
+no_places : (journal : List Receipt) (folio : ℕ) (es : List Entry) → AllByRecursion SetsNoPlace es → places_among journal folio es ≡ []
+no_places journal folio [] all = refl
+no_places journal folio (e ∷ es) all = rw (all.0 journal folio) (no_places journal folio es all.1)
+
+-- the places stand as before
+pub places_stay : (journal : List Receipt) (folio : ℕ) (xs ys : List Entry) → AllByRecursion SetsNoPlace ys → places_among journal folio (xs ++ ys) ≡ places_among journal folio xs
+places_stay journal folio xs ys all =
+    filter_map-append (λ e. place_by journal folio e.day e.what) xs ys
+    ∙ ap (λ ps. places_among journal folio xs ++ ps) (no_places journal folio ys all)
+    ∙ append-nil (places_among journal folio xs)

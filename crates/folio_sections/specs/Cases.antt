@@ -1,0 +1,46 @@
+-- What is read from the entries at a forced sale.
+use Rattle.std.specs.Prelude.{ℕ, Bool, true, false, List, count_by, fold, Option, Some, None}
+use Rattle.std.specs.List.{list_any, after_last}
+use Rattle.folio_sections.specs.declared.entries.Entry.{Entry}
+use Rattle.folio_sections.specs.declared.entries.What.{What}
+use Rattle.folio_sections.specs.declared.entries.What.TheVariants as what
+
+-- a content distributes the proceeds
+abbrev pub is_distribution : What → Bool
+is_distribution what.Distributed = true
+is_distribution other = false
+
+-- the case: what stands behind the last distribution
+abbrev pub case : List Entry → List Entry
+case entries = after_last (λ e. is_distribution e.what) entries
+
+-- a content seizes the land
+abbrev pub is_seizure : What → Bool
+is_seizure what.Seized = true
+is_seizure other = false
+
+-- the case runs: the land is seized in it
+abbrev pub is_running : List Entry → Bool
+is_running entries = list_any (λ e. is_seizure e.what) (case entries)
+
+-- how many seizures the case has
+abbrev pub seizures : List Entry → ℕ
+seizures entries = count_by (λ e. is_seizure e.what) (case entries)
+
+-- the receipt of the award behind an entry: its own where it is one, else the one before
+abbrev pub award_by : ℕ → Option ℕ → What → Option ℕ
+award_by receipt before (what.Awarded buyer bid) = Some receipt
+award_by receipt before other = before
+
+-- the receipt of the case's last award
+abbrev pub award : List Entry → Option ℕ
+award entries = fold (λ before e. award_by e.receipt before e.what) None (case entries)
+
+-- the receipt of the call to bid behind an entry: its own where it is one, else the one before
+abbrev pub call_by : ℕ → Option ℕ → What → Option ℕ
+call_by receipt before (what.Bids costs) = Some receipt
+call_by receipt before other = before
+
+-- the receipt of the case's last call to bid
+abbrev pub call : List Entry → Option ℕ
+call entries = fold (λ before e. call_by e.receipt before e.what) None (case entries)

@@ -1,0 +1,140 @@
+-- What the entry of filing m by item i brings: official notices, places, and the contents of its acts (GBO §§ 16(2), 18(2), 45).
+use Rattle.std.specs.Prelude.{ℕ, zero, suc, false, true, ◌&&◌, if◌then◌else◌, List, [], ◌∷◌, ◌++◌, filter, flat_map, map, Option, Some, None, is_none}
+use Rattle.std.specs.Option.{option_map_or}
+use Rattle.std.specs.List.{enumerate_from}
+use Rattle.gb_base.specs.declared.keys.Key.{Key}
+use Rattle.gb_base.specs.declared.keys.Key.TheVariants.{Title, Right, Case}
+use Rattle.act_model.specs.declared.documents.Doc.{Doc}
+use Rattle.act_model.specs.declared.filing_acts.Act.{Act}
+use Rattle.act_model.specs.declared.filing_acts.Act.TheVariants.{Open, Transfer, Create, NoticeFor, Convert, Assign, Cancel, Exchange, Exercise}
+use Rattle.act_model.specs.declared.items.Filing.{Filing}
+use Rattle.act_model.specs.declared.receipts.Receipt.{Receipt}
+use Rattle.act_model.specs.declared.rights.RightSpec.{RightSpec}
+use Rattle.act_model.specs.Receiving.{receipt_at}
+use Rattle.act_model.specs.Touches.{filing_at, in_key_order, keys_of_filing, new_right}
+use Rattle.act_model.specs.Acts.{is_in_division_three}
+use Rattle.gb_base.specs.RightNo.{RightNo}
+use Rattle.folio_sections.specs.Documents.{documents, has_proof}
+use Rattle.folio_sections.specs.Entries.{with_entries}
+use Rattle.folio_sections.specs.Groups.{has_equal}
+use Rattle.folio_sections.specs.Places.{acts_of, behind, create_in_division, creates_there, own_place, places}
+use Rattle.folio_sections.specs.Waiting.{is_pending, notice}
+use Rattle.folio_sections.specs.declared.entries.Entry.{Entry}
+use Rattle.folio_sections.specs.declared.entries.RightForm.{RightForm}
+use Rattle.folio_sections.specs.declared.entries.RightForm.TheVariants as form
+use Rattle.folio_sections.specs.declared.entries.What.{What}
+use Rattle.folio_sections.specs.declared.entries.What.TheVariants as what
+
+-- the stamp day of item i
+abbrev pub day_of : List Receipt → ℕ → ℕ
+day_of journal i = option_map_or (λ r. r.stamp.day) (receipt_at journal i) 0
+
+-- an entry by item i
+abbrev pub entry_by : List Receipt → ℕ → Key → What → Entry
+entry_by journal i key what = record { receipt = i; day = day_of journal i; key = key; what = what }
+
+-- the keys of filing m, ascending
+abbrev pub keys_in_order : List Receipt → ℕ → List Key
+keys_in_order journal m = in_key_order (keys_of_filing journal m)
+
+-- ---- official notices (GBO § 18(2))
+
+-- the numbers from 1 that are below n, ascending
+abbrev pub below : ℕ → List ℕ
+below zero = []
+below (suc zero) = []
+below (suc (suc n)) = below (suc n) ++ suc n ∷ []
+
+-- the earlier filings than m that wait at a key without a notice, ascending
+abbrev pub waiting_unnoticed : ℕ → List Entry → List ℕ
+waiting_unnoticed m entries = filter (λ n. is_pending n entries && is_none (notice n entries)) (below m)
+
+-- the official notices that the entry of filing m brings at a key
+abbrev pub notices_at : List Receipt → ℕ → ℕ → (Key → List Entry) → Key → List Entry
+notices_at journal m i at key = map (λ n. entry_by journal i key (what.Notice n)) (waiting_unnoticed m (at key))
+
+-- all of them, key by key
+abbrev pub notices_brought : List Receipt → ℕ → ℕ → (Key → List Entry) → List Entry
+notices_brought journal m i at = flat_map (notices_at journal m i at) (keys_in_order journal m)
+
+-- ---- places (BGB § 879)
+
+-- the place that filing m gets in a folio, where it creates a right there and no notice keeps its place
+abbrev pub placed_in : List Receipt → ℕ → ℕ → (Key → List Entry) → ℕ → List Entry
+placed_in journal m i at folio =
+    if creates_there journal folio m && is_none (notice m (at (Title folio)))
+    then entry_by journal i (Title folio)
+    (what.Placed m (create_in_division false folio (acts_of journal m)) (create_in_division true folio (acts_of journal m))) ∷ []
+    else []
+
+-- the same at a key, where it is a title
+abbrev pub placed_at : List Receipt → ℕ → ℕ → (Key → List Entry) → Key → List Entry
+placed_at journal m i at (Title folio) = placed_in journal m i at folio
+placed_at journal m i at (Right folio right) = []
+placed_at journal m i at (Case folio) = []
+
+-- all places that filing m gets, by folio
+abbrev pub places_brought : List Receipt → ℕ → ℕ → (Key → List Entry) → List Entry
+places_brought journal m i at = flat_map (placed_at journal m i at) (keys_in_order journal m)
+
+-- ---- the contents of the acts, once the places stand
+
+-- the day of filing m's place in the folio
+abbrev pub day_placed : List Receipt → ℕ → ℕ → (Key → List Entry) → ℕ → ℕ
+day_placed journal m i at folio = option_map_or (λ p. p.day) (own_place m (places journal at folio)) (day_of journal i)
+
+-- act a of filing m enters a right in the folio, in this form, with this reservation, or in that of another right
+abbrev pub creation : List Receipt → ℕ → List Act → ℕ → (Key → List Entry) → ℕ → Act → ℕ → RightSpec → RightForm → Option ℕ → Option RightNo → Entry
+creation journal m acts i at a act folio spec form reserve ahead_of = entry_by journal i (Right folio (new_right m a)) (what.Created (record {
+  spec = spec;
+  form = form;
+  reserve = reserve;
+  ahead_of = ahead_of;
+  placed = day_placed journal m i at folio;
+  behind = behind (is_in_division_three spec.kind) m (places journal at folio);
+  equal = has_equal acts a act;
+}))
+
+-- what act a of filing m brings
+abbrev pub content : List Receipt → ℕ → List Act → List Doc → ℕ → (Key → List Entry) → ℕ → Act → List Entry
+content journal m acts docs i at a (Open folio inventory owners) =
+    entry_by journal i (Title folio) (what.Opened inventory owners) ∷ []
+content journal m acts docs i at a (Transfer folio owners) = entry_by journal i (Title folio) (what.Owner owners) ∷ []
+content journal m acts docs i at a (Create folio spec reserve) =
+    creation journal m acts i at a (Create folio spec reserve) folio spec form.Full reserve None ∷ []
+content journal m acts docs i at a (NoticeFor folio spec) =
+    creation journal m acts i at a (NoticeFor folio spec) folio spec form.Notice None None ∷ []
+content journal m acts docs i at a (Convert folio right) = entry_by journal i (Right folio right) what.Converted ∷ []
+content journal m acts docs i at a (Assign folio right holder) = entry_by journal i (Right folio right) (what.Holder holder) ∷ []
+content journal m acts docs i at a (Cancel folio right) =
+    entry_by journal i (Right folio right) (what.Cancelled (has_proof docs a)) ∷ []
+content journal m acts docs i at a (Exchange folio recede rise) =
+    entry_by journal i (Right folio recede) (what.Exchanged recede rise a)
+    ∷ entry_by journal i (Right folio rise) (what.Exchanged recede rise a) ∷ []
+content journal m acts docs i at a (Exercise folio behind_right spec) =
+    creation journal m acts i at a (Exercise folio behind_right spec) folio spec form.Full None (Some behind_right)
+    ∷ entry_by journal i (Right folio behind_right) (what.Exercised (new_right m a)) ∷ []
+
+-- what the acts of filing m bring, in their order
+abbrev pub contents_brought : List Receipt → ℕ → ℕ → (Key → List Entry) → Filing → List Entry
+contents_brought journal m i at f =
+    flat_map (λ numbered. content journal m f.acts (documents journal m f i) i at numbered.0 numbered.1) (enumerate_from 1 f.acts)
+
+-- ---- together
+
+-- what stands once the places do
+abbrev pub with_places : List Receipt → ℕ → ℕ → (Key → List Entry) → Key → List Entry
+with_places journal m i at = with_entries at (places_brought journal m i at)
+
+-- the places of filing m, and then the contents of its acts
+abbrev pub entered : List Receipt → ℕ → ℕ → (Key → List Entry) → List Entry
+entered journal m i at =
+    option_map_or (λ f. places_brought journal m i at ++ contents_brought journal m i (with_places journal m i at) f) (filing_at journal m) []
+
+-- what stands once the official notices do
+abbrev pub with_notices : List Receipt → ℕ → ℕ → (Key → List Entry) → Key → List Entry
+with_notices journal m i at = with_entries at (notices_brought journal m i at)
+
+-- all that the entry of filing m brings
+abbrev pub enters : List Receipt → ℕ → ℕ → (Key → List Entry) → List Entry
+enters journal m i at = notices_brought journal m i at ++ entered journal m i (with_notices journal m i at)

@@ -1,0 +1,47 @@
+-- Filings that wait at a key for cures, and the official notices that keep their places (GBO § 18). All is read from the entries at the key.
+use Rattle.std.specs.Prelude.{ℕ, Bool, false, ◌==◌, if◌then◌else◌, List, filter, filter_map, find, fold, Option, Some, None, option_map, is_some}
+use Rattle.std.specs.List.{before_first, after_first}
+use Rattle.folio_sections.specs.declared.entries.Entry.{Entry}
+use Rattle.folio_sections.specs.declared.entries.What.{What}
+use Rattle.folio_sections.specs.declared.entries.What.TheVariants as what
+
+-- the day until which filing m waits, behind a content
+abbrev pub until_by : ℕ → Option ℕ → What → Option ℕ
+until_by m before (what.Pending filing until) = if filing == m then Some until else before
+until_by m before (what.Settled filing) = if filing == m then None else before
+until_by m before other = before
+
+-- the day until which filing m waits: that of a Pending that no Settled of it follows
+abbrev pub pending : ℕ → List Entry → Option ℕ
+pending m entries = fold (λ before e. until_by m before e.what) None entries
+
+-- filing m waits
+abbrev pub is_pending : ℕ → List Entry → Bool
+is_pending m entries = is_some (pending m entries)
+
+-- the filing that a content sets to wait
+abbrev pub waiting_by : What → Option ℕ
+waiting_by (what.Pending filing until) = Some filing
+waiting_by other = None
+
+-- the filings that wait, in the order in which they were set to
+abbrev pub pending_filings : List Entry → List ℕ
+pending_filings entries = filter (λ n. is_pending n entries) (filter_map (λ e. waiting_by e.what) entries)
+
+-- the content is the official notice of filing m
+abbrev pub is_notice_of : ℕ → What → Bool
+is_notice_of m (what.Notice filing) = filing == m
+is_notice_of m other = false
+
+-- the day of the official notice of filing m, which stands while the filing waits
+abbrev pub notice : ℕ → List Entry → Option ℕ
+notice m entries =
+    if is_pending m entries then option_map (λ e. e.day) (find (λ e. is_notice_of m e.what) entries) else None
+
+-- the entries ahead of the official notice of filing m
+abbrev pub before_notice : ℕ → List Entry → List Entry
+before_notice m entries = before_first (λ e. is_notice_of m e.what) entries
+
+-- the entries behind it
+abbrev pub after_notice : ℕ → List Entry → List Entry
+after_notice m entries = after_first (λ e. is_notice_of m e.what) entries

@@ -1,0 +1,50 @@
+// Rights of equal rank: creating acts of one filing, folio and group (GBO § 45(3)).
+ghost use Rattle.std.specs.Prelude.{◌≡◌};
+ghost use Rattle.act_model.specs.WellFormed.{same_group, share_group};
+ghost use Rattle.folio_sections.specs.Groups.{has_equal, is_in_group};
+
+use crate::filings::{act_at, filing_at};
+use act_model::{Act, Journal, RightSpec};
+use gb_base::RightId;
+
+/// Whether another act of the right's filing creates a right of the same group in the folio.
+pub fn is_in_group(journal: &Journal, right: RightId) -> bool
+    ensures { result ≡ is_in_group journal.now.receipts right }
+{
+    match filing_at(journal, right.receipt()) {
+        Some(filing) => match act_at(filing, right.act()) {
+            Some(act) => has_equal(filing.acts.list(), right.act(), act),
+            None => false,
+        },
+        None => false,
+    }
+}
+
+/// Whether another act than act a creates a right of the same group in the folio.
+pub fn has_equal(acts: &[Act], a: u8, act: &Act) -> bool
+    ensures { result ≡ has_equal acts.now a act.now }
+{
+    for (index, other) in acts.iter().enumerate() {
+        if index + 1 != a as usize && share_group(act, other) {
+            return true;
+        }
+    }
+    false
+}
+
+/// Whether two acts create rights of one group in one folio.
+fn share_group(act: &Act, other: &Act) -> bool
+    ensures { result ≡ share_group act.now other.now }
+{
+    act.folio() == other.folio() && same_group(act.right_created(), other.right_created())
+}
+
+/// Whether both are there, and of one group.
+fn same_group(right: Option<RightSpec>, other: Option<RightSpec>) -> bool
+    ensures { result ≡ same_group right other }
+{
+    match (right, other) {
+        (Some(right), Some(other)) => right.group == other.group,
+        _ => false,
+    }
+}

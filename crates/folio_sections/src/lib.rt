@@ -1,0 +1,42 @@
+//! The parts of a folio: what stands at its title, at its rights and at its forced sale, and what
+//! is read from them.
+#![tactic(auto)]
+
+mod any_part;
+mod case_part;
+#[cfg(test)]
+mod case_tests;
+mod doc_tests;
+mod documents;
+mod entries;
+mod entry_list;
+mod filings;
+mod groups;
+mod judgements;
+mod map_parts;
+#[cfg(test)]
+mod map_tests;
+mod parts;
+mod right_part;
+#[cfg(test)]
+mod right_tests;
+#[cfg(test)]
+mod tests;
+mod title_part;
+mod title_places;
+#[cfg(test)]
+mod title_tests;
+mod waiting;
+
+pub use case_part::CasePart;
+pub use doc_tests::{DocTest, Sought};
+pub use documents::Documents;
+pub use entries::{Created, Entry, RightForm, What};
+pub use filings::{act_at, applicant_of, filing_at};
+pub use groups::{has_equal, is_in_group};
+pub use judgements::{Defect, Defects, Judgement};
+pub use map_parts::MapParts;
+pub use parts::Parts;
+pub use right_part::RightPart;
+pub use title_part::TitlePart;
+pub use title_places::{Place, behind, creates_in_division, own_place};

@@ -1,0 +1,163 @@
+// Parts over keys that are given, found by key in logarithmic time.
+ghost use Rattle.std.specs.Prelude.{◌≡◌, ◌||◌, ℕ, ◌≤◌, [], All, List, IsTrue, IfOk, OnOk, OnErr, IfSome, is_some, find, position};
+ghost use Rattle.std.specs.Option.{option_copied};
+ghost use Rattle.std.specs.List.{AllZip};
+ghost use Rattle.gb_base.specs.Keys.{same_key};
+ghost use Rattle.gb_base.specs.declared.keys.Key.{Key};
+ghost use Rattle.folio_sections.specs.Held.{is_held, entries_at, room_at, is_given};
+ghost use Rattle.folio_sections.specs.inner.PartIndex.{Grows, IsIndexOf};
+
+use crate::any_part::AnyPart;
+use crate::{CasePart, Entry, Parts, RightPart, TitlePart};
+use gb_base::{FolioId, Key, NoMemory, RightId};
+use std::alloc::Global;
+use std::collections::BTreeMap;
+use std::marker::Model;
+
+/// The parts of a register at given keys. In contracts it is the list of its parts.
+#[derive(Drop)]
+pub struct MapParts {
+    parts: Vec<AnyPart>,
+    /// Where the part of a key stands.
+    index: BTreeMap<Key, usize>,
+}
+
+impl Model for MapParts {
+    ghost use Rattle.std.specs.Prelude.{List};
+    ghost use Rattle.folio_sections.specs.PartState.{PartState};
+    ghost use Rattle.folio_sections.specs.inner.PartIndex.{IsIndexOf};
+
+    ghost Value = { List PartState };
+
+    ghost view = { λ a. a.parts.items };
+
+    ghost invariant = { λ a. IsIndexOf a.index a.parts.items };
+}
+
+impl MapParts {
+    /// The empty parts at these keys, which may repeat and come in any order.
+    pub fn new(alloc: Global, keys: &[Key]) -> Result<MapParts, NoMemory>
+        ensures held { IfOk result (λ parts. (k : Key) → is_held parts k ≡ is_given keys.now k) }
+        ensures empty { IfOk result (λ parts. All (λ p. p.entries ≡ []) parts) }
+    {
+        let mut parts: Vec<AnyPart> = Vec::new(alloc);
+        let mut index: BTreeMap<Key, usize> = BTreeMap::new(alloc);
+        for key in keys {
+            add_part(alloc, &mut parts, &mut index, *key)?;
+        }
+        Ok(MapParts { parts, index })
+    }
+
+    /// Keeps room for n entries more in each part. Where no memory is found, some parts may have
+    /// more room than before; no entry and no key changes.
+    pub fn reserve_all(&mut self, n: usize) -> Result<(), NoMemory>
+        ensures held { is_held self.new ≡ is_held self.old }
+        ensures entries { entries_at self.new ≡ entries_at self.old }
+        ensures room { OnOk result ((k : Key) → IsTrue (is_held self.new k) → n ≤ room_at self.new k) }
+        ensures kept { (k : Key) → room_at self.old k ≤ room_at self.new k }
+    {
+        reserve_each(&mut self.parts, n)
+    }
+
+    /// Where the part of a key stands; None where it is not held.
+    fn place(&self, key: Key) -> Option<usize>
+        ensures { result ≡ position (λ p. same_key p.key key) self.now }
+    {
+        self.index.get(&key).copied()
+    }
+
+    /// The part of a key; None where it is not held.
+    fn part(&self, key: Key) -> Option<&AnyPart>
+        ensures { option_copied result ≡ find (λ p. same_key p.key key) self.now }
+    {
+        match self.place(key) {
+            Some(place) => Some(&self.parts[place]),
+            None => None,
+        }
+    }
+}
+
+/// Adds the empty part of a key, unless there is one.
+fn add_part(
+    alloc: Global,
+    parts: &mut Vec<AnyPart>,
+    index: &mut BTreeMap<Key, usize>,
+    key: Key,
+) -> Result<(), NoMemory>
+    requires { IsIndexOf index.old parts.old.items }
+    ensures index { OnOk result (IsIndexOf index.new parts.new.items) }
+    ensures held { OnOk result ((k : Key) → is_held parts.new.items k ≡ (is_held parts.old.items k || same_key key k)) }
+    ensures empty { OnOk result (All (λ p. p.entries ≡ []) parts.old.items → All (λ p. p.entries ≡ []) parts.new.items) }
+{
+    if index.contains_key(&key) {
+        return Ok(());
+    }
+    let place = parts.len();
+    parts.push(AnyPart::new(alloc, key))?;
+    index.insert(key, place)?;
+    Ok(())
+}
+
+/// Keeps room for n entries more in each of these parts.
+fn reserve_each(parts: &mut [AnyPart], n: usize) -> Result<(), NoMemory>
+    ensures grow { AllZip Grows parts.old parts.new }
+    ensures room { OnOk result (All (λ p. n ≤ p.room) parts.new) }
+{
+    for part in parts.iter_mut() {
+        part.reserve(n)?;
+    }
+    Ok(())
+}
+
+impl Parts for MapParts {
+    ghost use Rattle.folio_sections.specs.Held.{is_held, entries_at, room_at};
+
+    ghost holds = { is_held };
+
+    ghost at = { entries_at };
+
+    ghost room = { room_at };
+
+    fn title(&self, folio: FolioId) -> Option<&TitlePart> {
+        match self.part(Key::Title(folio)) {
+            Some(part) => part.as_title(),
+            None => None,
+        }
+    }
+
+    fn right(&self, folio: FolioId, right: RightId) -> Option<&RightPart> {
+        match self.part(Key::Right(folio, right)) {
+            Some(part) => part.as_right(),
+            None => None,
+        }
+    }
+
+    fn case(&self, folio: FolioId) -> Option<&CasePart> {
+        match self.part(Key::Case(folio)) {
+            Some(part) => part.as_case(),
+            None => None,
+        }
+    }
+
+    fn append(&mut self, entry: Entry) {
+        match self.place(entry.key) {
+            Some(place) => {
+                let part = &mut self.parts[place];
+                part.append(entry);
+            }
+            // The caller holds the key's part, so it has a place.
+            None => {}
+        }
+    }
+}
+
+/// Takes any type whose values threads may hand on and share.
+fn is_shared<T: Send + Sync>() {}
+
+/// Threads may hand on parts, and several may read them at the same time.
+fn parts_are_shared() {
+    is_shared::<MapParts>();
+    is_shared::<TitlePart>();
+    is_shared::<RightPart>();
+    is_shared::<CasePart>();
+}

@@ -1,0 +1,53 @@
+// Parts over given keys.
+ghost use Rattle.std.specs.Prelude.{◌≡◌, ◌≤◌, IsTrue};
+
+use crate::tests::{entry, folio, receipt, right};
+use crate::{Entry, MapParts, Parts, What};
+use gb_base::Key;
+use std::test::Fail;
+
+/// Adds two entries at one key, as an item does that writes twice at a title.
+fn add_two<P: Parts>(parts: &mut P, first: Entry, second: Entry)
+    requires held { IsTrue (P.holds parts.old first.key) }
+    requires room { 2 ≤ P.room parts.old first.key }
+    requires same { second.key ≡ first.key }
+{
+    parts.append(first);
+    parts.append(second);
+}
+
+#[test]
+fn given_keys_are_held_and_no_others(rt: HostRuntime) -> Result<(), Fail> {
+    let seven = folio(&rt, 7);
+    let eight = folio(&rt, 8);
+    let id = right(&rt, 1, 2);
+    let keys = [
+        Key::Case(eight),
+        Key::Right(seven, id),
+        Key::Title(seven),
+        Key::Title(seven),
+    ];
+    let parts = MapParts::new(rt.alloc(), &keys)?;
+    assert!(rt; parts.title(seven).is_some() && parts.title(eight).is_none());
+    assert!(rt; parts.case(eight).is_some() && parts.case(seven).is_none());
+    assert!(rt; parts.right(seven, id).is_some() && parts.right(eight, id).is_none());
+    assert!(rt; parts.right(seven, right(&rt, 1, 3)).is_none());
+    let part = parts.right(seven, id).ok_or("the right")?;
+    assert!(rt; part.key() == Key::Right(seven, id) && part.entries().is_empty());
+    Ok(())
+}
+
+#[test]
+fn room_for_two_serves_two(rt: HostRuntime) -> Result<(), Fail> {
+    let seven = folio(&rt, 7);
+    let mut parts = MapParts::new(rt.alloc(), &[Key::Title(seven)])?;
+    parts.reserve_all(2)?;
+    assert!(rt; parts.title(seven).is_some());
+    let filing = receipt(&rt, 2);
+    let first = entry(&rt, Key::Title(seven), 2, What::Notice { filing });
+    let second = entry(&rt, Key::Title(seven), 3, What::Settled { filing });
+    add_two(&mut parts, first, second);
+    let part = parts.title(seven).ok_or("the title")?;
+    assert_eq!(rt; part.entries().len(), 2);
+    Ok(())
+}

@@ -1,0 +1,171 @@
+// The places that stand at the title of a folio (BGB § 879, GBO § 45).
+ghost use Rattle.std.specs.Prelude.{◌≡◌, ◌==◌, false, fold};
+ghost use Rattle.std.specs.List.{before_first};
+ghost use Rattle.std.specs.Option.{option_map_or};
+ghost use Rattle.folio_sections.specs.Places.{acts_of, behind, behind_by, create_in_division, creates_in_division, creates_there, is_of_division, noticed_place, own_place, place_by, places_among};
+
+use crate::{Entry, What, filing_at};
+use act_model::{Act, Journal, RightSpec};
+use gb_base::{Day, FolioId, ReceiptNo};
+
+/// The place of a filing at a title.
+#[derive(Clone, Copy, Debug, PartialEq, Eq)]
+pub struct Place {
+    pub filing: ReceiptNo,
+    /// The day of the entry that sets it.
+    pub day: Day,
+    /// Whether it is one for rights of division II.
+    pub second: bool,
+    /// Whether it is one for rights of division III.
+    pub third: bool,
+}
+
+/// The acts of filing n; none where receipt n is no filing.
+fn acts_of(journal: &Journal, n: ReceiptNo) -> &[Act]
+    ensures { result.now ≡ acts_of journal.now.receipts n }
+{
+    match filing_at(journal, n) {
+        Some(filing) => filing.acts.list(),
+        None => &[],
+    }
+}
+
+/// Whether filing n creates a right of division III, or else of division II, in the folio.
+pub fn creates_in_division(journal: &Journal, third: bool, folio: FolioId, n: ReceiptNo) -> bool
+    ensures { result ≡ create_in_division third folio (acts_of journal.now.receipts n) }
+{
+    acts_of(journal, n)
+        .iter()
+        .any(|act| is_creation(third, folio, act))
+}
+
+/// Whether the act creates a right of division III, or else of division II, in the folio.
+fn is_creation(third: bool, folio: FolioId, act: &Act) -> bool
+    ensures { result ≡ creates_in_division third folio act.now }
+{
+    act.folio() == folio && has_division(third, act.right_created())
+}
+
+/// Whether there is a right, and it is of division III, or else of division II.
+fn has_division(third: bool, right: Option<RightSpec>) -> bool
+    ensures { result ≡ option_map_or (is_of_division third) right false }
+{
+    match right {
+        Some(spec) => is_of_division(third, spec),
+        None => false,
+    }
+}
+
+/// Whether the right is of division III, or else of division II.
+fn is_of_division(third: bool, right: RightSpec) -> bool
+    ensures { result ≡ is_of_division third right }
+{
+    if third {
+        right.kind.is_in_division_three()
+    } else {
+        !right.kind.is_in_division_three()
+    }
+}
+
+/// The place that an entry at the title sets; None where it sets none.
+fn place_by(journal: &Journal, folio: FolioId, entry: &Entry) -> Option<Place>
+    ensures { result ≡ place_by journal.now.receipts folio entry.now.day entry.now.what }
+{
+    match &entry.what {
+        What::Placed {
+            filing,
+            second,
+            third,
+        } => Some(Place {
+            filing: *filing,
+            day: entry.day,
+            second: *second,
+            third: *third,
+        }),
+        What::Notice { filing } => noticed_place(journal, folio, entry.day, *filing),
+        _ => None,
+    }
+}
+
+/// The place that the official notice of a filing sets on this day; None where the filing creates
+/// no right in the folio.
+fn noticed_place(journal: &Journal, folio: FolioId, day: Day, filing: ReceiptNo) -> Option<Place>
+    ensures { result ≡ noticed_place journal.now.receipts folio day filing }
+{
+    let second = creates_in_division(journal, false, folio, filing);
+    let third = creates_in_division(journal, true, folio, filing);
+    if second || third {
+        Some(Place {
+            filing,
+            day,
+            second,
+            third,
+        })
+    } else {
+        None
+    }
+}
+
+/// The place of a filing among those that the entries at the title of a folio set; None where it
+/// has none.
+pub fn own_place(
+    journal: &Journal,
+    folio: FolioId,
+    entries: &[Entry],
+    filing: ReceiptNo,
+) -> Option<Place>
+    ensures { result ≡ own_place filing (places_among journal.now.receipts folio entries.now) }
+{
+    entries
+        .iter()
+        .filter_map(|entry| place_by(journal, folio, entry))
+        .find(|place| place.filing == filing)
+}
+
+/// The filing of the last place of the other division that stands ahead of a filing's own place and
+/// was set on the same day (GBO § 45(2)), for a right of division III, or else of division II.
+pub fn behind(
+    journal: &Journal,
+    folio: FolioId,
+    entries: &[Entry],
+    third: bool,
+    filing: ReceiptNo,
+) -> Option<ReceiptNo>
+    ensures { result ≡ behind third filing (places_among journal.now.receipts folio entries.now) }
+{
+    match own_place(journal, folio, entries, filing) {
+        Some(own) => last_ahead(journal, folio, entries, third, filing, own.day),
+        None => None,
+    }
+}
+
+/// The filing of the last place of the other division that stands ahead of the filing's own and was
+/// set on this day.
+fn last_ahead(
+    journal: &Journal,
+    folio: FolioId,
+    entries: &[Entry],
+    third: bool,
+    filing: ReceiptNo,
+    day: Day,
+) -> Option<ReceiptNo>
+    ensures { result ≡ fold (behind_by third day) None (before_first (λ p. p.filing == filing) (places_among journal.now.receipts folio entries.now)) }
+{
+    entries
+        .iter()
+        .filter_map(|entry| place_by(journal, folio, entry))
+        .take_while(|place| place.filing != filing)
+        .fold(None, |before, place| behind_by(third, day, before, place))
+}
+
+/// The filing of a place of the other division on this day, else the one before.
+fn behind_by(third: bool, day: Day, before: Option<ReceiptNo>, place: Place) -> Option<ReceiptNo>
+    ensures { result ≡ behind_by third day before place }
+{
+    let in_other = if third { place.second } else { place.third };
+    if place.day == day && in_other {
+        Some(place.filing)
+    } else {
+        before
+    }
+}
