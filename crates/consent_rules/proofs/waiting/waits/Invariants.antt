@@ -1,0 +1,11 @@
+use Rattle.std.proofs.Common.{◌≡◌, ◌==◌, false, drop}
+use Rattle.std.specs.List.{list_any}
+use Rattle.std.specs.Option.{option_map_or}
+use Rattle.folio_sections.specs.Persons.{waiting_applicants}
+use Rattle.consent_rules.specs.inner.WaitingAt.{applicant_at}
+use Rattle.consent_rules.proofs.waiting.waits.Given as goal
+
+abbrev pub invariant-loop-entry : goal.invariant-loop-entry
+invariant-loop-entry l =
+    list_any (λ e. option_map_or (λ q. q == l.person) (applicant_at l.journal.receipts l.before l.part.entries e) false) (drop l.entry-index l.part.entries)
+    ≡ list_any (λ q. q == l.person) (waiting_applicants l.journal.receipts l.before l.part.entries)

@@ -1,0 +1,8 @@
+-- All whose consent an act needs, as they are gathered.
+use Rattle.std.specs.Prelude.{ℕ, List, ◌++◌}
+use Rattle.folio_sections.specs.Persons.{persons}
+use Rattle.consent_rules.specs.declared.consenters.Consenters.{Consenters}
+
+-- all of them
+abbrev pub everyone : Consenters → List ℕ
+everyone needed = needed.affected.items ++ (needed.owner_side.items ++ persons needed.others)

@@ -1,0 +1,15 @@
+-- The earlier filings that wait at a right, entry by entry.
+use Rattle.std.specs.Prelude.{ℕ, ◌&&◌, nat_lt, if◌then◌else◌, List, Option, None, option_and_then}
+use Rattle.act_model.specs.declared.receipts.Receipt.{Receipt}
+use Rattle.folio_sections.specs.Persons.{applicant_of}
+use Rattle.folio_sections.specs.Waiting.{is_pending, waiting_by}
+use Rattle.folio_sections.specs.declared.entries.Entry.{Entry}
+
+-- the applicant of filing n, where it is earlier than filing m and waits
+abbrev pub applicant_waiting : List Receipt → ℕ → List Entry → ℕ → Option ℕ
+applicant_waiting journal m entries n =
+    if is_pending n entries && nat_lt n m then applicant_of journal n else None
+
+-- the applicant of the filing that the entry sets to wait, where it is earlier than filing m and waits
+abbrev pub applicant_at : List Receipt → ℕ → List Entry → Entry → Option ℕ
+applicant_at journal m entries e = option_and_then (applicant_waiting journal m entries) (waiting_by e.what)

@@ -1,0 +1,97 @@
+// Whose consent an act needs (GBO §§ 19, 22, 27; BGB §§ 876, 880(2)).
+ghost use Rattle.std.specs.Prelude.{◌≡◌, ◌==◌};
+ghost use Rattle.std.specs.List.{list_any};
+ghost use Rattle.folio_sections.specs.Persons.{persons};
+ghost use Rattle.consent_rules.specs.inner.Asking.{is_answered};
+ghost use Rattle.consent_rules.specs.inner.Needed.{everyone};
+
+use crate::asking::{Asked, is_answered_by_some};
+use crate::waiting::Waiting;
+use act_model::Doc;
+use arrayvec::ArrayVec;
+use folio_sections::DocTest;
+use gb_base::Person;
+
+/// All whose consent an act needs.
+#[derive(Drop)]
+pub struct Consenters<'a> {
+    /// Whose right the act affects (GBO § 19).
+    pub affected: ArrayVec<Person, 4>,
+    /// The owners who consent beside them (GBO § 27, BGB § 880(2)).
+    pub owner_side: ArrayVec<Person, 4>,
+    /// The applicants who wait at the right (BGB § 876); None where the act needs none of them.
+    pub others: Option<Waiting<'a>>,
+}
+
+impl<'a> Consenters<'a> {
+    /// Whether the person is one of them.
+    pub fn has(&self, person: Person) -> bool
+        ensures { result ≡ list_any (λ q. q == person) (everyone self.now) }
+    {
+        self.affected.as_slice().contains(&person)
+            || self.owner_side.as_slice().contains(&person)
+            || self.is_other(person)
+    }
+
+    /// Whether it is so for one of them.
+    pub fn some(&self, asked: &Asked) -> bool
+        ensures { result ≡ list_any (is_answered asked.now) (everyone self.now) }
+    {
+        self.some_affected(asked) || self.some_owner(asked) || self.some_other(asked)
+    }
+
+    /// Whether it is so for one whose right the act affects.
+    pub fn some_affected(&self, asked: &Asked) -> bool
+        ensures { result ≡ list_any (is_answered asked.now) self.now.affected.items }
+    {
+        is_answered_by_some(asked, self.affected.as_slice())
+    }
+
+    /// Whether it is so for one of the owners who consent beside them.
+    pub fn some_owner(&self, asked: &Asked) -> bool
+        ensures { result ≡ list_any (is_answered asked.now) self.now.owner_side.items }
+    {
+        is_answered_by_some(asked, self.owner_side.as_slice())
+    }
+
+    /// Whether the person is one of the applicants who wait.
+    fn is_other(&self, person: Person) -> bool
+        ensures { result ≡ list_any (λ q. q == person) (persons self.now.others) }
+    {
+        match &self.others {
+            Some(waiting) => waiting.has(person),
+            None => false,
+        }
+    }
+
+    /// Whether it is so for one of the applicants who wait.
+    pub fn some_other(&self, asked: &Asked) -> bool
+        ensures { result ≡ list_any (is_answered asked.now) (persons self.now.others) }
+    {
+        match &self.others {
+            Some(waiting) => waiting.some(asked),
+            None => false,
+        }
+    }
+}
+
+/// A consent for the act by somebody whose consent it does not need.
+#[derive(Drop)]
+pub struct Stranger<'a> {
+    pub act: u8,
+    pub needed: &'a Consenters<'a>,
+}
+
+impl<'a> DocTest for Stranger<'a> {
+    ghost use Rattle.folio_sections.specs.Documents.{is_strangers_consent};
+    ghost use Rattle.consent_rules.specs.inner.Needed.{everyone};
+
+    ghost test = { λ s d. is_strangers_consent s.act (everyone s.needed.now) d };
+
+    fn passes(&self, doc: &Doc) -> bool {
+        match doc {
+            Doc::Consent { act, person, .. } => *act == self.act && !self.needed.has(*person),
+            _ => false,
+        }
+    }
+}

@@ -1,0 +1,83 @@
+// The curable defects, of which all that hold are listed (GBO § 18).
+ghost use Rattle.std.specs.Prelude.{◌≡◌, ◌+◌, ◌≤◌, ◌<◌, [], ◌++◌, length, All};
+ghost use Rattle.folio_sections.specs.Judging.{defects, defects_from, is_defective};
+ghost use Rattle.consent_rules.specs.inner.Held.{HasParts};
+
+use crate::consent::{
+    has_stranger, lacks_clearance, lacks_consent, lacks_others, lacks_owner,
+    lacks_owner_of_exchange, wants_form,
+};
+use crate::matters::Matter;
+use crate::needed::number_behind;
+use act_model::Act;
+use arrayvec::ArrayVec;
+use folio_sections::{Defect, Parts};
+use gb_base::Section;
+
+/// The sections of the defects, in the order in which they are listed.
+const CURABLES: [Section; 6] = [
+    Section::Gbo29,
+    Section::Gbo39,
+    Section::Gbo27,
+    Section::Bgb876,
+    Section::Bgb880,
+    Section::Grest22,
+];
+
+/// All defects, by section and then by act.
+pub fn defects<P: Parts>(parts: &P, matter: &Matter) -> ArrayVec<Defect, 48>
+    requires held { All (HasParts (P.holds parts.now) (P.at parts.now)) matter.now.filing.now.acts }
+    ensures { result.items ≡ defects matter.now.journal.now.receipts matter.now.number matter.now.filing.now matter.now.docs (P.at parts.now) }
+{
+    let mut list = ArrayVec::new();
+    for section in CURABLES {
+        add_defects(&mut list, parts, matter, section);
+    }
+    list
+}
+
+/// Adds the defects of one section, by act.
+fn add_defects<P: Parts>(
+    list: &mut ArrayVec<Defect, 48>,
+    parts: &P,
+    matter: &Matter,
+    section: Section,
+)
+    requires room { length list.old.items ≤ 40 }
+    requires held { All (HasParts (P.holds parts.now) (P.at parts.now)) matter.now.filing.now.acts }
+    ensures added { list.new.items ≡ list.old.items ++ defects_from [] section (is_defective matter.now.journal.now.receipts matter.now.number matter.now.docs (P.at parts.now) section) matter.now.filing.now.acts }
+    ensures few { length list.new.items ≤ length list.old.items + 8 }
+{
+    let acts = matter.filing.acts.list();
+    for (index, act) in acts.iter().enumerate() {
+        if is_defective(parts, matter, section, &acts[..index], act) {
+            let act = number_behind(&acts[..index]);
+            list.push(Defect { section, act });
+        }
+    }
+}
+
+/// Whether the defect is there at an act, given the acts before it.
+fn is_defective<P: Parts>(
+    parts: &P,
+    matter: &Matter,
+    section: Section,
+    before: &[Act],
+    act: &Act,
+) -> bool
+    requires few { length before.now < 8 }
+    requires held { HasParts (P.holds parts.now) (P.at parts.now) act.now }
+    ensures { result ≡ is_defective matter.now.journal.now.receipts matter.now.number matter.now.docs (P.at parts.now) section before.now act.now }
+{
+    match section {
+        Section::Gbo29 => wants_form(parts, matter, before, act),
+        Section::Gbo39 => {
+            lacks_consent(parts, matter, before, act) && has_stranger(parts, matter, before, act)
+        }
+        Section::Gbo27 => lacks_owner(parts, matter, before, act),
+        Section::Bgb876 => lacks_others(parts, matter, before, act),
+        Section::Bgb880 => lacks_owner_of_exchange(parts, matter, before, act),
+        Section::Grest22 => lacks_clearance(&matter.docs, before, act),
+        _ => false,
+    }
+}

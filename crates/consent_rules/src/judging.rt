@@ -1,0 +1,59 @@
+// How a filing is judged on the register as it stands (GBO § 18).
+ghost use Rattle.std.specs.Prelude.{◌≡◌, ◌≤◌, Some, length, IsSome, IsTrue, All, Contains};
+ghost use Rattle.gb_base.specs.declared.keys.Key.{Key};
+ghost use Rattle.act_model.specs.Touches.{filing_at, keys_of_filing};
+ghost use Rattle.folio_sections.specs.Judging.{defects, interim_or_enter, judged, judgement_by, rejection, KnowsExchanges};
+ghost use Rattle.consent_rules.specs.inner.Held.{HasParts};
+
+use crate::defects::defects;
+use crate::grounds::rejection;
+use crate::matters::Matter;
+use act_model::Journal;
+use arrayvec::ArrayVec;
+use folio_sections::{Defect, Defects, Documents, Judgement, Parts, filing_at};
+use gb_base::ReceiptNo;
+
+/// Filing `filing`, judged on the register as it stands, with its documents and those of its cures
+/// up to receipt `upto`. Takes no memory.
+pub fn judge<P: Parts>(
+    parts: &P,
+    journal: &Journal,
+    filing: ReceiptNo,
+    upto: ReceiptNo,
+) -> Judgement
+    requires filing { IsSome (filing_at journal.now.receipts filing) }
+    requires held { (k : Key) → Contains (keys_of_filing journal.now.receipts filing) k → IsTrue (P.holds parts.now k) }
+    requires exchanges { KnowsExchanges journal.now.receipts filing (P.at parts.now) }
+    ensures { judged journal.now.receipts filing upto (P.at parts.now) ≡ Some result }
+{
+    let found = filing_at(journal, filing).unwrap();
+    let matter = Matter {
+        journal,
+        number: filing,
+        filing: found,
+        docs: Documents::new(journal, filing, found, upto),
+    };
+    judge_matter(parts, &matter)
+}
+
+/// The judgement, by the first ground for rejection, else by the defects.
+fn judge_matter<P: Parts>(parts: &P, matter: &Matter) -> Judgement
+    requires held { All (HasParts (P.holds parts.now) (P.at parts.now)) matter.now.filing.now.acts }
+    ensures { result ≡ judgement_by (rejection matter.now.journal.now.receipts matter.now.number matter.now.filing.now matter.now.docs (P.at parts.now)) (defects matter.now.journal.now.receipts matter.now.number matter.now.filing.now matter.now.docs (P.at parts.now)) }
+{
+    match rejection(parts, matter) {
+        Some(section) => Judgement::Reject(section),
+        None => interim_or_enter(defects(parts, matter)),
+    }
+}
+
+/// A filing waits for cures where it has defects.
+fn interim_or_enter(list: ArrayVec<Defect, 48>) -> Judgement
+    ensures { result ≡ interim_or_enter list.items }
+{
+    if list.is_empty() {
+        Judgement::Enter
+    } else {
+        Judgement::Interim(Defects::new(list))
+    }
+}

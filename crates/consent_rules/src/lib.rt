@@ -1,0 +1,30 @@
+//! How a filing is judged on the register as it stands: who must consent, on which grounds it is
+//! rejected, and which defects may be cured (GBO § 18).
+#![tactic(auto)]
+
+mod applying;
+mod asking;
+mod consent;
+mod consenters;
+mod defects;
+#[cfg(test)]
+mod document_tests;
+mod grounds;
+mod judging;
+mod matters;
+mod needed;
+mod obstacles;
+mod parts_read;
+mod persons;
+#[cfg(test)]
+mod table_tests;
+#[cfg(test)]
+mod test_checks;
+#[cfg(test)]
+mod test_register;
+#[cfg(test)]
+mod tests;
+mod waiting;
+
+pub use folio_sections::{Defect, Defects, Judgement};
+pub use judging::judge;

@@ -1,0 +1,192 @@
+// Why an act cannot be entered, whoever consents (GBO § 3; BGB §§ 873, 880, 881, 883, 1059).
+ghost use Rattle.std.specs.Prelude.{◌≡◌, ◌<◌, ◌||◌, length, is_some, true, false, IsTrue};
+ghost use Rattle.std.specs.List.{list_any};
+ghost use Rattle.std.specs.Option.{option_map_or};
+ghost use Rattle.gb_base.specs.declared.keys.Key.TheVariants.{Title, Right};
+ghost use Rattle.folio_sections.specs.Judging.{assigns_division_two, converts_full_right, exchanges_unfit_right, is_beyond_limit, is_less, is_not_plain, is_open_as_of, lacks_folio, lacks_reservation, lacks_right, opens};
+ghost use Rattle.consent_rules.specs.inner.Held.{HasParts};
+
+use crate::needed::number_behind;
+use crate::parts_read::{live_right, lives, right_part, title_part};
+use act_model::{Act, Journal};
+use folio_sections::{Created, Parts, is_in_group};
+use gb_base::{Cents, FolioId, ReceiptNo, RightId};
+
+/// How many creating acts a folio has at most, whatever became of their filings.
+const MAX_CREATIONS: u32 = 256;
+
+/// Whether the act behind these is a creating act beyond the 256th of its folio.
+pub fn is_beyond_limit(journal: &Journal, filing: ReceiptNo, before: &[Act]) -> bool
+    requires few { length before.now < 8 }
+    ensures { result ≡ is_beyond_limit journal.now.receipts filing before.now }
+{
+    let right = RightId::new(filing, number_behind(before)).unwrap();
+    match journal.creating_rank(right) {
+        Some(rank) => rank > MAX_CREATIONS,
+        None => false,
+    }
+}
+
+/// Whether the act opens a folio that is open, or names one that is not (GBO § 3).
+pub fn lacks_folio<P: Parts>(parts: &P, before: &[Act], act: &Act) -> bool
+    requires held { HasParts (P.holds parts.now) (P.at parts.now) act.now }
+    ensures { result ≡ lacks_folio (P.at parts.now) before.now act.now }
+{
+    match act {
+        Act::Open { folio, .. } => title_part(parts, *folio).is_open(),
+        Act::Transfer { folio, .. } => !is_open_as_of(parts, before, *folio),
+        Act::Create { folio, .. } => !is_open_as_of(parts, before, *folio),
+        Act::NoticeFor { folio, .. } => !is_open_as_of(parts, before, *folio),
+        Act::Convert { folio, .. } => !is_open_as_of(parts, before, *folio),
+        Act::Assign { .. } => false,
+        Act::Cancel { folio, .. } => !is_open_as_of(parts, before, *folio),
+        Act::Exchange { .. } => false,
+        Act::Exercise { folio, .. } => !is_open_as_of(parts, before, *folio),
+    }
+}
+
+/// Whether the folio is open, or opened by one of the acts before.
+fn is_open_as_of<P: Parts>(parts: &P, before: &[Act], folio: FolioId) -> bool
+    requires held { IsTrue (P.holds parts.now (Title folio)) }
+    ensures { result ≡ is_open_as_of (P.at parts.now) before.now folio }
+{
+    title_part(parts, folio).is_open() || is_opened_by(before, folio)
+}
+
+fn is_opened_by(acts: &[Act], folio: FolioId) -> bool
+    ensures { result ≡ list_any (opens folio) acts.now }
+{
+    acts.iter().any(|act| opens(act, folio))
+}
+
+fn opens(act: &Act, opened: FolioId) -> bool
+    ensures { result ≡ opens opened act.now }
+{
+    match act {
+        Act::Open { folio, .. } => *folio == opened,
+        _ => false,
+    }
+}
+
+/// Whether a right that the act names is not live in the folio (BGB § 873).
+pub fn lacks_right<P: Parts>(parts: &P, act: &Act) -> bool
+    requires held { HasParts (P.holds parts.now) (P.at parts.now) act.now }
+    ensures { result ≡ lacks_right (P.at parts.now) act.now }
+{
+    match act {
+        Act::Convert { folio, right } => !lives(parts, *folio, *right),
+        Act::Assign { folio, right, .. } => !lives(parts, *folio, *right),
+        Act::Cancel { folio, right } => !lives(parts, *folio, *right),
+        Act::Exchange {
+            folio,
+            recede,
+            rise,
+        } => !lives(parts, *folio, *recede) || !lives(parts, *folio, *rise),
+        Act::Exercise { folio, behind, .. } => !lives(parts, *folio, *behind),
+        _ => false,
+    }
+}
+
+/// Whether the act converts a right that is no priority notice (BGB § 883).
+pub fn converts_full_right<P: Parts>(parts: &P, act: &Act) -> bool
+    requires held { HasParts (P.holds parts.now) (P.at parts.now) act.now }
+    ensures { result ≡ converts_full_right (P.at parts.now) act.now }
+{
+    match act {
+        Act::Convert { folio, right } => right_part(parts, *folio, *right).full(),
+        _ => false,
+    }
+}
+
+/// Whether a right of an exchange takes no part in one (BGB § 880).
+pub fn exchanges_unfit_right<P: Parts>(parts: &P, journal: &Journal, act: &Act) -> bool
+    requires held { HasParts (P.holds parts.now) (P.at parts.now) act.now }
+    ensures { result ≡ exchanges_unfit_right journal.now.receipts (P.at parts.now) act.now }
+{
+    match act {
+        Act::Exchange {
+            folio,
+            recede,
+            rise,
+        } => {
+            is_not_plain(parts, journal, *folio, *recede)
+                || is_not_plain(parts, journal, *folio, *rise)
+        }
+        _ => false,
+    }
+}
+
+/// Whether the right takes no part in an exchange: a priority notice, one of a group, one with a
+/// reservation or in the rank of one.
+fn is_not_plain<P: Parts>(parts: &P, journal: &Journal, folio: FolioId, right: RightId) -> bool
+    requires held { IsTrue (P.holds parts.now (Right folio right)) }
+    ensures { result ≡ is_not_plain journal.now.receipts (P.at parts.now) folio right }
+{
+    let part = right_part(parts, folio, right);
+    !part.full() || is_in_group(journal, right) || has_reservation(live_right(part))
+}
+
+/// Whether the right was entered with a reservation, or in the rank of one.
+fn has_reservation(made: Option<Created>) -> bool
+    ensures { result ≡ option_map_or (λ made. is_some made.reserve || is_some made.ahead_of) made false }
+{
+    match made {
+        Some(made) => made.reserve.is_some() || made.ahead_of.is_some(),
+        None => false,
+    }
+}
+
+/// Whether the right behind has no reservation, has spent it, or reserved less than the new
+/// capital (BGB § 881).
+pub fn lacks_reservation<P: Parts>(parts: &P, act: &Act) -> bool
+    requires held { HasParts (P.holds parts.now) (P.at parts.now) act.now }
+    ensures { result ≡ lacks_reservation (P.at parts.now) act.now }
+{
+    match act {
+        Act::Exercise {
+            folio,
+            behind,
+            spec,
+        } => {
+            let part = right_part(parts, *folio, *behind);
+            part.spent() || reserves_less(live_right(part), spec.capital)
+        }
+        _ => false,
+    }
+}
+
+/// Whether the right was entered with no reservation of as much as this capital.
+fn reserves_less(made: Option<Created>, capital: Cents) -> bool
+    ensures { result ≡ option_map_or (λ made. is_less made.reserve capital) made true }
+{
+    match made {
+        Some(made) => is_less(made.reserve, capital),
+        None => true,
+    }
+}
+
+/// Whether a reservation is of less than the capital; none is less than any.
+fn is_less(reserve: Option<Cents>, capital: Cents) -> bool
+    ensures { result ≡ is_less reserve capital }
+{
+    match reserve {
+        Some(reserved) => reserved < capital,
+        None => true,
+    }
+}
+
+/// Whether the act assigns a right of division II (BGB §§ 1059, 1092).
+pub fn assigns_division_two<P: Parts>(parts: &P, act: &Act) -> bool
+    requires held { HasParts (P.holds parts.now) (P.at parts.now) act.now }
+    ensures { result ≡ assigns_division_two (P.at parts.now) act.now }
+{
+    match act {
+        Act::Assign { folio, right, .. } => {
+            match live_right(right_part(parts, *folio, *right)) {
+                Some(made) => !made.spec.kind.is_in_division_three(),
+                None => false,
+            }
+        }
+        _ => false,
+    }
+}
