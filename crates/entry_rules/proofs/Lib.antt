@@ -1,0 +1,6 @@
+-- Lemmas.
+pub mod Entered
+pub mod Progress
+pub mod Room
+pub mod Steady
+pub mod TestKeys

@@ -1,0 +1,20 @@
+//! What the entry of a filing brings, but for official notices: its place in each folio in which
+//! it creates a right, and then the contents of its acts (GBO §§ 16(2), 45).
+#![tactic(auto)]
+
+mod adding;
+mod contents;
+mod creations;
+mod entering;
+pub mod laws;
+mod placing;
+#[cfg(test)]
+mod testing;
+#[cfg(test)]
+mod tests;
+
+pub use entering::enter;
+
+/// The most entries that the entry of a filing brings at one key: a place, and two for each of
+/// eight acts.
+pub const MOST_ENTERED: usize = 17;
