@@ -1,17 +1,17 @@
 -- How a filing is judged on the register as it stands: rows of grounds for rejection, of which the
 -- first that holds for some act is named.
-use Rattle.std.specs.Prelude.{ℕ, ◌+◌, ◌-◌, Bool, false, not, ◌&&◌, ◌||◌, ◌==◌, nat_lt, if◌then◌else◌, List, [], ◌∷◌, ◌++◌, length, take, count_by, sum_by, is_some}
+use Rattle.std.specs.Prelude.{ℕ, ◌+◌, Bool, false, not, ◌&&◌, ◌||◌, ◌==◌, nat_lt, if◌then◌else◌, List, [], ◌∷◌, ◌++◌, length}
+use Rattle.std.specs.Option.{option_map_or}
 use Rattle.std.specs.List.{list_any}
 use Rattle.gb_base.specs.declared.sections.Section.{Section}
 use Rattle.gb_base.specs.declared.sections.Section.TheVariants as section
-use Rattle.act_model.specs.Acts.{folio_of, right_created}
+use Rattle.act_model.specs.Creations.{creating_rank}
+use Rattle.act_model.specs.Touches.{new_right}
 use Rattle.act_model.specs.declared.documents.Doc.{Doc}
 use Rattle.act_model.specs.declared.documents.Doc.TheVariants.{Consent, Agreement, TaxClearance, ExpiryProof}
 use Rattle.act_model.specs.declared.filing_acts.Act.{Act}
 use Rattle.act_model.specs.declared.filing_acts.Act.TheVariants.{Open, Transfer, Create, NoticeFor, Convert, Assign, Cancel, Exchange, Exercise}
 use Rattle.act_model.specs.declared.items.Filing.{Filing}
-use Rattle.act_model.specs.declared.items.Item.{Item}
-use Rattle.act_model.specs.declared.items.Item.TheVariants as item
 use Rattle.act_model.specs.declared.receipts.Receipt.{Receipt}
 use Rattle.registry_office.specs.Entries.{is_open, owners_of}
 use Rattle.registry_office.specs.declared.entries.Entry.{Entry}
@@ -29,30 +29,10 @@ some_act test acts = some_act_from [] test acts
 
 -- ---- the limit of 256 creating acts a folio
 
--- the act creates a right in the folio
-abbrev pub creates_in : ℕ → Act → Bool
-creates_in folio act = is_some (right_created act) && folio_of act == folio
-
--- how many acts of the item create a right in the folio
-abbrev pub creations_in : ℕ → Item → ℕ
-creations_in folio (item.Filing f) = count_by (creates_in folio) f.acts
-creations_in folio (item.Cure filing docs) = 0
-creations_in folio (item.Lapse filing) = 0
-creations_in folio (item.Seize f basis served) = 0
-creations_in folio (item.Register f registration) = 0
-creations_in folio (item.OpenBids f costs) = 0
-creations_in folio (item.Award f buyer bid) = 0
-creations_in folio (item.Distribute f) = 0
-
--- the place of an act of filing m among the creating acts of its folio, whatever became of the others
-abbrev pub creating_place : List Receipt → ℕ → List Act → Act → ℕ
-creating_place journal m before act =
-    sum_by (λ r. creations_in (folio_of act) r.item) (take (m - 1) journal)
-    + count_by (creates_in (folio_of act)) before + 1
-
--- a creating act beyond the 256th of its folio
-abbrev pub is_beyond_limit : List Receipt → ℕ → List Act → Act → Bool
-is_beyond_limit journal m before act = is_some (right_created act) && nat_lt 256 (creating_place journal m before act)
+-- the act behind these is a creating act beyond the 256th of its folio, whatever became of the others
+abbrev pub is_beyond_limit : List Receipt → ℕ → List Act → Bool
+is_beyond_limit journal m before =
+    option_map_or (nat_lt 256) (creating_rank journal (new_right m (length before + 1))) false
 
 -- ---- GBO § 3: a folio is opened once, and before all else
 
@@ -155,7 +135,7 @@ grounds = section.Limit ∷ section.Gbo3 ∷ section.Gbo13 ∷ section.Gbo19 ∷
 
 -- the ground holds for an act of filing m, given the acts before it
 abbrev pub holds : List Receipt → ℕ → Filing → List Entry → Section → List Act → Act → Bool
-holds journal m f entries section.Limit before act = is_beyond_limit journal m before act
+holds journal m f entries section.Limit before act = is_beyond_limit journal m before
 holds journal m f entries section.Gbo3 before act = lacks_folio entries before act
 holds journal m f entries section.Gbo13 before act = may_not_apply entries f.applicant before act
 holds journal m f entries section.Gbo19 before act = lacks_consent entries f.docs before act

@@ -1,15 +1,13 @@
 // How a filing is judged on the register as it stands.
-ghost use Rattle.std.specs.Prelude.{◌≡◌, ◌+◌, ◌-◌, ◌≤◌, ◌<◌, ◌*◌, ◌^◌, ◌++◌, take, length, count_by, sum_by, is_some, not};
+ghost use Rattle.std.specs.Prelude.{◌≡◌, ◌+◌, ◌<◌, ◌++◌, length, not};
 ghost use Rattle.std.specs.List.{list_any};
-ghost use Rattle.act_model.specs.Limits.{most_receipts};
-ghost use Rattle.act_model.specs.Acts.{folio_of, right_created};
-ghost use Rattle.registry_office.specs.Judging.{some_act, holds, creates_in, creations_in, is_beyond_limit, opens, is_open_as_of, lacks_folio, owners_named, owners_as_of, affected, owner_side, may_not_apply, is_consent_of, is_strangers_consent, lacks_consent, judged};
+ghost use Rattle.registry_office.specs.Judging.{some_act, holds, is_beyond_limit, opens, is_open_as_of, lacks_folio, owners_named, owners_as_of, affected, owner_side, may_not_apply, is_consent_of, is_strangers_consent, lacks_consent, judged};
 ghost use Rattle.registry_office.specs.Entries.{owners_of};
 
 use crate::entries::Entry;
 use crate::reading::{is_open, owners_of};
-use act_model::{Act, Doc, Filing, Item, Receipt};
-use gb_base::{FolioId, Person, ReceiptNo, Section};
+use act_model::{Act, Doc, Filing, Journal};
+use gb_base::{FolioId, Person, ReceiptNo, RightId, Section};
 
 /// What becomes of a filing.
 #[derive(Clone, Copy, Debug, PartialEq, Eq)]
@@ -21,7 +19,7 @@ pub enum Judgement {
 }
 
 /// How many creating acts a folio has at most.
-const MAX_CREATIONS: usize = 256;
+const MAX_CREATIONS: u32 = 256;
 
 /// The grounds for rejection, in the order in which they are tested.
 const GROUNDS: [Section; 4] = [
@@ -31,19 +29,17 @@ const GROUNDS: [Section; 4] = [
     Section::Gbo19,
 ];
 
-/// Filing `number` of these receipts, judged on these entries.
+/// Filing `number` of the journal, judged on these entries.
 pub fn judge(
-    receipts: &[Receipt],
+    journal: &Journal,
     number: ReceiptNo,
     filing: &Filing,
     entries: &[Entry],
 ) -> Judgement
-    requires few { length receipts.now ≤ most_receipts }
-    requires received { number ≤ length receipts.now }
-    ensures { result ≡ judged receipts.now number filing.now entries.now }
+    ensures { result ≡ judged journal.now.receipts number filing.now entries.now }
 {
     for section in GROUNDS {
-        if holds_for_some(receipts, number, filing, entries, section) {
+        if holds_for_some(journal, number, filing, entries, section) {
             return Judgement::Reject(section);
         }
     }
@@ -52,20 +48,18 @@ pub fn judge(
 
 /// Whether the ground holds for some act of the filing.
 fn holds_for_some(
-    receipts: &[Receipt],
+    journal: &Journal,
     number: ReceiptNo,
     filing: &Filing,
     entries: &[Entry],
     section: Section,
 ) -> bool
-    requires few { length receipts.now ≤ most_receipts }
-    requires received { number ≤ length receipts.now }
-    ensures { result ≡ some_act (holds receipts.now number filing.now entries.now section) filing.now.acts }
+    ensures { result ≡ some_act (holds journal.now.receipts number filing.now entries.now section) filing.now.acts }
 {
     let acts = filing.acts.list();
     for (index, act) in acts.iter().enumerate() {
         if holds(
-            receipts,
+            journal,
             number,
             filing,
             entries,
@@ -81,7 +75,7 @@ fn holds_for_some(
 
 /// Whether the ground holds for an act, given the acts before it.
 fn holds(
-    receipts: &[Receipt],
+    journal: &Journal,
     number: ReceiptNo,
     filing: &Filing,
     entries: &[Entry],
@@ -89,13 +83,11 @@ fn holds(
     before: &[Act],
     act: &Act,
 ) -> bool
-    requires few { length receipts.now ≤ most_receipts }
-    requires received { number ≤ length receipts.now }
     requires few_acts { length before.now < 8 }
-    ensures { result ≡ holds receipts.now number filing.now entries.now section before.now act.now }
+    ensures { result ≡ holds journal.now.receipts number filing.now entries.now section before.now act.now }
 {
     match section {
-        Section::Limit => is_beyond_limit(receipts, number, before, act),
+        Section::Limit => is_beyond_limit(journal, number, before),
         Section::Gbo3 => lacks_folio(entries, before, act),
         Section::Gbo13 => may_not_apply(entries, filing.applicant, before, act),
         Section::Gbo19 => lacks_consent(entries, filing.docs.list(), before, act),
@@ -103,54 +95,16 @@ fn holds(
     }
 }
 
-/// Whether the act is beyond the 256th creating act of its folio.
-fn is_beyond_limit(receipts: &[Receipt], number: ReceiptNo, before: &[Act], act: &Act) -> bool
-    requires few { length receipts.now ≤ most_receipts }
-    requires received { number ≤ length receipts.now }
+/// Whether the act behind these is beyond the 256th creating act of its folio.
+fn is_beyond_limit(journal: &Journal, number: ReceiptNo, before: &[Act]) -> bool
     requires few_acts { length before.now < 8 }
-    ensures { result ≡ is_beyond_limit receipts.now number before.now act.now }
+    ensures { result ≡ is_beyond_limit journal.now.receipts number before.now }
 {
-    let folio = act.folio();
-    let earlier = &receipts[..number.get() as usize - 1];
-    creates(act) && creations(earlier, folio) + creations_among(before, folio) + 1 > MAX_CREATIONS
-}
-
-/// How many acts of these receipts create a right in the folio.
-fn creations(receipts: &[Receipt], folio: FolioId) -> usize
-    requires few { length receipts.now ≤ most_receipts }
-    ensures value { result ≡ sum_by (λ r. creations_in folio r.item) receipts.now }
-    ensures bound { result ≤ 8 * length receipts.now }
-{
-    let mut count = 0;
-    for receipt in receipts {
-        count += creations_in(&receipt.item, folio);
+    let right = RightId::new(number, before.len() as u8 + 1).unwrap();
+    match journal.creating_rank(right) {
+        Some(rank) => rank > MAX_CREATIONS,
+        None => false,
     }
-    count
-}
-
-fn creations_in(item: &Item, folio: FolioId) -> usize
-    ensures value { result ≡ creations_in folio item.now }
-    ensures bound { result ≤ 8 }
-{
-    match item {
-        Item::Filing(filing) => creations_among(filing.acts.list(), folio),
-        Item::Cure { .. } => 0,
-        Item::Lapse { .. } => 0,
-        Item::Seize { .. } => 0,
-        Item::Register { .. } => 0,
-        Item::OpenBids { .. } => 0,
-        Item::Award { .. } => 0,
-        Item::Distribute { .. } => 0,
-    }
-}
-
-fn creations_among(acts: &[Act], folio: FolioId) -> usize
-    ensures value { result ≡ count_by (creates_in folio) acts.now }
-    ensures bound { result ≤ length acts.now }
-{
-    acts.iter()
-        .filter(|act| creates(act) && act.folio() == folio)
-        .count()
 }
 
 /// Whether an act opens a folio that is open, or needs one that is not.
@@ -310,22 +264,5 @@ fn is_strangers_consent(doc: &Doc, number: u8, affected: &[Person], owners: &[Pe
         Doc::Agreement { .. } => false,
         Doc::TaxClearance { .. } => false,
         Doc::ExpiryProof { .. } => false,
-    }
-}
-
-/// Whether an act creates a right.
-fn creates(act: &Act) -> bool
-    ensures { result ≡ is_some (right_created act.now) }
-{
-    match act {
-        Act::Open { .. } => false,
-        Act::Transfer { .. } => false,
-        Act::Create { .. } => true,
-        Act::NoticeFor { .. } => true,
-        Act::Convert { .. } => false,
-        Act::Assign { .. } => false,
-        Act::Cancel { .. } => false,
-        Act::Exchange { .. } => false,
-        Act::Exercise { .. } => true,
     }
 }

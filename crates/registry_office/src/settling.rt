@@ -74,7 +74,7 @@ pub(crate) fn write_report<K: Sink>(
     ensures part { OnErr result (AppendsFront (K.written sink.old) (K.written sink.new) (report_of journal.now.receipts)) }
     ensures cause { Counts (K.faults sink.old) (K.faults sink.new) (output_failed result) }
 {
-    let register = alone(alloc, journal.receipts())?;
+    let register = alone(alloc, journal)?;
     let text = report(alloc, &register)?;
     write_all(sink, text.as_slice())
 }

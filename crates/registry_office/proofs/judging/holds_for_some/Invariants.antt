@@ -4,5 +4,5 @@ use Rattle.registry_office.proofs.judging.holds_for_some.Given as goal
 
 abbrev pub invariant-loop-index : goal.invariant-loop-index
 invariant-loop-index l =
-    some_act_from (take l.index l.acts) (holds l.receipts l.number l.filing l.entries l.section) (drop l.index l.acts)
-    ≡ some_act (holds l.receipts l.number l.filing l.entries l.section) l.acts
+    some_act_from (take l.index l.acts) (holds l.journal.receipts l.number l.filing l.entries l.section) (drop l.index l.acts)
+    ≡ some_act (holds l.journal.receipts l.number l.filing l.entries l.section) l.acts

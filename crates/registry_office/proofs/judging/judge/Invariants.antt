@@ -4,5 +4,5 @@ use Rattle.registry_office.proofs.judging.judge.Given as goal
 
 abbrev pub invariant-loop-section : goal.invariant-loop-section
 invariant-loop-section l =
-    first_ground (λ s. some_act (holds l.receipts l.number l.filing l.entries s) l.filing.acts) (drop l.section-index l.section-items)
-    ≡ first_ground (λ s. some_act (holds l.receipts l.number l.filing l.entries s) l.filing.acts) grounds
+    first_ground (λ s. some_act (holds l.journal.receipts l.number l.filing l.entries s) l.filing.acts) (drop l.section-index l.section-items)
+    ≡ first_ground (λ s. some_act (holds l.journal.receipts l.number l.filing l.entries s) l.filing.acts) grounds

@@ -21,11 +21,11 @@ use Rattle.registry_office.proofs.Takings.{part_of_session, begins_of}
 use Rattle.registry_office.proofs.receiving.receive_disk.Goals as goal
 
 -- the book's journal is the one that the file stood for
-same : (g : _) (c : goal.After-drop-book-inside-in-Ok g) (held : Held) → IsTrue g.D.Disk.tells → StandsForJournal (g.D.Disk.reads c.args.disk.now) held.journal → holding c.in-Ok.book.journal held.ticks ≡ held
+same : (g : _) (c : goal.After-drop-book-inside-in-Ok-3 g) (held : Held) → IsTrue g.D.Disk.tells → StandsForJournal (g.D.Disk.reads c.args.disk.now) held.journal → holding c.in-Ok.book.journal held.ticks ≡ held
 same g c held tells stands = ap (λ (j : List Receipt). holding j held.ticks) (journal_once (g.D.Disk.reads c.args.disk.now) c.in-Ok.book.journal held.journal (c.in-Ok.ensures.opened tells).found stands)
 
 -- what the session did
-session : (g : _) (c : goal.After-drop-book-inside-in-Ok g) (held : Held) (input : List ℕ) → Told (Some (Receive c.args.intake)) g.D.Disk.tells (g.D.Disk.reads c.args.disk.now) (g.S.Source.left c.args.source.now) (g.C.Clock.ticks c.args.clock.now) held input
+session : (g : _) (c : goal.After-drop-book-inside-in-Ok-3 g) (held : Held) (input : List ℕ) → Told (Some (Receive c.args.intake)) g.D.Disk.tells (g.D.Disk.reads c.args.disk.now) (g.S.Source.left c.args.source.now) (g.C.Clock.ticks c.args.clock.now) held input
     → Receives (whole_of c.args.intake) (cut_of c.args.intake) held input (g.S.Source.left c.args.source.now) (g.S.Source.left c.receive.new.source) (g.C.Clock.ticks c.receive.new.clock) (g.K.Sink.written c.args.sink.now) (g.K.Sink.written c.receive.new.sink) c.receive.new.book.journal (g.D.Disk.images c.receive.new.disk) c.receive.result
 session g c held input told =
     subst (λ (h : Held). Receives (whole_of c.args.intake) (cut_of c.args.intake) h input (g.S.Source.left c.args.source.now) (g.S.Source.left c.receive.new.source) (g.C.Clock.ticks c.receive.new.clock) (g.K.Sink.written c.args.sink.now) (g.K.Sink.written c.receive.new.sink) c.receive.new.book.journal (g.D.Disk.images c.receive.new.disk) c.receive.result)
