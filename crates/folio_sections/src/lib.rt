@@ -2,6 +2,7 @@
 //! is read from them.
 #![tactic(auto)]
 
+mod adding;
 mod any_part;
 mod case_part;
 #[cfg(test)]
@@ -28,6 +29,7 @@ mod title_places;
 mod title_tests;
 mod waiting;
 
+pub use adding::{add, day_of, entry_by};
 pub use case_part::CasePart;
 pub use doc_tests::{DocTest, Sought};
 pub use documents::Documents;
