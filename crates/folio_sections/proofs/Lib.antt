@@ -4,3 +4,4 @@ pub mod HeldParts
 pub mod ListLemmas
 pub mod Places
 pub mod Unchanged
+pub mod Unnoticed
