@@ -16,7 +16,7 @@ use Rattle.gb_base.specs.declared.keys.Key.{Key}
 use Rattle.gb_base.specs.declared.keys.Key.TheVariants.{Title, Right, Case}
 use Rattle.act_model.proofs.KeyOrder.{in_key_order_members, in_key_order_sorted, same_is, ties, total}
 use Rattle.act_model.specs.Receiving.{IsJournal}
-use Rattle.act_model.specs.Touches.{filing_at, filing_in, keys_of_act, keys_of_acts, keys_of_filing}
+use Rattle.act_model.specs.Touches.{acts_of, filing_at, filing_in, keys_in_order, keys_of_act, keys_of_acts, keys_of_filing}
 use Rattle.act_model.specs.WellFormed.{is_act, is_doc, keeps_rules, well_formed}
 use Rattle.act_model.specs.declared.filing_acts.Act.{Act}
 use Rattle.act_model.specs.declared.filing_acts.Act.TheVariants.{Open, Transfer, Create, NoticeFor, Convert, Assign, Cancel, Exchange, Exercise}
@@ -25,9 +25,9 @@ use Rattle.act_model.specs.declared.items.Item.{Item}
 use Rattle.act_model.specs.declared.items.Item.TheVariants as item
 use Rattle.act_model.specs.declared.receipts.Receipt.{Receipt}
 use Rattle.folio_sections.specs.Adding.{HasRoom}
-use Rattle.folio_sections.specs.Entering.{contents_brought, entered, entry_by, keys_in_order, placed_at, places_brought, with_places}
+use Rattle.folio_sections.specs.Entering.{contents_brought, entered, entry_by, placed_at, places_brought, with_places}
 use Rattle.folio_sections.specs.Entries.{at}
-use Rattle.folio_sections.specs.Places.{acts_of, create_in_division, creates_there}
+use Rattle.folio_sections.specs.Places.{create_in_division, creates_there}
 use Rattle.folio_sections.specs.Waiting.{notice}
 use Rattle.folio_sections.specs.declared.entries.Entry.{Entry}
 use Rattle.folio_sections.specs.declared.entries.What.TheVariants as what

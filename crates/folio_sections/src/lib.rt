@@ -34,7 +34,7 @@ pub use case_part::CasePart;
 pub use doc_tests::{DocTest, Sought};
 pub use documents::Documents;
 pub use entries::{Created, Entry, RightForm, What};
-pub use filings::{act_at, applicant_of, filing_at};
+pub use filings::applicant_of;
 pub use groups::{has_equal, is_in_group};
 pub use judgements::{Defect, Defects, Judgement};
 pub use map_parts::MapParts;
