@@ -25,7 +25,7 @@ use Rattle.folio_sections.specs.declared.entries.What.TheVariants as what
 use Rattle.folio_sections.specs.declared.title_places.Place.{Place}
 use Rattle.folio_sections.proofs.Unchanged.{KeepsNotices, SetsNoPlace, all_at, notice_stays, places_stay}
 use Rattle.entry_rules.specs.inner.Acting.{brought_by}
-use Rattle.entry_rules.proofs.Progress.{Independent}
+use Rattle.folio_sections.proofs.Progress.{Independent}
 
 -- a place is no notice
 placed_keeps : (journal : List Receipt) (m i : ℕ) (at0 : Key → List Entry) (key : Key) → AllByRecursion KeepsNotices (placed_at journal m i at0 key)

@@ -7,9 +7,9 @@ ghost use Rattle.folio_sections.specs.Adding.{AddsList, HasRoom};
 ghost use Rattle.folio_sections.specs.Waiting.{notice};
 ghost use Rattle.folio_sections.specs.Entering.{placed_at, placed_in, places_brought};
 
-use crate::adding::{Entering, add};
+use crate::adding::Entering;
 use act_model::filing_keys;
-use folio_sections::{Parts, What, creates_in_division};
+use folio_sections::{Parts, What, add, creates_in_division};
 use gb_base::{FolioId, Key, ReceiptNo};
 
 /// Sets the place of the filing in each folio in which it creates a right, unless an official

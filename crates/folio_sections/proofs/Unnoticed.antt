@@ -203,10 +203,15 @@ walk_least after m entries (Some k) walk =
     let above : 0 < k = grind (arith, nat_tests, high) in
     (above, found.0, same_test after entries k above ∙ found.1, none_wanted after m entries (Some k) walk)
 
--- the walk finds the first of those that wait without a notice
+-- those that wait without a notice, by one test
+pub unnoticed_is : (m : ℕ) (entries : List Entry) → waiting_unnoticed m entries ≡ filter (λ n. lacks_notice n entries) (below m)
+unnoticed_is m entries = refl
+
+-- the walk finds the first of them
 pub walked : (after : Option ℕ) (m : ℕ) (entries : List Entry) → fold (λ before e. least_by after m entries before e.what) None entries ≡ find (is_above after) (waiting_unnoticed m entries)
 walked after m entries =
     let walk = fold (λ before e. least_by after m entries before e.what) None entries in
     one_least (λ n. lacks_notice n entries && is_above after n) m walk (find (is_above after) (waiting_unnoticed m entries))
     (walk_least after m entries walk (with_all after m entries None entries tt))
-    (first_below (is_above after) (λ n. lacks_notice n entries) m)
+    (subst (λ ns. IsLeast (λ n. lacks_notice n entries && is_above after n) m (find (is_above after) ns)) (sym (unnoticed_is m entries))
+    (first_below (is_above after) (λ n. lacks_notice n entries) m))

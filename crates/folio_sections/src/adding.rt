@@ -1,7 +1,9 @@
 // Entries that an item adds to the parts of a register.
 ghost use Rattle.std.specs.Prelude.{◌≡◌, ◌≤◌, [], ◌∷◌, length, IsTrue};
+ghost use Rattle.gb_base.specs.DayMinute.{IsStampDay};
+ghost use Rattle.act_model.specs.Receiving.{day_of};
 ghost use Rattle.folio_sections.specs.Adding.{AddsList, HasRoom};
-ghost use Rattle.folio_sections.specs.Entering.{day_of, entry_by};
+ghost use Rattle.folio_sections.specs.Entering.{entry_by};
 
 use crate::{Entry, Parts, What};
 use act_model::Journal;
@@ -10,7 +12,8 @@ use gb_base::{Day, Key, ReceiptNo};
 /// The stamp day of an item.
 pub fn day_of(journal: &Journal, item: ReceiptNo) -> Day
     requires { item ≤ length journal.now.receipts }
-    ensures { result ≡ day_of journal.now.receipts item }
+    ensures value { result ≡ day_of journal.now.receipts item }
+    ensures stamp_day { IsStampDay result }
 {
     journal.receipts()[item.get() as usize - 1].stamp.day()
 }

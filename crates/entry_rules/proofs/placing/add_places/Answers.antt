@@ -1,25 +1,20 @@
 -- A place that is set changes no notice, so each key's place is that of the parts as they stood.
-use Rattle.std.proofs.Common.{◌≡◌, ◌+◌, Bool, Contains, ◌∷◌, drop, IsTrue, sym, subst, ◌∙◌}
+use Rattle.std.proofs.Common.{◌≡◌, ◌+◌, ◌∷◌, drop, sym, subst, ◌∙◌}
 use Rattle.gb_base.specs.declared.keys.Key.{Key}
-use Rattle.act_model.proofs.KeyOrder.{in_key_order_members}
-use Rattle.act_model.specs.Touches.{keys_in_order, keys_of_filing}
+use Rattle.act_model.specs.Touches.{keys_in_order}
 use Rattle.folio_sections.specs.Entering.{placed_at}
 use Rattle.folio_sections.specs.Adding.{HasRoom}
 use Rattle.std.specs.List.{flat_map}
 use Rattle.folio_sections.proofs.Unchanged.{KeepsNotices}
-use Rattle.entry_rules.proofs.Entered.{drop_next}
-use Rattle.entry_rules.proofs.Progress.{Progress, goes_on, has_room}
+use Rattle.folio_sections.proofs.ListLemmas.{drop_next}
+use Rattle.folio_sections.proofs.Progress.{Progress, goes_on, has_room, key_held}
 use Rattle.entry_rules.proofs.Steady.{places_apart}
 use Rattle.entry_rules.proofs.placing.add_places.Goals as goal
 
 pub add_place_at-requires-clause-held : goal.add_place_at-requires-clause-held
 add_place_at-requires-clause-held g c =
-    let items = c.as_slice-key-items.result.now in
-    let key = c.key-item.result in
-    let all : items ≡ keys_in_order c.args.by.now.journal.now.receipts c.args.by.now.number = c.as_slice-key-items.ensures.value ∙ c.filing_keys-keys.ensures in
-    let there : Contains items key = (c.loop-key.key-index, c.loop-key-test.true, sym c.key-item.is) in
-    subst (λ (h : Key → Bool). IsTrue (h key)) (sym c.loop-key.invariant.held)
-    (c.requires.held key ((in_key_order_members (keys_of_filing c.args.by.now.journal.now.receipts c.args.by.now.number) key).0 (subst (λ ks. Contains ks key) all there)))
+    key_held c.args.by.now.journal.now.receipts c.args.by.now.number c.as_slice-key-items.result.now c.loop-key.key-index c.key-item.result (g.P.Parts.holds c.args.parts.now) (g.P.Parts.holds c.loop-key.parts)
+    (c.as_slice-key-items.ensures.value ∙ c.filing_keys-keys.ensures) c.loop-key-test.true c.key-item.is c.loop-key.invariant.held c.requires.held
 
 pub add_place_at-requires-clause-room : goal.add_place_at-requires-clause-room
 add_place_at-requires-clause-room g c =
