@@ -2,8 +2,10 @@
 use Rattle.std.specs.Prelude.{ℕ, nat_lt, if◌then◌else◌, List, map, slice_get, Option, Some, None, option_and_then}
 use Rattle.gb_base.specs.Deadlines.{deadline}
 use Rattle.gb_base.specs.declared.keys.Key.{Key}
+use Rattle.act_model.specs.Receiving.{day_of}
+use Rattle.act_model.specs.Touches.{keys_in_order}
 use Rattle.act_model.specs.declared.receipts.Receipt.{Receipt}
-use Rattle.folio_sections.specs.Entering.{day_of, entry_by, keys_in_order}
+use Rattle.folio_sections.specs.Entering.{entry_by}
 use Rattle.folio_sections.specs.Waiting.{pending}
 use Rattle.folio_sections.specs.declared.entries.Entry.{Entry}
 use Rattle.folio_sections.specs.declared.entries.What.TheVariants as what

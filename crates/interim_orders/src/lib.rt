@@ -7,7 +7,7 @@ mod notices;
 mod orders;
 mod states;
 
-pub use lapses::{Lapse, lapse};
+pub use lapses::{LapseAnswer, lapse};
 pub use notices::enter_notices;
 pub use orders::{close_order, open_order};
 pub use states::{FilingState, state};

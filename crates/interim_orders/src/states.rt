@@ -2,6 +2,7 @@
 ghost use Rattle.std.specs.Prelude.{◌≡◌, ◌<◌, Contains, IsTrue};
 ghost use Rattle.gb_base.specs.declared.keys.Key.{Key};
 ghost use Rattle.act_model.specs.Touches.{keys_of_filing};
+ghost use Rattle.folio_sections.specs.Waiting.{pending};
 ghost use Rattle.interim_orders.specs.Orders.{state_by, state_of, waits_until};
 
 use act_model::{Journal, filing_keys};
@@ -52,5 +53,17 @@ fn waits_until<P: Parts>(parts: &P, journal: &Journal, filing: ReceiptNo) -> Opt
     match filing_keys(journal, filing).as_slice().first() {
         Some(key) => pending_at(parts, *key, filing),
         None => None,
+    }
+}
+
+/// The day until which a filing waits at this key; None where it does not wait there.
+fn pending_at<P: Parts>(parts: &P, key: Key, filing: ReceiptNo) -> Option<Day>
+    requires { IsTrue (P.holds parts.now key) }
+    ensures { result ≡ pending filing (P.at parts.now key) }
+{
+    match key {
+        Key::Title(folio) => parts.title(folio).unwrap().pending(filing),
+        Key::Right(folio, right) => parts.right(folio, right).unwrap().pending(filing),
+        Key::Case(folio) => parts.case(folio).unwrap().pending(filing),
     }
 }
