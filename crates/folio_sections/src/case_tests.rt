@@ -1,5 +1,5 @@
 // What is read at a forced sale, over lists written by hand.
-use crate::tests::{cents, entry, folio, person, receipt};
+use crate::tests::{cents, day, entry, folio, person, receipt};
 use crate::{CasePart, What};
 use gb_base::{Key, NoMemory};
 use std::alloc::Global;
@@ -48,5 +48,18 @@ fn a_case_begins_behind_a_distribution(rt: HostRuntime) -> Result<(), Fail> {
     assert_eq!(rt; part.seizures(), 1);
     assert_eq!(rt; part.called(), None);
     assert_eq!(rt; part.award(), None);
+    Ok(())
+}
+
+/// No act has the key of a forced sale, so nothing waits there; it is read like any other part.
+#[test]
+fn a_filing_that_waits_at_a_case(rt: HostRuntime) -> Result<(), Fail> {
+    let mut part = awarded(&rt, rt.alloc())?;
+    assert_eq!(rt; part.pending(receipt(&rt, 5)), None);
+    let filing = receipt(&rt, 5);
+    let until = day(&rt, 40);
+    add(&rt, &mut part, 5, What::Pending { filing, until })?;
+    assert_eq!(rt; part.pending(filing), Some(until));
+    assert_eq!(rt; part.next_unnoticed(None, receipt(&rt, 6)), Some(filing));
     Ok(())
 }

@@ -1,7 +1,7 @@
 // What is read at a title, over lists written by hand.
 use crate::tests::{day, entry, folio, owner, parcel, person, receipt};
 use crate::{TitlePart, What};
-use gb_base::{Key, NoMemory, Person};
+use gb_base::{Key, NoMemory, Person, ReceiptNo};
 use std::alloc::Global;
 use std::process::Abort;
 use std::test::Fail;
@@ -88,4 +88,33 @@ fn a_notice_ends_where_its_filing_is_settled(rt: HostRuntime) -> Result<(), Fail
     assert!(rt; concerns(&rt, &part, 2, person(&rt, 11)));
     assert_eq!(rt; part.entries().len(), 5);
     Ok(())
+}
+
+/// Filings 5, 3 and 4 wait besides filing 2, which has its notice; filing 4 no longer.
+#[test]
+fn the_next_without_a_notice(rt: HostRuntime) -> Result<(), Fail> {
+    let mut part = noticed(&rt, rt.alloc())?;
+    set_to_wait(&rt, &mut part, 5)?;
+    set_to_wait(&rt, &mut part, 3)?;
+    set_to_wait(&rt, &mut part, 4)?;
+    let filing = receipt(&rt, 4);
+    add(&rt, &mut part, 7, What::Settled { filing })?;
+    assert_eq!(rt;
+        part.next_unnoticed(None, receipt(&rt, 9)),
+        Some(receipt(&rt, 3))
+    );
+    assert_eq!(rt; next_behind_three(&rt, &part, 9), Some(receipt(&rt, 5)));
+    assert_eq!(rt; next_behind_three(&rt, &part, 5), None);
+    assert_eq!(rt; part.next_unnoticed(None, receipt(&rt, 3)), None);
+    Ok(())
+}
+
+fn set_to_wait(rt: &impl Abort, part: &mut TitlePart, n: u32) -> Result<(), NoMemory> {
+    let filing = receipt(rt, n);
+    let until = day(rt, 40);
+    add(rt, part, 6, What::Pending { filing, until })
+}
+
+fn next_behind_three(rt: &impl Abort, part: &TitlePart, filing: u32) -> Option<ReceiptNo> {
+    part.next_unnoticed(Some(receipt(rt, 3)), receipt(rt, filing))
 }

@@ -7,6 +7,10 @@ pub mod laws;
 mod notices;
 mod orders;
 mod states;
+#[cfg(test)]
+mod testing;
+#[cfg(test)]
+mod tests;
 
 pub use lapses::{LapseAnswer, lapse};
 pub use notices::enter_notices;

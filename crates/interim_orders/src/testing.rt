@@ -1,0 +1,269 @@
+// Journals and parts for the tests, and calls on them that keep what they want.
+ghost use Rattle.std.specs.Prelude.{◌≡◌, ◌<◌, ℕ, Contains, IsTrue, Some};
+ghost use Rattle.gb_base.specs.declared.keys.Key.{Key};
+ghost use Rattle.act_model.specs.Touches.{keys_of_filing};
+ghost use Rattle.folio_sections.specs.Held.{is_held};
+ghost use Rattle.interim_orders.specs.Lapses.{lapse_at};
+
+use crate::lapses::lapse_at;
+use crate::{FilingState, LapseAnswer, close_order, enter_notices, lapse, laws, open_order, state};
+use act_model::{
+    Act, Acts, Added, Docs, Filing, Item, Journal, RightKind, RightSpec, filing_at, filing_keys,
+    well_formed,
+};
+use arrayvec::ArrayVec;
+use folio_sections::{Entry, MapParts, Parts, What};
+use gb_base::{Cents, Day, FolioId, Key, NoMemory, Person, ReceiptNo, RightId, Stamp};
+use std::alloc::Global;
+use std::process::Abort;
+
+pub fn folio(rt: &impl Abort, n: u32) -> FolioId {
+    FolioId::new(n).expect(rt, "a folio")
+}
+
+pub fn receipt(rt: &impl Abort, n: u32) -> ReceiptNo {
+    ReceiptNo::new(n).expect(rt, "a receipt")
+}
+
+fn person(rt: &impl Abort, n: u32) -> Person {
+    Person::new(n).expect(rt, "a person")
+}
+
+/// A day of 2024.
+pub fn day(rt: &impl Abort, month: u8, of_month: u8) -> Day {
+    Day::from_civil(2024, month, of_month).expect(rt, "a day")
+}
+
+pub fn title_key(rt: &impl Abort, n: u32) -> Key {
+    Key::Title(folio(rt, n))
+}
+
+/// The key of the right that an act of a filing creates in a folio.
+pub fn right_key(rt: &impl Abort, n: u32, of: u32, act: u8) -> Key {
+    let right = RightId::new(receipt(rt, of), act).expect(rt, "a right");
+    Key::Right(folio(rt, n), right)
+}
+
+// ---- items
+
+/// The creation of a land charge in a folio.
+pub fn charge(rt: &impl Abort, n: u32) -> Act {
+    Act::Create {
+        folio: folio(rt, n),
+        spec: RightSpec {
+            kind: RightKind::LandCharge { rate_bp: 500 },
+            capital: Cents::new(10_000).expect(rt, "an amount"),
+            holder: person(rt, 20),
+            group: 1,
+        },
+        reserve: None,
+    }
+}
+
+/// A filing of these acts without documents.
+pub fn filing(rt: &impl Abort, acts: ArrayVec<Act, 8>) -> Item {
+    Item::Filing(Filing {
+        applicant: person(rt, 10),
+        conditional: false,
+        acts: Acts::new(acts),
+        docs: Docs::new(ArrayVec::new()),
+    })
+}
+
+/// A filing that creates a land charge in a folio.
+pub fn one_charge(rt: &impl Abort, n: u32) -> Item {
+    let mut acts = ArrayVec::new();
+    acts.push(charge(rt, n));
+    filing(rt, acts)
+}
+
+/// A lapse of this number.
+pub fn lapse_item(rt: &impl Abort, n: u32) -> Item {
+    Item::Lapse {
+        filing: receipt(rt, n),
+    }
+}
+
+/// The item becomes receipt n of the journal, on this day.
+pub fn receive(rt: &impl Abort, journal: &mut Journal, n: u32, on: Day, item: &Item) {
+    assert!(rt; well_formed(item));
+    let stamp = Stamp::new(on, 540).expect(rt, "a stamp");
+    let answer = journal.add(stamp, 1, n as u64, item);
+    assert_eq!(rt; answer, Added::Accepted(receipt(rt, n)));
+}
+
+// ---- parts
+
+/// Empty parts at the keys of all filings of the journal.
+pub fn parts_of(rt: &impl Abort, alloc: Global, journal: &Journal) -> Result<MapParts, NoMemory> {
+    let mut keys = Vec::new(alloc);
+    for n in 0..journal.len() {
+        add_keys(&mut keys, journal, receipt(rt, n + 1))?;
+    }
+    MapParts::new(alloc, keys.as_slice())
+}
+
+fn add_keys(keys: &mut Vec<Key>, journal: &Journal, filing: ReceiptNo) -> Result<(), NoMemory> {
+    let more = filing_keys(journal, filing);
+    for key in more.as_slice() {
+        keys.push(*key)?;
+    }
+    Ok(())
+}
+
+/// Ends the test unless the parts of a filing's keys are held.
+fn check_held(rt: &impl Abort, parts: &MapParts, journal: &Journal, filing: ReceiptNo)
+    ensures { (k : Key) → Contains (keys_of_filing journal.now.receipts filing) k → IsTrue (is_held parts.now k) }
+{
+    let keys = filing_keys(journal, filing);
+    check_keys(rt, parts, keys.as_slice());
+}
+
+/// Ends the test unless the parts of these keys are held.
+fn check_keys(rt: &impl Abort, parts: &MapParts, keys: &[Key])
+    ensures { (k : Key) → Contains keys.now k → IsTrue (is_held parts.now k) }
+{
+    for key in keys {
+        assert!(rt; is_held(parts, *key));
+    }
+}
+
+fn is_held(parts: &MapParts, key: Key) -> bool
+    ensures { result ≡ is_held parts.now key }
+{
+    match key {
+        Key::Title(folio) => parts.title(folio).is_some(),
+        Key::Right(folio, right) => parts.right(folio, right).is_some(),
+        Key::Case(folio) => parts.case(folio).is_some(),
+    }
+}
+
+/// Ends the test unless the parts are held of the filing that a lapse names.
+fn check_lapse(rt: &impl Abort, parts: &MapParts, journal: &Journal, item: ReceiptNo)
+    ensures { (m : ℕ) → lapse_at journal.now.receipts item ≡ Some m → (k : Key) → Contains (keys_of_filing journal.now.receipts m) k → IsTrue (is_held parts.now k) }
+{
+    match lapse_at(journal, item) {
+        Some(filing) => check_held(rt, parts, journal, filing),
+        None => {}
+    }
+}
+
+// ---- calls
+
+/// Opens the order of a filing.
+pub fn order(
+    rt: &impl Abort,
+    parts: &mut MapParts,
+    journal: &Journal,
+    filing: u32,
+) -> Result<Day, NoMemory> {
+    let filing = receipt(rt, filing);
+    assert!(rt; filing_at(journal, filing).is_some());
+    parts.reserve_all(1)?;
+    check_held(rt, parts, journal, filing);
+    laws::room_for_order();
+    Ok(open_order(parts, journal, filing))
+}
+
+/// Ends the waiting of a filing by an item.
+pub fn close(
+    rt: &impl Abort,
+    parts: &mut MapParts,
+    journal: &Journal,
+    item: u32,
+    filing: u32,
+) -> Result<(), NoMemory> {
+    let item = receipt(rt, item);
+    let filing = receipt(rt, filing);
+    assert!(rt; item.get() <= journal.len());
+    parts.reserve_all(1)?;
+    check_held(rt, parts, journal, filing);
+    laws::room_for_order();
+    close_order(parts, journal, item, filing);
+    Ok(())
+}
+
+/// Enters the notices that the entry of a filing by itself brings.
+pub fn notices(
+    rt: &impl Abort,
+    parts: &mut MapParts,
+    journal: &Journal,
+    filing: u32,
+) -> Result<(), NoMemory> {
+    let filing = receipt(rt, filing);
+    assert!(rt; filing.get() <= journal.len());
+    parts.reserve_all(filing.get() as usize)?;
+    check_held(rt, parts, journal, filing);
+    laws::room_for_notices();
+    enter_notices(parts, journal, filing, filing);
+    Ok(())
+}
+
+/// The state of a filing as an item finds it.
+pub fn state_at(
+    rt: &impl Abort,
+    parts: &MapParts,
+    journal: &Journal,
+    item: u32,
+    filing: u32,
+) -> FilingState {
+    let item = receipt(rt, item);
+    let filing = receipt(rt, filing);
+    check_held(rt, parts, journal, filing);
+    state(parts, journal, item, filing)
+}
+
+/// The answer to an item as a lapse.
+pub fn lapsed(
+    rt: &impl Abort,
+    parts: &mut MapParts,
+    journal: &Journal,
+    item: u32,
+) -> Result<LapseAnswer, NoMemory> {
+    let item = receipt(rt, item);
+    assert!(rt; item.get() <= journal.len());
+    parts.reserve_all(1)?;
+    check_lapse(rt, parts, journal, item);
+    laws::room_for_lapse();
+    Ok(lapse(parts, journal, item))
+}
+
+// ---- what stands
+
+/// The entries at a key.
+pub fn entries<'a>(rt: &impl Abort, parts: &'a MapParts, key: Key) -> &'a [Entry] {
+    match key {
+        Key::Title(folio) => parts.title(folio).expect(rt, "a part").entries(),
+        Key::Right(folio, right) => parts.right(folio, right).expect(rt, "a part").entries(),
+        Key::Case(folio) => parts.case(folio).expect(rt, "a part").entries(),
+    }
+}
+
+/// An entry at a key, from 0.
+pub fn entry<'a>(rt: &impl Abort, parts: &'a MapParts, key: Key, index: usize) -> &'a Entry {
+    entries(rt, parts, key).get(index).expect(rt, "an entry")
+}
+
+/// Whether the entry sets this filing to wait until a day.
+pub fn is_pending(entry: &Entry, of: ReceiptNo, last: Day) -> bool {
+    match &entry.what {
+        What::Pending { filing, until } => *filing == of && *until == last,
+        _ => false,
+    }
+}
+
+/// Whether the entry is the official notice of this filing.
+pub fn is_notice(entry: &Entry, of: ReceiptNo) -> bool {
+    match &entry.what {
+        What::Notice { filing } => *filing == of,
+        _ => false,
+    }
+}
+
+/// Whether the entry ends the waiting of this filing.
+pub fn is_settled(entry: &Entry, of: ReceiptNo) -> bool {
+    match &entry.what {
+        What::Settled { filing } => *filing == of,
+        _ => false,
+    }
+}

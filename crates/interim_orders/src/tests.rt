@@ -1,0 +1,164 @@
+// Orders, notices and lapses in small journals of 2024.
+use crate::testing::{
+    charge, close, day, entries, entry, filing, is_notice, is_pending, is_settled, lapse_item,
+    lapsed, notices, one_charge, order, parts_of, receipt, receive, right_key, state_at, title_key,
+};
+use crate::{FilingState, LapseAnswer};
+use act_model::Journal;
+use arrayvec::ArrayVec;
+use folio_sections::Entry;
+use std::process::Abort;
+use std::test::Fail;
+
+/// A filing waits at both its keys, and until the Monday behind the Sunday that is the thirtieth
+/// day.
+#[test]
+fn an_order_at_two_keys(rt: HostRuntime) -> Result<(), Fail> {
+    let mut journal = Journal::new(rt.alloc());
+    receive(&rt, &mut journal, 1, day(&rt, 3, 1), &one_charge(&rt, 8));
+    let mut parts = parts_of(&rt, rt.alloc(), &journal)?;
+    let until = order(&rt, &mut parts, &journal, 1)?;
+    assert!(rt; until == day(&rt, 4, 1));
+    assert_eq!(rt; entries(&rt, &parts, title_key(&rt, 8)).len(), 1);
+    assert_eq!(rt; entries(&rt, &parts, right_key(&rt, 8, 1, 1)).len(), 1);
+    let at_title = entry(&rt, &parts, title_key(&rt, 8), 0);
+    assert!(rt; is_pending(at_title, receipt(&rt, 1), day(&rt, 4, 1)));
+    assert!(rt; at_title.receipt == receipt(&rt, 1));
+    assert!(rt; at_title.day == day(&rt, 3, 1));
+    let at_right = entry(&rt, &parts, right_key(&rt, 8, 1, 1), 0);
+    assert!(rt; is_pending(at_right, receipt(&rt, 1), day(&rt, 4, 1)));
+    Ok(())
+}
+
+/// A filing in two folios waits at all its keys, and its waiting ends at all of them.
+#[test]
+fn the_end_of_an_order_in_two_folios(rt: HostRuntime) -> Result<(), Fail> {
+    let mut acts = ArrayVec::new();
+    acts.push(charge(&rt, 9));
+    acts.push(charge(&rt, 8));
+    let mut journal = Journal::new(rt.alloc());
+    receive(&rt, &mut journal, 1, day(&rt, 3, 4), &filing(&rt, acts));
+    receive(&rt, &mut journal, 2, day(&rt, 3, 5), &one_charge(&rt, 8));
+    let mut parts = parts_of(&rt, rt.alloc(), &journal)?;
+    let until = order(&rt, &mut parts, &journal, 1)?;
+    assert!(rt; until == day(&rt, 4, 3));
+    close(&rt, &mut parts, &journal, 2, 1)?;
+    assert!(rt; waited(&rt, entries(&rt, &parts, title_key(&rt, 8))));
+    assert!(rt; waited(&rt, entries(&rt, &parts, right_key(&rt, 8, 1, 2))));
+    assert!(rt; waited(&rt, entries(&rt, &parts, title_key(&rt, 9))));
+    assert!(rt; waited(&rt, entries(&rt, &parts, right_key(&rt, 9, 1, 1))));
+    assert!(rt; state_at(&rt, &parts, &journal, 2, 1) == FilingState::NotPending);
+    Ok(())
+}
+
+/// Whether these are that filing 1 waits until 2024-04-03, and that receipt 2 ends its waiting.
+fn waited(rt: &impl Abort, found: &[Entry]) -> bool {
+    match found {
+        [first, last] => {
+            is_pending(first, receipt(rt, 1), day(rt, 4, 3))
+                && is_settled(last, receipt(rt, 1))
+                && last.receipt == receipt(rt, 2)
+                && last.day == day(rt, 3, 5)
+        }
+        _ => false,
+    }
+}
+
+/// An entered filing brings the notices of the earlier ones that wait, in ascending order, none of
+/// a later one, and none twice.
+#[test]
+fn notices_of_two_filings(rt: HostRuntime) -> Result<(), Fail> {
+    let mut journal = Journal::new(rt.alloc());
+    receive(&rt, &mut journal, 1, day(&rt, 3, 1), &one_charge(&rt, 8));
+    receive(&rt, &mut journal, 2, day(&rt, 3, 1), &one_charge(&rt, 8));
+    receive(&rt, &mut journal, 3, day(&rt, 3, 4), &one_charge(&rt, 8));
+    receive(&rt, &mut journal, 4, day(&rt, 3, 4), &one_charge(&rt, 8));
+    let mut parts = parts_of(&rt, rt.alloc(), &journal)?;
+    order(&rt, &mut parts, &journal, 4)?;
+    order(&rt, &mut parts, &journal, 2)?;
+    order(&rt, &mut parts, &journal, 1)?;
+    notices(&rt, &mut parts, &journal, 3)?;
+    notices(&rt, &mut parts, &journal, 3)?;
+    assert_eq!(rt; entries(&rt, &parts, title_key(&rt, 8)).len(), 5);
+    let first = entry(&rt, &parts, title_key(&rt, 8), 3);
+    assert!(rt; is_notice(first, receipt(&rt, 1)));
+    assert!(rt; first.receipt == receipt(&rt, 3));
+    assert!(rt; first.day == day(&rt, 3, 4));
+    assert!(rt; is_notice(entry(&rt, &parts, title_key(&rt, 8), 4), receipt(&rt, 2)));
+    assert_eq!(rt; entries(&rt, &parts, right_key(&rt, 8, 3, 1)).len(), 0);
+    Ok(())
+}
+
+/// A filing that waits no longer gets no notice.
+#[test]
+fn no_notice_of_a_settled_filing(rt: HostRuntime) -> Result<(), Fail> {
+    let mut journal = Journal::new(rt.alloc());
+    receive(&rt, &mut journal, 1, day(&rt, 3, 1), &one_charge(&rt, 8));
+    receive(&rt, &mut journal, 2, day(&rt, 3, 1), &one_charge(&rt, 8));
+    let mut parts = parts_of(&rt, rt.alloc(), &journal)?;
+    order(&rt, &mut parts, &journal, 1)?;
+    close(&rt, &mut parts, &journal, 2, 1)?;
+    notices(&rt, &mut parts, &journal, 2)?;
+    assert_eq!(rt; entries(&rt, &parts, title_key(&rt, 8)).len(), 2);
+    Ok(())
+}
+
+/// Only an earlier filing can be pending, and only one with an order.
+#[test]
+fn states_of_filings(rt: HostRuntime) -> Result<(), Fail> {
+    let mut journal = Journal::new(rt.alloc());
+    receive(&rt, &mut journal, 1, day(&rt, 3, 4), &one_charge(&rt, 8));
+    receive(&rt, &mut journal, 2, day(&rt, 3, 4), &one_charge(&rt, 8));
+    let mut parts = parts_of(&rt, rt.alloc(), &journal)?;
+    assert!(rt; state_at(&rt, &parts, &journal, 2, 1) == FilingState::NotPending);
+    let until = order(&rt, &mut parts, &journal, 1)?;
+    assert!(rt; state_at(&rt, &parts, &journal, 2, 1) == FilingState::Pending { until });
+    order(&rt, &mut parts, &journal, 2)?;
+    assert!(rt; state_at(&rt, &parts, &journal, 2, 2) == FilingState::NotPending);
+    assert!(rt; state_at(&rt, &parts, &journal, 1, 2) == FilingState::NotPending);
+    Ok(())
+}
+
+/// Filing 2 waits until 2024-04-01. Filing 3 is entered, and brings its notice. A lapse on the last
+/// day is too early, one on the day behind it rejects, and then the filing does not wait.
+#[test]
+fn lapses_around_the_deadline(rt: HostRuntime) -> Result<(), Fail> {
+    let mut journal = Journal::new(rt.alloc());
+    receive(&rt, &mut journal, 1, day(&rt, 2, 29), &one_charge(&rt, 8));
+    receive(&rt, &mut journal, 2, day(&rt, 3, 1), &one_charge(&rt, 8));
+    receive(&rt, &mut journal, 3, day(&rt, 3, 4), &one_charge(&rt, 8));
+    receive(&rt, &mut journal, 4, day(&rt, 4, 1), &lapse_item(&rt, 2));
+    receive(&rt, &mut journal, 5, day(&rt, 4, 2), &lapse_item(&rt, 2));
+    receive(&rt, &mut journal, 6, day(&rt, 4, 3), &lapse_item(&rt, 2));
+    let mut parts = parts_of(&rt, rt.alloc(), &journal)?;
+    let until = order(&rt, &mut parts, &journal, 2)?;
+    assert!(rt; until == day(&rt, 4, 1));
+    notices(&rt, &mut parts, &journal, 3)?;
+    assert!(rt; is_notice(entry(&rt, &parts, title_key(&rt, 8), 1), receipt(&rt, 2)));
+    assert!(rt; lapsed(&rt, &mut parts, &journal, 4)? == LapseAnswer::TooEarly(until));
+    assert_eq!(rt; entries(&rt, &parts, title_key(&rt, 8)).len(), 2);
+    assert!(rt; lapsed(&rt, &mut parts, &journal, 5)? == LapseAnswer::Rejected);
+    let ended = entry(&rt, &parts, title_key(&rt, 8), 2);
+    assert!(rt; is_settled(ended, receipt(&rt, 2)));
+    assert!(rt; ended.receipt == receipt(&rt, 5));
+    assert!(rt; lapsed(&rt, &mut parts, &journal, 6)? == LapseAnswer::NotPending);
+    assert_eq!(rt; entries(&rt, &parts, title_key(&rt, 8)).len(), 3);
+    Ok(())
+}
+
+/// A lapse of a number that is no filing, or of a later one, finds nothing that waits; nor does an
+/// item that is no lapse.
+#[test]
+fn lapses_of_no_filing(rt: HostRuntime) -> Result<(), Fail> {
+    let mut journal = Journal::new(rt.alloc());
+    receive(&rt, &mut journal, 1, day(&rt, 3, 1), &lapse_item(&rt, 9));
+    receive(&rt, &mut journal, 2, day(&rt, 5, 2), &lapse_item(&rt, 1));
+    receive(&rt, &mut journal, 3, day(&rt, 5, 2), &lapse_item(&rt, 4));
+    receive(&rt, &mut journal, 4, day(&rt, 5, 3), &one_charge(&rt, 8));
+    let mut parts = parts_of(&rt, rt.alloc(), &journal)?;
+    order(&rt, &mut parts, &journal, 4)?;
+    for item in 1..5 {
+        assert!(rt; lapsed(&rt, &mut parts, &journal, item)? == LapseAnswer::NotPending);
+    }
+    Ok(())
+}
