@@ -25,7 +25,7 @@ use Rattle.folio_sections.proofs.Additions.{at_few, length-at, none_at}
 use Rattle.folio_sections.proofs.Unnoticed.{unnoticed_is}
 use Rattle.interim_orders.specs.Lapses.{brought_by_lapse, lapse_at, lapse_brought, lapse_by}
 use Rattle.interim_orders.specs.Orders.{end_brought, state_by, state_of, waits_until}
-use Rattle.interim_orders.specs.declared.lapses.LapseAnswer.TheVariants.{NotPending, Rejected, TooEarly}
+use Rattle.interim_orders.specs.declared.answers.Lapse.TheVariants.{NotPending, Rejected, TooEarly}
 use Rattle.interim_orders.specs.inner.Marks.{mark, marks}
 use Rattle.interim_orders.proofs.Marking.{each_marked, mark_at}
 use Rattle.interim_orders.proofs.Noticing.{all_map, first_apart, sorted_rest}

@@ -10,8 +10,8 @@ use Rattle.folio_sections.specs.declared.entries.Entry.{Entry}
 use Rattle.interim_orders.specs.Orders.{end_brought, state_of}
 use Rattle.interim_orders.specs.declared.states.FilingState.{FilingState}
 use Rattle.interim_orders.specs.declared.states.FilingState.TheVariants as state
-use Rattle.interim_orders.specs.declared.lapses.LapseAnswer.{LapseAnswer}
-use Rattle.interim_orders.specs.declared.lapses.LapseAnswer.TheVariants as answer
+use Rattle.interim_orders.specs.declared.answers.Lapse.{Lapse}
+use Rattle.interim_orders.specs.declared.answers.Lapse.TheVariants as answer
 
 -- the filing whose lapse an item states
 abbrev pub lapse_in : Item → Option ℕ
@@ -23,16 +23,16 @@ abbrev pub lapse_at : List Receipt → ℕ → Option ℕ
 lapse_at journal i = option_and_then (λ r. lapse_in r.item) (receipt_at journal i)
 
 -- the answer to a lapse on this day: the deadline has to be over
-abbrev pub lapse_by : ℕ → FilingState → LapseAnswer
+abbrev pub lapse_by : ℕ → FilingState → Lapse
 lapse_by day (state.Pending until) = if nat_lt until day then answer.Rejected else answer.TooEarly until
 lapse_by day state.NotPending = answer.NotPending
 
 -- the answer to item i as the lapse of a filing; where it is no lapse, no filing that it names waits
-abbrev pub lapsed : List Receipt → ℕ → (Key → List Entry) → LapseAnswer
+abbrev pub lapsed : List Receipt → ℕ → (Key → List Entry) → Lapse
 lapsed journal i at = option_map_or (λ m. lapse_by (day_of journal i) (state_of journal m i at)) (lapse_at journal i) answer.NotPending
 
 -- an answer that rejects brings the end of the waiting, any other nothing
-abbrev pub brought_by_lapse : List Entry → LapseAnswer → List Entry
+abbrev pub brought_by_lapse : List Entry → Lapse → List Entry
 brought_by_lapse ended answer.Rejected = ended
 brought_by_lapse ended (answer.TooEarly until) = []
 brought_by_lapse ended answer.NotPending = []

@@ -8,26 +8,16 @@ ghost use Rattle.interim_orders.specs.Lapses.{brought_by_lapse, lapse_at, lapse_
 ghost use Rattle.interim_orders.specs.Orders.{end_brought, state_of};
 ghost use Rattle.interim_orders.specs.declared.states.FilingState.TheVariants.{Pending};
 
+use crate::answers::Lapse;
 use crate::orders::close_order;
 use crate::states::{FilingState, state};
 use act_model::{Item, Journal};
 use folio_sections::{Parts, day_of};
 use gb_base::{Day, ReceiptNo};
 
-/// How a lapse is answered.
-#[derive(Clone, Copy, Debug, PartialEq, Eq)]
-pub enum LapseAnswer {
-    /// The deadline is not over: this day is the last of it.
-    TooEarly(Day),
-    /// The filing named does not wait.
-    NotPending,
-    /// The filing is rejected.
-    Rejected,
-}
-
 /// Answers a lapse, and where the deadline is over ends the waiting of the filing that it names. It
 /// takes no memory and cannot fail.
-pub fn lapse<P: Parts>(parts: &mut P, journal: &Journal, item: ReceiptNo) -> LapseAnswer
+pub fn lapse<P: Parts>(parts: &mut P, journal: &Journal, item: ReceiptNo) -> Lapse
     requires received { item ≤ length journal.now.receipts }
     requires held { (m : ℕ) → lapse_at journal.now.receipts item ≡ Some m → m < item
         → (k : Key) → Contains (keys_of_filing journal.now.receipts m) k → IsTrue (P.holds parts.old k) }
@@ -38,7 +28,7 @@ pub fn lapse<P: Parts>(parts: &mut P, journal: &Journal, item: ReceiptNo) -> Lap
 {
     match lapse_at(journal, item) {
         Some(filing) => lapse_of(parts, journal, item, filing),
-        None => LapseAnswer::NotPending,
+        None => Lapse::NotPending,
     }
 }
 
@@ -63,12 +53,7 @@ fn lapse_in(item: &Item) -> Option<ReceiptNo>
 }
 
 /// Answers the lapse of this filing.
-fn lapse_of<P: Parts>(
-    parts: &mut P,
-    journal: &Journal,
-    item: ReceiptNo,
-    filing: ReceiptNo,
-) -> LapseAnswer
+fn lapse_of<P: Parts>(parts: &mut P, journal: &Journal, item: ReceiptNo, filing: ReceiptNo) -> Lapse
     requires received { item ≤ length journal.now.receipts }
     requires held { filing < item → (k : Key) → Contains (keys_of_filing journal.now.receipts filing) k → IsTrue (P.holds parts.old k) }
     requires room { HasRoom (P.room parts.old) (brought_by_lapse (end_brought journal.now.receipts filing item)
@@ -81,30 +66,30 @@ fn lapse_of<P: Parts>(
 {
     let answer = lapse_by(day_of(journal, item), state(parts, journal, item, filing));
     match &answer {
-        LapseAnswer::Rejected => close_order(parts, journal, item, filing),
-        LapseAnswer::TooEarly(_) => {}
-        LapseAnswer::NotPending => {}
+        Lapse::Rejected => close_order(parts, journal, item, filing),
+        Lapse::TooEarly(_) => {}
+        Lapse::NotPending => {}
     }
     answer
 }
 
 /// The answer to a lapse on this day: the deadline has to be over.
-fn lapse_by(day: Day, state: FilingState) -> LapseAnswer
+fn lapse_by(day: Day, state: FilingState) -> Lapse
     ensures { result ≡ lapse_by day state }
 {
     match state {
         FilingState::Pending { until } => lapse_until(day, until),
-        FilingState::NotPending => LapseAnswer::NotPending,
+        FilingState::NotPending => Lapse::NotPending,
     }
 }
 
 /// The same of a filing that waits until a day.
-fn lapse_until(day: Day, until: Day) -> LapseAnswer
+fn lapse_until(day: Day, until: Day) -> Lapse
     ensures { result ≡ lapse_by day (Pending until) }
 {
     if until < day {
-        LapseAnswer::Rejected
+        Lapse::Rejected
     } else {
-        LapseAnswer::TooEarly(until)
+        Lapse::TooEarly(until)
     }
 }

@@ -2,6 +2,7 @@
 //! their places meanwhile, and the end of their waiting (GBO § 18).
 #![tactic(auto)]
 
+mod answers;
 mod lapses;
 pub mod laws;
 mod notices;
@@ -12,7 +13,8 @@ mod testing;
 #[cfg(test)]
 mod tests;
 
-pub use lapses::{LapseAnswer, lapse};
+pub use answers::Lapse;
+pub use lapses::lapse;
 pub use notices::enter_notices;
 pub use orders::{close_order, open_order};
 pub use states::{FilingState, state};

@@ -6,7 +6,7 @@ ghost use Rattle.folio_sections.specs.Held.{is_held};
 ghost use Rattle.interim_orders.specs.Lapses.{lapse_at};
 
 use crate::lapses::lapse_at;
-use crate::{FilingState, LapseAnswer, close_order, enter_notices, lapse, laws, open_order, state};
+use crate::{FilingState, Lapse, close_order, enter_notices, lapse, laws, open_order, state};
 use act_model::{
     Act, Acts, Added, Docs, Filing, Item, Journal, RightKind, RightSpec, filing_at, filing_keys,
     well_formed,
@@ -219,7 +219,7 @@ pub fn lapsed(
     parts: &mut MapParts,
     journal: &Journal,
     item: u32,
-) -> Result<LapseAnswer, NoMemory> {
+) -> Result<Lapse, NoMemory> {
     let item = receipt(rt, item);
     assert!(rt; item.get() <= journal.len());
     parts.reserve_all(1)?;

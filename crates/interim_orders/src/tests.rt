@@ -3,7 +3,7 @@ use crate::testing::{
     charge, close, day, entries, entry, filing, is_notice, is_pending, is_settled, lapse_item,
     lapsed, notices, one_charge, order, parts_of, receipt, receive, right_key, state_at, title_key,
 };
-use crate::{FilingState, LapseAnswer};
+use crate::{FilingState, Lapse};
 use act_model::Journal;
 use arrayvec::ArrayVec;
 use folio_sections::Entry;
@@ -135,13 +135,13 @@ fn lapses_around_the_deadline(rt: HostRuntime) -> Result<(), Fail> {
     assert!(rt; until == day(&rt, 4, 1));
     notices(&rt, &mut parts, &journal, 3)?;
     assert!(rt; is_notice(entry(&rt, &parts, title_key(&rt, 8), 1), receipt(&rt, 2)));
-    assert!(rt; lapsed(&rt, &mut parts, &journal, 4)? == LapseAnswer::TooEarly(until));
+    assert!(rt; lapsed(&rt, &mut parts, &journal, 4)? == Lapse::TooEarly(until));
     assert_eq!(rt; entries(&rt, &parts, title_key(&rt, 8)).len(), 2);
-    assert!(rt; lapsed(&rt, &mut parts, &journal, 5)? == LapseAnswer::Rejected);
+    assert!(rt; lapsed(&rt, &mut parts, &journal, 5)? == Lapse::Rejected);
     let ended = entry(&rt, &parts, title_key(&rt, 8), 2);
     assert!(rt; is_settled(ended, receipt(&rt, 2)));
     assert!(rt; ended.receipt == receipt(&rt, 5));
-    assert!(rt; lapsed(&rt, &mut parts, &journal, 6)? == LapseAnswer::NotPending);
+    assert!(rt; lapsed(&rt, &mut parts, &journal, 6)? == Lapse::NotPending);
     assert_eq!(rt; entries(&rt, &parts, title_key(&rt, 8)).len(), 3);
     Ok(())
 }
@@ -158,7 +158,7 @@ fn lapses_of_no_filing(rt: HostRuntime) -> Result<(), Fail> {
     let mut parts = parts_of(&rt, rt.alloc(), &journal)?;
     order(&rt, &mut parts, &journal, 4)?;
     for item in 1..5 {
-        assert!(rt; lapsed(&rt, &mut parts, &journal, item)? == LapseAnswer::NotPending);
+        assert!(rt; lapsed(&rt, &mut parts, &journal, item)? == Lapse::NotPending);
     }
     Ok(())
 }
