@@ -15,7 +15,7 @@ use Rattle.registry_office.specs.OpeningLists.{row_requests}
 use Rattle.registry_office.specs.Receivings.{Receives}
 use Rattle.registry_office.specs.declared.intakes.Intake.{Intake}
 use Rattle.registry_office.specs.declared.intakes.Intake.TheVariants.{Lines, OpeningList}
-use Rattle.registry_office.specs.declared.lines.LineKind.TheVariants.{Plain}
+use Rattle.registry_office.specs.declared.lines.LineKind.TheVariants.{Unstamped}
 use Rattle.registry_office.specs.declared.requests.Request.{Request}
 use Rattle.registry_office.specs.inner.Inputs.{AllAnswered, PartAnswered, LeavesGrown}
 use Rattle.registry_office.specs.EarlyEnds.{AreOf, EndsEarly}
@@ -133,7 +133,7 @@ module _ (whole cut : List ℕ → List Request) (begins : BeginsWith whole cut)
 
 -- what an input asks that is received onto the disk
 pub begins_of : (intake : Intake) → BeginsWith (whole_of intake) (cut_of intake)
-begins_of Lines = lines_begin Plain
+begins_of Lines = lines_begin Unstamped
 begins_of (OpeningList sender) = λ front behind. (row_requests sender (front ++ behind), refl)
 
 -- while the source was not at its end, replies to the lines of the bytes read alone were written

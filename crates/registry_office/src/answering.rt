@@ -5,7 +5,7 @@ ghost use Rattle.gb_outside.specs.Faults.{Counts};
 ghost use Rattle.gb_outside.specs.Images.{LeavesOnly};
 ghost use Rattle.gb_outside.specs.Ticks.{Ticks};
 ghost use Rattle.act_model.specs.WellFormed.{well_formed};
-ghost use Rattle.receipt_journal.specs.Receiving.{receiving_failed};
+ghost use Rattle.receipt_journal.specs.Receiving.{receiving_disk_failed};
 ghost use Rattle.registry_office.specs.EarlyEnds.{EndsEarly};
 ghost use Rattle.registry_office.specs.Faults.{answer_output_failed, answer_disk_failed};
 ghost use Rattle.registry_office.specs.Grown.{GrownFrom};
@@ -122,7 +122,7 @@ fn reply_line(alloc: Global, answer: Received) -> Result<Vec<u8>, AnswerFault>
     ensures text { IfOk result (λ text. text.items ≡ received_text answer ++ codes "\n") }
     ensures answered { OnOk result (is_fault answer ≡ false) }
     ensures no_output { answer_output_failed result ≡ false }
-    ensures disk { answer_disk_failed result ≡ receiving_failed answer }
+    ensures disk { answer_disk_failed result ≡ receiving_disk_failed answer }
 {
     match answer {
         Received::Accepted(n) => Ok(format!(in alloc; "accepted {n}\n")?.into_bytes()),
