@@ -53,7 +53,15 @@ pub fn take<R: AllocGlobal, S: Source, K: Sink, D: Disk, C: Clock>(
     ensures disk { Counts (D.faults disk.old) (D.faults disk.new) (disk_fault result) }
     ensures others { IsTrue (is_of_session result) }
 {
-    status_of(answer_input(rt.alloc(), LineKind::Unstamped, book, disk, clock, source, sink))
+    status_of(answer_input(
+        rt.alloc(),
+        LineKind::Unstamped,
+        book,
+        disk,
+        clock,
+        source,
+        sink,
+    ))
 }
 
 /// Receives the rows of the opening list that the input is, as `take` does lines.
