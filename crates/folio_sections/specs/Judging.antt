@@ -80,27 +80,27 @@ converts_full_right at other = false
 
 -- A right takes no part in an exchange: a priority notice, a right of a group of its filing and folio, one with a reservation,
 -- and one in a reservation's rank.
-abbrev pub is_not_plain : List Receipt → (Key → List Entry) → ℕ → RightNo → Bool
-is_not_plain journal at folio right =
+abbrev pub is_barred_from_exchange : List Receipt → (Key → List Entry) → ℕ → RightNo → Bool
+is_barred_from_exchange journal at folio right =
     not (is_full (at (Right folio right))) || is_in_group journal right
     || option_map_or (λ made. is_some made.reserve || is_some made.ahead_of) (live_right (at (Right folio right))) false
 
 -- BGB § 880: one of the rights of an exchange takes no part in one
 abbrev pub exchanges_unfit_right : List Receipt → (Key → List Entry) → Act → Bool
 exchanges_unfit_right journal at (Exchange folio recede rise) =
-    is_not_plain journal at folio recede || is_not_plain journal at folio rise
+    is_barred_from_exchange journal at folio recede || is_barred_from_exchange journal at folio rise
 exchanges_unfit_right journal at other = false
 
 -- a reservation of less than the capital; none is less than any
-abbrev pub is_less : Option ℕ → ℕ → Bool
-is_less (Some reserved) capital = nat_lt reserved capital
-is_less None capital = true
+abbrev pub reserves_less : Option ℕ → ℕ → Bool
+reserves_less (Some reserved) capital = nat_lt reserved capital
+reserves_less None capital = true
 
 -- BGB § 881: the right behind has no reservation, has spent it, or reserved less than the new capital
 abbrev pub lacks_reservation : (Key → List Entry) → Act → Bool
 lacks_reservation at (Exercise folio behind spec) =
     is_spent (at (Right folio behind))
-    || option_map_or (λ made. is_less made.reserve spec.capital) (live_right (at (Right folio behind))) true
+    || option_map_or (λ made. reserves_less made.reserve spec.capital) (live_right (at (Right folio behind))) true
 lacks_reservation at other = false
 
 -- BGB §§ 1059, 1092: the act assigns a right of division II
