@@ -1,5 +1,5 @@
 -- What the entry of filing m by item i brings: official notices, places, and the contents of its acts (GBO §§ 16(2), 18(2), 45).
-use Rattle.std.specs.Prelude.{ℕ, zero, suc, false, true, ◌&&◌, if◌then◌else◌, List, [], ◌∷◌, ◌++◌, filter, flat_map, map, Option, Some, None, is_none}
+use Rattle.std.specs.Prelude.{ℕ, false, true, ◌&&◌, if◌then◌else◌, List, [], ◌∷◌, ◌++◌, filter, flat_map, map, Option, Some, None, is_none}
 use Rattle.std.specs.Option.{option_map_or}
 use Rattle.std.specs.List.{enumerate_from}
 use Rattle.gb_base.specs.declared.keys.Key.{Key}
@@ -18,7 +18,7 @@ use Rattle.folio_sections.specs.Documents.{documents, has_proof}
 use Rattle.folio_sections.specs.Entries.{with_entries}
 use Rattle.folio_sections.specs.Groups.{has_equal}
 use Rattle.folio_sections.specs.Places.{acts_of, behind, create_in_division, creates_there, own_place, places}
-use Rattle.folio_sections.specs.Waiting.{is_pending, notice}
+use Rattle.folio_sections.specs.Waiting.{notice, waiting_before}
 use Rattle.folio_sections.specs.declared.entries.Entry.{Entry}
 use Rattle.folio_sections.specs.declared.entries.RightForm.{RightForm}
 use Rattle.folio_sections.specs.declared.entries.RightForm.TheVariants as form
@@ -39,15 +39,9 @@ keys_in_order journal m = in_key_order (keys_of_filing journal m)
 
 -- ---- official notices (GBO § 18(2))
 
--- the numbers from 1 that are below n, ascending
-abbrev pub below : ℕ → List ℕ
-below zero = []
-below (suc zero) = []
-below (suc (suc n)) = below (suc n) ++ suc n ∷ []
-
 -- the earlier filings than m that wait at a key without a notice, ascending
 abbrev pub waiting_unnoticed : ℕ → List Entry → List ℕ
-waiting_unnoticed m entries = filter (λ n. is_pending n entries && is_none (notice n entries)) (below m)
+waiting_unnoticed m entries = filter (λ n. is_none (notice n entries)) (waiting_before m entries)
 
 -- the official notices that the entry of filing m brings at a key
 abbrev pub notices_at : List Receipt → ℕ → ℕ → (Key → List Entry) → Key → List Entry
