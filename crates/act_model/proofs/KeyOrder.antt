@@ -1,5 +1,5 @@
 -- Keys in ascending order, each once: how they are made, and that there is one such list of any keys.
-use Rattle.std.proofs.Common.{◌≡◌, ℕ, suc, zero, ◌<◌, Bool, true, false, cond, eqb, T, Decides, ◌&&◌, ◌||◌, List, [], ◌∷◌, map, length, get_or, Contains, Some, is_some, refl, sym, ap, subst, ◌∙◌, ⊎_elim, arith}
+use Rattle.std.proofs.Common.{◌≡◌, ℕ, suc, zero, ◌<◌, Bool, true, false, cond, eqb, T, Decides, ◌&&◌, ◌||◌, List, [], ◌∷◌, map, length, get_or, Contains, Some, None, is_some, refl, sym, ap, subst, ◌∙◌, ⊎_elim, arith}
 use Rattle.std.specs.List.{AllByRecursion, list_any}
 use Rattle.std.specs.List.Sorted.{IsStrictlySortedBy}
 use Rattle.std.specs.Cmp.{IsTotalOrder}
@@ -19,7 +19,7 @@ use Rattle.gb_base.specs.declared.keys.Key.{Key}
 use Rattle.gb_base.specs.declared.keys.Key.TheVariants.{Title, Right, Case}
 use Rattle.act_model.specs.declared.items.Filing.{Filing}
 use Rattle.act_model.specs.declared.receipts.Receipt.{Receipt}
-use Rattle.act_model.specs.Touches.{filing_at, in_key_order, keys_of_acts, keys_of_filing}
+use Rattle.act_model.specs.Touches.{filing_at, in_key_order, keys_in_order, keys_of_acts}
 use Rattle.act_model.specs.inner.KeyInsertion.{insert_key, with_key, with_keys}
 
 pub total : IsTotalOrder key_cmp
@@ -259,15 +259,18 @@ sorted_none : IsStrictlySortedBy key_cmp []
 unfolding IsStrictlySortedBy
 sorted_none = tt
 
--- the keys of a filing, put in their places
-pub filing_sorted : (ks js : List Key) → js ≡ with_keys ks [] → IsStrictlySortedBy key_cmp js
-filing_sorted ks js made = subst (IsStrictlySortedBy key_cmp) (sym made) (sorted_with_keys ks [] sorted_none)
+-- keys that are put in their places are those in key order
+pub placed_in_order : (ks : List Key) → with_keys ks [] ≡ in_key_order ks
+placed_in_order ks =
+    one_list (with_keys ks []) (in_key_order ks) (sorted_with_keys ks [] sorted_none) (in_key_order_sorted ks)
+    (λ q. let ours = with_keys_members ks q in let theirs = in_key_order_members ks q in (λ c. theirs.1 (ours.0 c), λ c. ours.1 (theirs.0 c)))
 
-pub no_keys_sorted : (js : List Key) → js ≡ [] → IsStrictlySortedBy key_cmp js
-no_keys_sorted js none = subst (IsStrictlySortedBy key_cmp) (sym none) sorted_none
+-- so are those of a filing
+pub filing_in_order : (journal : List Receipt) (m : ℕ) (f : Filing) (js : List Key) → filing_at journal m ≡ Some f → js ≡ with_keys (keys_of_acts journal m 1 f.acts) [] → js ≡ keys_in_order journal m
+filing_in_order journal m f js is made =
+    made ∙ placed_in_order (keys_of_acts journal m 1 f.acts)
+    ∙ ap in_key_order (sym (ap (λ o. option_map_or (λ g. keys_of_acts journal m 1 g.acts) o []) is))
 
-pub filing_members : (receipts : List Receipt) (m : ℕ) (f : Filing) (js : List Key) → filing_at receipts m ≡ Some f → js ≡ with_keys (keys_of_acts receipts m 1 f.acts) [] → (q : Key) → (Contains js q → Contains (keys_of_filing receipts m) q) × (Contains (keys_of_filing receipts m) q → Contains js q)
-filing_members receipts m f js is made q =
-    let keys_are : keys_of_filing receipts m ≡ keys_of_acts receipts m 1 f.acts = ap (λ o. option_map_or (λ g. keys_of_acts receipts m 1 g.acts) o []) is in
-    let both = with_keys_members (keys_of_acts receipts m 1 f.acts) q in
-    (λ c. subst (λ ks. Contains ks q) (sym keys_are) (both.0 (subst (λ ks. Contains ks q) made c)), λ c. subst (λ ks. Contains ks q) (sym made) (both.1 (subst (λ ks. Contains ks q) keys_are c)))
+-- where receipt m is no filing there are none
+pub none_in_order : (journal : List Receipt) (m : ℕ) → filing_at journal m ≡ None → [] ≡ keys_in_order journal m
+none_in_order journal m is = placed_in_order [] ∙ ap (λ o. in_key_order (option_map_or (λ g. keys_of_acts journal m 1 g.acts) o [])) (sym is)

@@ -1,5 +1,6 @@
 -- How a journal receives an item (GBO § 13): one number acts once, and stamps never fall.
 use Rattle.std.specs.Prelude.{◌≡◌, ℕ, ◌+◌, ◌-◌, ◌≤◌, Bool, true, false, ◌&&◌, ◌||◌, ◌==◌, nat_lt, nat_le, if◌then◌else◌, List, [], ◌∷◌, ◌++◌, length, slice_get, All, AllPairs, IsTrue, Option, Some, None}
+use Rattle.std.specs.Option.{option_map_or}
 use Rattle.gb_base.specs.DayMinute.{DayMinute}
 use Rattle.act_model.specs.declared.items.Item.{Item}
 use Rattle.act_model.specs.declared.receipts.Receipt.{Receipt}
@@ -38,6 +39,10 @@ number_of sender reference journal = number_from 1 sender reference journal
 -- receipt n, from 1
 abbrev pub receipt_at : List Receipt → ℕ → Option Receipt
 receipt_at journal n = if n == 0 then None else slice_get journal (n - 1)
+
+-- the stamp day of receipt n; 0 where there is none
+abbrev pub day_of : List Receipt → ℕ → ℕ
+day_of journal n = option_map_or (λ r. r.stamp.day) (receipt_at journal n) 0
 
 -- the receipt's stamp where there is one and it is later, else this one
 abbrev pub stamp_behind : Option Receipt → DayMinute → DayMinute

@@ -31,6 +31,10 @@ filing_in (item.Distribute folio) = None
 abbrev pub filing_at : List Receipt → ℕ → Option Filing
 filing_at journal m = option_and_then (λ r. filing_in r.item) (receipt_at journal m)
 
+-- the acts of filing m; none where receipt m is no filing
+abbrev pub acts_of : List Receipt → ℕ → List Act
+acts_of journal m = option_map_or (λ f. f.acts) (filing_at journal m) []
+
 -- act a of a filing, from 1
 abbrev pub act_at : Filing → ℕ → Option Act
 act_at f a = if a == 0 then None else slice_get f.acts (a - 1)
@@ -79,3 +83,7 @@ keys_of_filing journal m = option_map_or (λ f. keys_of_acts journal m 1 f.acts)
 -- these keys in ascending order, each once: the keys of the map that has each of them
 abbrev pub in_key_order : List Key → List Key
 in_key_order ks = keys (from_entries {X = Unit {0}} {R = key_cmp} (map (λ k. (k, tt)) ks))
+
+-- the keys of filing m in ascending order, each once
+abbrev pub keys_in_order : List Receipt → ℕ → List Key
+keys_in_order journal m = in_key_order (keys_of_filing journal m)

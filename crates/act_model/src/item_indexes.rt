@@ -4,8 +4,8 @@ ghost use Rattle.gb_base.specs.Limits.{most_acts};
 ghost use Rattle.act_model.specs.inner.ItemIndexes.{cures_by, creations_by, creations_by_acts, AreIndexesOf, HaveRoomFor};
 ghost use Rattle.act_model.specs.inner.Lists.{listed, Adds, HasRoom, Widens};
 
+use crate::filings::new_right;
 use crate::lists::{listed, push, reserve};
-use crate::touched_keys::new_right;
 use crate::{Act, Item};
 use gb_base::{FolioId, NoMemory, ReceiptNo, RightId};
 use std::alloc::Global;

@@ -1,5 +1,5 @@
 // The journal of the office.
-ghost use Rattle.std.specs.Prelude.{◌≡◌, ◌⊎◌, ◌≤◌, ◌+◌, ◌-◌, ◌*◌, true, false, [], option_map, position, length, drop, IsTrue, IsOk, OnOk, OnErr};
+ghost use Rattle.std.specs.Prelude.{◌≡◌, ◌⊎◌, ◌≤◌, ◌+◌, ◌-◌, ◌*◌, true, false, [], option_map, position, length, drop, IsTrue, IsOk, OnOk, OnErr, IfSome};
 ghost use Rattle.std.specs.Option.{option_copied};
 ghost use Rattle.act_model.specs.Receiving.{answer_again, stamp_after, IsJournal};
 ghost use Rattle.gb_base.specs.RightNo.{same_right};
@@ -7,8 +7,8 @@ ghost use Rattle.act_model.specs.Limits.{most_receipts};
 ghost use Rattle.act_model.specs.inner.CreationOrder.{Rises};
 ghost use Rattle.act_model.specs.inner.Index.{IsIndexOf, IsIndexed};
 
+use crate::filings::folio_of_right;
 use crate::item_indexes::ItemIndexes;
-use crate::touched_keys::folio_of_right;
 use crate::{Added, Item, Receipt};
 use gb_base::{FolioId, NoMemory, ReceiptNo, RightId, Stamp};
 use std::alloc::Global;
@@ -100,7 +100,8 @@ impl Journal {
 
     /// Receipt n; None above the last one.
     pub fn get(&self, n: ReceiptNo) -> Option<&Receipt>
-        ensures { option_copied result ≡ receipt_at self.now.receipts n }
+        ensures value { option_copied result ≡ receipt_at self.now.receipts n }
+        ensures well { IfSome result (λ receipt. IsTrue (well_formed receipt.now.item)) }
     {
         self.receipts.as_slice().get(n.get() as usize - 1)
     }
@@ -137,7 +138,8 @@ impl Journal {
 
     /// The creating acts of the folio, by receipt and act, whatever became of them.
     pub fn creations_in(&self, folio: FolioId) -> &[RightId]
-        ensures { result.now ≡ creations_in self.now.receipts folio }
+        ensures value { result.now ≡ creations_in self.now.receipts folio }
+        ensures few { length result.now ≤ 8 * most_receipts }
     {
         self.indexes.creations_in(folio)
     }
@@ -146,7 +148,7 @@ impl Journal {
     pub fn creating_rank(&self, right: RightId) -> Option<u32>
         ensures { result ≡ creating_rank self.now.receipts right }
     {
-        let folio = folio_of_right(self.receipts(), right)?;
+        let folio = folio_of_right(self, right)?;
         rank_among(self.creations_in(folio), right)
     }
 

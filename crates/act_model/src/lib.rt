@@ -7,6 +7,7 @@ mod auctions;
 mod documents;
 mod filing_acts;
 mod filing_rules;
+mod filings;
 #[cfg(test)]
 mod index_tests;
 mod item_indexes;
@@ -28,6 +29,7 @@ pub use auctions::{Basis, Registration};
 pub use documents::{Doc, Docs, Form};
 pub use filing_acts::{Act, Acts};
 pub use filing_rules::keeps_rules;
+pub use filings::{act_at, acts_of, created_before, filing_at, new_right};
 pub use items::{Filing, Item};
 pub use journals::Journal;
 pub use land::Inventory;

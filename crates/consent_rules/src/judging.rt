@@ -8,9 +8,9 @@ ghost use Rattle.consent_rules.specs.inner.Held.{HasParts};
 use crate::defects::defects;
 use crate::grounds::rejection;
 use crate::matters::Matter;
-use act_model::Journal;
+use act_model::{Journal, filing_at};
 use arrayvec::ArrayVec;
-use folio_sections::{Defect, Defects, Documents, Judgement, Parts, filing_at};
+use folio_sections::{Defect, Defects, Documents, Judgement, Parts};
 use gb_base::ReceiptNo;
 
 /// Filing `filing`, judged on the register as it stands, with its documents and those of its cures

@@ -5,8 +5,8 @@ ghost use Rattle.act_model.specs.Touches.{created_before, filing_at};
 ghost use Rattle.folio_sections.specs.Judging.{IsKnownExchange, KnowsExchanges};
 
 use crate::parts_read::live_right;
-use act_model::{Act, Journal, RightKind, RightSpec};
-use folio_sections::{Parts, act_at, filing_at};
+use act_model::{Act, Journal, RightKind, RightSpec, created_before, filing_at};
+use folio_sections::Parts;
 use gb_base::{FolioId, Key, ReceiptNo, RightId};
 use std::process::Abort;
 
@@ -87,26 +87,6 @@ fn was_created(
     match created_before(journal, filing, folio, right) {
         Some(created) => is_same(created, spec),
         None => false,
-    }
-}
-
-fn created_before(
-    journal: &Journal,
-    filing: ReceiptNo,
-    folio: FolioId,
-    right: RightId,
-) -> Option<RightSpec>
-    ensures { result ≡ created_before journal.now.receipts filing folio right }
-{
-    if right.receipt() >= filing {
-        return None;
-    }
-    let found = filing_at(journal, right.receipt())?;
-    let act = act_at(found, right.act())?;
-    if act.folio() == folio {
-        act.right_created()
-    } else {
-        None
     }
 }
 

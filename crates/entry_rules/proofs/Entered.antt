@@ -1,5 +1,5 @@
 -- A filing's places and the contents of its acts, and the parts at which they are entered.
-use Rattle.std.proofs.Common.{◌≡◌, ℕ, ◌+◌, ◌<◌, Bool, List, [], ◌∷◌, ◌++◌, length, Contains, drop, get_or, Some, IsTrue, refl, sym, ap, subst, add-one, drop-cons, arith}
+use Rattle.std.proofs.Common.{◌≡◌, ℕ, Bool, List, [], ◌∷◌, ◌++◌, Contains, Some, IsTrue, refl, sym, ap, subst, arith}
 use Rattle.std.specs.Option.{option_map_or}
 use Rattle.std.proofs.lemmas.List.Elements.{Contains-append_right}
 use Rattle.gb_base.specs.declared.keys.Key.{Key}
@@ -11,12 +11,6 @@ use Rattle.folio_sections.specs.Entering.{contents_brought, entered, places_brou
 use Rattle.folio_sections.specs.declared.entries.Entry.{Entry}
 use Rattle.folio_sections.proofs.Additions.{adds_then}
 use Rattle.entry_rules.specs.inner.Acting.{Held}
-
--- the rest of a list from an element on
-pub drop_next : (X : Type 0) (xs : List X) (i : ℕ) (x : X) → i < length xs → x ≡ get_or xs i x → drop i xs ≡ x ∷ drop (i + 1) xs
-drop_next X xs i x within is =
-    let cut : drop i xs ≡ get_or xs i x ∷ drop (i + 1) xs = rw (add-one, drop-cons xs i x) in
-    subst (λ y. drop i xs ≡ y ∷ drop (i + 1) xs) (sym is) cut
 
 -- the parts of all keys are held
 pub held_all : (holds : Key → Bool) (ks : List Key) → ((k : Key) → Contains ks k → IsTrue (holds k)) → Held holds ks

@@ -1,6 +1,5 @@
 -- Lemmas.
 pub mod Entered
-pub mod Progress
 pub mod Room
 pub mod Steady
 pub mod TestKeys

@@ -9,14 +9,13 @@ use Rattle.std.proofs.lemmas.Bool.{and_parts, cases_Bool, false≢true}
 use Rattle.std.proofs.lemmas.Bool.Decides.{nat_tests}
 use Rattle.std.proofs.lemmas.List.Concat.{flat_map-cons}
 use Rattle.std.proofs.lemmas.List.Elements.{All-head, All-tail}
-use Rattle.std.proofs.lemmas.List.Sums.{count_by-le-length, length-filter}
 use Rattle.gb_base.specs.Keys.{key_cmp, same_key}
 use Rattle.gb_base.specs.Limits.{is_between}
 use Rattle.gb_base.specs.declared.keys.Key.{Key}
 use Rattle.gb_base.specs.declared.keys.Key.TheVariants.{Title, Right, Case}
 use Rattle.act_model.proofs.KeyOrder.{in_key_order_members, in_key_order_sorted, same_is, ties, total}
 use Rattle.act_model.specs.Receiving.{IsJournal}
-use Rattle.act_model.specs.Touches.{filing_at, filing_in, keys_of_act, keys_of_acts, keys_of_filing}
+use Rattle.act_model.specs.Touches.{acts_of, filing_at, filing_in, keys_in_order, keys_of_act, keys_of_acts, keys_of_filing}
 use Rattle.act_model.specs.WellFormed.{is_act, is_doc, keeps_rules, well_formed}
 use Rattle.act_model.specs.declared.filing_acts.Act.{Act}
 use Rattle.act_model.specs.declared.filing_acts.Act.TheVariants.{Open, Transfer, Create, NoticeFor, Convert, Assign, Cancel, Exchange, Exercise}
@@ -25,13 +24,13 @@ use Rattle.act_model.specs.declared.items.Item.{Item}
 use Rattle.act_model.specs.declared.items.Item.TheVariants as item
 use Rattle.act_model.specs.declared.receipts.Receipt.{Receipt}
 use Rattle.folio_sections.specs.Adding.{HasRoom}
-use Rattle.folio_sections.specs.Entering.{contents_brought, entered, entry_by, keys_in_order, placed_at, places_brought, with_places}
+use Rattle.folio_sections.specs.Entering.{contents_brought, entered, entry_by, placed_at, places_brought, with_places}
 use Rattle.folio_sections.specs.Entries.{at}
-use Rattle.folio_sections.specs.Places.{acts_of, create_in_division, creates_there}
+use Rattle.folio_sections.specs.Places.{create_in_division, creates_there}
 use Rattle.folio_sections.specs.Waiting.{notice}
 use Rattle.folio_sections.specs.declared.entries.Entry.{Entry}
 use Rattle.folio_sections.specs.declared.entries.What.TheVariants as what
-use Rattle.folio_sections.proofs.Additions.{length-at}
+use Rattle.folio_sections.proofs.Additions.{at_few, length-at, none_at}
 use Rattle.folio_sections.proofs.Unchanged.{all_both}
 use Rattle.entry_rules.specs.inner.Acting.{Held, brought_by}
 use Rattle.entry_rules.proofs.Entered.{held_all, held_both, keys_are}
@@ -78,12 +77,7 @@ places_there P journal m i at0 (key ∷ keys) h =
     subst (λ es. AllByRecursion (λ e. P e.key) es) (sym (flat_map-cons (placed_at journal m i at0) key keys))
     (all_both (λ e. P e.key) (placed_at journal m i at0 key) (flat_map (placed_at journal m i at0) keys) (place_there P journal m i at0 key h.0) (places_there P journal m i at0 keys h.1))
 
--- no entry stands at a key where none has it
-none_at : (es : List Entry) (k : Key) → AllByRecursion (λ e. same_key e.key k ≡ false) es → at es k ≡ []
-none_at [] k all = refl
-none_at (e ∷ es) k all = rw all.0 (none_at es k all.1)
-
--- nor at one that is not held
+-- no entry stands at a key that is not held
 none_elsewhere : (holds : Key → Bool) (es : List Entry) (k : Key) → holds k ≡ false → AllByRecursion (IsHeld holds) es → at es k ≡ []
 none_elsewhere holds [] k h all = refl
 none_elsewhere holds (e ∷ es) k h all =
@@ -93,9 +87,6 @@ none_elsewhere holds (e ∷ es) k h all =
     ] refl
 
 -- ---- they are few at each key
-
-at_few : (es : List Entry) (k : Key) → length (at es k) ≤ length es
-at_few es k = omega (arith, length-filter (λ e. same_key e.key k) es, count_by-le-length (λ e. same_key e.key k) es)
 
 act_few : (journal : List Receipt) (m i : ℕ) (f : Filing) (at0 : Key → List Entry) (a : ℕ) (act : Act) → length (brought_by journal m i at0 f a act) ≤ 2
 act_few journal m i f at0 a (Open folio inventory owners) = omega arith

@@ -6,16 +6,17 @@ use Rattle.gb_base.specs.RightNo.{RightNo}
 use Rattle.gb_base.specs.declared.keys.Key.{Key}
 use Rattle.gb_base.specs.declared.keys.Key.TheVariants.{Title, Right, Case}
 use Rattle.act_model.specs.Acts.{is_in_division_three}
-use Rattle.act_model.specs.Touches.{new_right}
+use Rattle.act_model.specs.Receiving.{day_of}
+use Rattle.act_model.specs.Touches.{acts_of, new_right}
 use Rattle.act_model.specs.declared.filing_acts.Act.{Act}
 use Rattle.act_model.specs.declared.filing_acts.Act.TheVariants.{Open, Transfer, Create, NoticeFor, Convert, Assign, Cancel, Exchange, Exercise}
 use Rattle.act_model.specs.declared.items.Filing.{Filing}
 use Rattle.act_model.specs.declared.receipts.Receipt.{Receipt}
 use Rattle.act_model.specs.declared.rights.RightSpec.{RightSpec}
-use Rattle.folio_sections.specs.Entering.{day_of, entry_by, placed_at}
+use Rattle.folio_sections.specs.Entering.{entry_by, placed_at}
 use Rattle.folio_sections.specs.Entries.{at}
 use Rattle.folio_sections.specs.Groups.{has_equal}
-use Rattle.folio_sections.specs.Places.{acts_of, behind, create_in_division, creates_there, own_place, places, places_among}
+use Rattle.folio_sections.specs.Places.{behind, create_in_division, creates_there, own_place, places, places_among}
 use Rattle.folio_sections.specs.Waiting.{notice}
 use Rattle.folio_sections.specs.declared.entries.Entry.{Entry}
 use Rattle.folio_sections.specs.declared.entries.RightForm.{RightForm}
@@ -24,7 +25,7 @@ use Rattle.folio_sections.specs.declared.entries.What.TheVariants as what
 use Rattle.folio_sections.specs.declared.title_places.Place.{Place}
 use Rattle.folio_sections.proofs.Unchanged.{KeepsNotices, SetsNoPlace, all_at, notice_stays, places_stay}
 use Rattle.entry_rules.specs.inner.Acting.{brought_by}
-use Rattle.entry_rules.proofs.Progress.{Independent}
+use Rattle.folio_sections.proofs.Progress.{Independent}
 
 -- a place is no notice
 placed_keeps : (journal : List Receipt) (m i : ℕ) (at0 : Key → List Entry) (key : Key) → AllByRecursion KeepsNotices (placed_at journal m i at0 key)

@@ -1,10 +1,11 @@
 // Entries that are added to the parts of a register.
 ghost use Rattle.std.specs.Prelude.{◌≡◌, ◌≤◌, [], ◌∷◌, length, IsTrue};
+ghost use Rattle.act_model.specs.Receiving.{day_of};
 ghost use Rattle.folio_sections.specs.Adding.{AddsList, HasRoom};
-ghost use Rattle.folio_sections.specs.Entering.{day_of, entry_by};
+ghost use Rattle.folio_sections.specs.Entering.{entry_by};
 
 use act_model::{Filing, Journal};
-use folio_sections::{Entry, Parts, What};
+use folio_sections::{Entry, Parts, What, add, day_of, entry_by};
 use gb_base::{Day, Key, ReceiptNo};
 
 /// Which filing is entered, and by which item.
@@ -22,9 +23,7 @@ impl<'a> Entering<'a> {
         requires { self.now.item ≤ length self.now.journal.now.receipts }
         ensures { result ≡ day_of self.now.journal.now.receipts self.now.item }
     {
-        self.journal.receipts()[self.item.get() as usize - 1]
-            .stamp
-            .day()
+        day_of(self.journal, self.item)
     }
 
     /// An entry by the item.
@@ -32,23 +31,8 @@ impl<'a> Entering<'a> {
         requires { self.now.item ≤ length self.now.journal.now.receipts }
         ensures { result ≡ entry_by self.now.journal.now.receipts self.now.item key what }
     {
-        Entry {
-            receipt: self.item,
-            day: self.day(),
-            key,
-            what,
-        }
+        entry_by(self.journal, self.item, key, what)
     }
-}
-
-/// Adds an entry at the end of its key's part.
-pub fn add<P: Parts>(parts: &mut P, entry: Entry)
-    requires held { IsTrue (P.holds parts.old entry.key) }
-    requires room { HasRoom (P.room parts.old) (entry ∷ []) }
-    ensures added { AddsList (P.at parts.old) (P.at parts.new) (P.room parts.old) (P.room parts.new) (entry ∷ []) }
-    ensures held { P.holds parts.new ≡ P.holds parts.old }
-{
-    parts.append(entry);
 }
 
 /// Adds two entries, one after the other.

@@ -7,10 +7,10 @@ ghost use Rattle.folio_sections.specs.Documents.{documents, has_proof};
 ghost use Rattle.folio_sections.specs.Entering.{content, contents_brought};
 ghost use Rattle.entry_rules.specs.inner.Acting.{Held, brought_by};
 
-use crate::adding::{Entering, add, add_both};
-use crate::creations::{NewRight, creation, new_right};
-use act_model::Act;
-use folio_sections::{Documents, Parts, RightForm, Sought, What};
+use crate::adding::{Entering, add_both};
+use crate::creations::{NewRight, creation};
+use act_model::{Act, new_right};
+use folio_sections::{Documents, Parts, RightForm, Sought, What, add};
 use gb_base::Key;
 
 /// Adds what the acts of the filing bring, in their order.

@@ -3,14 +3,14 @@ ghost use Rattle.std.specs.Prelude.{◌≡◌, ◌≤◌, length, IsTrue};
 ghost use Rattle.std.specs.Option.{option_map_or};
 ghost use Rattle.gb_base.specs.Limits.{most_acts};
 ghost use Rattle.gb_base.specs.declared.keys.Key.TheVariants.{Title};
-ghost use Rattle.act_model.specs.Touches.{new_right};
-ghost use Rattle.folio_sections.specs.Entering.{creation, day_of};
+ghost use Rattle.act_model.specs.Receiving.{day_of};
+ghost use Rattle.folio_sections.specs.Entering.{creation};
 ghost use Rattle.folio_sections.specs.Places.{own_place, places_among};
 
 use crate::adding::Entering;
-use act_model::{Act, RightSpec};
+use act_model::{Act, RightSpec, new_right};
 use folio_sections::{Created, Entry, Parts, RightForm, What, behind, has_equal, own_place};
-use gb_base::{Cents, Day, FolioId, Key, ReceiptNo, RightId};
+use gb_base::{Cents, Day, FolioId, Key, RightId};
 
 /// A right as an act creates it.
 #[derive(Clone, Copy)]
@@ -56,13 +56,4 @@ fn day_placed(by: &Entering, folio: FolioId, standing: &[Entry]) -> Day
         Some(place) => place.day,
         None => by.day(),
     }
-}
-
-/// The right that act a of filing `number` creates.
-pub fn new_right(number: ReceiptNo, a: u8) -> RightId
-    requires from_one { 1 ≤ a }
-    requires to_eight { a ≤ most_acts }
-    ensures { result ≡ new_right number a }
-{
-    RightId::new(number, a).unwrap()
 }

@@ -8,8 +8,8 @@ ghost use Rattle.folio_sections.specs.Entering.{entered};
 use crate::adding::Entering;
 use crate::contents::add_contents;
 use crate::placing::add_places;
-use act_model::Journal;
-use folio_sections::{Parts, filing_at};
+use act_model::{Journal, filing_at};
+use folio_sections::Parts;
 use gb_base::ReceiptNo;
 
 /// Enters a filing by this item: its places, and then the contents of its acts in their order (GBO

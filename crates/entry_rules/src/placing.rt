@@ -5,12 +5,11 @@ ghost use Rattle.gb_base.specs.declared.keys.Key.TheVariants.{Title};
 ghost use Rattle.act_model.specs.Touches.{keys_of_filing};
 ghost use Rattle.folio_sections.specs.Adding.{AddsList, HasRoom};
 ghost use Rattle.folio_sections.specs.Waiting.{notice};
-ghost use Rattle.folio_sections.specs.Entering.{keys_in_order, placed_at, placed_in, places_brought};
+ghost use Rattle.folio_sections.specs.Entering.{placed_at, placed_in, places_brought};
 
-use crate::adding::{Entering, add};
-use act_model::{Journal, filing_keys};
-use arrayvec::ArrayVec;
-use folio_sections::{Parts, What, creates_in_division};
+use crate::adding::Entering;
+use act_model::filing_keys;
+use folio_sections::{Parts, What, add, creates_in_division};
 use gb_base::{FolioId, Key, ReceiptNo};
 
 /// Sets the place of the filing in each folio in which it creates a right, unless an official
@@ -22,17 +21,10 @@ pub fn add_places<P: Parts>(parts: &mut P, by: &Entering)
     ensures added { AddsList (P.at parts.old) (P.at parts.new) (P.room parts.old) (P.room parts.new) (places_brought by.now.journal.now.receipts by.now.number by.now.item (P.at parts.old)) }
     ensures held { P.holds parts.new ≡ P.holds parts.old }
 {
-    let keys = keys_in_order(by.journal, by.number);
+    let keys = filing_keys(by.journal, by.number);
     for key in keys.as_slice() {
         add_place_at(parts, by, *key);
     }
-}
-
-/// The keys of a filing, in ascending order.
-fn keys_in_order(journal: &Journal, number: ReceiptNo) -> ArrayVec<Key, 18>
-    ensures { result.items ≡ keys_in_order journal.now.receipts number }
-{
-    filing_keys(journal, number)
 }
 
 /// Sets the filing's place at a key, where it is the title of a folio in which the filing creates a

@@ -6,10 +6,10 @@ ghost use Rattle.entry_rules.specs.inner.TestKeys.{HoldsKeys};
 use crate::{MOST_ENTERED, enter, laws};
 use act_model::{
     Act, Acts, Added, Doc, Docs, Filing, Inventory, Item, Journal, Owners, RightKind, RightSpec,
-    filing_keys, well_formed,
+    filing_at, filing_keys, well_formed,
 };
 use arrayvec::ArrayVec;
-use folio_sections::{Created, Entry, MapParts, Parts, TitlePart, What, filing_at};
+use folio_sections::{Created, Entry, MapParts, Parts, TitlePart, What};
 use gb_base::{Cents, Day, FolioId, Key, NoMemory, Person, ReceiptNo, RightId, Stamp};
 use std::alloc::Global;
 use std::process::Abort;

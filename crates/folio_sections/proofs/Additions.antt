@@ -1,7 +1,9 @@
 -- What lists of entries add to the parts, one after the other.
 use Rattle.std.proofs.Common.{◌≡◌, ℕ, ◌+◌, ◌≤◌, true, false, cond, List, [], ◌∷◌, ◌++◌, length, refl, sym, ap, subst, ◌∙◌, append_assoc, length-append, arith}
 use Rattle.std.proofs.lemmas.List.{append-nil}
+use Rattle.std.specs.List.{AllByRecursion}
 use Rattle.std.proofs.lemmas.List.Elements.{filter-append}
+use Rattle.std.proofs.lemmas.List.Sums.{count_by-le-length, length-filter}
 use Rattle.gb_base.specs.Keys.{same_key}
 use Rattle.gb_base.specs.declared.keys.Key.{Key}
 use Rattle.act_model.proofs.KeyOrder.{same_is}
@@ -14,6 +16,15 @@ at-append xs ys k = filter-append (λ e. same_key e.key k) xs ys
 
 pub length-at : (xs ys : List Entry) (k : Key) → length (at (xs ++ ys) k) ≡ length (at xs k) + length (at ys k)
 length-at xs ys k = ap length (at-append xs ys k) ∙ length-append (at xs k) (at ys k)
+
+-- no entry stands at a key where none has it
+pub none_at : (es : List Entry) (k : Key) → AllByRecursion (λ e. same_key e.key k ≡ false) es → at es k ≡ []
+none_at [] k all = refl
+none_at (e ∷ es) k all = rw all.0 (none_at es k all.1)
+
+-- no more stand at a key than there are
+pub at_few : (es : List Entry) (k : Key) → length (at es k) ≤ length es
+at_few es k = omega (arith, length-filter (λ e. same_key e.key k) es, count_by-le-length (λ e. same_key e.key k) es)
 
 -- no entry
 pub adds_none : (at0 : Key → List Entry) (room0 : Key → ℕ) → AddsList at0 at0 room0 room0 []

@@ -1,5 +1,5 @@
 -- Lemmas on tests over lists, and on loops that go along them.
-use Rattle.std.proofs.Common.{◌≡◌, ℕ, ◌+◌, ◌<◌, Bool, true, false, ◌&&◌, ◌||◌, cond, List, [], ◌∷◌, length, get_or, drop, filter, flat_map, refl, ap, ◌∙◌, add-one, drop-cons}
+use Rattle.std.proofs.Common.{◌≡◌, ℕ, ◌+◌, ◌<◌, Bool, true, false, ◌&&◌, ◌||◌, cond, List, [], ◌∷◌, length, get_or, drop, filter, flat_map, refl, sym, ap, subst, ◌∙◌, add-one, drop-cons}
 use Rattle.std.specs.List.{list_any}
 use Rattle.std.proofs.lemmas.List.Elements.{filter-append}
 use Rattle.std.proofs.lemmas.List.Folds.{list_any-append}
@@ -23,3 +23,9 @@ any_brought p q t d (x ∷ xs) = any_of_parts p q d x (filter t xs) (t x) _ (any
 pub any_past : {X : Type 0} (p : X → Bool) (xs : List X) (i : ℕ) (x : X) → i < length xs → p (get_or xs i x) ≡ false
     → list_any p (drop (i + 1) xs) ≡ list_any p (drop i xs)
 any_past p xs i x lt fails = rw (add-one, drop-cons xs i x) (rw fails refl)
+
+-- the rest of a list from an element on
+pub drop_next : (X : Type 0) (xs : List X) (i : ℕ) (x : X) → i < length xs → x ≡ get_or xs i x → drop i xs ≡ x ∷ drop (i + 1) xs
+drop_next X xs i x within is =
+    let cut : drop i xs ≡ get_or xs i x ∷ drop (i + 1) xs = rw (add-one, drop-cons xs i x) in
+    subst (λ y. drop i xs ≡ y ∷ drop (i + 1) xs) (sym is) cut

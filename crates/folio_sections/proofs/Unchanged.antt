@@ -27,39 +27,52 @@ pub all_both : {X : Type 0} (P : X → Type 0) (xs ys : List X) → AllByRecursi
 all_both P [] ys first second = second
 all_both P (x ∷ xs) ys first second = (first.0, all_both P xs ys first.1 second)
 
--- the entry sets no filing to wait, settles none, and is no official notice
-abbrev pub KeepsNotices : Entry → Type 0
-KeepsNotices e = (m : ℕ) (before : Option ℕ) → (until_by m before e.what ≡ before) × (is_notice_of m e.what ≡ false)
+-- the entry does not set filing m to wait, nor settle it, and is not its official notice
+abbrev pub KeepsNotice : ℕ → Entry → Type 0
+KeepsNotice m e = (before : Option ℕ) → (until_by m before e.what ≡ before) × (is_notice_of m e.what ≡ false)
 
-fold_keeps : (m : ℕ) (before : Option ℕ) (es : List Entry) → AllByRecursion KeepsNotices es → fold (λ b e. until_by m b e.what) before es ≡ before
+-- so of every filing
+abbrev pub KeepsNotices : Entry → Type 0
+KeepsNotices e = (m : ℕ) → KeepsNotice m e
+
+fold_keeps : (m : ℕ) (before : Option ℕ) (es : List Entry) → AllByRecursion (KeepsNotice m) es → fold (λ b e. until_by m b e.what) before es ≡ before
 fold_keeps m before [] all = refl
 fold_keeps m before (e ∷ es) all =
-    ap (λ b. fold (λ b e. until_by m b e.what) b es) (all.0 m before).0 ∙ fold_keeps m before es all.1
+    ap (λ b. fold (λ b e. until_by m b e.what) b es) (all.0 before).0 ∙ fold_keeps m before es all.1
 
-pending_stays : (m : ℕ) (xs ys : List Entry) → AllByRecursion KeepsNotices ys → pending m (xs ++ ys) ≡ pending m xs
+-- the filing waits as before
+pub pending_stays : (m : ℕ) (xs ys : List Entry) → AllByRecursion (KeepsNotice m) ys → pending m (xs ++ ys) ≡ pending m xs
 pending_stays m xs ys all =
     fold-append (λ b e. until_by m b e.what) None xs ys ∙ fold_keeps m (pending m xs) ys all
 
-none_found : (m : ℕ) (es : List Entry) → AllByRecursion KeepsNotices es → find (λ e. is_notice_of m e.what) es ≡ None
+none_found : (m : ℕ) (es : List Entry) → AllByRecursion (KeepsNotice m) es → find (λ e. is_notice_of m e.what) es ≡ None
 none_found m [] all = refl
-none_found m (e ∷ es) all = rw (all.0 m None).1 (none_found m es all.1)
+none_found m (e ∷ es) all = rw (all.0 None).1 (none_found m es all.1)
 
 or_none : {X : Type 0} (o : Option X) → option_or o None ≡ o
 or_none (Some x) = refl
 or_none None = refl
 
-found_stays : (m : ℕ) (xs ys : List Entry) → AllByRecursion KeepsNotices ys → find (λ e. is_notice_of m e.what) (xs ++ ys) ≡ find (λ e. is_notice_of m e.what) xs
+found_stays : (m : ℕ) (xs ys : List Entry) → AllByRecursion (KeepsNotice m) ys → find (λ e. is_notice_of m e.what) (xs ++ ys) ≡ find (λ e. is_notice_of m e.what) xs
 found_stays m xs ys all =
     find-append (λ e. is_notice_of m e.what) xs ys
     ∙ ap (λ o. option_or (find (λ e. is_notice_of m e.what) xs) o) (none_found m ys all)
     ∙ or_none (find (λ e. is_notice_of m e.what) xs)
 
--- the official notice of a filing stands as before
-pub notice_stays : (m : ℕ) (xs ys : List Entry) → AllByRecursion KeepsNotices ys → notice m (xs ++ ys) ≡ notice m xs
-notice_stays m xs ys all =
+-- its official notice stands as before
+pub own_notice_stays : (m : ℕ) (xs ys : List Entry) → AllByRecursion (KeepsNotice m) ys → notice m (xs ++ ys) ≡ notice m xs
+own_notice_stays m xs ys all =
     let waits = pending_stays m xs ys all in
     let finds = found_stays m xs ys all in
     λ i. cond (is_some (waits i)) (option_map (λ e. e.day) (finds i)) None
+
+keeps_own : (m : ℕ) (es : List Entry) → AllByRecursion KeepsNotices es → AllByRecursion (KeepsNotice m) es
+keeps_own m [] all = tt
+keeps_own m (e ∷ es) all = (all.0 m, keeps_own m es all.1)
+
+-- the official notice of any filing stands as before
+pub notice_stays : (m : ℕ) (xs ys : List Entry) → AllByRecursion KeepsNotices ys → notice m (xs ++ ys) ≡ notice m xs
+notice_stays m xs ys all = own_notice_stays m xs ys (keeps_own m ys all)
 
 -- the entry sets no place
 abbrev pub SetsNoPlace : Entry → Type 0

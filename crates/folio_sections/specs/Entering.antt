@@ -10,14 +10,14 @@ use Rattle.act_model.specs.declared.filing_acts.Act.TheVariants.{Open, Transfer,
 use Rattle.act_model.specs.declared.items.Filing.{Filing}
 use Rattle.act_model.specs.declared.receipts.Receipt.{Receipt}
 use Rattle.act_model.specs.declared.rights.RightSpec.{RightSpec}
-use Rattle.act_model.specs.Receiving.{receipt_at}
-use Rattle.act_model.specs.Touches.{filing_at, in_key_order, keys_of_filing, new_right}
+use Rattle.act_model.specs.Receiving.{day_of}
+use Rattle.act_model.specs.Touches.{acts_of, filing_at, keys_in_order, new_right}
 use Rattle.act_model.specs.Acts.{is_in_division_three}
 use Rattle.gb_base.specs.RightNo.{RightNo}
 use Rattle.folio_sections.specs.Documents.{documents, has_proof}
 use Rattle.folio_sections.specs.Entries.{with_entries}
 use Rattle.folio_sections.specs.Groups.{has_equal}
-use Rattle.folio_sections.specs.Places.{acts_of, behind, create_in_division, creates_there, own_place, places}
+use Rattle.folio_sections.specs.Places.{behind, create_in_division, creates_there, own_place, places}
 use Rattle.folio_sections.specs.Waiting.{notice, waiting_before}
 use Rattle.folio_sections.specs.declared.entries.Entry.{Entry}
 use Rattle.folio_sections.specs.declared.entries.RightForm.{RightForm}
@@ -25,17 +25,9 @@ use Rattle.folio_sections.specs.declared.entries.RightForm.TheVariants as form
 use Rattle.folio_sections.specs.declared.entries.What.{What}
 use Rattle.folio_sections.specs.declared.entries.What.TheVariants as what
 
--- the stamp day of item i
-abbrev pub day_of : List Receipt → ℕ → ℕ
-day_of journal i = option_map_or (λ r. r.stamp.day) (receipt_at journal i) 0
-
 -- an entry by item i
 abbrev pub entry_by : List Receipt → ℕ → Key → What → Entry
 entry_by journal i key what = record { receipt = i; day = day_of journal i; key = key; what = what }
-
--- the keys of filing m, ascending
-abbrev pub keys_in_order : List Receipt → ℕ → List Key
-keys_in_order journal m = in_key_order (keys_of_filing journal m)
 
 -- ---- official notices (GBO § 18(2))
 

@@ -8,7 +8,7 @@ use Rattle.act_model.specs.declared.filing_acts.Act.{Act}
 use Rattle.act_model.specs.declared.receipts.Receipt.{Receipt}
 use Rattle.act_model.specs.declared.rights.RightSpec.{RightSpec}
 use Rattle.act_model.specs.Acts.{folio_of, right_created, is_in_division_three}
-use Rattle.act_model.specs.Touches.{filing_at}
+use Rattle.act_model.specs.Touches.{acts_of}
 use Rattle.folio_sections.specs.declared.entries.Entry.{Entry}
 use Rattle.folio_sections.specs.declared.entries.What.{What}
 use Rattle.folio_sections.specs.declared.entries.What.TheVariants as what
@@ -25,10 +25,6 @@ creates_in_division third folio act = folio_of act == folio && option_map_or (is
 -- some act does
 abbrev pub create_in_division : Bool → ℕ → List Act → Bool
 create_in_division third folio acts = list_any (creates_in_division third folio) acts
-
--- the acts of filing n; none where receipt n is no filing
-abbrev pub acts_of : List Receipt → ℕ → List Act
-acts_of journal n = option_map_or (λ f. f.acts) (filing_at journal n) []
 
 -- filing n creates a right in the folio
 abbrev pub creates_there : List Receipt → ℕ → ℕ → Bool

@@ -1,5 +1,5 @@
 -- Filings that wait at a key for cures, and the official notices that keep their places (GBO § 18). All is read from the entries at the key.
-use Rattle.std.specs.Prelude.{ℕ, ◌-◌, Bool, false, ◌==◌, if◌then◌else◌, List, filter, find, fold, Option, Some, None, option_map, is_some}
+use Rattle.std.specs.Prelude.{ℕ, ◌-◌, Bool, true, false, ◌==◌, nat_lt, if◌then◌else◌, List, filter, find, fold, Option, Some, None, option_map, is_some}
 use Rattle.std.specs.List.{before_first, after_first, range_with_len}
 use Rattle.folio_sections.specs.declared.entries.Entry.{Entry}
 use Rattle.folio_sections.specs.declared.entries.What.{What}
@@ -44,3 +44,8 @@ before_notice m entries = before_first (λ e. is_notice_of m e.what) entries
 -- the entries behind it
 abbrev pub after_notice : ℕ → List Entry → List Entry
 after_notice m entries = after_first (λ e. is_notice_of m e.what) entries
+
+-- the number is greater than this one; any is where there is none
+abbrev pub is_above : Option ℕ → ℕ → Bool
+is_above None n = true
+is_above (Some m) n = nat_lt m n

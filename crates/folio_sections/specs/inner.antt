@@ -1,3 +1,4 @@
 -- What private clauses and proofs alone use.
 pub mod Kinds
 pub mod PartIndex
+pub mod Unnoticed

@@ -3,8 +3,8 @@ ghost use Rattle.std.specs.Prelude.{◌≡◌, ◌+◌, ◌≤◌, [], ◌∷◌
 ghost use Rattle.folio_sections.specs.Cases.{is_distribution, case, is_seizure, award_by, call_by};
 
 use crate::entry_list::EntryList;
-use crate::{Entry, What};
-use gb_base::{Key, NoMemory, ReceiptNo};
+use crate::{Entry, What, waiting};
+use gb_base::{Day, Key, NoMemory, ReceiptNo};
 use std::alloc::Global;
 use std::marker::Model;
 
@@ -23,7 +23,10 @@ impl Model for CasePart {
 }
 
 impl CasePart {
+    ghost use Rattle.std.specs.List.{find};
     ghost use Rattle.folio_sections.specs.Cases.{is_running, seizures, award, call};
+    ghost use Rattle.folio_sections.specs.Entering.{waiting_unnoticed};
+    ghost use Rattle.folio_sections.specs.Waiting.{pending, is_above};
 
     /// The empty part at a key.
     pub fn new(alloc: Global, key: Key) -> CasePart
@@ -108,6 +111,21 @@ impl CasePart {
         case_in(self.entries())
             .iter()
             .fold(None, |before, entry| call_by(before, entry))
+    }
+
+    /// The day until which a filing waits for cures; None where it does not wait.
+    pub fn pending(&self, filing: ReceiptNo) -> Option<Day>
+        ensures { result ≡ pending filing self.now.entries }
+    {
+        waiting::pending(filing, self.entries())
+    }
+
+    /// The first filing above `after`, and below `filing`, that waits here without an official
+    /// notice; None where there is none.
+    pub fn next_unnoticed(&self, after: Option<ReceiptNo>, filing: ReceiptNo) -> Option<ReceiptNo>
+        ensures { result ≡ find (is_above after) (waiting_unnoticed filing self.now.entries) }
+    {
+        waiting::next_unnoticed(after, filing, self.entries())
     }
 }
 

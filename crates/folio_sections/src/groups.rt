@@ -3,8 +3,7 @@ ghost use Rattle.std.specs.Prelude.{◌≡◌};
 ghost use Rattle.act_model.specs.WellFormed.{same_group, share_group};
 ghost use Rattle.folio_sections.specs.Groups.{has_equal, is_in_group};
 
-use crate::filings::{act_at, filing_at};
-use act_model::{Act, Journal, RightSpec};
+use act_model::{Act, Journal, RightSpec, act_at, filing_at};
 use gb_base::RightId;
 
 /// Whether another act of the right's filing creates a right of the same group in the folio.

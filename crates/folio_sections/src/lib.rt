@@ -2,6 +2,7 @@
 //! is read from them.
 #![tactic(auto)]
 
+mod adding;
 mod any_part;
 mod case_part;
 #[cfg(test)]
@@ -28,11 +29,12 @@ mod title_places;
 mod title_tests;
 mod waiting;
 
+pub use adding::{add, day_of, entry_by};
 pub use case_part::CasePart;
 pub use doc_tests::{DocTest, Sought};
 pub use documents::Documents;
 pub use entries::{Created, Entry, RightForm, What};
-pub use filings::{act_at, applicant_of, filing_at};
+pub use filings::applicant_of;
 pub use groups::{has_equal, is_in_group};
 pub use judgements::{Defect, Defects, Judgement};
 pub use map_parts::MapParts;

@@ -24,8 +24,10 @@ impl Model for RightPart {
 }
 
 impl RightPart {
+    ghost use Rattle.std.specs.List.{find};
+    ghost use Rattle.folio_sections.specs.Entering.{waiting_unnoticed};
     ghost use Rattle.folio_sections.specs.Rights.{created, is_live, is_full, holder, holder_for, capital, is_spent};
-    ghost use Rattle.folio_sections.specs.Waiting.{pending, notice};
+    ghost use Rattle.folio_sections.specs.Waiting.{pending, is_above, notice};
 
     /// The empty part at a key.
     pub fn new(alloc: Global, key: Key) -> RightPart
@@ -149,6 +151,14 @@ impl RightPart {
         ensures { result ≡ notice filing self.now.entries }
     {
         waiting::notice(filing, self.entries())
+    }
+
+    /// The first filing above `after`, and below `filing`, that waits here without an official
+    /// notice; None where there is none.
+    pub fn next_unnoticed(&self, after: Option<ReceiptNo>, filing: ReceiptNo) -> Option<ReceiptNo>
+        ensures { result ≡ find (is_above after) (waiting_unnoticed filing self.now.entries) }
+    {
+        waiting::next_unnoticed(after, filing, self.entries())
     }
 }
 

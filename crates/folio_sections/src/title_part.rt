@@ -26,8 +26,10 @@ impl Model for TitlePart {
 }
 
 impl TitlePart {
+    ghost use Rattle.std.specs.List.{find};
+    ghost use Rattle.folio_sections.specs.Entering.{waiting_unnoticed};
     ghost use Rattle.folio_sections.specs.Titles.{is_open, inventory, owners, owners_for};
-    ghost use Rattle.folio_sections.specs.Waiting.{pending, notice};
+    ghost use Rattle.folio_sections.specs.Waiting.{pending, is_above, notice};
 
     /// The empty part at a key.
     pub fn new(alloc: Global, key: Key) -> TitlePart
@@ -126,6 +128,14 @@ impl TitlePart {
         ensures { result ≡ notice filing self.now.entries }
     {
         waiting::notice(filing, self.entries())
+    }
+
+    /// The first filing above `after`, and below `filing`, that waits here without an official
+    /// notice; None where there is none.
+    pub fn next_unnoticed(&self, after: Option<ReceiptNo>, filing: ReceiptNo) -> Option<ReceiptNo>
+        ensures { result ≡ find (is_above after) (waiting_unnoticed filing self.now.entries) }
+    {
+        waiting::next_unnoticed(after, filing, self.entries())
     }
 }
 

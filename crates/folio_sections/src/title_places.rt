@@ -2,10 +2,11 @@
 ghost use Rattle.std.specs.Prelude.{◌≡◌, ◌==◌, false, fold};
 ghost use Rattle.std.specs.List.{before_first};
 ghost use Rattle.std.specs.Option.{option_map_or};
-ghost use Rattle.folio_sections.specs.Places.{acts_of, behind, behind_by, create_in_division, creates_in_division, creates_there, is_of_division, noticed_place, own_place, place_by, places_among};
+ghost use Rattle.act_model.specs.Touches.{acts_of};
+ghost use Rattle.folio_sections.specs.Places.{behind, behind_by, create_in_division, creates_in_division, creates_there, is_of_division, noticed_place, own_place, place_by, places_among};
 
-use crate::{Entry, What, filing_at};
-use act_model::{Act, Journal, RightSpec};
+use crate::{Entry, What};
+use act_model::{Act, Journal, RightSpec, acts_of};
 use gb_base::{Day, FolioId, ReceiptNo};
 
 /// The place of a filing at a title.
@@ -18,16 +19,6 @@ pub struct Place {
     pub second: bool,
     /// Whether it is one for rights of division III.
     pub third: bool,
-}
-
-/// The acts of filing n; none where receipt n is no filing.
-fn acts_of(journal: &Journal, n: ReceiptNo) -> &[Act]
-    ensures { result.now ≡ acts_of journal.now.receipts n }
-{
-    match filing_at(journal, n) {
-        Some(filing) => filing.acts.list(),
-        None => &[],
-    }
 }
 
 /// Whether filing n creates a right of division III, or else of division II, in the folio.

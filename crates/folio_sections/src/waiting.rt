@@ -1,7 +1,9 @@
 // Filings that wait at a key, as its entries say.
-ghost use Rattle.std.specs.Prelude.{◌≡◌, ◌≤◌, length, option_map};
+ghost use Rattle.std.specs.Prelude.{◌≡◌, ◌≤◌, ◌&&◌, None, fold, length, option_map};
 ghost use Rattle.std.specs.List.{find, position_or_len};
-ghost use Rattle.folio_sections.specs.Waiting.{until_by, pending, is_notice_of, notice, before_notice, after_notice};
+ghost use Rattle.folio_sections.specs.Entering.{waiting_unnoticed};
+ghost use Rattle.folio_sections.specs.Waiting.{until_by, pending, is_above, is_notice_of, notice, before_notice, after_notice};
+ghost use Rattle.folio_sections.specs.inner.Unnoticed.{lacks_notice, least_by, least_with};
 
 use crate::{Entry, What};
 use gb_base::{Day, ReceiptNo};
@@ -83,4 +85,71 @@ pub fn after_notice(filing: ReceiptNo, entries: &[Entry]) -> &[Entry]
     } else {
         &[]
     }
+}
+
+/// The first filing above `after`, and below `filing`, that waits without an official notice; None
+/// where there is none.
+pub fn next_unnoticed(
+    after: Option<ReceiptNo>,
+    filing: ReceiptNo,
+    entries: &[Entry],
+) -> Option<ReceiptNo>
+    ensures { result ≡ find (is_above after) (waiting_unnoticed filing entries.now) }
+{
+    least_in(after, filing, entries)
+}
+
+/// The least of the filings above `after`, and below `filing`, that wait without an official notice.
+fn least_in(after: Option<ReceiptNo>, filing: ReceiptNo, entries: &[Entry]) -> Option<ReceiptNo>
+    ensures { result ≡ fold (λ before e. least_by after filing entries.now before e.what) None entries.now }
+{
+    entries.iter().fold(None, |before, entry| {
+        least_by(after, filing, entries, before, &entry.what)
+    })
+}
+
+/// The least filing behind a content: the one that it sets to wait, where that is wanted and less,
+/// else the one before.
+fn least_by(
+    after: Option<ReceiptNo>,
+    filing: ReceiptNo,
+    entries: &[Entry],
+    before: Option<ReceiptNo>,
+    what: &What,
+) -> Option<ReceiptNo>
+    ensures { result ≡ least_by after filing entries.now before what.now }
+{
+    match what {
+        What::Pending { filing: of, .. } => least_with(after, filing, entries, before, *of),
+        _ => before,
+    }
+}
+
+/// This filing where it is wanted and less than the one before, else that.
+fn least_with(
+    after: Option<ReceiptNo>,
+    filing: ReceiptNo,
+    entries: &[Entry],
+    before: Option<ReceiptNo>,
+    of: ReceiptNo,
+) -> Option<ReceiptNo>
+    ensures { result ≡ least_with after filing entries.now before of }
+{
+    let floor = after.map_or(0, |after| after.get());
+    let ceiling = match &before {
+        Some(least) => *least,
+        None => filing,
+    };
+    if floor < of.get() && of < ceiling && lacks_notice(of, entries) {
+        Some(of)
+    } else {
+        before
+    }
+}
+
+/// Whether a filing waits without an official notice.
+fn lacks_notice(filing: ReceiptNo, entries: &[Entry]) -> bool
+    ensures { result ≡ lacks_notice filing entries.now }
+{
+    pending(filing, entries).is_some() && notice_day(filing, entries).is_none()
 }

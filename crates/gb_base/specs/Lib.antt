@@ -2,6 +2,7 @@
 pub mod Limits
 pub mod RightNo
 pub mod DayMinute
+pub mod Deadlines
 pub mod Keys
 pub mod Calendar
 pub mod Texts

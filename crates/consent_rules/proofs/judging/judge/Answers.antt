@@ -6,10 +6,10 @@ use Rattle.consent_rules.proofs.judging.judge.Goals as goal
 pub judge_matter-requires : goal.judge_matter-requires
 judge_matter-requires g c = record {
   held = parts_of_filing (g.P.Parts.holds c.args.parts.now) (g.P.Parts.at c.args.parts.now) c.args.journal.now.receipts c.args.filing
-      c.unwrap-found.result.now (sym c.filing_at.ensures ∙ ap option_copied c.unwrap-found.ensures) c.requires.held c.requires.exchanges;
+      c.unwrap-found.result.now (sym c.filing_at.ensures.value ∙ ap option_copied c.unwrap-found.ensures) c.requires.held c.requires.exchanges;
 }
 
 pub returns : goal.returns
 returns g c =
     judged_by c.args.journal.now.receipts c.args.filing c.args.upto (g.P.Parts.at c.args.parts.now) c.unwrap-found.result.now
-    c.new.result c.judge_matter.result (sym c.filing_at.ensures ∙ ap option_copied c.unwrap-found.ensures) c.new.ensures c.judge_matter.ensures
+    c.new.result c.judge_matter.result (sym c.filing_at.ensures.value ∙ ap option_copied c.unwrap-found.ensures) c.new.ensures c.judge_matter.ensures

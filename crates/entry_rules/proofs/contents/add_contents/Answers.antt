@@ -5,8 +5,9 @@ use Rattle.act_model.specs.Touches.{keys_of_act, keys_of_acts}
 use Rattle.act_model.specs.declared.filing_acts.Act.{Act}
 use Rattle.folio_sections.proofs.Unchanged.{SetsNoPlace}
 use Rattle.entry_rules.specs.inner.Acting.{Held}
-use Rattle.entry_rules.proofs.Entered.{drop_next, held_both}
-use Rattle.entry_rules.proofs.Progress.{Progress, goes_on}
+use Rattle.folio_sections.proofs.ListLemmas.{drop_next}
+use Rattle.entry_rules.proofs.Entered.{held_both}
+use Rattle.folio_sections.proofs.Progress.{Progress, goes_on}
 use Rattle.entry_rules.proofs.Steady.{brings, contents_apart}
 use Rattle.entry_rules.proofs.contents.add_contents.Goals as goal
 

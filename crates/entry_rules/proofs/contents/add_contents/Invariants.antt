@@ -4,7 +4,7 @@ use Rattle.act_model.specs.Touches.{keys_of_acts}
 use Rattle.act_model.specs.declared.filing_acts.Act.{Act}
 use Rattle.folio_sections.proofs.Unchanged.{SetsNoPlace}
 use Rattle.entry_rules.specs.inner.Acting.{Held}
-use Rattle.entry_rules.proofs.Progress.{Progress}
+use Rattle.folio_sections.proofs.Progress.{Progress}
 use Rattle.entry_rules.proofs.Steady.{brings}
 use Rattle.entry_rules.proofs.contents.add_contents.Given as goal
 

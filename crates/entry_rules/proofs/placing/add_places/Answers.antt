@@ -1,25 +1,20 @@
 -- A place that is set changes no notice, so each key's place is that of the parts as they stood.
-use Rattle.std.proofs.Common.{◌≡◌, ◌+◌, Bool, Contains, ◌∷◌, drop, IsTrue, sym, subst, ◌∙◌}
+use Rattle.std.proofs.Common.{◌≡◌, ◌+◌, ◌∷◌, drop, sym, subst, ◌∙◌}
 use Rattle.gb_base.specs.declared.keys.Key.{Key}
-use Rattle.act_model.proofs.KeyOrder.{in_key_order_members}
-use Rattle.act_model.specs.Touches.{keys_of_filing}
-use Rattle.folio_sections.specs.Entering.{keys_in_order, placed_at}
+use Rattle.act_model.specs.Touches.{keys_in_order}
+use Rattle.folio_sections.specs.Entering.{placed_at}
 use Rattle.folio_sections.specs.Adding.{HasRoom}
 use Rattle.std.specs.List.{flat_map}
 use Rattle.folio_sections.proofs.Unchanged.{KeepsNotices}
-use Rattle.entry_rules.proofs.Entered.{drop_next}
-use Rattle.entry_rules.proofs.Progress.{Progress, goes_on, has_room}
+use Rattle.folio_sections.proofs.ListLemmas.{drop_next}
+use Rattle.folio_sections.proofs.Progress.{Progress, goes_on, has_room, key_held}
 use Rattle.entry_rules.proofs.Steady.{places_apart}
 use Rattle.entry_rules.proofs.placing.add_places.Goals as goal
 
 pub add_place_at-requires-clause-held : goal.add_place_at-requires-clause-held
 add_place_at-requires-clause-held g c =
-    let items = c.as_slice-key-items.result.now in
-    let key = c.key-item.result in
-    let all : items ≡ keys_in_order c.args.by.now.journal.now.receipts c.args.by.now.number = c.as_slice-key-items.ensures.value ∙ c.keys_in_order-keys.ensures in
-    let there : Contains items key = (c.loop-key.key-index, c.loop-key-test.true, sym c.key-item.is) in
-    subst (λ (h : Key → Bool). IsTrue (h key)) (sym c.loop-key.invariant.held)
-    (c.requires.held key ((in_key_order_members (keys_of_filing c.args.by.now.journal.now.receipts c.args.by.now.number) key).0 (subst (λ ks. Contains ks key) all there)))
+    key_held c.args.by.now.journal.now.receipts c.args.by.now.number c.as_slice-key-items.result.now c.loop-key.key-index c.key-item.result (g.P.Parts.holds c.args.parts.now) (g.P.Parts.holds c.loop-key.parts)
+    (c.as_slice-key-items.ensures.value ∙ c.filing_keys-keys.ensures) c.loop-key-test.true c.key-item.is c.loop-key.invariant.held c.requires.held
 
 pub add_place_at-requires-clause-room : goal.add_place_at-requires-clause-room
 add_place_at-requires-clause-room g c =
@@ -35,7 +30,7 @@ add_place_at-requires-clause-room g c =
     let at1 = g.P.Parts.at c.loop-key.parts in
     let room1 = g.P.Parts.room c.loop-key.parts in
     let holds1 = g.P.Parts.holds c.loop-key.parts in
-    let all : keys_in_order journal m ≡ items = sym c.keys_in_order-keys.ensures ∙ sym c.as_slice-key-items.ensures.value in
+    let all : keys_in_order journal m ≡ items = sym c.filing_keys-keys.ensures ∙ sym c.as_slice-key-items.ensures.value in
     let next : drop c.loop-key.key-index items ≡ key ∷ rest = drop_next Key items c.loop-key.key-index key c.loop-key-test.true c.key-item.is in
     has_room Key (placed_at journal m i) KeepsNotices items key rest at0 at1 room0 room1 holds0 holds1 (places_apart journal m i)
     (subst (λ ks. Progress Key (placed_at journal m i) KeepsNotices items ks at0 at1 room0 room1 holds0 holds1) next c.loop-key.invariant)

@@ -1,0 +1,42 @@
+// Entries that an item adds to the parts of a register.
+ghost use Rattle.std.specs.Prelude.{◌≡◌, ◌≤◌, [], ◌∷◌, length, IsTrue};
+ghost use Rattle.gb_base.specs.DayMinute.{IsStampDay};
+ghost use Rattle.act_model.specs.Receiving.{day_of};
+ghost use Rattle.folio_sections.specs.Adding.{AddsList, HasRoom};
+ghost use Rattle.folio_sections.specs.Entering.{entry_by};
+
+use crate::{Entry, Parts, What};
+use act_model::Journal;
+use gb_base::{Day, Key, ReceiptNo};
+
+/// The stamp day of an item.
+pub fn day_of(journal: &Journal, item: ReceiptNo) -> Day
+    requires { item ≤ length journal.now.receipts }
+    ensures value { result ≡ day_of journal.now.receipts item }
+    ensures stamp_day { IsStampDay result }
+{
+    journal.receipts()[item.get() as usize - 1].stamp.day()
+}
+
+/// An entry by an item, on its stamp day.
+pub fn entry_by(journal: &Journal, item: ReceiptNo, key: Key, what: What) -> Entry
+    requires { item ≤ length journal.now.receipts }
+    ensures { result ≡ entry_by journal.now.receipts item key what }
+{
+    Entry {
+        receipt: item,
+        day: day_of(journal, item),
+        key,
+        what,
+    }
+}
+
+/// Adds an entry at the end of its key's part.
+pub fn add<P: Parts>(parts: &mut P, entry: Entry)
+    requires held { IsTrue (P.holds parts.old entry.key) }
+    requires room { HasRoom (P.room parts.old) (entry ∷ []) }
+    ensures added { AddsList (P.at parts.old) (P.at parts.new) (P.room parts.old) (P.room parts.new) (entry ∷ []) }
+    ensures held { P.holds parts.new ≡ P.holds parts.old }
+{
+    parts.append(entry);
+}

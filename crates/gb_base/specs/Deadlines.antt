@@ -1,0 +1,14 @@
+-- When the waiting of a filing ends (GBO § 18).
+use Rattle.std.specs.Prelude.{ℕ, ◌+◌, ◌%◌, ◌==◌, if◌then◌else◌}
+
+-- how many days a day is behind a Monday: day 0, 1970-01-01, was a Thursday
+abbrev pub weekday : ℕ → ℕ
+weekday day = (day + 3) % 7
+
+-- the day, or the next Monday where it is a Saturday or a Sunday (BGB § 193)
+abbrev pub working_day : ℕ → ℕ
+working_day day = if weekday day == 5 then day + 2 else (if weekday day == 6 then day + 1 else day)
+
+-- the last day for a cure: 30 days behind this one, or the next Monday
+abbrev pub deadline : ℕ → ℕ
+deadline day = working_day (day + 30)

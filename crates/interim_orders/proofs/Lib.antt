@@ -1,0 +1,3 @@
+-- Lemmas.
+pub mod Marking
+pub mod Noticing

@@ -1,0 +1,4 @@
+-- What contracts cite.
+pub mod Lapses
+pub mod Orders
+pub mod inner

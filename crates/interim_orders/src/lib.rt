@@ -1,0 +1,13 @@
+//! Filings with curable defects: the order under which they wait, the official notices that keep
+//! their places meanwhile, and the end of their waiting (GBO § 18).
+#![tactic(auto)]
+
+mod lapses;
+mod notices;
+mod orders;
+mod states;
+
+pub use lapses::{LapseAnswer, lapse};
+pub use notices::enter_notices;
+pub use orders::{close_order, open_order};
+pub use states::{FilingState, state};

@@ -1,0 +1,69 @@
+// Whether a filing waits for cures.
+ghost use Rattle.std.specs.Prelude.{◌≡◌, ◌<◌, Contains, IsTrue};
+ghost use Rattle.gb_base.specs.declared.keys.Key.{Key};
+ghost use Rattle.act_model.specs.Touches.{keys_of_filing};
+ghost use Rattle.folio_sections.specs.Waiting.{pending};
+ghost use Rattle.interim_orders.specs.Orders.{state_by, state_of, waits_until};
+
+use act_model::{Journal, filing_keys};
+use folio_sections::Parts;
+use gb_base::{Day, Key, ReceiptNo};
+
+/// Whether a filing waits for cures.
+#[derive(Clone, Copy, Debug, PartialEq, Eq)]
+pub enum FilingState {
+    /// It waits until this day, and beyond it until a lapse is filed.
+    Pending { until: Day },
+    /// It does not wait.
+    NotPending,
+}
+
+/// The state of a filing as an item finds it. Only an earlier filing can be pending.
+pub fn state<P: Parts>(
+    parts: &P,
+    journal: &Journal,
+    item: ReceiptNo,
+    filing: ReceiptNo,
+) -> FilingState
+    requires held { filing < item → (k : Key) → Contains (keys_of_filing journal.now.receipts filing) k → IsTrue (P.holds parts.now k) }
+    ensures { result ≡ state_of journal.now.receipts filing item (P.at parts.now) }
+{
+    if filing < item {
+        state_by(waits_until(parts, journal, filing))
+    } else {
+        FilingState::NotPending
+    }
+}
+
+/// The state in which a day, or none, leaves a filing.
+fn state_by(until: Option<Day>) -> FilingState
+    ensures { result ≡ state_by until }
+{
+    match until {
+        Some(until) => FilingState::Pending { until },
+        None => FilingState::NotPending,
+    }
+}
+
+/// The day until which a filing waits at its first key.
+fn waits_until<P: Parts>(parts: &P, journal: &Journal, filing: ReceiptNo) -> Option<Day>
+    requires { (k : Key) → Contains (keys_of_filing journal.now.receipts filing) k → IsTrue (P.holds parts.now k) }
+    ensures { result ≡ waits_until journal.now.receipts filing (P.at parts.now) }
+{
+    match filing_keys(journal, filing).as_slice().first() {
+        Some(key) => pending_at(parts, *key, filing),
+        None => None,
+    }
+}
+
+/// The day until which a filing waits at this key; None where it does not wait there.
+fn pending_at<P: Parts>(parts: &P, key: Key, filing: ReceiptNo) -> Option<Day>
+    requires { IsTrue (P.holds parts.now key) }
+    ensures { result ≡ pending filing (P.at parts.now key) }
+{
+    match key {
+        Key::Title(folio) => parts.title(folio).unwrap().pending(filing),
+        Key::Right(folio, right) => parts.right(folio, right).unwrap().pending(filing),
+        Key::Case(folio) => parts.case(folio).unwrap().pending(filing),
+    }
+}
