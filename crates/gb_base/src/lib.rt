@@ -5,6 +5,7 @@
 mod amounts;
 mod date_texts;
 mod days;
+mod deadlines;
 mod ids;
 mod keys;
 pub mod laws;
@@ -17,6 +18,7 @@ mod texts;
 
 pub use amounts::Cents;
 pub use days::Day;
+pub use deadlines::deadline;
 pub use ids::{FolioId, Person, ReceiptNo, RightId};
 pub use keys::Key;
 pub use memory::NoMemory;
