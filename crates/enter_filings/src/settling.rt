@@ -10,11 +10,11 @@ ghost use Rattle.folio_sections.specs.Held.{entries_at, is_held, room_at};
 ghost use Rattle.folio_sections.specs.Judging.{judged};
 ghost use Rattle.enter_filings.specs.Settling.{brought, brought_by, register_after, verdicts_after};
 
-use act_model::{Journal, filing_keys};
+use act_model::{Journal, filing_at, filing_keys};
 use anyhow::{Result, ensure};
 use consent_rules::{Judgement, can_be_judged, judge};
 use entry_rules::{MOST_ENTERED, enter, laws};
-use folio_sections::{MapParts, filing_at};
+use folio_sections::MapParts;
 use gb_base::{Key, NoMemory, ReceiptNo};
 use std::alloc::Global;
 
