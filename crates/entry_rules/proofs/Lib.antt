@@ -1,5 +1,6 @@
 -- Lemmas.
 pub mod Entered
+pub mod Few
 pub mod Progress
 pub mod Room
 pub mod Steady
