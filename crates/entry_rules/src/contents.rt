@@ -8,9 +8,9 @@ ghost use Rattle.folio_sections.specs.Entering.{content, contents_brought};
 ghost use Rattle.entry_rules.specs.inner.Acting.{Held, brought_by};
 
 use crate::adding::{Entering, add, add_both};
-use crate::creations::{NewRight, creation};
+use crate::creations::creation;
 use act_model::{Act, new_right};
-use folio_sections::{Documents, Parts, RightForm, Sought, What};
+use folio_sections::{Documents, Parts, Sought, What};
 use gb_base::Key;
 
 /// Adds what the acts of the filing bring, in their order.
@@ -56,30 +56,12 @@ fn add_content<P: Parts>(parts: &mut P, by: &Entering, a: u8, act: &Act)
             };
             add(parts, by.entry(Key::Title(*folio), what));
         }
-        Act::Create {
-            folio,
-            spec,
-            reserve,
-        } => {
-            let right = NewRight {
-                folio: *folio,
-                spec: *spec,
-                form: RightForm::Full,
-                reserve: *reserve,
-                ahead_of: None,
-            };
-            let entry = creation(parts, by, a, act, right);
+        Act::Create { spec, .. } => {
+            let entry = creation(parts, by, a, act, *spec);
             add(parts, entry);
         }
-        Act::NoticeFor { folio, spec } => {
-            let right = NewRight {
-                folio: *folio,
-                spec: *spec,
-                form: RightForm::Notice,
-                reserve: None,
-                ahead_of: None,
-            };
-            let entry = creation(parts, by, a, act, right);
+        Act::NoticeFor { spec, .. } => {
+            let entry = creation(parts, by, a, act, *spec);
             add(parts, entry);
         }
         Act::Convert { folio, right } => {
@@ -125,14 +107,7 @@ fn add_content<P: Parts>(parts: &mut P, by: &Entering, a: u8, act: &Act)
             behind,
             spec,
         } => {
-            let right = NewRight {
-                folio: *folio,
-                spec: *spec,
-                form: RightForm::Full,
-                reserve: None,
-                ahead_of: Some(*behind),
-            };
-            let entry = creation(parts, by, a, act, right);
+            let entry = creation(parts, by, a, act, *spec);
             let what = What::Exercised {
                 by: new_right(by.number, a),
             };
