@@ -16,7 +16,7 @@ use Rattle.folio_sections.specs.Places.{create_in_division, creates_there, place
 use Rattle.folio_sections.specs.Waiting.{notice}
 use Rattle.folio_sections.specs.declared.entries.Entry.{Entry}
 use Rattle.folio_sections.specs.declared.entries.What.TheVariants as what
-use Rattle.folio_sections.specs.declared.title_places.Place.{Place}
+use Rattle.folio_sections.specs.declared.title_places.TitlePlace.{TitlePlace}
 use Rattle.folio_sections.proofs.Unchanged.{KeepsNotices, SetsNoPlace, all_at, notice_stays, places_stay}
 use Rattle.entry_rules.specs.inner.Acting.{brought_by}
 use Rattle.entry_rules.proofs.Progress.{Independent}
@@ -45,7 +45,7 @@ places_apart journal m i = record {
 }
 
 -- a right that is entered on these places
-abbrev created_on : List Receipt → ℕ → List Act → ℕ → ℕ → Act → RightSpec → List Place → Entry
+abbrev created_on : List Receipt → ℕ → List Act → ℕ → ℕ → Act → RightSpec → List TitlePlace → Entry
 created_on journal m acts i a act spec standing =
     entry_by journal i (Right (folio_of act) (new_right m a)) (what.Created (as_entered journal m acts i standing a act spec))
 

@@ -1,6 +1,6 @@
 -- Lemmas.
 pub mod Additions
 pub mod HeldParts
+pub mod Indexes
 pub mod ListLemmas
-pub mod Places
 pub mod Unchanged

@@ -25,7 +25,7 @@ use Rattle.folio_sections.specs.declared.entries.RightForm.{RightForm}
 use Rattle.folio_sections.specs.declared.entries.RightForm.TheVariants as form
 use Rattle.folio_sections.specs.declared.entries.What.{What}
 use Rattle.folio_sections.specs.declared.entries.What.TheVariants as what
-use Rattle.folio_sections.specs.declared.title_places.Place.{Place}
+use Rattle.folio_sections.specs.declared.title_places.TitlePlace.{TitlePlace}
 
 -- an entry by item i
 abbrev pub entry_by : List Receipt → ℕ → Key → What → Entry
@@ -89,11 +89,11 @@ right_behind (Exercise folio behind spec) = Some behind
 right_behind other = None
 
 -- the day of filing m's own among these places; that of item i where it has none
-abbrev pub day_placed : List Receipt → ℕ → ℕ → List Place → ℕ
+abbrev pub day_placed : List Receipt → ℕ → ℕ → List TitlePlace → ℕ
 day_placed journal m i standing = option_map_or (λ p. p.day) (own_place m standing) (day_of journal i)
 
 -- the right of this description that act a of filing m creates, as it is entered by item i on these places of its folio
-abbrev pub as_entered : List Receipt → ℕ → List Act → ℕ → List Place → ℕ → Act → RightSpec → Created
+abbrev pub as_entered : List Receipt → ℕ → List Act → ℕ → List TitlePlace → ℕ → Act → RightSpec → Created
 as_entered journal m acts i standing a act spec = record {
   spec = spec;
   form = form_created act;

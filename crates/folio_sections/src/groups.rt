@@ -1,13 +1,13 @@
 // Rights of equal rank: creating acts of one filing, folio and group (GBO § 45(3)).
 ghost use Rattle.std.specs.Prelude.{◌≡◌};
-ghost use Rattle.folio_sections.specs.Groups.{has_equal, is_in_group};
+ghost use Rattle.folio_sections.specs.Groups.{has_equal, shares_its_group};
 
 use act_model::{Act, Journal, act_at, filing_at, share_group};
 use gb_base::RightId;
 
 /// Whether another act of the right's filing creates a right of the same group in the folio.
-pub fn is_in_group(journal: &Journal, right: RightId) -> bool
-    ensures { result ≡ is_in_group journal.now.receipts right }
+pub fn shares_its_group(journal: &Journal, right: RightId) -> bool
+    ensures { result ≡ shares_its_group journal.now.receipts right }
 {
     match filing_at(journal, right.receipt()) {
         Some(filing) => match act_at(filing, right.act()) {

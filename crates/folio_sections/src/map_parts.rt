@@ -60,7 +60,7 @@ impl MapParts {
     }
 
     /// Where the part of a key stands; None where it is not held.
-    fn place(&self, key: Key) -> Option<usize>
+    fn index_of(&self, key: Key) -> Option<usize>
         ensures { result ≡ position (λ p. same_key p.key key) self.now }
     {
         self.index.get(&key).copied()
@@ -70,8 +70,8 @@ impl MapParts {
     fn part(&self, key: Key) -> Option<&AnyPart>
         ensures { option_copied result ≡ find (λ p. same_key p.key key) self.now }
     {
-        match self.place(key) {
-            Some(place) => Some(&self.parts[place]),
+        match self.index_of(key) {
+            Some(index) => Some(&self.parts[index]),
             None => None,
         }
     }
@@ -92,9 +92,9 @@ fn add_part(
     if index.contains_key(&key) {
         return Ok(());
     }
-    let place = parts.len();
+    let end = parts.len();
     parts.push(AnyPart::new(alloc, key))?;
-    index.insert(key, place)?;
+    index.insert(key, end)?;
     Ok(())
 }
 
@@ -140,12 +140,12 @@ impl Parts for MapParts {
     }
 
     fn append(&mut self, entry: Entry) {
-        match self.place(entry.key) {
-            Some(place) => {
-                let part = &mut self.parts[place];
+        match self.index_of(entry.key) {
+            Some(index) => {
+                let part = &mut self.parts[index];
                 part.append(entry);
             }
-            // The caller holds the key's part, so it has a place.
+            // The caller holds the key's part, so it stands somewhere.
             None => {}
         }
     }
