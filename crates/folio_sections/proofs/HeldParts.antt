@@ -93,6 +93,18 @@ all_grow_set (x ∷ xs) [] i d q all within g = absurd all
 all_grow_set (x ∷ xs) (y ∷ ys) zero d q all within g = (grows_on x y q all.0 g, all.1)
 all_grow_set (x ∷ xs) (y ∷ ys) (suc i) d q all within g = (all.0, all_grow_set xs ys i d q all.1 (omega arith) g)
 
+-- parts that had room have it still
+pub room_there : (n : ℕ) (before after : List PartState) (i : ℕ) (d : PartState) → AllZip Grows before after → All (λ p. n ≤ p.room) before → i < length after → n ≤ (get_or after i d).room
+room_there n [] [] i d all each within = absurd (omega arith)
+room_there n [] (y ∷ ys) i d all each within = absurd all
+room_there n (x ∷ xs) [] i d all each within = absurd all
+room_there n (x ∷ xs) (y ∷ ys) zero d all each within =
+    let had = All-head (λ (p : PartState). n ≤ p.room) x xs each in
+    let wide = all.0.room in
+    omega arith
+room_there n (x ∷ xs) (y ∷ ys) (suc i) d all each within =
+    room_there n xs ys i d all.1 (All-tail (λ (p : PartState). n ≤ p.room) x xs each) (omega arith)
+
 map_or_cond : {A B : Type 0} (f : A → B) (b : Bool) (x : A) (o : Option A) (d : B) → option_map_or f (cond b (Some x) o) d ≡ cond b (f x) (option_map_or f o d)
 map_or_cond f true x o d = refl
 map_or_cond f false x o d = refl

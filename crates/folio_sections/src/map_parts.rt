@@ -1,5 +1,5 @@
 // Parts over keys that are given, found by key in logarithmic time.
-ghost use Rattle.std.specs.Prelude.{◌≡◌, ◌||◌, ℕ, ◌≤◌, [], All, List, IsTrue, IfOk, OnOk, OnErr, IfSome, is_some, find, position};
+ghost use Rattle.std.specs.Prelude.{◌≡◌, ◌||◌, ℕ, ◌≤◌, [], All, List, IsTrue, IfOk, IsOk, OnOk, OnErr, IfSome, is_some, find, position};
 ghost use Rattle.std.specs.Option.{option_copied};
 ghost use Rattle.std.specs.List.{AllZip};
 ghost use Rattle.gb_base.specs.Keys.{same_key};
@@ -49,12 +49,14 @@ impl MapParts {
     }
 
     /// Keeps room for n entries more in each part. Where no memory is found, some parts may have
-    /// more room than before; no entry and no key changes.
+    /// more room than before; no entry and no key changes. It succeeds where each part has the room
+    /// already.
     pub fn reserve_all(&mut self, n: usize) -> Result<(), NoMemory>
         ensures held { is_held self.new ≡ is_held self.old }
         ensures entries { entries_at self.new ≡ entries_at self.old }
         ensures room { OnOk result ((k : Key) → IsTrue (is_held self.new k) → n ≤ room_at self.new k) }
         ensures kept { (k : Key) → room_at self.old k ≤ room_at self.new k }
+        ensures succeeds { All (λ p. n ≤ p.room) self.old → IsOk result }
     {
         reserve_each(&mut self.parts, n)
     }
@@ -102,6 +104,7 @@ fn add_part(
 fn reserve_each(parts: &mut [AnyPart], n: usize) -> Result<(), NoMemory>
     ensures grow { AllZip Grows parts.old parts.new }
     ensures room { OnOk result (All (λ p. n ≤ p.room) parts.new) }
+    ensures succeeds { All (λ p. n ≤ p.room) parts.old → IsOk result }
 {
     for part in parts.iter_mut() {
         part.reserve(n)?;
