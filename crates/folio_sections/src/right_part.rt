@@ -102,7 +102,7 @@ impl RightPart {
         }
     }
 
-    /// The holder; None where the right was never created.
+    /// The holder: the last new one, else that of the creation; None where there is neither.
     pub fn holder(&self) -> Option<Person>
         ensures { result ≡ holder self.now.entries }
     {
@@ -122,7 +122,8 @@ impl RightPart {
         }
     }
 
-    /// The capital: the one that the last award left, else that of the creation (ZVG § 52).
+    /// The capital: the one that the last award left, else that of the creation (ZVG § 52); None where
+    /// there is neither.
     pub fn capital(&self) -> Option<Cents>
         ensures { result ≡ capital self.now.entries }
     {

@@ -94,7 +94,7 @@ impl TitlePart {
             .fold(None, |before, entry| inventory_by(before, &entry.what))
     }
 
-    /// The owners; None where the folio is not open.
+    /// The owners; None where no entry names any.
     pub fn owners(&self) -> Option<Owners>
         ensures { result ≡ owners self.now.entries }
     {
