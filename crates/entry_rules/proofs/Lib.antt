@@ -4,4 +4,3 @@ pub mod Few
 pub mod Progress
 pub mod Room
 pub mod Steady
-pub mod TestKeys
