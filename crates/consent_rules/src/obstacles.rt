@@ -9,7 +9,7 @@ ghost use Rattle.consent_rules.specs.inner.Held.{HasParts};
 use crate::needed::number_behind;
 use crate::parts_read::{live_right, lives, right_part, title_part};
 use act_model::{Act, Journal};
-use folio_sections::{Created, Parts, is_in_group};
+use folio_sections::{Created, Parts, shares_its_group};
 use gb_base::{Cents, FolioId, ReceiptNo, RightId};
 
 /// How many creating acts a folio has at most, whatever became of their filings.
@@ -128,7 +128,7 @@ fn is_barred_from_exchange<P: Parts>(
     ensures { result ≡ is_barred_from_exchange journal.now.receipts (P.at parts.now) folio right }
 {
     let part = right_part(parts, folio, right);
-    !part.full() || is_in_group(journal, right) || has_reservation(live_right(part))
+    !part.full() || shares_its_group(journal, right) || has_reservation(live_right(part))
 }
 
 /// Whether the right was entered with a reservation, or in the rank of one.

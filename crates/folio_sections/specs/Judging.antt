@@ -17,7 +17,7 @@ use Rattle.act_model.specs.Acts.{is_in_division_three}
 use Rattle.act_model.specs.Creations.{creating_rank}
 use Rattle.act_model.specs.Touches.{acts_of, created_before, filing_at, new_right}
 use Rattle.folio_sections.specs.Documents.{documents, given, is_agreement, is_clearance, is_plain, is_strangers_consent}
-use Rattle.folio_sections.specs.Groups.{is_in_group}
+use Rattle.folio_sections.specs.Groups.{shares_its_group}
 use Rattle.folio_sections.specs.Limits.{most_creations}
 use Rattle.folio_sections.specs.Persons.{affected, applicants, needed, number_behind, others, owner_side}
 use Rattle.folio_sections.specs.Rights.{is_full, is_live, is_spent, live_right}
@@ -81,7 +81,7 @@ converts_full_right at other = false
 -- and one in a reservation's rank.
 abbrev pub is_barred_from_exchange : List Receipt → (Key → List Entry) → ℕ → RightNo → Bool
 is_barred_from_exchange journal at folio right =
-    not (is_full (at (Right folio right))) || is_in_group journal right
+    not (is_full (at (Right folio right))) || shares_its_group journal right
     || option_map_or (λ made. is_some made.reserve || is_some made.ahead_of) (live_right (at (Right folio right))) false
 
 -- BGB § 880: one of the rights of an exchange takes no part in one

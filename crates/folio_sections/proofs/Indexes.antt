@@ -33,7 +33,7 @@ is_some-find p (y ∷ ys) =
       | false ↦ is_some-find p ys
     ]
 
--- the place in a list with one more in front
+-- the index in a list with one more in front
 pub position-cons : {X : Type 0} (p : X → Bool) (x : X) (xs : List X) → position p (x ∷ xs) ≡ cond (p x) (Some 0) (option_map (λ n. 1 + n) (position p xs))
 position-cons p x xs =
     elim (p x) as (λ b. cond (nat_lt (cond (not b) (1 + position_or_len p xs) 0) (length (x ∷ xs))) (Some (cond (not b) (1 + position_or_len p xs) 0)) None ≡ cond b (Some 0) (option_map (λ n. 1 + n) (position p xs))) [
@@ -41,7 +41,7 @@ position-cons p x xs =
       | false ↦ grind (arith, common_steps)
     ]
 
--- a place is the first that passes
+-- it is the first that passes
 pub position-at : {X : Type 0} (p : X → Bool) (xs : List X) (i : ℕ) → position p xs ≡ Some i → position_or_len p xs ≡ i
 position-at p xs i h =
     elim (nat_lt (position_or_len p xs) (length xs)) as (λ b. cond b (Some (position_or_len p xs)) None ≡ Some i → position_or_len p xs ≡ i) [
@@ -49,11 +49,11 @@ position-at p xs i h =
       | false ↦ λ g. cc
     ] h
 
--- what is found stands at its place
+-- what is found stands at its index
 pub find-position : {X : Type 0} (p : X → Bool) (xs : List X) (i : ℕ) → position p xs ≡ Some i → find p xs ≡ slice_get xs i
 find-position p xs i h = find_at p xs ∙ ap (λ n. slice_get xs n) (position-at p xs i h)
 
--- there is a place exactly where some element passes
+-- there is an index exactly where some element passes
 pub is_some-position : {X : Type 0} (p : X → Bool) (xs : List X) → is_some (position p xs) ≡ list_any p xs
 is_some-position p [] = refl
 is_some-position p (y ∷ ys) =
@@ -63,14 +63,14 @@ is_some-position p (y ∷ ys) =
       | false ↦ is_some-mapped (position p ys) ∙ is_some-position p ys
     ]
 
--- what has no place is not found
+-- what has no index is not found
 pub find-none : {X : Type 0} (p : X → Bool) (xs : List X) → position p xs ≡ None → find p xs ≡ None
 find-none p xs h = is_none (find p xs) (is_some-find p xs ∙ sym (is_some-position p xs) ∙ ap is_some h)
 
--- a write of an element that passes as the one before leaves the place
+-- a write of an element that passes as the one before leaves the index
 pub position-set : {X : Type 0} (p : X → Bool) (xs : List X) (i : ℕ) (y d : X) → p y ≡ p (get_or xs i d) → position p (set xs i y) ≡ position p xs
 position-set p xs i y d h = grind (arith, common_steps, position_or_len-set)
 
--- the place after a push
+-- the index behind a push
 pub position_push : {X : Type 0} (p : X → Bool) (xs : List X) (y : X) → position p (xs ++ y ∷ []) ≡ option_or (position p xs) (cond (p y) (Some (length xs)) None)
 position_push p xs y = grind (arith, common_steps, position_or_len_push, prefix_len-le-length)
