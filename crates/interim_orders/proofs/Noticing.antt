@@ -20,7 +20,7 @@ use Rattle.folio_sections.specs.declared.entries.Entry.{Entry}
 use Rattle.folio_sections.specs.declared.entries.What.TheVariants as what
 use Rattle.folio_sections.specs.inner.Unnoticed.{lacks_notice}
 use Rattle.folio_sections.proofs.Additions.{none_at}
-use Rattle.folio_sections.proofs.Places.{find_passes}
+use Rattle.folio_sections.proofs.Indexes.{find_passes}
 use Rattle.folio_sections.proofs.Progress.{Progress, begins, ends, goes_on_by, has_room_by}
 use Rattle.folio_sections.proofs.Unchanged.{KeepsNotice, all_at, all_both, own_notice_stays, pending_stays}
 use Rattle.folio_sections.proofs.Below.{below_next}
