@@ -108,7 +108,8 @@ as_entered journal m acts i standing a act spec = record {
 abbrev pub creation : List Receipt → ℕ → List Act → ℕ → (Key → List Entry) → ℕ → Act → List Entry
 creation journal m acts i at a act =
     map
-    (λ spec. entry_by journal i (Right (folio_of act) (new_right m a)) (what.Created (as_entered journal m acts i (places journal at (folio_of act)) a act spec)))
+    (λ spec. entry_by journal i (Right (folio_of act) (new_right m a))
+    (what.Created (as_entered journal m acts i (places journal at (folio_of act)) a act spec)))
     (option_to_list (right_created act))
 
 -- what act a of filing m brings
@@ -116,8 +117,7 @@ abbrev pub content : List Receipt → ℕ → List Act → List Doc → ℕ → 
 content journal m acts docs i at a (Open folio inventory owners) =
     entry_by journal i (Title folio) (what.Opened inventory owners) ∷ []
 content journal m acts docs i at a (Transfer folio owners) = entry_by journal i (Title folio) (what.Owner owners) ∷ []
-content journal m acts docs i at a (Create folio spec reserve) =
-    creation journal m acts i at a (Create folio spec reserve)
+content journal m acts docs i at a (Create folio spec reserve) = creation journal m acts i at a (Create folio spec reserve)
 content journal m acts docs i at a (NoticeFor folio spec) = creation journal m acts i at a (NoticeFor folio spec)
 content journal m acts docs i at a (Convert folio right) = entry_by journal i (Right folio right) what.Converted ∷ []
 content journal m acts docs i at a (Assign folio right holder) = entry_by journal i (Right folio right) (what.Holder holder) ∷ []
