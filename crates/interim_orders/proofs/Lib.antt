@@ -1,3 +1,4 @@
 -- Lemmas.
 pub mod Marking
 pub mod Noticing
+pub mod Room

@@ -26,7 +26,7 @@ use Rattle.folio_sections.proofs.Unchanged.{KeepsNotice, all_at, all_both, own_n
 use Rattle.folio_sections.proofs.Below.{below_next}
 use Rattle.folio_sections.proofs.Unnoticed.{unnoticed_is}
 
-all_map : {X : Type 0} (P Q : X → Type 0) (xs : List X) → ((x : X) → P x → Q x) → AllByRecursion P xs → AllByRecursion Q xs
+pub all_map : {X : Type 0} (P Q : X → Type 0) (xs : List X) → ((x : X) → P x → Q x) → AllByRecursion P xs → AllByRecursion Q xs
 all_map P Q [] f all = tt
 all_map P Q (x ∷ xs) f all = (f x all.0, all_map P Q xs f all.1)
 
@@ -245,7 +245,7 @@ all_noticed journal m i key after at0 at1 room0 room1 holds0 holds1 so_far is =
 abbrev pub StandsApart : List Key → Entry → Type 0
 StandsApart keys e = AllByRecursion (λ k. same_key e.key k ≡ false) keys
 
-sorted_rest : (keys : List Key) (n : ℕ) → IsStrictlySortedBy key_cmp keys → IsStrictlySortedBy key_cmp (drop n keys)
+pub sorted_rest : (keys : List Key) (n : ℕ) → IsStrictlySortedBy key_cmp keys → IsStrictlySortedBy key_cmp (drop n keys)
 unfolding IsStrictlySortedBy
 sorted_rest keys zero sorted = sorted
 sorted_rest [] (suc n) sorted = tt
@@ -255,7 +255,7 @@ above_apart : (key : Key) (keys : List Key) → AllByRecursion (λ k. key_cmp ke
 above_apart key [] above = tt
 above_apart key (k ∷ keys) above = (ties key k ∙ ap is_eq above.0, above_apart key keys above.1)
 
-first_apart : (key : Key) (rest : List Key) → IsStrictlySortedBy key_cmp (key ∷ rest) → AllByRecursion (λ k. same_key key k ≡ false) rest
+pub first_apart : (key : Key) (rest : List Key) → IsStrictlySortedBy key_cmp (key ∷ rest) → AllByRecursion (λ k. same_key key k ≡ false) rest
 unfolding IsStrictlySortedBy
 first_apart key rest sorted = above_apart key rest sorted.0
 

@@ -3,6 +3,7 @@
 #![tactic(auto)]
 
 mod lapses;
+pub mod laws;
 mod notices;
 mod orders;
 mod states;
