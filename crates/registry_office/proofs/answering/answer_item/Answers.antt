@@ -14,7 +14,7 @@ pub returns-in_err-text-clause-missed : goal.returns-in_err-text-clause-missed
 returns-in_err-text-clause-missed g c = λ ticks tells.
     MatchResult-from_err c.from_residual.result _ _ c.from_residual.ensures.0
     (λ _. unanswered refl (λ on_disk file image.
-    let run = c.receive-answer.ensures.any_moment on_disk (tells on_disk) in
+    let run = (c.receive-answer.ensures.grows on_disk (tells on_disk)).left in
     run.each file (g.met.D.Disk.counts_now c.receive-answer.new.disk _ file (tells on_disk) run.later image)))
 
 pub returns-in_err-write_all-clause-missed : goal.returns-in_err-write_all-clause-missed
