@@ -3,6 +3,7 @@ use Rattle.std.proofs.Common.{◌≡◌, ℕ, ◌+◌, ◌≤◌, true, false, c
 use Rattle.std.proofs.lemmas.List.{append-nil}
 use Rattle.std.specs.List.{AllByRecursion}
 use Rattle.std.proofs.lemmas.List.Elements.{filter-append}
+use Rattle.std.proofs.lemmas.List.Sums.{count_by-le-length, length-filter}
 use Rattle.gb_base.specs.Keys.{same_key}
 use Rattle.gb_base.specs.declared.keys.Key.{Key}
 use Rattle.act_model.proofs.KeyOrder.{same_is}
@@ -20,6 +21,10 @@ length-at xs ys k = ap length (at-append xs ys k) ∙ length-append (at xs k) (a
 pub none_at : (es : List Entry) (k : Key) → AllByRecursion (λ e. same_key e.key k ≡ false) es → at es k ≡ []
 none_at [] k all = refl
 none_at (e ∷ es) k all = rw all.0 (none_at es k all.1)
+
+-- no more stand at a key than there are
+pub at_few : (es : List Entry) (k : Key) → length (at es k) ≤ length es
+at_few es k = omega (arith, length-filter (λ e. same_key e.key k) es, count_by-le-length (λ e. same_key e.key k) es)
 
 -- no entry
 pub adds_none : (at0 : Key → List Entry) (room0 : Key → ℕ) → AddsList at0 at0 room0 room0 []
