@@ -24,7 +24,7 @@ sender = member (codes "sender") (read_whole 0 4294967295)
 abbrev pub reference : Data → Read ℕ
 reference = member (codes "reference") (read_whole 0 18446744073709551615)
 
--- a line as it is handed in
+-- an unstamped line
 unfoldable pub item_line : Data → Read (ℕ × ℕ × Item)
 item_line d = do
   within (codes "line") (an_object d)

@@ -31,7 +31,7 @@ const FIRST_STAMP_DAY: u32 = 10_957;
 /// The last day on which receipts are stamped, 2149-12-31.
 const LAST_STAMP_DAY: u32 = 65_743;
 
-/// The sender, the reference and the item of a line as it is handed in, of at most 65,536 bytes.
+/// The sender, the reference and the item of an unstamped line, of at most 65,536 bytes.
 /// The fault says that the line is no JSON, that it is no item and where it is wrong, or that
 /// memory ran out.
 ///

@@ -211,7 +211,7 @@ above_of x q (k ∷ ks) above h =
     (λ later. above_of x q ks above.1 later)
     (or_cases (same_key k q) (has q ks) h)
 
-not_above_itself : (x : Key) (ks : List Key) → Above x ks → has x ks ≡ false
+pub not_above_itself : (x : Key) (ks : List Key) → Above x ks → has x ks ≡ false
 not_above_itself x ks above =
     ⊎_elim
     (λ h. absurd (false≢true (ap is_lt (sym (tied_itself total x) ∙ above_of x x ks above h))))

@@ -155,9 +155,7 @@ fn no_clash(act: &Act, others: &[Act]) -> bool
 fn clash(a: &Act, b: &Act) -> bool
     ensures { result ≡ ((wants_own_group a.now || wants_own_group b.now) && share_group a.now b.now) }
 {
-    (wants_own_group(a) || wants_own_group(b))
-        && a.folio() == b.folio()
-        && same_group(a.right_created(), b.right_created())
+    (wants_own_group(a) || wants_own_group(b)) && share_group(a, b)
 }
 
 /// Whether the act enters a right under a reservation, or in one.
@@ -177,6 +175,14 @@ fn wants_own_group(act: &Act) -> bool
     }
 }
 
+/// Whether two acts create rights of one group in one folio (GBO § 45(3)).
+pub fn share_group(a: &Act, b: &Act) -> bool
+    ensures { result ≡ share_group a.now b.now }
+{
+    a.folio() == b.folio() && same_group(a.right_created(), b.right_created())
+}
+
+/// Whether both are there, and of one group.
 fn same_group(a: Option<RightSpec>, b: Option<RightSpec>) -> bool
     ensures { result ≡ same_group a b }
 {

@@ -196,13 +196,14 @@ impl Journal {
     /// Receives an item. One number acts once: an item whose sender and reference stand already is
     /// answered with the number under which they stand. The stamp is the last receipt's where that
     /// is later. Want of memory comes only where the item would be accepted and no room is kept
-    /// for it, and changes nothing.
+    /// for it, and changes nothing. An accepted item takes up the room that was kept.
     pub fn add(&mut self, stamp: Stamp, sender: u32, reference: u64, item: &Item) -> Added
         requires { IsTrue (well_formed item.now) }
         ensures answer { (result ≡ answer_to self.old.receipts sender reference item.now)
             ⊎ ((result ≡ Added.Memory) × (is_accepted (answer_to self.old.receipts sender reference item.now) ≡ true)) }
         ensures room { IsTrue (has_room self.old item.now) → result ≡ answer_to self.old.receipts sender reference item.now }
         ensures journal { self.new.receipts ≡ journal_with self.old.receipts stamp sender reference item.now result }
+        ensures spent { is_accepted result ≡ true → self.new.ready_for ≡ None }
         ensures unchanged { is_accepted result ≡ false → self.new ≡ self.old }
     {
         match self.find(sender, reference) {
@@ -219,6 +220,7 @@ impl Journal {
             ⊎ ((result ≡ Added.Memory) × (is_accepted (answer_by self.old.receipts item.now None) ≡ true)) }
         ensures room { IsTrue (has_room self.old item.now) → result ≡ answer_by self.old.receipts item.now None }
         ensures journal { self.new.receipts ≡ journal_with self.old.receipts stamp sender reference item.now result }
+        ensures spent { is_accepted result ≡ true → self.new.ready_for ≡ None }
         ensures unchanged { is_accepted result ≡ false → self.new ≡ self.old }
     {
         let count = self.receipts.len();

@@ -28,7 +28,7 @@ pub use added::Added;
 pub use auctions::{Basis, Registration};
 pub use documents::{Doc, Docs, Form};
 pub use filing_acts::{Act, Acts};
-pub use filing_rules::keeps_rules;
+pub use filing_rules::{keeps_rules, share_group};
 pub use filings::{act_at, acts_of, created_before, filing_at, new_right};
 pub use items::{Filing, Item};
 pub use journals::Journal;

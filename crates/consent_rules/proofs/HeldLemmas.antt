@@ -1,7 +1,9 @@
 -- That a filing's keys are all that its acts need.
-use Rattle.std.proofs.Common.{◌≡◌, ℕ, ◌+◌, Bool, true, false, if◌then◌else◌, List, [], ◌∷◌, Some, None, Option, All, Contains, IsTrue, IfSome, refl, sym, ap, ◌∙◌, arith, suc, subst, rules}
+use Rattle.std.proofs.Common.{◌≡◌, ℕ, ◌+◌, Bool, true, false, if◌then◌else◌, List, [], ◌∷◌, Some, None, Option, All, Contains, IsTrue, IfSome, get_or, refl, sym, ap, ◌∙◌, arith, suc, subst, rules}
 use Rattle.std.specs.Option.{option_map_or, option_map}
-use Rattle.std.proofs.lemmas.List.Elements.{All-cons, All-nil, Contains-append_left, Contains-append_right}
+use Rattle.std.specs.List.{list_all}
+use Rattle.std.proofs.lemmas.List.Elements.{All-cons, All-contains, All-nil, Contains-append_left, Contains-append_right, Contains-get_or}
+use Rattle.std.proofs.lemmas.List.Sums.{AllPass-from_list_all, list_all-from_AllPass}
 use Rattle.gb_base.specs.RightNo.{RightNo}
 use Rattle.gb_base.specs.declared.keys.Key.{Key}
 use Rattle.gb_base.specs.declared.keys.Key.TheVariants.{Title, Right}
@@ -90,6 +92,17 @@ parts_of_filing holds at journal m f is held known =
     all_have_parts holds at journal m 1 f.acts
     (subst (λ o. AreHeld holds (option_map_or (λ g. keys_of_acts journal m 1 g.acts) o [])) is held)
     (subst (λ o. All (IsKnownExchange journal m at) (option_map_or (λ g. g.acts) o [])) is known)
+
+-- where a list has just a filing's keys, these are held if and only if all of the list are
+pub keys_held : (holds : Key → Bool) (keys own : List Key) → ((k : Key) → (Contains keys k → Contains own k) × (Contains own k → Contains keys k))
+    → list_all holds keys ≡ true → AreHeld holds own
+keys_held holds keys own members all k there =
+    All-contains (λ j. holds j ≡ true) keys k (AllPass-from_list_all holds keys all) ((members k).1 there)
+
+pub all_held : (holds : Key → Bool) (keys own : List Key) → ((k : Key) → (Contains keys k → Contains own k) × (Contains own k → Contains keys k))
+    → AreHeld holds own → list_all holds keys ≡ true
+all_held holds keys own members held =
+    list_all-from_AllPass holds keys (λ i d within. held (get_or keys i d) ((members (get_or keys i d)).0 (Contains-get_or keys i d within)))
 
 -- the judgement of filing m, from the filing and its documents
 pub judged_by : (journal : List Receipt) (m i : ℕ) (at : Key → List Entry) (f : Filing) (docs : List Doc) (result : Judgement)

@@ -3,3 +3,4 @@ pub mod Asking
 pub mod Held
 pub mod Needed
 pub mod WaitingAt
+pub mod WithBefore

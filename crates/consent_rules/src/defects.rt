@@ -1,6 +1,6 @@
 // The curable defects, of which all that hold are listed (GBO § 18).
-ghost use Rattle.std.specs.Prelude.{◌≡◌, ◌+◌, ◌≤◌, ◌<◌, [], ◌++◌, length, All};
-ghost use Rattle.folio_sections.specs.Judging.{defects, defects_from, is_defective};
+ghost use Rattle.std.specs.Prelude.{◌≡◌, ◌+◌, ◌≤◌, ◌<◌, ◌++◌, length, All};
+ghost use Rattle.folio_sections.specs.Judging.{defects, defects_under, is_defective};
 ghost use Rattle.consent_rules.specs.inner.Held.{HasParts};
 
 use crate::consent::{
@@ -45,7 +45,7 @@ fn add_defects<P: Parts>(
 )
     requires room { length list.old.items ≤ 40 }
     requires held { All (HasParts (P.holds parts.now) (P.at parts.now)) matter.now.filing.now.acts }
-    ensures added { list.new.items ≡ list.old.items ++ defects_from [] section (is_defective matter.now.journal.now.receipts matter.now.number matter.now.docs (P.at parts.now) section) matter.now.filing.now.acts }
+    ensures added { list.new.items ≡ list.old.items ++ defects_under matter.now.journal.now.receipts matter.now.number matter.now.filing.now matter.now.docs (P.at parts.now) section }
     ensures few { length list.new.items ≤ length list.old.items + 8 }
 {
     let acts = matter.filing.acts.list();

@@ -1,6 +1,7 @@
 // The grounds for rejection, of which the first that holds is named (GBO § 18).
-ghost use Rattle.std.specs.Prelude.{◌≡◌, ◌<◌, [], length, find, All};
-ghost use Rattle.folio_sections.specs.Judging.{holds, is_rejected_under, rejection, some_act_from};
+ghost use Rattle.std.specs.Prelude.{◌≡◌, ◌<◌, length, find, All};
+ghost use Rattle.std.specs.List.{list_any};
+ghost use Rattle.folio_sections.specs.Judging.{holds, is_rejected_under, rejection, with_before};
 ghost use Rattle.consent_rules.specs.inner.Held.{HasParts};
 
 use crate::applying::may_not_apply;
@@ -57,7 +58,7 @@ fn is_rejected_under<P: Parts>(parts: &P, matter: &Matter, section: Section) -> 
 /// Whether the ground holds for some act of the filing.
 fn holds_for_some<P: Parts>(parts: &P, matter: &Matter, section: Section) -> bool
     requires held { All (HasParts (P.holds parts.now) (P.at parts.now)) matter.now.filing.now.acts }
-    ensures { result ≡ some_act_from [] (holds matter.now.journal.now.receipts matter.now.number matter.now.filing.now matter.now.docs (P.at parts.now) section) matter.now.filing.now.acts }
+    ensures { result ≡ list_any (λ p. holds matter.now.journal.now.receipts matter.now.number matter.now.filing.now matter.now.docs (P.at parts.now) section p.0 p.1) (with_before matter.now.filing.now.acts) }
 {
     let acts = matter.filing.acts.list();
     for (index, act) in acts.iter().enumerate() {

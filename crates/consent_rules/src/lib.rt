@@ -16,10 +16,9 @@ mod needed;
 mod obstacles;
 mod parts_read;
 mod persons;
+mod premises;
 #[cfg(test)]
 mod table_tests;
-#[cfg(test)]
-mod test_checks;
 #[cfg(test)]
 mod test_register;
 #[cfg(test)]
@@ -28,3 +27,4 @@ mod waiting;
 
 pub use folio_sections::{Defect, Defects, Judgement};
 pub use judging::judge;
+pub use premises::can_be_judged;

@@ -1,7 +1,6 @@
 // Whose consent each act needs (GBO §§ 19, 22, 27; BGB §§ 876, 880(2)).
 ghost use Rattle.std.specs.Prelude.{◌≡◌, ◌≤◌, ◌<◌, ◌&&◌, not, if◌then◌else◌, [], length, IsTrue};
 ghost use Rattle.gb_base.specs.declared.keys.Key.TheVariants.{Title, Right};
-ghost use Rattle.folio_sections.specs.Documents.{has_proof};
 ghost use Rattle.folio_sections.specs.Persons.{affected, holder_then, number_behind, others, owner_side, owners_then, persons, stands_in_division_three, waiting_applicants};
 ghost use Rattle.consent_rules.specs.inner.Held.{HasParts};
 
@@ -12,7 +11,7 @@ use crate::persons::{holder_then, owners_then, people};
 use crate::waiting::Waiting;
 use act_model::{Act, Journal};
 use arrayvec::ArrayVec;
-use folio_sections::{Documents, Parts, RightPart, Sought};
+use folio_sections::{Documents, Parts, RightPart};
 use gb_base::{FolioId, Person, ReceiptNo, RightId};
 
 /// The number of an act behind these.
@@ -46,13 +45,6 @@ pub fn needed<'a, P: Parts>(
     }
 }
 
-/// Whether the act has an expiry proof (GBO § 22).
-fn has_proof(docs: &Documents, act: u8) -> bool
-    ensures { result ≡ has_proof docs.now act }
-{
-    docs.has(&Sought::Proof { act })
-}
-
 /// Whose right the act affects (GBO § 19).
 fn affected<P: Parts>(
     parts: &P,
@@ -73,7 +65,7 @@ fn affected<P: Parts>(
         Act::Convert { folio, .. } => owners_then(parts, filing, before, *folio),
         Act::Assign { folio, right, .. } => holder_then(parts, filing, *folio, *right),
         Act::Cancel { folio, right } => {
-            let proved = has_proof(docs, number_behind(before));
+            let proved = docs.has_proof(number_behind(before));
             holder_unless(proved, parts, filing, *folio, *right)
         }
         Act::Exchange { folio, recede, .. } => holder_then(parts, filing, *folio, *recede),
@@ -95,7 +87,7 @@ fn owner_side<P: Parts>(
 {
     match act {
         Act::Cancel { folio, right } => {
-            let proved = has_proof(docs, number_behind(before));
+            let proved = docs.has_proof(number_behind(before));
             owners_unless(proved, parts, filing, before, *folio, *right)
         }
         Act::Exchange { folio, recede, .. } => {
@@ -125,7 +117,7 @@ fn others<'a, P: Parts>(
 {
     match act {
         Act::Cancel { folio, right } => {
-            let proved = has_proof(docs, number_behind(before));
+            let proved = docs.has_proof(number_behind(before));
             let part = right_part(parts, *folio, *right);
             waiting_unless(proved, journal, filing, part)
         }

@@ -3,13 +3,13 @@ ghost use Rattle.std.specs.Prelude.{◌≡◌, ◌<◌, ◌||◌, length, is_som
 ghost use Rattle.std.specs.List.{list_any};
 ghost use Rattle.std.specs.Option.{option_map_or};
 ghost use Rattle.gb_base.specs.declared.keys.Key.TheVariants.{Title, Right};
-ghost use Rattle.folio_sections.specs.Judging.{assigns_division_two, converts_full_right, exchanges_unfit_right, is_beyond_limit, is_less, is_not_plain, is_open_as_of, lacks_folio, lacks_reservation, lacks_right, opens};
+ghost use Rattle.folio_sections.specs.Judging.{assigns_division_two, converts_full_right, exchanges_unfit_right, is_barred_from_exchange, is_beyond_limit, is_open_as_of, lacks_folio, lacks_reservation, lacks_right, opens, reserves_less};
 ghost use Rattle.consent_rules.specs.inner.Held.{HasParts};
 
 use crate::needed::number_behind;
 use crate::parts_read::{live_right, lives, right_part, title_part};
 use act_model::{Act, Journal};
-use folio_sections::{Created, Parts, is_in_group};
+use folio_sections::{Created, Parts, shares_its_group};
 use gb_base::{Cents, FolioId, ReceiptNo, RightId};
 
 /// How many creating acts a folio has at most, whatever became of their filings.
@@ -109,8 +109,8 @@ pub fn exchanges_unfit_right<P: Parts>(parts: &P, journal: &Journal, act: &Act) 
             recede,
             rise,
         } => {
-            is_not_plain(parts, journal, *folio, *recede)
-                || is_not_plain(parts, journal, *folio, *rise)
+            is_barred_from_exchange(parts, journal, *folio, *recede)
+                || is_barred_from_exchange(parts, journal, *folio, *rise)
         }
         _ => false,
     }
@@ -118,12 +118,17 @@ pub fn exchanges_unfit_right<P: Parts>(parts: &P, journal: &Journal, act: &Act) 
 
 /// Whether the right takes no part in an exchange: a priority notice, one of a group, one with a
 /// reservation or in the rank of one.
-fn is_not_plain<P: Parts>(parts: &P, journal: &Journal, folio: FolioId, right: RightId) -> bool
+fn is_barred_from_exchange<P: Parts>(
+    parts: &P,
+    journal: &Journal,
+    folio: FolioId,
+    right: RightId,
+) -> bool
     requires held { IsTrue (P.holds parts.now (Right folio right)) }
-    ensures { result ≡ is_not_plain journal.now.receipts (P.at parts.now) folio right }
+    ensures { result ≡ is_barred_from_exchange journal.now.receipts (P.at parts.now) folio right }
 {
     let part = right_part(parts, folio, right);
-    !part.full() || is_in_group(journal, right) || has_reservation(live_right(part))
+    !part.full() || shares_its_group(journal, right) || has_reservation(live_right(part))
 }
 
 /// Whether the right was entered with a reservation, or in the rank of one.
@@ -149,25 +154,25 @@ pub fn lacks_reservation<P: Parts>(parts: &P, act: &Act) -> bool
             spec,
         } => {
             let part = right_part(parts, *folio, *behind);
-            part.spent() || reserves_less(live_right(part), spec.capital)
+            part.spent() || lacks_reserve_for(live_right(part), spec.capital)
         }
         _ => false,
     }
 }
 
 /// Whether the right was entered with no reservation of as much as this capital.
-fn reserves_less(made: Option<Created>, capital: Cents) -> bool
-    ensures { result ≡ option_map_or (λ made. is_less made.reserve capital) made true }
+fn lacks_reserve_for(made: Option<Created>, capital: Cents) -> bool
+    ensures { result ≡ option_map_or (λ made. reserves_less made.reserve capital) made true }
 {
     match made {
-        Some(made) => is_less(made.reserve, capital),
+        Some(made) => reserves_less(made.reserve, capital),
         None => true,
     }
 }
 
 /// Whether a reservation is of less than the capital; none is less than any.
-fn is_less(reserve: Option<Cents>, capital: Cents) -> bool
-    ensures { result ≡ is_less reserve capital }
+fn reserves_less(reserve: Option<Cents>, capital: Cents) -> bool
+    ensures { result ≡ reserves_less reserve capital }
 {
     match reserve {
         Some(reserved) => reserved < capital,

@@ -1,9 +1,9 @@
 // A small register for tests: folio 7 with its owner and four rights, and what is filed on it.
-use crate::test_checks::{check_exchanges, check_held, is_held};
+use crate::premises::{can_be_judged, is_held};
 use crate::{Defect, Judgement, judge};
 use act_model::{
     Act, Acts, Added, Doc, Docs, Filing, Form, Inventory, Item, Journal, Owners, RightKind,
-    RightSpec, filing_keys, well_formed,
+    RightSpec, well_formed,
 };
 use arrayvec::ArrayVec;
 use folio_sections::{Created, Entry, MapParts, Parts, RightForm, What};
@@ -331,9 +331,7 @@ pub(crate) fn judged(
 ) -> Judgement {
     let (n, upto) = (receipt(rt, n), receipt(rt, upto));
     assert!(rt; n <= upto && upto.get() <= journal.len());
-    let keys = filing_keys(journal, n);
-    check_held(rt, parts, keys.as_slice());
-    check_exchanges(rt, parts, journal, n);
+    assert!(rt; can_be_judged(parts, journal, n));
     judge(parts, journal, n, upto)
 }
 

@@ -11,8 +11,8 @@ use folio_sections::{Entry, RightPart, What, applicant_of};
 use gb_base::{Person, ReceiptNo};
 use std::marker::Model;
 
-/// The applicants of the earlier filings that wait at a right. In contracts it is their list, by
-/// the order in which the filings were set to wait.
+/// The applicants of the earlier filings that wait at a right. In contracts it is their list, in
+/// the order of the filings' receipt.
 #[derive(Drop)]
 pub struct Waiting<'a> {
     journal: &'a Journal,

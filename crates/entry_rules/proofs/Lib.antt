@@ -1,5 +1,5 @@
 -- Lemmas.
 pub mod Entered
+pub mod Few
 pub mod Room
 pub mod Steady
-pub mod TestKeys

@@ -1,28 +1,22 @@
 -- Places that are set change no notice, and contents that are entered change no place.
-use Rattle.std.proofs.Common.{◌≡◌, ℕ, true, false, cond, ◌&&◌, List, [], ◌∷◌, Option, Some, None, is_none, refl, ap, ◌∙◌}
+use Rattle.std.proofs.Common.{◌≡◌, ℕ, true, false, cond, ◌&&◌, List, [], ◌∷◌, is_none, refl, ap, ◌∙◌}
 use Rattle.std.specs.List.{AllByRecursion}
-use Rattle.std.specs.Option.{option_map_or}
-use Rattle.gb_base.specs.RightNo.{RightNo}
 use Rattle.gb_base.specs.declared.keys.Key.{Key}
 use Rattle.gb_base.specs.declared.keys.Key.TheVariants.{Title, Right, Case}
-use Rattle.act_model.specs.Acts.{is_in_division_three}
-use Rattle.act_model.specs.Receiving.{day_of}
+use Rattle.act_model.specs.Acts.{folio_of}
 use Rattle.act_model.specs.Touches.{acts_of, new_right}
 use Rattle.act_model.specs.declared.filing_acts.Act.{Act}
 use Rattle.act_model.specs.declared.filing_acts.Act.TheVariants.{Open, Transfer, Create, NoticeFor, Convert, Assign, Cancel, Exchange, Exercise}
 use Rattle.act_model.specs.declared.items.Filing.{Filing}
 use Rattle.act_model.specs.declared.receipts.Receipt.{Receipt}
 use Rattle.act_model.specs.declared.rights.RightSpec.{RightSpec}
-use Rattle.folio_sections.specs.Entering.{entry_by, placed_at}
+use Rattle.folio_sections.specs.Entering.{as_entered, entry_by, placed_at}
 use Rattle.folio_sections.specs.Entries.{at}
-use Rattle.folio_sections.specs.Groups.{has_equal}
-use Rattle.folio_sections.specs.Places.{behind, create_in_division, creates_there, own_place, places, places_among}
+use Rattle.folio_sections.specs.Places.{create_in_division, creates_there, places, places_among}
 use Rattle.folio_sections.specs.Waiting.{notice}
 use Rattle.folio_sections.specs.declared.entries.Entry.{Entry}
-use Rattle.folio_sections.specs.declared.entries.RightForm.{RightForm}
-use Rattle.folio_sections.specs.declared.entries.RightForm.TheVariants as form
 use Rattle.folio_sections.specs.declared.entries.What.TheVariants as what
-use Rattle.folio_sections.specs.declared.title_places.Place.{Place}
+use Rattle.folio_sections.specs.declared.title_places.TitlePlace.{TitlePlace}
 use Rattle.folio_sections.proofs.Unchanged.{KeepsNotices, SetsNoPlace, all_at, notice_stays, places_stay}
 use Rattle.entry_rules.specs.inner.Acting.{brought_by}
 use Rattle.folio_sections.proofs.Progress.{Independent}
@@ -51,30 +45,23 @@ places_apart journal m i = record {
 }
 
 -- a right that is entered on these places
-abbrev created_on : List Receipt → ℕ → List Act → ℕ → List Place → ℕ → Act → ℕ → RightSpec → RightForm → Option ℕ → Option RightNo → Entry
-created_on journal m acts i standing a act folio spec form reserve ahead_of = entry_by journal i (Right folio (new_right m a)) (what.Created (record {
-  spec = spec;
-  form = form;
-  reserve = reserve;
-  ahead_of = ahead_of;
-  placed = option_map_or (λ p. p.day) (own_place m standing) (day_of journal i);
-  behind = behind (is_in_division_three spec.kind) m standing;
-  equal = has_equal acts a act;
-}))
+abbrev created_on : List Receipt → ℕ → List Act → ℕ → ℕ → Act → RightSpec → List TitlePlace → Entry
+created_on journal m acts i a act spec standing =
+    entry_by journal i (Right (folio_of act) (new_right m a)) (what.Created (as_entered journal m acts i standing a act spec))
 
 contents_same : (journal : List Receipt) (m i : ℕ) (f : Filing) (at0 at1 : Key → List Entry) → ((folio : ℕ) → places journal at1 folio ≡ places journal at0 folio) → (a : ℕ) (act : Act) → brought_by journal m i at1 f a act ≡ brought_by journal m i at0 f a act
 contents_same journal m i f at0 at1 same a (Open folio inventory owners) = refl
 contents_same journal m i f at0 at1 same a (Transfer folio owners) = refl
 contents_same journal m i f at0 at1 same a (Create folio spec reserve) =
-    ap (λ ps. created_on journal m f.acts i ps a (Create folio spec reserve) folio spec form.Full reserve None ∷ []) (same folio)
+    ap (λ ps. created_on journal m f.acts i a (Create folio spec reserve) spec ps ∷ []) (same folio)
 contents_same journal m i f at0 at1 same a (NoticeFor folio spec) =
-    ap (λ ps. created_on journal m f.acts i ps a (NoticeFor folio spec) folio spec form.Notice None None ∷ []) (same folio)
+    ap (λ ps. created_on journal m f.acts i a (NoticeFor folio spec) spec ps ∷ []) (same folio)
 contents_same journal m i f at0 at1 same a (Convert folio right) = refl
 contents_same journal m i f at0 at1 same a (Assign folio right holder) = refl
 contents_same journal m i f at0 at1 same a (Cancel folio right) = refl
 contents_same journal m i f at0 at1 same a (Exchange folio recede rise) = refl
 contents_same journal m i f at0 at1 same a (Exercise folio behind_right spec) =
-    ap (λ ps. created_on journal m f.acts i ps a (Exercise folio behind_right spec) folio spec form.Full None (Some behind_right) ∷ entry_by journal i (Right folio behind_right) (what.Exercised (new_right m a)) ∷ []) (same folio)
+    ap (λ ps. created_on journal m f.acts i a (Exercise folio behind_right spec) spec ps ∷ entry_by journal i (Right folio behind_right) (what.Exercised (new_right m a)) ∷ []) (same folio)
 
 -- a content is no place
 contents_keep : (journal : List Receipt) (m i : ℕ) (f : Filing) (at0 : Key → List Entry) (a : ℕ) (act : Act) → AllByRecursion SetsNoPlace (brought_by journal m i at0 f a act)

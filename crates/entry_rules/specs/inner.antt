@@ -1,3 +1,2 @@
 -- What only private clauses and proofs use.
 pub mod Acting
-pub mod TestKeys

@@ -3,14 +3,13 @@ ghost use Rattle.std.specs.Prelude.{◌≡◌, ◌≤◌, ℕ, length};
 ghost use Rattle.gb_base.specs.Limits.{most_acts};
 ghost use Rattle.act_model.specs.Touches.{keys_of_act, keys_of_acts};
 ghost use Rattle.folio_sections.specs.Adding.{AddsList, HasRoom};
-ghost use Rattle.folio_sections.specs.Documents.{documents, has_proof};
 ghost use Rattle.folio_sections.specs.Entering.{content, contents_brought};
 ghost use Rattle.entry_rules.specs.inner.Acting.{Held, brought_by};
 
 use crate::adding::{Entering, add_both};
-use crate::creations::{NewRight, creation};
+use crate::creations::creation;
 use act_model::{Act, new_right};
-use folio_sections::{Documents, Parts, RightForm, Sought, What, add};
+use folio_sections::{Documents, Parts, What, add};
 use gb_base::Key;
 
 /// Adds what the acts of the filing bring, in their order.
@@ -56,30 +55,12 @@ fn add_content<P: Parts>(parts: &mut P, by: &Entering, a: u8, act: &Act)
             };
             add(parts, by.entry(Key::Title(*folio), what));
         }
-        Act::Create {
-            folio,
-            spec,
-            reserve,
-        } => {
-            let right = NewRight {
-                folio: *folio,
-                spec: *spec,
-                form: RightForm::Full,
-                reserve: *reserve,
-                ahead_of: None,
-            };
-            let entry = creation(parts, by, a, act, right);
+        Act::Create { spec, .. } => {
+            let entry = creation(parts, by, a, act, *spec);
             add(parts, entry);
         }
-        Act::NoticeFor { folio, spec } => {
-            let right = NewRight {
-                folio: *folio,
-                spec: *spec,
-                form: RightForm::Notice,
-                reserve: None,
-                ahead_of: None,
-            };
-            let entry = creation(parts, by, a, act, right);
+        Act::NoticeFor { spec, .. } => {
+            let entry = creation(parts, by, a, act, *spec);
             add(parts, entry);
         }
         Act::Convert { folio, right } => {
@@ -94,8 +75,9 @@ fn add_content<P: Parts>(parts: &mut P, by: &Entering, a: u8, act: &Act)
             add(parts, by.entry(Key::Right(*folio, *right), what));
         }
         Act::Cancel { folio, right } => {
+            let docs = Documents::new(by.journal, by.number, by.filing, by.item);
             let what = What::Cancelled {
-                expired: has_proof(by, a),
+                expired: docs.has_proof(a),
             };
             add(parts, by.entry(Key::Right(*folio, *right), what));
         }
@@ -125,25 +107,11 @@ fn add_content<P: Parts>(parts: &mut P, by: &Entering, a: u8, act: &Act)
             behind,
             spec,
         } => {
-            let right = NewRight {
-                folio: *folio,
-                spec: *spec,
-                form: RightForm::Full,
-                reserve: None,
-                ahead_of: Some(*behind),
-            };
-            let entry = creation(parts, by, a, act, right);
+            let entry = creation(parts, by, a, act, *spec);
             let what = What::Exercised {
                 by: new_right(by.number, a),
             };
             add_both(parts, entry, by.entry(Key::Right(*folio, *behind), what));
         }
     }
-}
-
-/// Whether the documents have an expiry proof for act a (GBO § 22).
-fn has_proof(by: &Entering, a: u8) -> bool
-    ensures { result ≡ has_proof (documents by.now.journal.now.receipts by.now.number by.now.filing.now by.now.item) a }
-{
-    Documents::new(by.journal, by.number, by.filing, by.item).has(&Sought::Proof { act: a })
 }

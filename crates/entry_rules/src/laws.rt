@@ -9,7 +9,7 @@ ghost use Rattle.folio_sections.specs.Entering.{entered};
 ghost use Rattle.folio_sections.specs.declared.entries.Entry.{Entry};
 ghost use Rattle.entry_rules.specs.Limits.{most_entered};
 
-/// Where the parts of a filing's keys are held, with room for 17 entries each, there is room for
+/// Where the parts of a filing's keys are held, with room for two entries each, there is room for
 /// all that its entry brings.
 pub fn room_for_entry()
     ensures { (journal : List Receipt) (m i : ℕ) (at : Key → List Entry) (holds : Key → Bool) (room : Key → ℕ) → IsJournal journal

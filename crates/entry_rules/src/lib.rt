@@ -15,6 +15,7 @@ mod tests;
 
 pub use entering::enter;
 
-/// The most entries that the entry of a filing brings at one key: a place, and two for each of
-/// eight acts.
-pub const MOST_ENTERED: usize = 17;
+/// The most entries that the entry of a filing brings at one key: at a title its place and the
+/// owners that it gives, at a right its creation and what one act says of it. A well-formed filing
+/// gives a folio owners at most once, and names a right at most once.
+pub const MOST_ENTERED: usize = 2;

@@ -1,7 +1,7 @@
 // Filings, journals and parts for the tests.
-ghost use Rattle.std.specs.Prelude.{◌≡◌, IfOk};
+ghost use Rattle.std.specs.Prelude.{◌≡◌, Contains, IsTrue};
+ghost use Rattle.gb_base.specs.declared.keys.Key.{Key};
 ghost use Rattle.folio_sections.specs.Held.{is_held};
-ghost use Rattle.entry_rules.specs.inner.TestKeys.{HoldsKeys};
 
 use crate::{MOST_ENTERED, enter, laws};
 use act_model::{
@@ -72,6 +72,15 @@ pub fn usufruct(rt: &impl Abort, group: u8) -> RightSpec {
         kind: RightKind::Usufruct,
         capital: Cents::new(10_000).expect(rt, "an amount"),
         holder: person(rt, 21),
+        group,
+    }
+}
+
+pub fn mortgage(rt: &impl Abort, group: u8) -> RightSpec {
+    RightSpec {
+        kind: RightKind::Mortgage { rate_bp: 400 },
+        capital: Cents::new(20_000).expect(rt, "an amount"),
+        holder: person(rt, 22),
         group,
     }
 }
@@ -204,9 +213,8 @@ pub fn entered(
     item: u32,
     of: u32,
 ) -> Result<MapParts, NoMemory> {
-    let of = receipt(rt, of);
-    let parts = parts_of(alloc, journal, of)?;
-    enter_in(rt, parts, journal, item, of)
+    let parts = parts_of(rt, alloc, journal, of)?;
+    entered_in(rt, parts, journal, item, of)
 }
 
 /// The same, on an entry that stood at a title.
@@ -218,41 +226,24 @@ pub fn entered_on(
     item: u32,
     of: u32,
 ) -> Result<MapParts, NoMemory> {
-    let of = receipt(rt, of);
-    let parts = parts_of(alloc, journal, of)?;
+    let parts = parts_of(rt, alloc, journal, of)?;
     let parts = stand(rt, parts, standing)?;
-    enter_in(rt, parts, journal, item, of)
-}
-
-/// The same, on two entries.
-pub fn entered_on_both(
-    rt: &impl Abort,
-    alloc: Global,
-    journal: &Journal,
-    first: Standing,
-    second: Standing,
-    item: u32,
-    of: u32,
-) -> Result<MapParts, NoMemory> {
-    let of = receipt(rt, of);
-    let parts = parts_of(alloc, journal, of)?;
-    let parts = stand(rt, parts, first)?;
-    let parts = stand(rt, parts, second)?;
-    enter_in(rt, parts, journal, item, of)
+    entered_in(rt, parts, journal, item, of)
 }
 
 /// Empty parts at the keys of a filing.
-fn parts_of(alloc: Global, journal: &Journal, filing: ReceiptNo) -> Result<MapParts, NoMemory>
-    ensures { IfOk result (λ parts. HoldsKeys journal.now.receipts filing parts) }
-{
-    let keys = filing_keys(journal, filing);
+pub fn parts_of(
+    rt: &impl Abort,
+    alloc: Global,
+    journal: &Journal,
+    of: u32,
+) -> Result<MapParts, NoMemory> {
+    let keys = filing_keys(journal, receipt(rt, of));
     MapParts::new(alloc, keys.as_slice())
 }
 
 /// The parts with one entry more at a title.
-fn stand(rt: &impl Abort, parts: MapParts, more: Standing) -> Result<MapParts, NoMemory>
-    ensures { IfOk result (λ after. is_held after ≡ is_held parts) }
-{
+pub fn stand(rt: &impl Abort, parts: MapParts, more: Standing) -> Result<MapParts, NoMemory> {
     let mut after = parts;
     assert!(rt; after.title(more.folio).is_some());
     after.reserve_all(1)?;
@@ -265,24 +256,43 @@ fn stand(rt: &impl Abort, parts: MapParts, more: Standing) -> Result<MapParts, N
     Ok(after)
 }
 
-/// The parts once a filing is entered in them.
-fn enter_in(
+/// The parts once a filing is entered in them. Ends the test where one of the filing's keys is not
+/// held.
+pub fn entered_in(
     rt: &impl Abort,
     parts: MapParts,
     journal: &Journal,
     item: u32,
-    filing: ReceiptNo,
-) -> Result<MapParts, NoMemory>
-    requires { HoldsKeys journal.now.receipts filing parts }
-{
+    of: u32,
+) -> Result<MapParts, NoMemory> {
     let mut after = parts;
-    let item = receipt(rt, item);
+    let (item, of) = (receipt(rt, item), receipt(rt, of));
     assert!(rt; item.get() <= journal.len());
-    assert!(rt; filing_at(journal, filing).is_some());
+    assert!(rt; filing_at(journal, of).is_some());
     after.reserve_all(MOST_ENTERED)?;
+    check_held(rt, &after, filing_keys(journal, of).as_slice());
     laws::room_for_entry();
-    enter(&mut after, journal, item, filing);
+    enter(&mut after, journal, item, of);
     Ok(after)
+}
+
+/// Ends the test unless the parts of these keys are held.
+fn check_held(rt: &impl Abort, parts: &MapParts, keys: &[Key])
+    ensures { (k : Key) → Contains keys.now k → IsTrue (is_held parts.now k) }
+{
+    for key in keys {
+        assert!(rt; is_held(parts, *key));
+    }
+}
+
+fn is_held(parts: &MapParts, key: Key) -> bool
+    ensures { result ≡ is_held parts.now key }
+{
+    match key {
+        Key::Title(folio) => parts.title(folio).is_some(),
+        Key::Right(folio, right) => parts.right(folio, right).is_some(),
+        Key::Case(folio) => parts.case(folio).is_some(),
+    }
 }
 
 /// The title of a folio.

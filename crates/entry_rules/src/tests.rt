@@ -1,13 +1,36 @@
 // What filings bring when they are entered, in small journals.
 use crate::testing::{
-    at_title, cancellation, charge, created, creation, cure, day, entered, entered_on,
-    entered_on_both, exchange, exercise, filing, is_cancelled, is_exchange, is_opening, is_place,
-    is_spent_by, journal_of, land_charge, notice_of, only_entry, opening, pending, place, receipt,
-    receive, right, title, usufruct,
+    at_title, cancellation, charge, created, creation, cure, day, entered, entered_in, entered_on,
+    exchange, exercise, filing, folio, is_cancelled, is_exchange, is_opening, is_place,
+    is_spent_by, journal_of, land_charge, mortgage, notice_of, only_entry, opening, parts_of,
+    pending, place, receipt, receive, right, stand, title, usufruct,
 };
+use act_model::{Act, Item};
 use arrayvec::ArrayVec;
-use folio_sections::{Created, RightForm};
+use folio_sections::{Created, MapParts, RightForm};
+use gb_base::{Key, NoMemory};
+use std::alloc::Global;
+use std::process::Abort;
 use std::test::Fail;
+
+/// A filing of one act without documents.
+fn filing_of(rt: &impl Abort, act: Act) -> Item {
+    let mut acts = ArrayVec::new();
+    acts.push(act);
+    filing(rt, acts)
+}
+
+/// Empty parts at the title of folio 8 and at its rights 1.2, 2.1 and 3.1.
+fn parts_of_three(rt: &impl Abort, alloc: Global) -> Result<MapParts, NoMemory> {
+    let folio = folio(rt, 8);
+    let keys = [
+        Key::Title(folio),
+        Key::Right(folio, right(rt, 1, 2)),
+        Key::Right(folio, right(rt, 2, 1)),
+        Key::Right(folio, right(rt, 3, 1)),
+    ];
+    MapParts::new(alloc, keys.as_slice())
+}
 
 /// A filing opens a folio and creates a land charge in it: the place stands ahead of the opening.
 #[test]
@@ -41,9 +64,10 @@ fn a_notice_keeps_the_place(rt: HostRuntime) -> Result<(), Fail> {
     acts.push(charge(&rt, 8, 1));
     let mut journal = journal_of(&rt, rt.alloc(), acts);
     receive(&rt, &mut journal, 2, 5, &cure(&rt, 1, 1));
-    let waits = pending(&rt, 8, 1, 1);
-    let notice = notice_of(&rt, 8, 1, 2);
-    let parts = entered_on_both(&rt, rt.alloc(), &journal, waits, notice, 2, 1)?;
+    let parts = parts_of(&rt, rt.alloc(), &journal, 1)?;
+    let parts = stand(&rt, parts, pending(&rt, 8, 1, 1))?;
+    let parts = stand(&rt, parts, notice_of(&rt, 8, 1, 2))?;
+    let parts = entered_in(&rt, parts, &journal, 2, 1)?;
     assert_eq!(rt; title(&rt, &parts, 8).entries().len(), 2);
     assert!(rt; created(&rt, &parts, 8, 1, 1).placed == day(&rt, 2));
     let entry = only_entry(&rt, &parts, 8, 1, 1);
@@ -70,6 +94,46 @@ fn two_divisions_on_one_day(rt: HostRuntime) -> Result<(), Fail> {
     let earlier = place(&rt, 8, 1, 0, true);
     let parts = entered_on(&rt, rt.alloc(), &journal, earlier, 2, 2)?;
     assert!(rt; created(&rt, &parts, 8, 2, 1).behind.is_none());
+    Ok(())
+}
+
+/// A filing waits for a consent, a later one of that day is entered, and then a cure enters the
+/// first one: each stands behind the place of the other division ahead of its own.
+#[test]
+fn a_cure_enters_behind_its_notice(rt: HostRuntime) -> Result<(), Fail> {
+    let mut acts = ArrayVec::new();
+    acts.push(opening(&rt, 8));
+    acts.push(charge(&rt, 8, 1));
+    let mut journal = journal_of(&rt, rt.alloc(), acts);
+    receive(
+        &rt,
+        &mut journal,
+        2,
+        1,
+        &filing_of(&rt, creation(&rt, 8, usufruct(&rt, 1))),
+    );
+    receive(
+        &rt,
+        &mut journal,
+        3,
+        1,
+        &filing_of(&rt, creation(&rt, 8, mortgage(&rt, 1))),
+    );
+    receive(&rt, &mut journal, 4, 5, &cure(&rt, 2, 1));
+    let parts = parts_of_three(&rt, rt.alloc())?;
+    let parts = entered_in(&rt, parts, &journal, 1, 1)?;
+    let parts = stand(&rt, parts, pending(&rt, 8, 2, 1))?;
+    let parts = stand(&rt, parts, notice_of(&rt, 8, 2, 1))?;
+    let parts = entered_in(&rt, parts, &journal, 3, 3)?;
+    assert_eq!(rt; title(&rt, &parts, 8).entries().len(), 5);
+    assert!(rt; is_place(at_title(&rt, &parts, 8, 4), receipt(&rt, 3), false, true));
+    assert!(rt; created(&rt, &parts, 8, 3, 1).behind == Some(receipt(&rt, 2)));
+    let parts = entered_in(&rt, parts, &journal, 4, 2)?;
+    assert_eq!(rt; title(&rt, &parts, 8).entries().len(), 5);
+    let made = created(&rt, &parts, 8, 2, 1);
+    assert!(rt; made.placed == day(&rt, 1));
+    assert!(rt; made.behind == Some(receipt(&rt, 1)));
+    assert!(rt; only_entry(&rt, &parts, 8, 2, 1).day == day(&rt, 5));
     Ok(())
 }
 

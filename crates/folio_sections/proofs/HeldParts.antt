@@ -19,7 +19,7 @@ use Rattle.folio_sections.specs.Held.{entries_at, is_held, room_at}
 use Rattle.folio_sections.specs.PartState.{PartState}
 use Rattle.folio_sections.specs.declared.entries.Entry.{Entry}
 use Rattle.folio_sections.specs.inner.PartIndex.{Grows, IsIndexOf}
-use Rattle.folio_sections.proofs.Places.{find_passes, find-position, is_some-find, is_some-position, position-at, position-set, position_push, is_none}
+use Rattle.folio_sections.proofs.Indexes.{find_passes, find-position, is_some-find, is_some-position, position-at, position-set, position_push, is_none}
 
 -- whether a part is of the key
 abbrev pub is_at : Key → PartState → Bool
@@ -35,23 +35,23 @@ held_found parts k p h = sym (is_some-find (is_at k) parts) ∙ ap is_some h
 pub held_none : (parts : List PartState) (k : Key) → find (is_at k) parts ≡ None → is_held parts k ≡ false
 held_none parts k h = sym (is_some-find (is_at k) parts) ∙ ap is_some h
 
--- the part at a key's place is found there
+-- the part at a key's index is found there
 pub found_there : (parts : List PartState) (k : Key) (i : ℕ) (p : PartState) → position (is_at k) parts ≡ Some i → p ≡ get_or parts i p → find (is_at k) parts ≡ Some p
 found_there parts k i p h e =
     find-position (is_at k) parts i h ∙ slice_get-get_or parts i p (position-Some (is_at k) parts i p h).0 ∙ ap Some (sym e)
 
--- a key that is held has a place
-pub no_place : (parts : List PartState) (k : Key) → position (is_at k) parts ≡ None → IsTrue (is_held parts k) → ⊥
-no_place parts k h held = false≢true (sym (ap is_some h) ∙ is_some-position (is_at k) parts ∙ held)
+-- a key that is held has an index
+pub no_index : (parts : List PartState) (k : Key) → position (is_at k) parts ≡ None → IsTrue (is_held parts k) → ⊥
+no_index parts k h held = false≢true (sym (ap is_some h) ∙ is_some-position (is_at k) parts ∙ held)
 
--- another part of the same key leaves the place of every key
-pub place_kept : (parts : List PartState) (i : ℕ) (p q : PartState) → p ≡ get_or parts i p → q.key ≡ p.key → (k : Key) → position (is_at k) (set parts i q) ≡ position (is_at k) parts
-place_kept parts i p q e same k =
+-- another part of the same key leaves the index of every key
+pub index_kept : (parts : List PartState) (i : ℕ) (p q : PartState) → p ≡ get_or parts i p → q.key ≡ p.key → (k : Key) → position (is_at k) (set parts i q) ≡ position (is_at k) parts
+index_kept parts i p q e same k =
     position-set (is_at k) parts i q p (ap (λ key. same_key key k) same ∙ ap (is_at k) e)
 
 pub held_kept : (parts : List PartState) (i : ℕ) (p q : PartState) → p ≡ get_or parts i p → q.key ≡ p.key → is_held (set parts i q) ≡ is_held parts
 held_kept parts i p q e same = λ j k.
-    (sym (is_some-position (is_at k) (set parts i q)) ∙ ap is_some (place_kept parts i p q e same k) ∙ is_some-position (is_at k) parts) j
+    (sym (is_some-position (is_at k) (set parts i q)) ∙ ap is_some (index_kept parts i p q e same k) ∙ is_some-position (is_at k) parts) j
 
 -- the part at the entry's key, with that entry at its end and room for one less
 adds_at : (parts : List PartState) (i : ℕ) (p q : PartState) (entry : Entry) → position (is_at entry.key) parts ≡ Some i → p ≡ get_or parts i p → q.key ≡ p.key → q.entries ≡ p.entries ++ entry ∷ [] → q.room + 1 ≡ p.room → Adds (entries_at parts) (entries_at (set parts i q)) (room_at parts) (room_at (set parts i q)) entry
@@ -73,8 +73,8 @@ adds_at parts i p q entry h e key entries room =
 
 pub adds_there : (now parts : List PartState) (i : ℕ) (p q : PartState) (entry : Entry) → parts ≡ now → position (is_at entry.key) now ≡ Some i → p ≡ get_or parts i p → q.key ≡ p.key → q.entries ≡ p.entries ++ entry ∷ [] → q.room + 1 ≡ p.room → Adds (entries_at now) (entries_at (set parts i q)) (room_at now) (room_at (set parts i q)) entry
 adds_there now parts i p q entry is h e key entries room =
-    let place = subst (λ xs. position (is_at entry.key) xs ≡ Some i) (sym is) h in
-    subst (λ xs. Adds (entries_at xs) (entries_at (set parts i q)) (room_at xs) (room_at (set parts i q)) entry) is (adds_at parts i p q entry place e key entries room)
+    let there = subst (λ xs. position (is_at entry.key) xs ≡ Some i) (sym is) h in
+    subst (λ xs. Adds (entries_at xs) (entries_at (set parts i q)) (room_at xs) (room_at (set parts i q)) entry) is (adds_at parts i p q entry there e key entries room)
 
 grows_self : (p : PartState) → Grows p p
 grows_self p = record { key = refl; entries = refl; room = omega arith }
@@ -93,6 +93,18 @@ all_grow_set (x ∷ xs) [] i d q all within g = absurd all
 all_grow_set (x ∷ xs) (y ∷ ys) zero d q all within g = (grows_on x y q all.0 g, all.1)
 all_grow_set (x ∷ xs) (y ∷ ys) (suc i) d q all within g = (all.0, all_grow_set xs ys i d q all.1 (omega arith) g)
 
+-- parts that had room have it still
+pub room_there : (n : ℕ) (before after : List PartState) (i : ℕ) (d : PartState) → AllZip Grows before after → All (λ p. n ≤ p.room) before → i < length after → n ≤ (get_or after i d).room
+room_there n [] [] i d all each within = absurd (omega arith)
+room_there n [] (y ∷ ys) i d all each within = absurd all
+room_there n (x ∷ xs) [] i d all each within = absurd all
+room_there n (x ∷ xs) (y ∷ ys) zero d all each within =
+    let had = All-head (λ (p : PartState). n ≤ p.room) x xs each in
+    let wide = all.0.room in
+    omega arith
+room_there n (x ∷ xs) (y ∷ ys) (suc i) d all each within =
+    room_there n xs ys i d all.1 (All-tail (λ (p : PartState). n ≤ p.room) x xs each) (omega arith)
+
 map_or_cond : {A B : Type 0} (f : A → B) (b : Bool) (x : A) (o : Option A) (d : B) → option_map_or f (cond b (Some x) o) d ≡ cond b (f x) (option_map_or f o d)
 map_or_cond f true x o d = refl
 map_or_cond f false x o d = refl
@@ -107,15 +119,15 @@ held_grown [] (y ∷ ys) all k = absurd all
 held_grown (x ∷ xs) [] all k = absurd all
 held_grown (x ∷ xs) (y ∷ ys) all k = λ i. same_key (all.0.key i) k || held_grown xs ys all.1 k i
 
-place_grown : (before after : List PartState) → AllZip Grows before after → (k : Key) → position_or_len (is_at k) after ≡ position_or_len (is_at k) before
-place_grown [] [] all k = refl
-place_grown [] (y ∷ ys) all k = absurd all
-place_grown (x ∷ xs) [] all k = absurd all
-place_grown (x ∷ xs) (y ∷ ys) all k = λ i. cond (not (same_key (all.0.key i) k)) (1 + place_grown xs ys all.1 k i) 0
+index_grown : (before after : List PartState) → AllZip Grows before after → (k : Key) → position_or_len (is_at k) after ≡ position_or_len (is_at k) before
+index_grown [] [] all k = refl
+index_grown [] (y ∷ ys) all k = absurd all
+index_grown (x ∷ xs) [] all k = absurd all
+index_grown (x ∷ xs) (y ∷ ys) all k = λ i. cond (not (same_key (all.0.key i) k)) (1 + index_grown xs ys all.1 k i) 0
 
 pub position_grown : (before after : List PartState) → AllZip Grows before after → (k : Key) → position (is_at k) after ≡ position (is_at k) before
 position_grown before after all k = λ i.
-    cond (nat_lt (place_grown before after all k i) (sym (length_all_zip Grows before after all) i)) (Some (place_grown before after all k i)) None
+    cond (nat_lt (index_grown before after all k i) (sym (length_all_zip Grows before after all) i)) (Some (index_grown before after all k i)) None
 
 pub entries_grown : (before after : List PartState) → AllZip Grows before after → (k : Key) → entries_at after k ≡ entries_at before k
 entries_grown [] [] all k = refl
@@ -160,7 +172,7 @@ or_none : (o : Option ℕ) → option_or o None ≡ o
 or_none None = refl
 or_none (Some n) = refl
 
--- a new part at the end, whose key is not held, and its place in the index
+-- a new part at the end, whose key is not held, and its index
 index_with : (index index' : BTreeMap Key ℕ) (parts : List PartState) (key : Key) (new : PartState) → IsIndexOf index parts → Updates key_cmp index index' key (Some (length parts)) → new.key ≡ key → is_held parts key ≡ false → IsIndexOf index' (parts ++ new ∷ [])
 index_with index index' parts key new indexed updates own apart k =
     let tie : same_key key k ≡ is_eq (key_cmp key k) = ties key k in

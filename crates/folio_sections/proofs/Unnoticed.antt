@@ -6,11 +6,12 @@ use Rattle.std.proofs.lemmas.Bool.{and_parts, cases_Bool, eqb-true, false≢true
 use Rattle.std.proofs.lemmas.Bool.Decides.{nat_tests}
 use Rattle.std.proofs.lemmas.List.Elements.{filter-append}
 use Rattle.std.proofs.lemmas.List.Folds.{find-append}
-use Rattle.folio_sections.specs.Entering.{below, waiting_unnoticed}
-use Rattle.folio_sections.specs.Waiting.{is_above, notice, pending, until_by}
+use Rattle.folio_sections.specs.Entering.{waiting_unnoticed}
+use Rattle.folio_sections.specs.Waiting.{below, is_above, is_pending, notice, pending, until_by}
 use Rattle.folio_sections.specs.declared.entries.Entry.{Entry}
 use Rattle.folio_sections.specs.declared.entries.What.{What}
 use Rattle.folio_sections.specs.declared.entries.What.TheVariants as what
+use Rattle.folio_sections.proofs.Below.{below_next}
 use Rattle.folio_sections.specs.inner.Unnoticed.{ceiling, floor, lacks_notice, least_by, least_with}
 
 -- ---- the least number that passes a test
@@ -62,7 +63,7 @@ first_below p q (suc zero) = λ n above within. absurd (omega arith)
 first_below p q (suc (suc k)) =
     let ahead = filter q (below (suc k)) in
     subst (λ r. IsLeast (λ n. q n && p n) (suc (suc k)) r)
-    (sym (ap (find p) (filter-append q (below (suc k)) (suc k ∷ [])) ∙ find-append p ahead (filter q (suc k ∷ []))))
+    (sym (ap (λ ns. find p (filter q ns)) (below_next k) ∙ ap (find p) (filter-append q (below (suc k)) (suc k ∷ [])) ∙ find-append p ahead (filter q (suc k ∷ []))))
     (least_further p q (suc k) (find p ahead) (omega arith) (first_below p q (suc k)))
 
 -- ---- the walk
@@ -204,8 +205,16 @@ walk_least after m entries (Some k) walk =
     (above, found.0, same_test after entries k above ∙ found.1, none_wanted after m entries (Some k) walk)
 
 -- those that wait without a notice, by one test
+filtered_twice : (p q : ℕ → Bool) (xs : List ℕ) → filter q (filter p xs) ≡ filter (λ x. p x && q x) xs
+filtered_twice p q [] = refl
+filtered_twice p q (x ∷ xs) =
+    elim (p x) as (λ b. filter q (cond b (x ∷ filter p xs) (filter p xs)) ≡ cond (b && q x) (x ∷ filter (λ y. p y && q y) xs) (filter (λ y. p y && q y) xs)) [
+      | true ↦ ap (λ ys. cond (q x) (x ∷ ys) ys) (filtered_twice p q xs)
+      | false ↦ filtered_twice p q xs
+    ]
+
 pub unnoticed_is : (m : ℕ) (entries : List Entry) → waiting_unnoticed m entries ≡ filter (λ n. lacks_notice n entries) (below m)
-unnoticed_is m entries = refl
+unnoticed_is m entries = filtered_twice (λ n. is_pending n entries) (λ n. is_none (notice n entries)) (below m)
 
 -- the walk finds the first of them
 pub walked : (after : Option ℕ) (m : ℕ) (entries : List Entry) → fold (λ before e. least_by after m entries before e.what) None entries ≡ find (is_above after) (waiting_unnoticed m entries)

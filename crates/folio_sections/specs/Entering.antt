@@ -1,5 +1,5 @@
 -- What the entry of filing m by item i brings: official notices, places, and the contents of its acts (GBO §§ 16(2), 18(2), 45).
-use Rattle.std.specs.Prelude.{ℕ, zero, suc, false, true, ◌&&◌, if◌then◌else◌, List, [], ◌∷◌, ◌++◌, filter, flat_map, map, Option, Some, None, is_none}
+use Rattle.std.specs.Prelude.{ℕ, false, true, ◌&&◌, if◌then◌else◌, List, [], ◌∷◌, ◌++◌, filter, flat_map, map, Option, Some, None, is_none, option_to_list}
 use Rattle.std.specs.Option.{option_map_or}
 use Rattle.std.specs.List.{enumerate_from}
 use Rattle.gb_base.specs.declared.keys.Key.{Key}
@@ -12,18 +12,20 @@ use Rattle.act_model.specs.declared.receipts.Receipt.{Receipt}
 use Rattle.act_model.specs.declared.rights.RightSpec.{RightSpec}
 use Rattle.act_model.specs.Receiving.{day_of}
 use Rattle.act_model.specs.Touches.{acts_of, filing_at, keys_in_order, new_right}
-use Rattle.act_model.specs.Acts.{is_in_division_three}
+use Rattle.act_model.specs.Acts.{folio_of, is_in_division_three, right_created}
 use Rattle.gb_base.specs.RightNo.{RightNo}
 use Rattle.folio_sections.specs.Documents.{documents, has_proof}
 use Rattle.folio_sections.specs.Entries.{with_entries}
 use Rattle.folio_sections.specs.Groups.{has_equal}
 use Rattle.folio_sections.specs.Places.{behind, create_in_division, creates_there, own_place, places}
-use Rattle.folio_sections.specs.Waiting.{is_pending, notice}
+use Rattle.folio_sections.specs.Waiting.{notice, waiting_before}
+use Rattle.folio_sections.specs.declared.entries.Created.{Created}
 use Rattle.folio_sections.specs.declared.entries.Entry.{Entry}
 use Rattle.folio_sections.specs.declared.entries.RightForm.{RightForm}
 use Rattle.folio_sections.specs.declared.entries.RightForm.TheVariants as form
 use Rattle.folio_sections.specs.declared.entries.What.{What}
 use Rattle.folio_sections.specs.declared.entries.What.TheVariants as what
+use Rattle.folio_sections.specs.declared.title_places.TitlePlace.{TitlePlace}
 
 -- an entry by item i
 abbrev pub entry_by : List Receipt → ℕ → Key → What → Entry
@@ -31,15 +33,9 @@ entry_by journal i key what = record { receipt = i; day = day_of journal i; key 
 
 -- ---- official notices (GBO § 18(2))
 
--- the numbers from 1 that are below n, ascending
-abbrev pub below : ℕ → List ℕ
-below zero = []
-below (suc zero) = []
-below (suc (suc n)) = below (suc n) ++ suc n ∷ []
-
 -- the earlier filings than m that wait at a key without a notice, ascending
 abbrev pub waiting_unnoticed : ℕ → List Entry → List ℕ
-waiting_unnoticed m entries = filter (λ n. is_pending n entries && is_none (notice n entries)) (below m)
+waiting_unnoticed m entries = filter (λ n. is_none (notice n entries)) (waiting_before m entries)
 
 -- the official notices that the entry of filing m brings at a key
 abbrev pub notices_at : List Receipt → ℕ → ℕ → (Key → List Entry) → Key → List Entry
@@ -71,31 +67,52 @@ places_brought journal m i at = flat_map (placed_at journal m i at) (keys_in_ord
 
 -- ---- the contents of the acts, once the places stand
 
--- the day of filing m's place in the folio
-abbrev pub day_placed : List Receipt → ℕ → ℕ → (Key → List Entry) → ℕ → ℕ
-day_placed journal m i at folio = option_map_or (λ p. p.day) (own_place m (places journal at folio)) (day_of journal i)
+-- up to which capital a creating act keeps the rank ahead of its right for a later one (BGB § 881)
+abbrev pub reserve_of : Act → Option ℕ
+reserve_of (Create folio spec reserve) = reserve
+reserve_of other = None
 
--- act a of filing m enters a right in the folio, in this form, with this reservation, or in that of another right
-abbrev pub creation : List Receipt → ℕ → List Act → ℕ → (Key → List Entry) → ℕ → Act → ℕ → RightSpec → RightForm → Option ℕ → Option RightNo → Entry
-creation journal m acts i at a act folio spec form reserve ahead_of = entry_by journal i (Right folio (new_right m a)) (what.Created (record {
+-- the form in which a creating act enters its right (BGB § 883)
+abbrev pub form_created : Act → RightForm
+form_created (NoticeFor folio spec) = form.Notice
+form_created other = form.Full
+
+-- the right whose reservation a creating act takes up (BGB § 881)
+abbrev pub right_behind : Act → Option RightNo
+right_behind (Exercise folio behind spec) = Some behind
+right_behind other = None
+
+-- the day of filing m's own among these places; that of item i where it has none
+abbrev pub day_placed : List Receipt → ℕ → ℕ → List TitlePlace → ℕ
+day_placed journal m i standing = option_map_or (λ p. p.day) (own_place m standing) (day_of journal i)
+
+-- the right of this description that act a of filing m creates, as it is entered by item i on these places of its folio
+abbrev pub as_entered : List Receipt → ℕ → List Act → ℕ → List TitlePlace → ℕ → Act → RightSpec → Created
+as_entered journal m acts i standing a act spec = record {
   spec = spec;
-  form = form;
-  reserve = reserve;
-  ahead_of = ahead_of;
-  placed = day_placed journal m i at folio;
-  behind = behind (is_in_division_three spec.kind) m (places journal at folio);
+  form = form_created act;
+  reserve = reserve_of act;
+  ahead_of = right_behind act;
+  placed = day_placed journal m i standing;
+  behind = behind (is_in_division_three spec.kind) m standing;
   equal = has_equal acts a act;
-}))
+}
+
+-- the entry of the right that act a of filing m creates; none where it creates none
+abbrev pub creation : List Receipt → ℕ → List Act → ℕ → (Key → List Entry) → ℕ → Act → List Entry
+creation journal m acts i at a act =
+    map
+    (λ spec. entry_by journal i (Right (folio_of act) (new_right m a))
+    (what.Created (as_entered journal m acts i (places journal at (folio_of act)) a act spec)))
+    (option_to_list (right_created act))
 
 -- what act a of filing m brings
 abbrev pub content : List Receipt → ℕ → List Act → List Doc → ℕ → (Key → List Entry) → ℕ → Act → List Entry
 content journal m acts docs i at a (Open folio inventory owners) =
     entry_by journal i (Title folio) (what.Opened inventory owners) ∷ []
 content journal m acts docs i at a (Transfer folio owners) = entry_by journal i (Title folio) (what.Owner owners) ∷ []
-content journal m acts docs i at a (Create folio spec reserve) =
-    creation journal m acts i at a (Create folio spec reserve) folio spec form.Full reserve None ∷ []
-content journal m acts docs i at a (NoticeFor folio spec) =
-    creation journal m acts i at a (NoticeFor folio spec) folio spec form.Notice None None ∷ []
+content journal m acts docs i at a (Create folio spec reserve) = creation journal m acts i at a (Create folio spec reserve)
+content journal m acts docs i at a (NoticeFor folio spec) = creation journal m acts i at a (NoticeFor folio spec)
 content journal m acts docs i at a (Convert folio right) = entry_by journal i (Right folio right) what.Converted ∷ []
 content journal m acts docs i at a (Assign folio right holder) = entry_by journal i (Right folio right) (what.Holder holder) ∷ []
 content journal m acts docs i at a (Cancel folio right) =
@@ -104,8 +121,8 @@ content journal m acts docs i at a (Exchange folio recede rise) =
     entry_by journal i (Right folio recede) (what.Exchanged recede rise a)
     ∷ entry_by journal i (Right folio rise) (what.Exchanged recede rise a) ∷ []
 content journal m acts docs i at a (Exercise folio behind_right spec) =
-    creation journal m acts i at a (Exercise folio behind_right spec) folio spec form.Full None (Some behind_right)
-    ∷ entry_by journal i (Right folio behind_right) (what.Exercised (new_right m a)) ∷ []
+    creation journal m acts i at a (Exercise folio behind_right spec)
+    ++ entry_by journal i (Right folio behind_right) (what.Exercised (new_right m a)) ∷ []
 
 -- what the acts of filing m bring, in their order
 abbrev pub contents_brought : List Receipt → ℕ → ℕ → (Key → List Entry) → Filing → List Entry

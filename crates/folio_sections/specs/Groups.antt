@@ -13,6 +13,6 @@ abbrev pub has_equal : List Act → ℕ → Act → Bool
 has_equal acts a act = list_any (λ numbered. not (numbered.0 == a) && share_group act numbered.1) (enumerate_from 1 acts)
 
 -- another act of the right's filing creates a right of the same group in the folio
-abbrev pub is_in_group : List Receipt → RightNo → Bool
-is_in_group journal right =
+abbrev pub shares_its_group : List Receipt → RightNo → Bool
+shares_its_group journal right =
     option_map_or (λ f. option_map_or (has_equal f.acts right.act) (act_at f right.act) false) (filing_at journal right.receipt) false

@@ -1,8 +1,8 @@
 -- How a filing is judged on the register as it stands: rows of grounds for rejection, of which the first that holds is
 -- named, and rows of curable defects, of which all that hold are listed (GBO § 18).
-use Rattle.std.specs.Prelude.{◌≡◌, ℕ, Bool, true, false, not, ◌&&◌, ◌||◌, ◌==◌, nat_lt, if◌then◌else◌, List, [], ◌∷◌, ◌++◌, flat_map, find, Option, Some, None, option_map, is_some, is_none, All, IfSome}
+use Rattle.std.specs.Prelude.{◌≡◌, ℕ, Bool, true, false, not, ◌&&◌, ◌||◌, ◌==◌, nat_lt, List, [], ◌∷◌, filter, flat_map, find, map, take, Option, Some, None, option_map, is_some, is_none, All, IfSome}
 use Rattle.std.specs.Option.{option_map_or}
-use Rattle.std.specs.List.{list_any}
+use Rattle.std.specs.List.{enumerate_from, list_any}
 use Rattle.gb_base.specs.RightNo.{RightNo}
 use Rattle.gb_base.specs.declared.keys.Key.{Key}
 use Rattle.gb_base.specs.declared.keys.Key.TheVariants.{Title, Right}
@@ -17,7 +17,7 @@ use Rattle.act_model.specs.Acts.{is_in_division_three}
 use Rattle.act_model.specs.Creations.{creating_rank}
 use Rattle.act_model.specs.Touches.{acts_of, created_before, filing_at, new_right}
 use Rattle.folio_sections.specs.Documents.{documents, given, is_agreement, is_clearance, is_plain, is_strangers_consent}
-use Rattle.folio_sections.specs.Groups.{is_in_group}
+use Rattle.folio_sections.specs.Groups.{shares_its_group}
 use Rattle.folio_sections.specs.Limits.{most_creations}
 use Rattle.folio_sections.specs.Persons.{affected, applicants, needed, number_behind, others, owner_side}
 use Rattle.folio_sections.specs.Rights.{is_full, is_live, is_spent, live_right}
@@ -26,6 +26,10 @@ use Rattle.folio_sections.specs.declared.entries.Entry.{Entry}
 use Rattle.folio_sections.specs.declared.judgements.Defect.{Defect}
 use Rattle.folio_sections.specs.declared.judgements.Judgement.{Judgement}
 use Rattle.folio_sections.specs.declared.judgements.Judgement.TheVariants.{Enter, Reject, Interim}
+
+-- each act with the acts before it
+abbrev pub with_before : List Act → List (List Act × Act)
+with_before acts = map (λ p. (take p.0 acts, p.1)) (enumerate_from 0 acts)
 
 -- ---- grounds for rejection, each of an act with the acts before it in filing m
 
@@ -75,27 +79,27 @@ converts_full_right at other = false
 
 -- A right takes no part in an exchange: a priority notice, a right of a group of its filing and folio, one with a reservation,
 -- and one in a reservation's rank.
-abbrev pub is_not_plain : List Receipt → (Key → List Entry) → ℕ → RightNo → Bool
-is_not_plain journal at folio right =
-    not (is_full (at (Right folio right))) || is_in_group journal right
+abbrev pub is_barred_from_exchange : List Receipt → (Key → List Entry) → ℕ → RightNo → Bool
+is_barred_from_exchange journal at folio right =
+    not (is_full (at (Right folio right))) || shares_its_group journal right
     || option_map_or (λ made. is_some made.reserve || is_some made.ahead_of) (live_right (at (Right folio right))) false
 
 -- BGB § 880: one of the rights of an exchange takes no part in one
 abbrev pub exchanges_unfit_right : List Receipt → (Key → List Entry) → Act → Bool
 exchanges_unfit_right journal at (Exchange folio recede rise) =
-    is_not_plain journal at folio recede || is_not_plain journal at folio rise
+    is_barred_from_exchange journal at folio recede || is_barred_from_exchange journal at folio rise
 exchanges_unfit_right journal at other = false
 
 -- a reservation of less than the capital; none is less than any
-abbrev pub is_less : Option ℕ → ℕ → Bool
-is_less (Some reserved) capital = nat_lt reserved capital
-is_less None capital = true
+abbrev pub reserves_less : Option ℕ → ℕ → Bool
+reserves_less (Some reserved) capital = nat_lt reserved capital
+reserves_less None capital = true
 
 -- BGB § 881: the right behind has no reservation, has spent it, or reserved less than the new capital
 abbrev pub lacks_reservation : (Key → List Entry) → Act → Bool
 lacks_reservation at (Exercise folio behind spec) =
     is_spent (at (Right folio behind))
-    || option_map_or (λ made. is_less made.reserve spec.capital) (live_right (at (Right folio behind))) true
+    || option_map_or (λ made. reserves_less made.reserve spec.capital) (live_right (at (Right folio behind))) true
 lacks_reservation at other = false
 
 -- BGB §§ 1059, 1092: the act assigns a right of division II
@@ -147,15 +151,10 @@ grounds =
     section.Gbo16 ∷ section.Limit ∷ section.Gbo3 ∷ section.Bgb873 ∷ section.Bgb883 ∷ section.Bgb880 ∷ section.Bgb881
     ∷ section.Bgb1059 ∷ section.Gbo13 ∷ section.Gbo20 ∷ section.Gbo19 ∷ []
 
--- the test holds for some act, given the acts before it
-abbrev pub some_act_from : List Act → (List Act → Act → Bool) → List Act → Bool
-some_act_from before test [] = false
-some_act_from before test (a ∷ acts) = test before a || some_act_from (before ++ a ∷ []) test acts
-
 -- the filing is rejected on this ground: GBO § 16 is of the whole filing, each other one of some act
 abbrev pub is_rejected_under : List Receipt → ℕ → Filing → List Doc → (Key → List Entry) → Section → Bool
 is_rejected_under journal m f docs at section.Gbo16 = f.conditional
-is_rejected_under journal m f docs at s = some_act_from [] (holds journal m f docs at s) f.acts
+is_rejected_under journal m f docs at s = list_any (λ p. holds journal m f docs at s p.0 p.1) (with_before f.acts)
 
 -- the first ground that holds
 abbrev pub rejection : List Receipt → ℕ → Filing → List Doc → (Key → List Entry) → Option Section
@@ -202,15 +201,14 @@ abbrev pub curables : List Section
 curables = section.Gbo29 ∷ section.Gbo39 ∷ section.Gbo27 ∷ section.Bgb876 ∷ section.Bgb880 ∷ section.Grest22 ∷ []
 
 -- the defects of one section, by act
-abbrev pub defects_from : List Act → Section → (List Act → Act → Bool) → List Act → List Defect
-defects_from before s test [] = []
-defects_from before s test (a ∷ acts) =
-    (if test before a then record { section = s; act = number_behind before } ∷ [] else [])
-    ++ defects_from (before ++ a ∷ []) s test acts
+abbrev pub defects_under : List Receipt → ℕ → Filing → List Doc → (Key → List Entry) → Section → List Defect
+defects_under journal m f docs at s =
+    map (λ p. record { section = s; act = number_behind p.0 })
+    (filter (λ p. is_defective journal m docs at s p.0 p.1) (with_before f.acts))
 
 -- all defects, by section and then by act
 abbrev pub defects : List Receipt → ℕ → Filing → List Doc → (Key → List Entry) → List Defect
-defects journal m f docs at = flat_map (λ s. defects_from [] s (is_defective journal m docs at s) f.acts) curables
+defects journal m f docs at = flat_map (defects_under journal m f docs at) curables
 
 -- ---- the judgement
 

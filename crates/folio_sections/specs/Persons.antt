@@ -1,6 +1,6 @@
 -- Whom an act concerns, who must consent to it, and who may apply for it (GBO §§ 13, 19, 22, 27; BGB §§ 876, 880(2)).
 -- An act is judged with the acts before it in its filing; `m` is the filing, `at` the entries at each key.
-use Rattle.std.specs.Prelude.{ℕ, ◌+◌, Bool, false, not, ◌&&◌, ◌==◌, nat_lt, if◌then◌else◌, List, [], ◌∷◌, ◌++◌, filter, filter_map, fold, length, Option, Some, None, option_map, option_to_list}
+use Rattle.std.specs.Prelude.{ℕ, ◌+◌, Bool, false, not, ◌&&◌, ◌==◌, if◌then◌else◌, List, [], ◌∷◌, ◌++◌, filter_map, fold, length, Option, Some, None, option_map, option_to_list}
 use Rattle.std.specs.Option.{option_map_or}
 use Rattle.gb_base.specs.RightNo.{RightNo}
 use Rattle.gb_base.specs.declared.keys.Key.{Key}
@@ -14,7 +14,7 @@ use Rattle.act_model.specs.Touches.{filing_at}
 use Rattle.folio_sections.specs.Documents.{has_proof}
 use Rattle.folio_sections.specs.Rights.{holder_for, live_right}
 use Rattle.folio_sections.specs.Titles.{owners_for}
-use Rattle.folio_sections.specs.Waiting.{pending_filings}
+use Rattle.folio_sections.specs.Waiting.{waiting_before}
 use Rattle.folio_sections.specs.declared.entries.Entry.{Entry}
 
 -- the number of an act behind these
@@ -92,7 +92,7 @@ applicant_of journal n = option_map (λ f. f.applicant) (filing_at journal n)
 
 -- the applicants of the earlier filings that wait at the right
 abbrev pub waiting_applicants : List Receipt → ℕ → List Entry → List ℕ
-waiting_applicants journal m entries = filter_map (applicant_of journal) (filter (λ n. nat_lt n m) (pending_filings entries))
+waiting_applicants journal m entries = filter_map (applicant_of journal) (waiting_before m entries)
 
 -- who else consents to a cancellation without proof: the applicants of the earlier filings that wait at the right (BGB § 876)
 abbrev pub others : List Receipt → ℕ → List Doc → (Key → List Entry) → List Act → Act → List ℕ

@@ -1,6 +1,6 @@
 -- Filings that wait at a key for cures, and the official notices that keep their places (GBO § 18). All is read from the entries at the key.
-use Rattle.std.specs.Prelude.{ℕ, Bool, true, false, ◌==◌, nat_lt, if◌then◌else◌, List, filter, filter_map, find, fold, Option, Some, None, option_map, is_some}
-use Rattle.std.specs.List.{before_first, after_first}
+use Rattle.std.specs.Prelude.{ℕ, ◌-◌, Bool, true, false, ◌==◌, nat_lt, if◌then◌else◌, List, filter, find, fold, Option, Some, None, option_map, is_some}
+use Rattle.std.specs.List.{before_first, after_first, range_with_len}
 use Rattle.folio_sections.specs.declared.entries.Entry.{Entry}
 use Rattle.folio_sections.specs.declared.entries.What.{What}
 use Rattle.folio_sections.specs.declared.entries.What.TheVariants as what
@@ -19,14 +19,13 @@ pending m entries = fold (λ before e. until_by m before e.what) None entries
 abbrev pub is_pending : ℕ → List Entry → Bool
 is_pending m entries = is_some (pending m entries)
 
--- the filing that a content sets to wait
-abbrev pub waiting_by : What → Option ℕ
-waiting_by (what.Pending filing until) = Some filing
-waiting_by other = None
+-- the numbers from 1 that are below n, ascending
+abbrev pub below : ℕ → List ℕ
+below n = range_with_len 1 (n - 1)
 
--- the filings that wait, in the order in which they were set to
-abbrev pub pending_filings : List Entry → List ℕ
-pending_filings entries = filter (λ n. is_pending n entries) (filter_map (λ e. waiting_by e.what) entries)
+-- the earlier filings than m that wait, ascending
+abbrev pub waiting_before : ℕ → List Entry → List ℕ
+waiting_before m entries = filter (λ n. is_pending n entries) (below m)
 
 -- the content is the official notice of filing m
 abbrev pub is_notice_of : ℕ → What → Bool

@@ -1,5 +1,5 @@
 // A part of any kind, so that one list holds all of them.
-ghost use Rattle.std.specs.Prelude.{◌≡◌, ◌+◌, ◌≤◌, [], ◌∷◌, ◌++◌, OnOk, OnErr, IfSome, is_some};
+ghost use Rattle.std.specs.Prelude.{◌≡◌, ◌+◌, ◌≤◌, [], ◌∷◌, ◌++◌, IsOk, OnOk, IfSome, is_some};
 ghost use Rattle.folio_sections.specs.inner.Kinds.{is_title, is_right, is_case};
 
 use crate::{CasePart, Entry, RightPart, TitlePart};
@@ -57,6 +57,7 @@ impl AnyPart {
         ensures entries { self.new.entries ≡ self.old.entries }
         ensures room { OnOk result (n ≤ self.new.room) }
         ensures kept { self.old.room ≤ self.new.room }
+        ensures succeeds { n ≤ self.old.room → IsOk result }
     {
         match &mut self.kind {
             Kind::Title(part) => part.reserve(n),

@@ -1,5 +1,5 @@
 // The part of a register at the forced sale of a folio.
-ghost use Rattle.std.specs.Prelude.{◌≡◌, ◌+◌, ◌≤◌, [], ◌∷◌, ◌++◌, All, OnOk, OnErr, min};
+ghost use Rattle.std.specs.Prelude.{◌≡◌, ◌+◌, ◌≤◌, [], ◌∷◌, ◌++◌, All, IsOk, OnOk, OnErr, min};
 ghost use Rattle.folio_sections.specs.Cases.{is_distribution, case, is_seizure, award_by, call_by};
 
 use crate::entry_list::EntryList;
@@ -38,13 +38,15 @@ impl CasePart {
         }
     }
 
-    /// Keeps room for n entries more. Where no memory is found the part is unchanged.
+    /// Keeps room for n entries more. Where no memory is found the part is unchanged. It succeeds
+    /// where there is room already.
     pub fn reserve(&mut self, n: usize) -> Result<(), NoMemory>
         ensures key { self.new.key ≡ self.old.key }
         ensures entries { self.new.entries ≡ self.old.entries }
         ensures room { OnOk result (n ≤ self.new.room) }
         ensures kept { self.old.room ≤ self.new.room }
         ensures unchanged { OnErr result (self.new ≡ self.old) }
+        ensures succeeds { n ≤ self.old.room → IsOk result }
     {
         self.list.reserve(n)
     }

@@ -31,7 +31,7 @@ impl<'a> Model for Documents<'a> {
 }
 
 impl<'a> Documents<'a> {
-    ghost use Rattle.folio_sections.specs.Documents.{documents, given};
+    ghost use Rattle.folio_sections.specs.Documents.{documents, given, has_proof};
 
     /// The documents of filing `number`, with those of its cures up to receipt `upto`.
     pub fn new(
@@ -72,6 +72,13 @@ impl<'a> Documents<'a> {
         } else {
             None
         }
+    }
+
+    /// Whether the act has an expiry proof (GBO § 22).
+    pub fn has_proof(&self, act: u8) -> bool
+        ensures { result ≡ has_proof self.now act }
+    {
+        self.has(&Sought::Proof { act })
     }
 }
 

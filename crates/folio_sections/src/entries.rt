@@ -44,7 +44,7 @@ pub enum What {
     AwardOwner {
         buyer: Person,
     },
-    /// At a title: a filing has its place, for rights of division II and of division III
+    /// At a title: a filing has its place, for rights of division II, of division III or of both
     /// (BGB § 879).
     Placed {
         filing: ReceiptNo,

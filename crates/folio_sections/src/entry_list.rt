@@ -1,5 +1,5 @@
 // The entries at one key, which each part wraps.
-ghost use Rattle.std.specs.Prelude.{◌≡◌, ◌+◌, ◌≤◌, [], ◌∷◌, ◌++◌, All, OnOk, OnErr};
+ghost use Rattle.std.specs.Prelude.{◌≡◌, ◌+◌, ◌≤◌, [], ◌∷◌, ◌++◌, All, IsOk, OnOk, OnErr};
 
 use crate::Entry;
 use gb_base::{Key, NoMemory};
@@ -43,6 +43,7 @@ impl EntryList {
         ensures room { OnOk result (n ≤ self.new.room) }
         ensures kept { self.old.room ≤ self.new.room }
         ensures unchanged { OnErr result (self.new ≡ self.old) }
+        ensures succeeds { n ≤ self.old.room → IsOk result }
     {
         self.entries.reserve(n)
     }

@@ -1,14 +1,13 @@
 // Rights of equal rank: creating acts of one filing, folio and group (GBO § 45(3)).
 ghost use Rattle.std.specs.Prelude.{◌≡◌};
-ghost use Rattle.act_model.specs.WellFormed.{same_group, share_group};
-ghost use Rattle.folio_sections.specs.Groups.{has_equal, is_in_group};
+ghost use Rattle.folio_sections.specs.Groups.{has_equal, shares_its_group};
 
-use act_model::{Act, Journal, RightSpec, act_at, filing_at};
+use act_model::{Act, Journal, act_at, filing_at, share_group};
 use gb_base::RightId;
 
 /// Whether another act of the right's filing creates a right of the same group in the folio.
-pub fn is_in_group(journal: &Journal, right: RightId) -> bool
-    ensures { result ≡ is_in_group journal.now.receipts right }
+pub fn shares_its_group(journal: &Journal, right: RightId) -> bool
+    ensures { result ≡ shares_its_group journal.now.receipts right }
 {
     match filing_at(journal, right.receipt()) {
         Some(filing) => match act_at(filing, right.act()) {
@@ -29,21 +28,4 @@ pub fn has_equal(acts: &[Act], a: u8, act: &Act) -> bool
         }
     }
     false
-}
-
-/// Whether two acts create rights of one group in one folio.
-fn share_group(act: &Act, other: &Act) -> bool
-    ensures { result ≡ share_group act.now other.now }
-{
-    act.folio() == other.folio() && same_group(act.right_created(), other.right_created())
-}
-
-/// Whether both are there, and of one group.
-fn same_group(right: Option<RightSpec>, other: Option<RightSpec>) -> bool
-    ensures { result ≡ same_group right other }
-{
-    match (right, other) {
-        (Some(right), Some(other)) => right.group == other.group,
-        _ => false,
-    }
 }

@@ -1,5 +1,5 @@
 // Parts over keys that are given, found by key in logarithmic time.
-ghost use Rattle.std.specs.Prelude.{◌≡◌, ◌||◌, ℕ, ◌≤◌, [], All, List, IsTrue, IfOk, OnOk, OnErr, IfSome, is_some, find, position};
+ghost use Rattle.std.specs.Prelude.{◌≡◌, ◌||◌, ℕ, ◌≤◌, [], All, List, IsTrue, IfOk, IsOk, OnOk, OnErr, IfSome, is_some, find, position};
 ghost use Rattle.std.specs.Option.{option_copied};
 ghost use Rattle.std.specs.List.{AllZip};
 ghost use Rattle.gb_base.specs.Keys.{same_key};
@@ -49,18 +49,20 @@ impl MapParts {
     }
 
     /// Keeps room for n entries more in each part. Where no memory is found, some parts may have
-    /// more room than before; no entry and no key changes.
+    /// more room than before; no entry and no key changes. It succeeds where each part has the room
+    /// already.
     pub fn reserve_all(&mut self, n: usize) -> Result<(), NoMemory>
         ensures held { is_held self.new ≡ is_held self.old }
         ensures entries { entries_at self.new ≡ entries_at self.old }
         ensures room { OnOk result ((k : Key) → IsTrue (is_held self.new k) → n ≤ room_at self.new k) }
         ensures kept { (k : Key) → room_at self.old k ≤ room_at self.new k }
+        ensures succeeds { All (λ p. n ≤ p.room) self.old → IsOk result }
     {
         reserve_each(&mut self.parts, n)
     }
 
     /// Where the part of a key stands; None where it is not held.
-    fn place(&self, key: Key) -> Option<usize>
+    fn index_of(&self, key: Key) -> Option<usize>
         ensures { result ≡ position (λ p. same_key p.key key) self.now }
     {
         self.index.get(&key).copied()
@@ -70,8 +72,8 @@ impl MapParts {
     fn part(&self, key: Key) -> Option<&AnyPart>
         ensures { option_copied result ≡ find (λ p. same_key p.key key) self.now }
     {
-        match self.place(key) {
-            Some(place) => Some(&self.parts[place]),
+        match self.index_of(key) {
+            Some(index) => Some(&self.parts[index]),
             None => None,
         }
     }
@@ -92,9 +94,9 @@ fn add_part(
     if index.contains_key(&key) {
         return Ok(());
     }
-    let place = parts.len();
+    let end = parts.len();
     parts.push(AnyPart::new(alloc, key))?;
-    index.insert(key, place)?;
+    index.insert(key, end)?;
     Ok(())
 }
 
@@ -102,6 +104,7 @@ fn add_part(
 fn reserve_each(parts: &mut [AnyPart], n: usize) -> Result<(), NoMemory>
     ensures grow { AllZip Grows parts.old parts.new }
     ensures room { OnOk result (All (λ p. n ≤ p.room) parts.new) }
+    ensures succeeds { All (λ p. n ≤ p.room) parts.old → IsOk result }
 {
     for part in parts.iter_mut() {
         part.reserve(n)?;
@@ -140,12 +143,12 @@ impl Parts for MapParts {
     }
 
     fn append(&mut self, entry: Entry) {
-        match self.place(entry.key) {
-            Some(place) => {
-                let part = &mut self.parts[place];
+        match self.index_of(entry.key) {
+            Some(index) => {
+                let part = &mut self.parts[index];
                 part.append(entry);
             }
-            // The caller holds the key's part, so it has a place.
+            // The caller holds the key's part, so it stands somewhere.
             None => {}
         }
     }

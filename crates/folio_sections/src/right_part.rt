@@ -1,5 +1,5 @@
 // The part of a register at a right.
-ghost use Rattle.std.specs.Prelude.{◌≡◌, ◌+◌, ◌≤◌, [], ◌∷◌, ◌++◌, All, OnOk, OnErr, fold, None};
+ghost use Rattle.std.specs.Prelude.{◌≡◌, ◌+◌, ◌≤◌, [], ◌∷◌, ◌++◌, All, IsOk, OnOk, OnErr, fold, None};
 ghost use Rattle.std.specs.List.{list_any};
 ghost use Rattle.folio_sections.specs.Rights.{created_by, created, live_by, is_conversion, new_holder_by, holder, remaining_by, is_exercise};
 
@@ -39,13 +39,15 @@ impl RightPart {
         }
     }
 
-    /// Keeps room for n entries more. Where no memory is found the part is unchanged.
+    /// Keeps room for n entries more. Where no memory is found the part is unchanged. It succeeds
+    /// where there is room already.
     pub fn reserve(&mut self, n: usize) -> Result<(), NoMemory>
         ensures key { self.new.key ≡ self.old.key }
         ensures entries { self.new.entries ≡ self.old.entries }
         ensures room { OnOk result (n ≤ self.new.room) }
         ensures kept { self.old.room ≤ self.new.room }
         ensures unchanged { OnErr result (self.new ≡ self.old) }
+        ensures succeeds { n ≤ self.old.room → IsOk result }
     {
         self.list.reserve(n)
     }
@@ -102,7 +104,7 @@ impl RightPart {
         }
     }
 
-    /// The holder; None where the right was never created.
+    /// The holder: the last new one, else that of the creation; None where there is neither.
     pub fn holder(&self) -> Option<Person>
         ensures { result ≡ holder self.now.entries }
     {
@@ -122,7 +124,8 @@ impl RightPart {
         }
     }
 
-    /// The capital: the one that the last award left, else that of the creation (ZVG § 52).
+    /// The capital: the one that the last award left, else that of the creation (ZVG § 52); None where
+    /// there is neither.
     pub fn capital(&self) -> Option<Cents>
         ensures { result ≡ capital self.now.entries }
     {

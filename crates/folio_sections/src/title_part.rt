@@ -1,5 +1,5 @@
 // The part of a register at the title of a folio.
-ghost use Rattle.std.specs.Prelude.{◌≡◌, ◌+◌, ◌≤◌, [], ◌∷◌, ◌++◌, All, OnOk, OnErr};
+ghost use Rattle.std.specs.Prelude.{◌≡◌, ◌+◌, ◌≤◌, [], ◌∷◌, ◌++◌, All, IsOk, OnOk, OnErr};
 ghost use Rattle.std.specs.List.{list_any};
 ghost use Rattle.folio_sections.specs.Titles.{is_opening, inventory_by, owners_by, owners, is_award_owner};
 
@@ -41,13 +41,15 @@ impl TitlePart {
         }
     }
 
-    /// Keeps room for n entries more. Where no memory is found the part is unchanged.
+    /// Keeps room for n entries more. Where no memory is found the part is unchanged. It succeeds
+    /// where there is room already.
     pub fn reserve(&mut self, n: usize) -> Result<(), NoMemory>
         ensures key { self.new.key ≡ self.old.key }
         ensures entries { self.new.entries ≡ self.old.entries }
         ensures room { OnOk result (n ≤ self.new.room) }
         ensures kept { self.old.room ≤ self.new.room }
         ensures unchanged { OnErr result (self.new ≡ self.old) }
+        ensures succeeds { n ≤ self.old.room → IsOk result }
     {
         self.list.reserve(n)
     }
@@ -94,7 +96,7 @@ impl TitlePart {
             .fold(None, |before, entry| inventory_by(before, &entry.what))
     }
 
-    /// The owners; None where the folio is not open.
+    /// The owners; None where no entry names any.
     pub fn owners(&self) -> Option<Owners>
         ensures { result ≡ owners self.now.entries }
     {

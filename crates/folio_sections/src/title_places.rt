@@ -11,7 +11,7 @@ use gb_base::{Day, FolioId, ReceiptNo};
 
 /// The place of a filing at a title.
 #[derive(Clone, Copy, Debug, PartialEq, Eq)]
-pub struct Place {
+pub struct TitlePlace {
     pub filing: ReceiptNo,
     /// The day of the entry that sets it.
     pub day: Day,
@@ -59,7 +59,7 @@ fn is_of_division(third: bool, right: RightSpec) -> bool
 }
 
 /// The place that an entry at the title sets; None where it sets none.
-fn place_by(journal: &Journal, folio: FolioId, entry: &Entry) -> Option<Place>
+fn place_by(journal: &Journal, folio: FolioId, entry: &Entry) -> Option<TitlePlace>
     ensures { result ≡ place_by journal.now.receipts folio entry.now.day entry.now.what }
 {
     match &entry.what {
@@ -67,7 +67,7 @@ fn place_by(journal: &Journal, folio: FolioId, entry: &Entry) -> Option<Place>
             filing,
             second,
             third,
-        } => Some(Place {
+        } => Some(TitlePlace {
             filing: *filing,
             day: entry.day,
             second: *second,
@@ -80,13 +80,18 @@ fn place_by(journal: &Journal, folio: FolioId, entry: &Entry) -> Option<Place>
 
 /// The place that the official notice of a filing sets on this day; None where the filing creates
 /// no right in the folio.
-fn noticed_place(journal: &Journal, folio: FolioId, day: Day, filing: ReceiptNo) -> Option<Place>
+fn noticed_place(
+    journal: &Journal,
+    folio: FolioId,
+    day: Day,
+    filing: ReceiptNo,
+) -> Option<TitlePlace>
     ensures { result ≡ noticed_place journal.now.receipts folio day filing }
 {
     let second = creates_in_division(journal, false, folio, filing);
     let third = creates_in_division(journal, true, folio, filing);
     if second || third {
-        Some(Place {
+        Some(TitlePlace {
             filing,
             day,
             second,
@@ -104,7 +109,7 @@ pub fn own_place(
     folio: FolioId,
     entries: &[Entry],
     filing: ReceiptNo,
-) -> Option<Place>
+) -> Option<TitlePlace>
     ensures { result ≡ own_place filing (places_among journal.now.receipts folio entries.now) }
 {
     entries
@@ -150,7 +155,12 @@ fn last_ahead(
 }
 
 /// The filing of a place of the other division on this day, else the one before.
-fn behind_by(third: bool, day: Day, before: Option<ReceiptNo>, place: Place) -> Option<ReceiptNo>
+fn behind_by(
+    third: bool,
+    day: Day,
+    before: Option<ReceiptNo>,
+    place: TitlePlace,
+) -> Option<ReceiptNo>
     ensures { result ≡ behind_by third day before place }
 {
     let in_other = if third { place.second } else { place.third };

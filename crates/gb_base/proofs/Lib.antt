@@ -4,3 +4,4 @@ pub mod CivilDays
 pub mod CountedOff
 pub mod DateTexts
 pub mod Members
+pub mod Weekdays

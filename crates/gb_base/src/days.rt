@@ -85,7 +85,7 @@ impl Day {
     }
 
     /// The date of the Gregorian calendar.
-    fn date(self) -> Date
+    pub(crate) fn date(self) -> Date
         ensures year { result.year ≡ pos (date_of self).year }
         ensures month { result.month ≡ (date_of self).month }
         ensures day { result.day ≡ (date_of self).day }

@@ -1,5 +1,5 @@
-// Tests of ranges, dates, texts and the order of keys.
-use crate::{Cents, Day, FolioId, Key, Person, ReceiptNo, RightId, Stamp};
+// Tests of ranges, dates, texts, deadlines and the order of keys.
+use crate::{Cents, Day, FolioId, Key, Person, ReceiptNo, RightId, Stamp, deadline};
 use std::test::Fail;
 
 #[test]
@@ -99,6 +99,37 @@ fn stamps_are_of_the_years_2000_to_2149(rt: HostRuntime) -> Result<(), Fail> {
             Stamp::new(day, minute).is_some(),
             is_stamp,
             "{number} {minute}"
+        );
+    }
+    Ok(())
+}
+
+#[test]
+fn deadlines_are_thirty_days_later_or_the_next_monday(rt: HostRuntime) -> Result<(), Fail> {
+    for (received, last) in [
+        // The first stamp day and the last.
+        ("2000-01-01", "2000-01-31"),
+        ("2149-12-31", "2150-01-30"),
+        // Day 30 is a Saturday, a Sunday, a Monday, a Wednesday.
+        ("2024-02-29", "2024-04-01"),
+        ("2024-03-01", "2024-04-01"),
+        ("2024-03-02", "2024-04-01"),
+        ("2024-03-04", "2024-04-03"),
+        // A leap day lies between, or is the last day.
+        ("2024-01-30", "2024-02-29"),
+        ("2024-01-31", "2024-03-01"),
+        // The year ends between, on the way to Monday, or not yet.
+        ("2023-12-29", "2024-01-29"),
+        ("2023-12-31", "2024-01-30"),
+        ("2023-12-01", "2024-01-01"),
+        ("2024-12-01", "2024-12-31"),
+    ] {
+        let day = Day::from_text(received.as_bytes()).ok_or("no day")?;
+        let day = Stamp::new(day, 0).ok_or("no stamp day")?.day();
+        assert_eq!(rt;
+            Some(deadline(day)),
+            Day::from_text(last.as_bytes()),
+            "{received}"
         );
     }
     Ok(())

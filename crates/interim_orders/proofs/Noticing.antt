@@ -13,16 +13,17 @@ use Rattle.gb_base.specs.declared.keys.Key.{Key}
 use Rattle.act_model.specs.declared.receipts.Receipt.{Receipt}
 use Rattle.act_model.proofs.KeyOrder.{ties}
 use Rattle.folio_sections.specs.Adding.{AddsList, HasRoom}
-use Rattle.folio_sections.specs.Entering.{below, entry_by, notices_at, waiting_unnoticed}
+use Rattle.folio_sections.specs.Entering.{entry_by, notices_at, waiting_unnoticed}
 use Rattle.folio_sections.specs.Entries.{at}
-use Rattle.folio_sections.specs.Waiting.{is_above}
+use Rattle.folio_sections.specs.Waiting.{below, is_above}
 use Rattle.folio_sections.specs.declared.entries.Entry.{Entry}
 use Rattle.folio_sections.specs.declared.entries.What.TheVariants as what
 use Rattle.folio_sections.specs.inner.Unnoticed.{lacks_notice}
 use Rattle.folio_sections.proofs.Additions.{none_at}
-use Rattle.folio_sections.proofs.Places.{find_passes}
+use Rattle.folio_sections.proofs.Indexes.{find_passes}
 use Rattle.folio_sections.proofs.Progress.{Progress, begins, ends, goes_on_by, has_room_by}
 use Rattle.folio_sections.proofs.Unchanged.{KeepsNotice, all_at, all_both, own_notice_stays, pending_stays}
+use Rattle.folio_sections.proofs.Below.{below_next}
 use Rattle.folio_sections.proofs.Unnoticed.{unnoticed_is}
 
 pub all_map : {X : Type 0} (P Q : X → Type 0) (xs : List X) → ((x : X) → P x → Q x) → AllByRecursion P xs → AllByRecursion Q xs
@@ -61,14 +62,14 @@ below_less : (m : ℕ) → AllByRecursion (λ x. nat_lt x m ≡ true) (below m)
 below_less zero = tt
 below_less (suc zero) = tt
 below_less (suc (suc n)) =
-    all_both (λ x. nat_lt x (suc (suc n)) ≡ true) (below (suc n)) (suc n ∷ [])
+    subst (AllByRecursion (λ x. nat_lt x (suc (suc n)) ≡ true)) (sym (below_next n)) (all_both (λ x. nat_lt x (suc (suc n)) ≡ true) (below (suc n)) (suc n ∷ [])
     (all_map (λ x. nat_lt x (suc n) ≡ true) (λ x. nat_lt x (suc (suc n)) ≡ true) (below (suc n)) (λ x less. grind (arith, nat_tests, less)) (below_less (suc n)))
-    (grind (arith, nat_tests), tt)
+    (grind (arith, nat_tests), tt))
 
 below_ascends : (m : ℕ) → Ascends (below m)
 below_ascends zero = tt
 below_ascends (suc zero) = tt
-below_ascends (suc (suc n)) = ascends_push (below (suc n)) (suc n) (below_ascends (suc n)) (below_less (suc n))
+below_ascends (suc (suc n)) = subst Ascends (sym (below_next n)) (ascends_push (below (suc n)) (suc n) (below_ascends (suc n)) (below_less (suc n)))
 
 unnoticed_ascend : (m : ℕ) (entries : List Entry) → Ascends (waiting_unnoticed m entries)
 unnoticed_ascend m entries =

@@ -10,12 +10,12 @@ use Rattle.journal_disk.specs.declared.faults.OpenFault.{OpenFault}
 use Rattle.journal_disk.specs.declared.faults.OpenFault.TheVariants.{Disk, NotJournal, BadRecord, Memory}
 
 -- whether an opening answers that the disk failed
-abbrev pub opening_failed : {A : Type 0} → Result A OpenFault → Bool
-opening_failed (Ok opened) = false
-opening_failed (Err Disk) = true
-opening_failed (Err NotJournal) = false
-opening_failed (Err (BadRecord at ahead)) = false
-opening_failed (Err Memory) = false
+abbrev pub opening_disk_failed : {A : Type 0} → Result A OpenFault → Bool
+opening_disk_failed (Ok opened) = false
+opening_disk_failed (Err Disk) = true
+opening_disk_failed (Err NotJournal) = false
+opening_disk_failed (Err (BadRecord at ahead)) = false
+opening_disk_failed (Err Memory) = false
 
 -- Frames one behind the other from the first gate on, and the gate behind them.
 pub record AreFramesTo (heading : List ℕ) (frames : List FrameAt) (gate : ℕ) : Type 0 where

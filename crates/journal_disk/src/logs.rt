@@ -3,7 +3,7 @@ ghost use Rattle.std.specs.Prelude.{◌≡◌, ◌↔◌, ◌+◌, ◌≤◌, �
 ghost use Rattle.gb_outside.specs.Faults.{Counts};
 ghost use Rattle.gb_outside.specs.Images.{Holds, Torn, Only, LeavesOnly};
 ghost use Rattle.journal_disk.specs.Layout.{the_heading, file_limit, frame_head, first_gate, made_from, appended, IsBody, IsUnmade};
-ghost use Rattle.journal_disk.specs.Opening.{opening_failed, AreFramesTo, HasFramesAhead, LogOpens, LogRefuses, IsKept, AnswersSynced};
+ghost use Rattle.journal_disk.specs.Opening.{opening_disk_failed, AreFramesTo, HasFramesAhead, LogOpens, LogRefuses, IsKept, AnswersSynced};
 ghost use Rattle.journal_disk.specs.Appending.{StandsOn, FramesWithOrWithout, append_failed, log_after};
 
 use crate::appending::write_frame;
@@ -50,8 +50,8 @@ impl Log {
         ensures torn { IsTrue D.tells → Torn 0 (first_gate the_heading + 1) (D.reads disk.old) (D.reads disk.new) }
 
         // Every answer but `Disk` comes only after a sync, done ahead of every write: a stop at any moment from then on leaves the frames that were found.
-        ensures any_moment { IsTrue D.tells → AnswersSynced D.reads D.images D.moment D.since disk.old disk.new (opening_failed result) }
-        ensures cause { Counts (D.faults disk.old) (D.faults disk.new) (opening_failed result) }
+        ensures any_moment { IsTrue D.tells → AnswersSynced D.reads D.images D.moment D.since disk.old disk.new (opening_disk_failed result) }
+        ensures cause { Counts (D.faults disk.old) (D.faults disk.new) (opening_disk_failed result) }
     {
         disk.sync()?;
         open_synced(alloc, disk)
@@ -122,7 +122,7 @@ fn open_synced<D: Disk>(alloc: Global, disk: &mut D) -> Result<(Log, Vec<Frame>)
     ensures refused { IsTrue D.tells → IfErr result (LogRefuses the_heading (D.reads disk.old)) }
     ensures any_moment { IsTrue D.tells → LeavesOnly D.moment D.since disk.old disk.new (IsKept (D.reads disk.old)) }
     ensures torn { IsTrue D.tells → Torn 0 (first_gate the_heading + 1) (D.reads disk.old) (D.reads disk.new) }
-    ensures cause { Counts (D.faults disk.old) (D.faults disk.new) (opening_failed result) }
+    ensures cause { Counts (D.faults disk.old) (D.faults disk.new) (opening_disk_failed result) }
 {
     match find(disk)? {
         Found::Unmade { begun } => {

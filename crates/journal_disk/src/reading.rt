@@ -2,7 +2,7 @@
 ghost use Rattle.std.specs.Prelude.{◌≡◌, ◌+◌, ◌<◌, ◌≤◌, ◌^◌, IsTrue, IfOk, IfErr, OnOk, length, take, drop, vec_len};
 ghost use Rattle.gb_outside.specs.Faults.{Counts};
 ghost use Rattle.journal_disk.specs.Layout.{the_heading, first_gate, IsMade};
-ghost use Rattle.journal_disk.specs.Opening.{opening_failed, AreFramesTo, HasFramesAhead};
+ghost use Rattle.journal_disk.specs.Opening.{opening_disk_failed, AreFramesTo, HasFramesAhead};
 ghost use Rattle.journal_disk.specs.inner.Reading.{IsNoVerdict, OnlyReads, FindsFrames};
 ghost use Rattle.journal_disk.specs.inner.Scan.{Scanned};
 
@@ -41,7 +41,7 @@ fn scan_block<D: Disk>(
     ensures no_verdict { IfErr result IsNoVerdict }
     ensures moves { IfOk result (λ end. 1030 ≤ length block.old → end.ending ≡ Ending.Short → at < end.at) }
     ensures ahead { IfOk result (λ end. end.at < at + length block.old) }
-    ensures cause { Counts (D.faults disk.old) (D.faults disk.new) (opening_failed result) }
+    ensures cause { Counts (D.faults disk.old) (D.faults disk.new) (opening_disk_failed result) }
 {
     disk.read_at(at, block)?;
     Ok(scan(alloc, at, block, frames)?)
@@ -60,7 +60,7 @@ pub(crate) fn read_frames<D: Disk>(
     ensures ahead { IfErr result (HasFramesAhead the_heading) }
     ensures answer { IsTrue D.tells → FindsFrames (D.reads disk.old) result }
     ensures reads { IsTrue D.tells → OnlyReads D.reads D.images D.moment D.since disk.old disk.new }
-    ensures cause { Counts (D.faults disk.old) (D.faults disk.new) (opening_failed result) }
+    ensures cause { Counts (D.faults disk.old) (D.faults disk.new) (opening_disk_failed result) }
 {
     let mut block = new_block(alloc, (BLOCK as u64).min(len - FIRST_GATE) as usize)?;
     let mut frames = Vec::new(alloc);

@@ -1,5 +1,5 @@
 -- A book's answer to an item, and what the file stands for then.
-use Rattle.std.proofs.Common.{◌≡◌, ◌⊎◌, inl, inr, ℕ, ◌+◌, ◌≤◌, Bool, true, false, ltb, List, [], ◌∷◌, ◌++◌, length, Result, Ok, Err, OnOk, is_err, refl, sym, ◌∙◌, ap, subst, arith}
+use Rattle.std.proofs.Common.{◌≡◌, ◌⊎◌, inl, inr, ℕ, ◌+◌, ◌≤◌, Bool, true, false, ltb, List, [], ◌∷◌, ◌++◌, length, length-append, Result, Ok, Err, OnOk, is_err, refl, sym, ◌∙◌, ap, subst, arith}
 use Rattle.std.proofs.lemmas.Bool.{cond-true, cond-false, le-ltb}
 use Rattle.std.proofs.lemmas.List.{map-append}
 use Rattle.std.proofs.lemmas.List.Elements.{All-push}
@@ -15,9 +15,9 @@ use Rattle.act_model.proofs.JournalLemmas.{IsJournal-push, stamp_after-last}
 use Rattle.act_codec.specs.Spelling.{longest_spelling, spelling}
 use Rattle.act_codec.specs.Values.{IsReceipt}
 use Rattle.act_codec.proofs.Lengths.{spelling_len, spelling_some}
-use Rattle.journal_disk.specs.Layout.{the_heading, file_limit, IsBody, StandsFor}
+use Rattle.journal_disk.specs.Layout.{the_heading, file_limit, IsBody, StandsFor, measured, appended}
 use Rattle.journal_disk.specs.Layout.{frames as frames_of}
-use Rattle.journal_disk.proofs.FrameBytes.{length-frames-push}
+use Rattle.journal_disk.proofs.FrameBytes.{frames-append, length-measured, length-frames-push}
 use Rattle.journal_disk.specs.Appending as frames
 use Rattle.receipt_journal.specs.Standing.{records, gate_behind, IsKeepable}
 use Rattle.receipt_journal.specs.Receiving.{file_size, next_receipt, in_journal, on_disk, is_received, answer_on, Answers, JournalWithOrWithout}
@@ -58,6 +58,17 @@ with_or_without journal r body c is is_next spelled (inr with_it) =
 pub gate_next : (journal : List Receipt) (r : Receipt) (gate : ℕ) (body : List ℕ) → gate ≡ gate_behind journal → body ≡ spelling r → gate + 5 + length body ≡ gate_behind (journal ++ r ∷ [])
 gate_next journal r gate body ends spelled =
     omega (arith, ends, ap length spelled, ap (λ (l : List (List ℕ)). length (frames_of l)) (records_push journal r), length-frames-push (records journal) (spelling r))
+
+-- behind the last gate of the frame that is appended
+pub appended_to : (journal : List Receipt) (r : Receipt) → gate_behind journal + length (appended (spelling r)) ≡ gate_behind (journal ++ r ∷ []) + 1
+appended_to journal r =
+    omega (arith, length-append (measured (spelling r)) (0 ∷ []), length-measured (spelling r), gate_next journal r (gate_behind journal) (spelling r) refl refl)
+
+-- the gate of a journal with more receipts stands no earlier
+pub gate_further : (journal more : List Receipt) → gate_behind journal ≤ gate_behind (journal ++ more)
+gate_further journal more =
+    omega (arith, ap (λ (l : List (List ℕ)). length (frames_of l)) (map-append spelling journal more),
+    ap length (frames-append (records journal) (records more)), length-append (frames_of (records journal)) (frames_of (records more)))
 
 -- the disk has room for what the journal accepts
 accepted_on_disk : (size : ℕ) (expected : Added) → size ≤ file_limit → on_disk size expected ≡ in_journal expected

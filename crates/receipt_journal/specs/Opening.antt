@@ -19,9 +19,9 @@ BookRefuses file Disk = Unit {0}
 BookRefuses file Memory = Unit {0}
 
 -- whether an opening of a book answers that the disk failed
-abbrev pub book_opening_failed : {A : Type 0} → Result A BookFault → Bool
-book_opening_failed (Ok book) = false
-book_opening_failed (Err Disk) = true
-book_opening_failed (Err NotJournal) = false
-book_opening_failed (Err (BadRecord at)) = false
-book_opening_failed (Err Memory) = false
+abbrev pub book_opening_disk_failed : {A : Type 0} → Result A BookFault → Bool
+book_opening_disk_failed (Ok book) = false
+book_opening_disk_failed (Err Disk) = true
+book_opening_disk_failed (Err NotJournal) = false
+book_opening_disk_failed (Err (BadRecord at)) = false
+book_opening_disk_failed (Err Memory) = false

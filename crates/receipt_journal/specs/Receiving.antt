@@ -46,14 +46,14 @@ is_received received.MustReopen = false
 is_received received.Memory = false
 
 -- whether a book answers that the disk failed
-abbrev pub receiving_failed : Received → Bool
-receiving_failed (received.Accepted n) = false
-receiving_failed (received.Repeated n) = false
-receiving_failed (received.Differs n) = false
-receiving_failed received.Full = false
-receiving_failed received.Disk = true
-receiving_failed received.MustReopen = false
-receiving_failed received.Memory = false
+abbrev pub receiving_disk_failed : Received → Bool
+receiving_disk_failed (received.Accepted n) = false
+receiving_disk_failed (received.Repeated n) = false
+receiving_disk_failed (received.Differs n) = false
+receiving_disk_failed received.Full = false
+receiving_disk_failed received.Disk = true
+receiving_disk_failed received.MustReopen = false
+receiving_disk_failed received.Memory = false
 
 -- A book gives the answer expected; but where that accepts the item, want of memory may come instead, or a failure of the disk.
 abbrev pub Answers : Received → Received → Type 0

@@ -12,8 +12,8 @@ ghost use Rattle.act_codec.specs.Values.{IsReceipt};
 ghost use Rattle.journal_disk.specs.Layout.{the_heading, first_gate, IsBody, IsUnmade, made_from, appended};
 ghost use Rattle.journal_disk.specs.Opening.{IsKept, AnswersSynced};
 ghost use Rattle.receipt_journal.specs.Standing.{AreRecordsTo, Stands};
-ghost use Rattle.receipt_journal.specs.Opening.{BookOpens, BookRefuses, book_opening_failed};
-ghost use Rattle.receipt_journal.specs.Receiving.{in_journal, answer_on, is_received, receiving_failed, Answers, journal_after, next_receipt, JournalWithOrWithout};
+ghost use Rattle.receipt_journal.specs.Opening.{BookOpens, BookRefuses, book_opening_disk_failed};
+ghost use Rattle.receipt_journal.specs.Receiving.{in_journal, answer_on, is_received, receiving_disk_failed, Answers, journal_after, next_receipt, JournalWithOrWithout};
 
 use crate::lengths::is_short;
 use crate::records::take_records;
@@ -74,8 +74,8 @@ impl Book {
         ensures torn { IsTrue D.tells → Torn 0 (first_gate the_heading + 1) (D.reads disk.old) (D.reads disk.new) }
 
         // Every answer but `Disk` comes only after a sync, done ahead of every write: a stop at any moment from then on leaves the journal that was found.
-        ensures any_moment { IsTrue D.tells → AnswersSynced D.reads D.images D.moment D.since disk.old disk.new (book_opening_failed result) }
-        ensures cause { Counts (D.faults disk.old) (D.faults disk.new) (book_opening_failed result) }
+        ensures any_moment { IsTrue D.tells → AnswersSynced D.reads D.images D.moment D.since disk.old disk.new (book_opening_disk_failed result) }
+        ensures cause { Counts (D.faults disk.old) (D.faults disk.new) (book_opening_disk_failed result) }
     {
         let mut journal = Journal::new(alloc);
         match Log::open(alloc, disk) {
@@ -139,13 +139,13 @@ impl Book {
         // The answer is the expected one on any disk, and each fault has its cause.
         ensures must_reopen { (result ≡ Received.MustReopen) ↔ (self.old.log.failed ≡ true) }
         ensures answer { self.old.log.failed ≡ false → Answers (answer_on self.old.journal stamp sender reference item.now) result }
-        ensures cause { Counts (D.faults disk.old) (D.faults disk.new) (receiving_failed result) }
+        ensures cause { Counts (D.faults disk.old) (D.faults disk.new) (receiving_disk_failed result) }
 
         // Only an accepted item changes the journal, and only `Disk` makes the book fail. Of the file no bytes outside the new frame change, whatever the answer.
         ensures journal { self.new.journal ≡ journal_after self.old.journal stamp sender reference item.now result }
-        ensures unchanged { is_received result ≡ false → receiving_failed result ≡ false → self.new ≡ self.old }
-        ensures untouched { is_received result ≡ false → receiving_failed result ≡ false → disk.new ≡ disk.old }
-        ensures failed { self.new.log.failed ≡ (self.old.log.failed || receiving_failed result) }
+        ensures unchanged { is_received result ≡ false → receiving_disk_failed result ≡ false → self.new ≡ self.old }
+        ensures untouched { is_received result ≡ false → receiving_disk_failed result ≡ false → disk.new ≡ disk.old }
+        ensures failed { self.new.log.failed ≡ (self.old.log.failed || receiving_disk_failed result) }
         ensures written { IsTrue D.tells → is_received result ≡ true
             → Holds (D.reads disk.old) self.old.log.gate (appended (spelling (next_receipt self.old.journal stamp sender reference item.now))) (D.reads disk.new) }
         ensures torn { IsTrue D.tells

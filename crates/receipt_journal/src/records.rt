@@ -2,7 +2,7 @@
 ghost use Rattle.std.specs.Prelude.{◌≡◌, [], ℕ, List, false, IfErr, OnOk};
 ghost use Rattle.journal_disk.specs.Layout.{the_heading, first_gate, frames_from};
 ghost use Rattle.receipt_journal.specs.Standing.{records, IsKeepable};
-ghost use Rattle.receipt_journal.specs.Opening.{book_opening_failed};
+ghost use Rattle.receipt_journal.specs.Opening.{book_opening_disk_failed};
 ghost use Rattle.receipt_journal.specs.inner.Taking.{Takes, RefusesFrame, RefusesFrames};
 
 use crate::BookFault;
@@ -17,7 +17,7 @@ pub(crate) fn take_records(journal: &mut Journal, frames: &[Frame]) -> Result<()
     ensures keepable { OnOk result (IsKeepable journal.new.receipts) }
     ensures taken { (bodies : List (List ℕ)) → frames.now ≡ frames_from (first_gate the_heading) bodies → OnOk result (bodies ≡ records journal.new.receipts) }
     ensures refused { (bodies : List (List ℕ)) → frames.now ≡ frames_from (first_gate the_heading) bodies → IfErr result (RefusesFrames bodies) }
-    ensures no_disk { book_opening_failed result ≡ false }
+    ensures no_disk { book_opening_disk_failed result ≡ false }
 {
     for frame in frames {
         take_record(journal, frame)?;

@@ -15,7 +15,7 @@ use Rattle.registry_office.specs.Built.{is_built}
 use Rattle.registry_office.specs.Lines.{is_blank, request_of_line, request_of_item, request_of_stamped, request_of_plain, request_read}
 use Rattle.registry_office.specs.Requests.{Medium, Held, received, replied_by_clock, reply_of, held_after}
 use Rattle.registry_office.specs.declared.lines.LineKind.{LineKind}
-use Rattle.registry_office.specs.declared.lines.LineKind.TheVariants.{Stamped, Plain}
+use Rattle.registry_office.specs.declared.lines.LineKind.TheVariants.{Stamped, Unstamped}
 use Rattle.registry_office.specs.declared.requests.Request.{Request}
 use Rattle.registry_office.specs.declared.requests.Request.TheVariants.{Nothing, Refused, Receive}
 use Rattle.registry_office.specs.inner.Asking.{asks_built}
@@ -63,7 +63,7 @@ built_plain (Err fault) = refl
 
 built_read : (kind : LineKind) (line : List ℕ) → asks_built (request_read kind line) ≡ true
 built_read Stamped line = built_stamped (stamped_of line)
-built_read Plain line = built_plain (item_of line)
+built_read Unstamped line = built_plain (item_of line)
 
 built_line : (kind : LineKind) (line : List ℕ) → asks_built (request_of_line kind line) ≡ true
 unfolding request_of_line

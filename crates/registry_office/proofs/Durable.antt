@@ -14,7 +14,7 @@ use Rattle.journal_disk.proofs.Standings.{stands_once}
 use Rattle.receipt_journal.specs.BookState.{BookState}
 use Rattle.receipt_journal.specs.Standing.{records, IsKeepable, StandsForJournal}
 use Rattle.act_model.specs.Receiving.{next_receipt}
-use Rattle.receipt_journal.specs.Receiving.{file_size, answer_on, is_received, receiving_failed, journal_after, JournalWithOrWithout, in_journal, on_disk, Answers}
+use Rattle.receipt_journal.specs.Receiving.{file_size, answer_on, is_received, receiving_disk_failed, journal_after, JournalWithOrWithout, in_journal, on_disk, Answers}
 use Rattle.act_model.specs.Receiving as journals
 use Rattle.journal_disk.specs.Layout.{file_limit, the_heading}
 use Rattle.receipt_journal.specs.declared.received.Received.TheVariants as answers
@@ -44,21 +44,21 @@ keepable_after journal stamp sender reference item answer file keepable here =
     elim (is_received answer) as (λ b. StandsFor the_heading file (records (cond b (journal ++ next ∷ []) journal)) → IsKeepable (cond b (journal ++ next ∷ []) journal))
     [ true ↦ λ stands. keepable_with journal next file here stands | false ↦ λ stands. keepable ]
 
-no_disk_in_journal : (answer : Added) → receiving_failed (in_journal answer) ≡ false
+no_disk_in_journal : (answer : Added) → receiving_disk_failed (in_journal answer) ≡ false
 no_disk_in_journal (added.Accepted n) = refl
 no_disk_in_journal (added.Repeated n) = refl
 no_disk_in_journal (added.Differs n) = refl
 no_disk_in_journal added.Full = refl
 no_disk_in_journal added.Memory = refl
 
-no_disk : (size : ℕ) (answer : Added) → receiving_failed (on_disk size answer) ≡ false
-no_disk size answer = elim (journals.is_accepted answer && nat_lt file_limit size) as (λ b. receiving_failed (cond b answers.Full (in_journal answer)) ≡ false)
+no_disk : (size : ℕ) (answer : Added) → receiving_disk_failed (on_disk size answer) ≡ false
+no_disk size answer = elim (journals.is_accepted answer && nat_lt file_limit size) as (λ b. receiving_disk_failed (cond b answers.Full (in_journal answer)) ≡ false)
     [ true ↦ refl | false ↦ no_disk_in_journal answer ]
 
 -- an item that is refused was given to no disk
 pub refused_by_none : (size : ℕ) (answer : Added) (result : Received) → Answers (on_disk size answer) result → is_received (on_disk size answer) ≡ false
-    → (is_received result ≡ false) × (receiving_failed result ≡ false)
-refused_by_none size answer result (inl same) refused = (ap is_received same ∙ refused, ap receiving_failed same ∙ no_disk size answer)
+    → (is_received result ≡ false) × (receiving_disk_failed result ≡ false)
+refused_by_none size answer result (inl same) refused = (ap is_received same ∙ refused, ap receiving_disk_failed same ∙ no_disk size answer)
 refused_by_none size answer result (inr (accepts, fault)) refused = let never : true ≡ false = sym accepts ∙ refused in absurd cc
 
 -- a stop leaves the journal before, or the one that the item is answered with; where the item is refused nothing was written
@@ -78,14 +78,14 @@ pub durable_stands : (book : BookState) (reads : List ℕ) (images : List ℕ �
 durable_stands book reads images file is image = stands_by_frames file book.journal is.keepable (is.stands.durable file image)
 
 -- no answer that is expected is a failure of the disk
-pub none_failed : (medium : Medium) (journal : List Receipt) (stamp : DayMinute) (sender reference : ℕ) (item : Item) → receiving_failed (received medium journal stamp sender reference item) ≡ false
+pub none_failed : (medium : Medium) (journal : List Receipt) (stamp : DayMinute) (sender reference : ℕ) (item : Item) → receiving_disk_failed (received medium journal stamp sender reference item) ≡ false
 unfolding answer_on
 none_failed InMemory journal stamp sender reference item = no_disk_in_journal (answer_to journal sender reference item)
 none_failed OnDisk journal stamp sender reference item = no_disk (file_size the_heading (journal ++ next_receipt journal stamp sender reference item ∷ [])) (answer_to journal sender reference item)
 
 -- the same for an item that a disk's answer refuses
 pub refused_on_disk : (journal : List Receipt) (stamp : DayMinute) (sender reference : ℕ) (item : Item) (result : Received) → Answers (answer_on journal stamp sender reference item) result
-    → is_received (answer_on journal stamp sender reference item) ≡ false → (is_received result ≡ false) × (receiving_failed result ≡ false)
+    → is_received (answer_on journal stamp sender reference item) ≡ false → (is_received result ≡ false) × (receiving_disk_failed result ≡ false)
 unfolding answer_on
 refused_on_disk journal stamp sender reference item result answers refused =
     refused_by_none (file_size the_heading (journal ++ next_receipt journal stamp sender reference item ∷ [])) (answer_to journal sender reference item) result answers refused

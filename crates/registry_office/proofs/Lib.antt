@@ -23,3 +23,4 @@ pub mod Settled
 pub mod Takings
 pub mod Whole
 pub mod Written
+pub mod WrittenFrames

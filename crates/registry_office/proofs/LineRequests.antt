@@ -12,7 +12,7 @@ use Rattle.registry_office.specs.Lines.{is_blank, request_of_line, request_of_it
 use Rattle.registry_office.specs.inner.Asking.{is_stamped_by_clock}
 use Rattle.registry_office.specs.Sessions.{ended, behind, ended_requests}
 use Rattle.registry_office.specs.declared.lines.LineKind.{LineKind}
-use Rattle.registry_office.specs.declared.lines.LineKind.TheVariants.{Stamped, Plain}
+use Rattle.registry_office.specs.declared.lines.LineKind.TheVariants.{Stamped, Unstamped}
 use Rattle.registry_office.specs.declared.requests.Request.TheVariants.{Nothing, Refused, Receive}
 use Rattle.registry_office.specs.inner.Asking.{asks_clock}
 
@@ -37,11 +37,11 @@ stamped_line_asks_none line =
 
 pub asks_none : (kind : LineKind) (line : List ℕ) → is_stamped_by_clock kind ≡ false → asks_clock (request_of_line kind line) ≡ false
 asks_none Stamped line by = stamped_line_asks_none line
-asks_none Plain line by = let never : true ≡ false = by in absurd cc
+asks_none Unstamped line by = let never : true ≡ false = by in absurd cc
 
 pub asks_by_kind : (kind : LineKind) (line : List ℕ) → asks_clock (request_of_line kind line) ≡ true → is_stamped_by_clock kind ≡ true
 asks_by_kind Stamped line asks = let never : true ≡ false = sym asks ∙ stamped_line_asks_none line in absurd cc
-asks_by_kind Plain line asks = refl
+asks_by_kind Unstamped line asks = refl
 
 -- ---- lines in pieces
 

@@ -8,7 +8,7 @@ use Rattle.gb_outside.proofs.Moments.{weakened, followed}
 use Rattle.act_model.specs.declared.receipts.Receipt.{Receipt}
 use Rattle.journal_disk.specs.Layout.{the_heading, frames, measured, IsJournal, IsMade}
 use Rattle.journal_disk.specs.Opening.{IsKept, SyncsFirst, AnswersSynced}
-use Rattle.receipt_journal.specs.Opening.{BookRefuses, book_opening_failed}
+use Rattle.receipt_journal.specs.Opening.{BookRefuses, book_opening_disk_failed}
 use Rattle.receipt_journal.specs.BookState.{BookState}
 use Rattle.receipt_journal.specs.Standing.{StandsForJournal}
 use Rattle.receipt_journal.specs.declared.faults.BookFault.{BookFault}
@@ -85,7 +85,7 @@ found_at_opening s fault.NotJournal file is refuses = rw is refuses
 found_at_opening s (fault.BadRecord at) file is refuses = rw is refuses
 found_at_opening s fault.Memory file is refuses = rw is tt
 
-pub disk_at_opening : (s : Status) (f : BookFault) → s ≡ status_of_fault f → disk_fault s ≡ book_opening_failed {A = BookState} (Err f)
+pub disk_at_opening : (s : Status) (f : BookFault) → s ≡ status_of_fault f → disk_fault s ≡ book_opening_disk_failed {A = BookState} (Err f)
 disk_at_opening s fault.Disk is = ap disk_fault is
 disk_at_opening s fault.NotJournal is = ap disk_fault is
 disk_at_opening s (fault.BadRecord at) is = ap disk_fault is

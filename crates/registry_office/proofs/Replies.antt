@@ -4,7 +4,6 @@ use Rattle.std.specs.Io.KnownBytes.{Appends}
 use Rattle.std.proofs.KnownBytes.{Appends-nil, Appends-trans}
 use Rattle.gb_base.specs.DayMinute.{DayMinute}
 use Rattle.gb_outside.specs.Bytes.{AppendsFront}
-use Rattle.gb_outside.specs.Images.{LeavesOnly}
 use Rattle.gb_outside.proofs.Moments.{followed, weakened, started}
 use Rattle.act_model.specs.declared.items.Item.{Item}
 use Rattle.act_model.specs.declared.receipts.Receipt.{Receipt}
@@ -13,12 +12,13 @@ use Rattle.act_model.specs.Receiving.{next_receipt}
 use Rattle.receipt_journal.specs.Receiving.{is_received, journal_after}
 use Rattle.receipt_journal.specs.Standing.{StandsForJournal}
 use Rattle.receipt_journal.specs.declared.received.Received.{Received}
-use Rattle.registry_office.specs.Grown.{IsFront, GrownFrom}
+use Rattle.registry_office.specs.Grown.{IsFront, GrownFrom, DiskGrows}
 use Rattle.registry_office.specs.Requests.{Medium, OnDisk, Held, holding, received, replied_by_clock, reply_of, replies, held_after}
 use Rattle.registry_office.specs.declared.requests.Request.{Request}
 use Rattle.registry_office.specs.declared.requests.Request.TheVariants.{Nothing, Refused, Receive}
 use Rattle.registry_office.specs.inner.Sessions.{IsReady, Knows, Answered}
 use Rattle.registry_office.proofs.Durable.{front_refl, durable_stands}
+use Rattle.registry_office.proofs.WrittenFrames.{frames_none, frames_wider, frames_then}
 
 pub front_trans : {A : Type 0} (xs ys zs : List A) → IsFront xs ys → IsFront ys zs → IsFront xs zs
 front_trans xs ys zs first second =
@@ -78,25 +78,34 @@ grown_wider a b from to file begins ends is = record {
 pub grown_at : (journal : List Receipt) (file : List ℕ) → StandsForJournal file journal → GrownFrom journal journal file
 grown_at journal file stands = record { journal = journal; stands = stands; begins = front_refl journal; ends = front_refl journal }
 
-module _ {D : Type 0} (moment : D → ℕ) (since : D → ℕ → List ℕ → Type 0) where
-  pub leaves_wider : (old new : D) (a b from to : List Receipt) → IsFront a from → IsFront to b
-      → LeavesOnly moment since old new (GrownFrom from to) → LeavesOnly moment since old new (GrownFrom a b)
-  leaves_wider old new a b from to begins ends run = weakened moment since old new (GrownFrom from to) (GrownFrom a b) (λ file is. grown_wider a b from to file begins ends is) run
+module _ {D : Type 0} (reads : D → List ℕ) (moment : D → ℕ) (since : D → ℕ → List ℕ → Type 0) where
+  pub disk_wider : (old new : D) (a b from to : List Receipt) → IsFront a from → IsFront from b → IsFront to b
+      → DiskGrows reads moment since old new from to → DiskGrows reads moment since old new a b
+  disk_wider old new a b from to begins within ends run = record {
+    left = weakened moment since old new (GrownFrom from to) (GrownFrom a b) (λ file is. grown_wider a b from to file begins ends is) run.left;
+    written = frames_wider a b from to (reads old) (reads new) begins within ends run.written;
+  }
 
   -- one growth after another
-  pub leaves_then : (old mid new : D) (a b c : List Receipt) → IsFront a b → IsFront b c
-      → LeavesOnly moment since old mid (GrownFrom a b) → LeavesOnly moment since mid new (GrownFrom b c) → LeavesOnly moment since old new (GrownFrom a c)
-  leaves_then old mid new a b c first second run more =
-      followed moment since old mid new (GrownFrom a c) (leaves_wider old mid a c a b (front_refl a) second run) (leaves_wider mid new a c b c first (front_refl c) more)
+  pub disk_then : (old mid new : D) (a b c : List Receipt) → IsFront a b → IsFront b c
+      → DiskGrows reads moment since old mid a b → DiskGrows reads moment since mid new b c → DiskGrows reads moment since old new a c
+  disk_then old mid new a b c first second run more =
+      let before = disk_wider old mid a c a b (front_refl a) (front_trans a b c first second) second run in
+      let behind = disk_wider mid new a c b c first second (front_refl c) more in record {
+        left = followed moment since old mid new (GrownFrom a c) before.left behind.left;
+        written = frames_then a c (reads old) (reads mid) (reads new) before.written behind.written;
+      }
 
   -- nothing is done
-  pub leaves_same : (disk : D) (images : List ℕ → Type 0) (medium : Medium) (tells : Bool) (book : BookState) (reads : List ℕ) (to : List Receipt) → IsFront book.journal to
-      → medium ≡ OnDisk → IsTrue tells → IsReady medium tells book reads images → ((c : List ℕ) → since disk (moment disk) c → images c)
-      → LeavesOnly moment since disk disk (GrownFrom book.journal to)
-  leaves_same disk images medium tells book reads to front on_disk told ready only_now =
-      started moment since disk (GrownFrom book.journal to) (λ c left.
-      grown_wider book.journal to book.journal book.journal c (front_refl book.journal) front
-      (grown_at book.journal c (durable_stands book reads images c (ready.durable on_disk told) (only_now c left))))
+  pub disk_same : (disk : D) (images : List ℕ → Type 0) (medium : Medium) (tells : Bool) (book : BookState) (to : List Receipt) → IsFront book.journal to
+      → medium ≡ OnDisk → IsTrue tells → IsReady medium tells book (reads disk) images → ((c : List ℕ) → since disk (moment disk) c → images c)
+      → DiskGrows reads moment since disk disk book.journal to
+  disk_same disk images medium tells book to front on_disk told ready only_now = record {
+    left = started moment since disk (GrownFrom book.journal to) (λ c left.
+        grown_wider book.journal to book.journal book.journal c (front_refl book.journal) front
+        (grown_at book.journal c (durable_stands book (reads disk) images c (ready.durable on_disk told) (only_now c left))));
+    written = frames_none book.journal to (reads disk);
+  }
 
 -- ---- what is answered
 
@@ -137,24 +146,24 @@ front_of_longer a b text more part = record {
 pub whole_front : (a b : Option (List ℕ)) (text : List ℕ) → Appends a b text → AppendsFront a b text
 whole_front a b text wrote = record { front = text; rest = []; whole = sym (append-nil text); added = wrote }
 
--- ---- what a stop leaves of a disk while requests are answered
+-- ---- what is done to a disk while requests are answered
 
-module _ {D : Type 0} (moment : D → ℕ) (since : D → ℕ → List ℕ → Type 0) where
+module _ {D : Type 0} (reads : D → List ℕ) (moment : D → ℕ) (since : D → ℕ → List ℕ → Type 0) where
   -- the first are answered, then others were worked on, and more may follow
-  pub left_within : (old mid new : D) (by_clock : Bool) (medium : Medium) (j0 j1 : List Receipt) (ticks : List DayMinute) (known : Option (List DayMinute)) (w0 w1 : Option (List ℕ)) (all xs ys zs : List Request)
+  pub disk_within : (old mid new : D) (by_clock : Bool) (medium : Medium) (j0 j1 : List Receipt) (ticks : List DayMinute) (known : Option (List DayMinute)) (w0 w1 : Option (List ℕ)) (all xs ys zs : List Request)
       → Answered by_clock medium (holding j0 ticks) j1 known w0 w1 xs → all ≡ (xs ++ ys) ++ zs
-      → LeavesOnly moment since old mid (GrownFrom j0 j1)
-      → LeavesOnly moment since mid new (GrownFrom j1 (held_after medium (holding j1 (held_after medium (holding j0 ticks) xs).ticks) ys).journal)
-      → LeavesOnly moment since old new (GrownFrom j0 (held_after medium (holding j0 ticks) all).journal)
-  left_within old mid new by_clock medium j0 j1 ticks known w0 w1 all xs ys zs first whole run more =
+      → DiskGrows reads moment since old mid j0 j1
+      → DiskGrows reads moment since mid new j1 (held_after medium (holding j1 (held_after medium (holding j0 ticks) xs).ticks) ys).journal
+      → DiskGrows reads moment since old new j0 (held_after medium (holding j0 ticks) all).journal
+  disk_within old mid new by_clock medium j0 j1 ticks known w0 w1 all xs ys zs first whole run more =
       let held : Held = holding j0 ticks in
       let between = held_between by_clock medium held j1 known w0 w1 xs first in
-      let later = subst (λ (h : Held). LeavesOnly moment since mid new (GrownFrom j1 (held_after medium h ys).journal)) between more in
-      let back : LeavesOnly moment since old new (GrownFrom j0 (held_after medium (held_after medium held xs) ys).journal) =
-      leaves_then moment since old mid new j0 j1 (held_after medium (held_after medium held xs) ys).journal
+      let later = subst (λ (h : Held). DiskGrows reads moment since mid new j1 (held_after medium h ys).journal) between more in
+      let back : DiskGrows reads moment since old new j0 (held_after medium (held_after medium held xs) ys).journal =
+      disk_then reads moment since old mid new j0 j1 (held_after medium (held_after medium held xs) ys).journal
       (subst (IsFront j0) (sym first.receipts) (grows medium held xs))
       (subst (λ j. IsFront j (held_after medium (held_after medium held xs) ys).journal) (sym first.receipts) (grows medium (held_after medium held xs) ys)) run later in
-      rw whole (leaves_wider moment since old new j0 (held_after medium held ((xs ++ ys) ++ zs)).journal j0 (held_after medium (held_after medium held xs) ys).journal (front_refl j0)
+      rw whole (disk_wider reads moment since old new j0 (held_after medium held ((xs ++ ys) ++ zs)).journal j0 (held_after medium (held_after medium held xs) ys).journal (front_refl j0) (grows medium held ((xs ++ ys) ++ zs))
       (subst (λ h. IsFront h.journal (held_after medium held ((xs ++ ys) ++ zs)).journal) (held_after-append medium held xs ys) (grows_longer medium held (xs ++ ys) zs)) back)
 
 -- what is known of the clock goes on

@@ -1,10 +1,10 @@
--- The disk in a run: what its file stood for, and what a stop leaves of it.
-use Rattle.std.specs.Prelude.{◌≡◌, ◌⊎◌, ℕ, Bool, true, false, List}
-use Rattle.gb_outside.specs.Images.{Only, LeavesOnly}
+-- The disk in a run: what its file stood for, what a stop leaves of it, and which of its bytes are written.
+use Rattle.std.specs.Prelude.{◌≡◌, ◌⊎◌, ℕ, ◌+◌, Bool, true, false, List}
+use Rattle.gb_outside.specs.Images.{Only, Torn, LeavesOnly}
 use Rattle.act_model.specs.declared.receipts.Receipt.{Receipt}
-use Rattle.journal_disk.specs.Layout.{the_heading, IsForeign}
+use Rattle.journal_disk.specs.Layout.{the_heading, IsForeign, IsUnmade, made_from}
 use Rattle.receipt_journal.specs.Standing.{StandsForJournal, IsBadBehind, gate_behind}
-use Rattle.registry_office.specs.Grown.{GrownFrom}
+use Rattle.registry_office.specs.Grown.{GrownFrom, WritesFrames}
 use Rattle.registry_office.specs.declared.statuses.Status.{Status}
 use Rattle.registry_office.specs.declared.statuses.Status.TheVariants as status
 
@@ -41,3 +41,9 @@ pub record GrowsSynced {D : Type 0} (reads : D → List ℕ) (images : D → Lis
 abbrev pub KeepsGrown : {D : Type 0} → (D → List ℕ) → (D → List ℕ → Type 0) → (D → ℕ) → (D → ℕ → List ℕ → Type 0) → D → D → Bool → List Receipt → List Receipt → Type 0
 KeepsGrown reads images moment since old new true from to = LeavesOnly moment since old new (images old) ⊎ GrowsSynced reads images moment since old new from to
 KeepsGrown reads images moment since old new false from to = GrowsSynced reads images moment since old new from to
+
+-- What is written of a file that stood for the first of these journals, while it grows to the second or part of the way: the frames between the two. An unmade file is made before; unless it is told that it was opened, any byte up to the last of these gates may be written.
+pub record WritesBehind (opened : Bool) (from to : List Receipt) (file new : List ℕ) : Type 0 where
+  pub frames : (IsUnmade file → ⊥) → WritesFrames from to file new
+  pub made : IsUnmade file → opened ≡ true → WritesFrames from to (made_from the_heading file) new
+  pub unmade : IsUnmade file → Torn 0 (gate_behind to + 1) file new

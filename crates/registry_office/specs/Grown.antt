@@ -1,8 +1,9 @@
--- Journals that grow, and files that stand for one of them.
-use Rattle.std.specs.Prelude.{◌≡◌, ℕ, List, ◌++◌}
+-- Journals that grow, and what is written of the files that stand for them.
+use Rattle.std.specs.Prelude.{◌≡◌, ℕ, ◌+◌, ◌-◌, List, ◌++◌}
+use Rattle.gb_outside.specs.Images.{Torn, LeavesOnly}
 use Rattle.act_model.specs.declared.receipts.Receipt.{Receipt}
 use Rattle.receipt_journal.specs.BookState.{BookState}
-use Rattle.receipt_journal.specs.Standing.{IsKeepable, Stands, StandsForJournal}
+use Rattle.receipt_journal.specs.Standing.{IsKeepable, Stands, StandsForJournal, gate_behind}
 
 -- the list begins with this one
 abbrev pub IsFront : {A : Type 0} → List A → List A → Type 0
@@ -14,6 +15,15 @@ pub record GrownFrom (from to : List Receipt) (file : List ℕ) : Type 0 where
   pub stands : StandsForJournal file journal
   pub begins : IsFront from journal
   pub ends : IsFront journal to
+
+-- of the file no other bytes are written than those from the gate behind the first of these journals to the gate behind the second, the gates with them
+abbrev pub WritesFrames : List Receipt → List Receipt → List ℕ → List ℕ → Type 0
+WritesFrames from to old new = Torn (gate_behind from) (gate_behind to + 1 - gate_behind from) old new
+
+-- What is done to a disk while its journal grows from the first of these two to the second, or part of the way: a stop at any moment leaves a file that stands for such a journal, and the frames between the two alone are written.
+pub record DiskGrows {D : Type 0} (reads : D → List ℕ) (moment : D → ℕ) (since : D → ℕ → List ℕ → Type 0) (old new : D) (from to : List Receipt) : Type 0 where
+  pub left : LeavesOnly moment since old new (GrownFrom from to)
+  pub written : WritesFrames from to (reads old) (reads new)
 
 -- A book stands on a disk, and its journal is one that frames can keep.
 pub record IsDurable (book : BookState) (reads : List ℕ) (images : List ℕ → Type 0) : Type 0 where

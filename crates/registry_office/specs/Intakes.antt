@@ -4,15 +4,15 @@ use Rattle.registry_office.specs.OpeningLists.{row_requests}
 use Rattle.registry_office.specs.Sessions.{line_requests, ended_requests}
 use Rattle.registry_office.specs.declared.intakes.Intake.{Intake}
 use Rattle.registry_office.specs.declared.intakes.Intake.TheVariants.{Lines, OpeningList}
-use Rattle.registry_office.specs.declared.lines.LineKind.TheVariants.{Plain}
+use Rattle.registry_office.specs.declared.lines.LineKind.TheVariants.{Unstamped}
 use Rattle.registry_office.specs.declared.requests.Request.{Request}
 
 -- what a whole input asks
 abbrev pub whole_of : Intake → List ℕ → List Request
-whole_of Lines input = line_requests Plain input
+whole_of Lines input = line_requests Unstamped input
 whole_of (OpeningList sender) input = row_requests sender input
 
 -- what an input asks that is cut here; a list is read whole, or nothing of it counts
 abbrev pub cut_of : Intake → List ℕ → List Request
-cut_of Lines read = ended_requests Plain [] read
+cut_of Lines read = ended_requests Unstamped [] read
 cut_of (OpeningList sender) read = []

@@ -8,7 +8,7 @@ use Rattle.act_json.specs.declared.lines.LineFault.{LineFault}
 use Rattle.act_json.specs.declared.lines.LineFault.TheVariants.{NotJson, NotItem, Memory}
 use Rattle.registry_office.specs.Built.{is_built}
 use Rattle.registry_office.specs.declared.lines.LineKind.{LineKind}
-use Rattle.registry_office.specs.declared.lines.LineKind.TheVariants.{Stamped, Plain}
+use Rattle.registry_office.specs.declared.lines.LineKind.TheVariants.{Stamped, Unstamped}
 use Rattle.registry_office.specs.declared.requests.Request.{Request}
 use Rattle.registry_office.specs.declared.requests.Request.TheVariants.{Nothing, Refused, Receive}
 
@@ -39,7 +39,7 @@ request_of_plain (Err fault) = Refused (fault_text fault ++ codes "\n")
 -- what a line that is neither blank nor too long asks
 abbrev pub request_read : LineKind → List ℕ → Request
 request_read Stamped line = request_of_stamped (stamped_of line)
-request_read Plain line = request_of_plain (item_of line)
+request_read Unstamped line = request_of_plain (item_of line)
 
 -- a blank line of any length asks nothing; the others have a greatest length
 unfoldable pub request_of_line : LineKind → List ℕ → Request

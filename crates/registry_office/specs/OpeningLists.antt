@@ -6,7 +6,7 @@ use Rattle.act_model.specs.declared.filing_acts.Act.TheVariants.{Open}
 use Rattle.act_model.specs.declared.items.Item.{Item}
 use Rattle.act_model.specs.declared.items.Item.TheVariants as item
 use Rattle.csv.specs.Reading.{default_config, records, strip_bom}
-use Rattle.registry_office.specs.Words.{value_in}
+use Rattle.registry_office.specs.Words.{number_in}
 use Rattle.registry_office.specs.declared.openings.Opening.{Opening}
 use Rattle.registry_office.specs.declared.requests.Request.{Request}
 use Rattle.registry_office.specs.declared.requests.Request.TheVariants.{Refused, Receive}
@@ -27,12 +27,12 @@ None >>= next = None
 -- what a row opens: six numbers, each in its range
 abbrev pub opening_of : List (List ℕ) → Option Opening
 opening_of (folio ∷ district ∷ parcel ∷ sub ∷ area ∷ owner ∷ []) = do
-  folio ← value_in 1 4294967295 folio
-  district ← value_in 1 65535 district
-  parcel ← value_in 1 4294967295 parcel
-  sub ← value_in 0 65535 sub
-  area ← value_in 1 1000000000 area
-  owner ← value_in 1 4294967295 owner
+  folio ← number_in 1 4294967295 folio
+  district ← number_in 1 65535 district
+  parcel ← number_in 1 4294967295 parcel
+  sub ← number_in 0 65535 sub
+  area ← number_in 1 1000000000 area
+  owner ← number_in 1 4294967295 owner
   Some (record { folio = folio; inventory = record { district = district; parcel = parcel; sub = sub; area = area }; owner = owner })
 opening_of fields = None
 

@@ -4,7 +4,7 @@ use Rattle.std.specs.Io.KnownBytes.{Appends}
 use Rattle.gb_base.specs.DayMinute.{DayMinute}
 use Rattle.act_model.specs.declared.receipts.Receipt.{Receipt}
 use Rattle.registry_office.specs.EarlyEnds.{EndsEarly, AreOf}
-use Rattle.registry_office.specs.Grown.{GrownFrom}
+use Rattle.registry_office.specs.Grown.{GrownFrom, DiskGrows}
 use Rattle.registry_office.specs.Requests.{OnDisk, Held, replies, held_after}
 use Rattle.registry_office.specs.Sessions.{most_input, Took, HasWritten}
 use Rattle.registry_office.specs.declared.requests.Request.{Request}
@@ -12,17 +12,21 @@ use Rattle.registry_office.specs.declared.statuses.Status.{Status}
 use Rattle.registry_office.specs.declared.statuses.Status.TheVariants as status
 
 -- What a session did, and how far it came, that began with these receipts and ticks and an input of which the bytes ask so, whole or cut.
-pub record Receives (whole cut : List ℕ → List Request) (held : Held) (input : List ℕ) (left0 left1 : Option (List ℕ)) (known1 : Option (List DayMinute)) (written0 written1 : Option (List ℕ)) (journal1 : List Receipt) (images1 : List ℕ → Type 0) (result : Status) : Type 0 where
+pub record Receives {D : Type 0} (whole cut : List ℕ → List Request) (held : Held) (input : List ℕ) (left0 left1 : Option (List ℕ)) (known1 : Option (List DayMinute)) (written0 written1 : Option (List ℕ)) (journal1 : List Receipt) (reads : D → List ℕ) (images : D → List ℕ → Type 0) (moment : D → ℕ) (since : D → ℕ → List ℕ → Type 0) (disk0 disk1 : D) (result : Status) : Type 0 where
   -- all was received and replied to
   pub written : result ≡ status.Ok → Appends written0 written1 (replies OnDisk held (whole input))
   pub received : result ≡ status.Ok → journal1 ≡ (held_after OnDisk held (whole input)).journal
   pub ticks : result ≡ status.Ok → known1 ≡ Some (held_after OnDisk held (whole input)).ticks
-  -- it ended early, among what the bytes read ask
-  pub early : (result ≡ status.Ok → ⊥) → Took left0 left1 (λ read. (requests : List Request) × AreOf whole cut left1 read requests × EndsEarly true OnDisk held known1 written0 written1 images1 requests)
+  -- it ended early, among what the bytes read ask, and no more than their receipts came to the disk
+  pub early : (result ≡ status.Ok → ⊥) → Took left0 left1 (λ read. (requests : List Request) × AreOf whole cut left1 read requests
+      × EndsEarly true OnDisk held known1 written0 written1 (images disk1) requests
+      × DiskGrows reads moment since disk0 disk1 held.journal (held_after OnDisk held requests).journal)
   -- the source failed or gave too much: all that the bytes read ask is received and replied to, and the clock asked for nothing else
   pub cut_replies : (result ≡ status.ReadFault) ⊎ (result ≡ status.InputTooLong) → Took left0 left1 (λ read. Appends written0 written1 (replies OnDisk held (cut (take most_input read))))
   pub cut_journal : (result ≡ status.ReadFault) ⊎ (result ≡ status.InputTooLong) → Took left0 left1 (λ read. journal1 ≡ (held_after OnDisk held (cut (take most_input read))).journal)
   pub cut_ticks : (result ≡ status.ReadFault) ⊎ (result ≡ status.InputTooLong) → Took left0 left1 (λ read. known1 ≡ Some (held_after OnDisk held (cut (take most_input read))).ticks)
+  -- however it ended, the journal on the disk grew by some of all receipts
+  pub grows : DiskGrows reads moment since disk0 disk1 held.journal (held_after OnDisk held (whole input)).journal
   -- what was replied to whole is in every image
-  pub acknowledged : (front back : List Request) (file : List ℕ) → whole input ≡ front ++ back → HasWritten written0 written1 (replies OnDisk held front) → images1 file
+  pub acknowledged : (front back : List Request) (file : List ℕ) → whole input ≡ front ++ back → HasWritten written0 written1 (replies OnDisk held front) → images disk1 file
       → GrownFrom (held_after OnDisk held front).journal (held_after OnDisk held (whole input)).journal file

@@ -20,9 +20,9 @@ abbrev pub value_from : ℕ → List ℕ → ℕ
 value_from before [] = before
 value_from before (b ∷ bs) = value_from (before * 10 + (b - 48)) bs
 
--- the value of an option, where it is in the range
-abbrev pub value_in : ℕ → ℕ → List ℕ → Option ℕ
-value_in low high text =
+-- the number that 1 to 10 digits write, where it is in the range
+abbrev pub number_in : ℕ → ℕ → List ℕ → Option ℕ
+number_in low high text =
     if is_numeral text && is_between low high (value_from 0 text) then Some (value_from 0 text) else None
 
 -- to settle the disk's journal by so many desks
@@ -44,11 +44,11 @@ opening_by None = None
 abbrev pub command_of : List (List ℕ) → Option Command
 command_of (name ∷ []) = if bytes_eq name (codes "take") then Some (Receive Lines) else None
 command_of (name ∷ flag ∷ value ∷ []) =
-    if bytes_eq name (codes "settle") && bytes_eq flag (codes "--desks") then settle_by (value_in 1 64 value)
-    else (if bytes_eq name (codes "opening") && bytes_eq flag (codes "--sender") then opening_by (value_in 0 4294967295 value) else None)
+    if bytes_eq name (codes "settle") && bytes_eq flag (codes "--desks") then settle_by (number_in 1 64 value)
+    else (if bytes_eq name (codes "opening") && bytes_eq flag (codes "--sender") then opening_by (number_in 0 4294967295 value) else None)
 command_of (name ∷ flag ∷ desks ∷ lines ∷ []) =
     if bytes_eq name (codes "settle") && bytes_eq flag (codes "--desks") && bytes_eq lines (codes "--lines")
-    then settle_lines_by (value_in 1 64 desks) else None
+    then settle_lines_by (number_in 1 64 desks) else None
 command_of other = None
 
 -- a command that settles has 1 to 64 desks

@@ -2,13 +2,12 @@
 ghost use Rattle.std.specs.Prelude.{◌≡◌, ◌++◌, ◌∷◌, [], false, true, codes, List, Bool, Some, None, IfOk, OnOk, OnErr, IsTrue};
 ghost use Rattle.gb_base.specs.DayMinute.{DayMinute};
 ghost use Rattle.gb_outside.specs.Faults.{Counts};
-ghost use Rattle.gb_outside.specs.Images.{LeavesOnly};
 ghost use Rattle.gb_outside.specs.Ticks.{Ticks};
 ghost use Rattle.act_model.specs.WellFormed.{well_formed};
-ghost use Rattle.receipt_journal.specs.Receiving.{receiving_failed};
+ghost use Rattle.receipt_journal.specs.Receiving.{receiving_disk_failed};
 ghost use Rattle.registry_office.specs.EarlyEnds.{EndsEarly};
 ghost use Rattle.registry_office.specs.Faults.{answer_output_failed, answer_disk_failed};
-ghost use Rattle.registry_office.specs.Grown.{GrownFrom};
+ghost use Rattle.registry_office.specs.Grown.{DiskGrows};
 ghost use Rattle.registry_office.specs.Requests.{InMemory, OnDisk, received, received_text, holding, replied, held_after};
 ghost use Rattle.registry_office.specs.inner.Asking.{asks_well, asks_clock, is_fault};
 ghost use Rattle.registry_office.specs.inner.Sessions.{IsReady, Knows, GotReply, MissedReply, Answered};
@@ -42,10 +41,10 @@ pub(crate) fn answer_request<J: Receiver, D: Disk, C: Clock, K: Sink>(
         → Knows by_clock J.medium D.tells (C.ticks clock.old) ticks
         → OnErr result (EndsEarly by_clock J.medium (holding (J.state receiver.old).journal ticks)
         (C.ticks clock.new) (K.written sink.old) (K.written sink.new) (D.images disk.new) (request.now ∷ [])) }
-    ensures any_moment { (by_clock : Bool) (ticks : List DayMinute) → (asks_clock request.now ≡ true → by_clock ≡ true)
+    ensures grows { (by_clock : Bool) (ticks : List DayMinute) → (asks_clock request.now ≡ true → by_clock ≡ true)
         → Knows by_clock J.medium D.tells (C.ticks clock.old) ticks → J.medium ≡ OnDisk
-        → LeavesOnly D.moment D.since disk.old disk.new (GrownFrom (J.state receiver.old).journal
-        (held_after J.medium (holding (J.state receiver.old).journal ticks) (request.now ∷ [])).journal) }
+        → DiskGrows D.reads D.moment D.since disk.old disk.new (J.state receiver.old).journal
+        (held_after J.medium (holding (J.state receiver.old).journal ticks) (request.now ∷ [])).journal }
     ensures ready { answer_disk_failed result ≡ false → IsReady J.medium D.tells (J.state receiver.new) (D.reads disk.new) (D.images disk.new) }
     ensures works { (J.state receiver.new).log.failed ≡ answer_disk_failed result }
     ensures in_memory { J.medium ≡ InMemory → disk.new ≡ disk.old }
@@ -101,8 +100,8 @@ fn answer_item<J: Receiver, D: Disk, K: Sink>(
     ensures missed { (ticks : List DayMinute) → (J.medium ≡ OnDisk → IsTrue D.tells) → OnErr result (MissedReply J.medium (J.state receiver.old).journal
         (replied (J.state receiver.old).journal ticks stamp sender reference item.now (received J.medium (J.state receiver.old).journal stamp sender reference item.now))
         (K.written sink.old) (K.written sink.new) (D.images disk.new)) }
-    ensures any_moment { (ticks : List DayMinute) → J.medium ≡ OnDisk → IsTrue D.tells → LeavesOnly D.moment D.since disk.old disk.new (GrownFrom (J.state receiver.old).journal
-        (replied (J.state receiver.old).journal ticks stamp sender reference item.now (received J.medium (J.state receiver.old).journal stamp sender reference item.now)).held.journal) }
+    ensures grows { (ticks : List DayMinute) → J.medium ≡ OnDisk → IsTrue D.tells → DiskGrows D.reads D.moment D.since disk.old disk.new (J.state receiver.old).journal
+        (replied (J.state receiver.old).journal ticks stamp sender reference item.now (received J.medium (J.state receiver.old).journal stamp sender reference item.now)).held.journal }
     ensures ready { answer_disk_failed result ≡ false → IsReady J.medium D.tells (J.state receiver.new) (D.reads disk.new) (D.images disk.new) }
     ensures works { (J.state receiver.new).log.failed ≡ answer_disk_failed result }
     ensures in_memory { J.medium ≡ InMemory → disk.new ≡ disk.old }
@@ -122,7 +121,7 @@ fn reply_line(alloc: Global, answer: Received) -> Result<Vec<u8>, AnswerFault>
     ensures text { IfOk result (λ text. text.items ≡ received_text answer ++ codes "\n") }
     ensures answered { OnOk result (is_fault answer ≡ false) }
     ensures no_output { answer_output_failed result ≡ false }
-    ensures disk { answer_disk_failed result ≡ receiving_failed answer }
+    ensures disk { answer_disk_failed result ≡ receiving_disk_failed answer }
 {
     match answer {
         Received::Accepted(n) => Ok(format!(in alloc; "accepted {n}\n")?.into_bytes()),

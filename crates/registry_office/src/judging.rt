@@ -30,12 +30,7 @@ const GROUNDS: [Section; 4] = [
 ];
 
 /// Filing `number` of the journal, judged on these entries.
-pub fn judge(
-    journal: &Journal,
-    number: ReceiptNo,
-    filing: &Filing,
-    entries: &[Entry],
-) -> Judgement
+pub fn judge(journal: &Journal, number: ReceiptNo, filing: &Filing, entries: &[Entry]) -> Judgement
     ensures { result ≡ judged journal.now.receipts number filing.now entries.now }
 {
     for section in GROUNDS {

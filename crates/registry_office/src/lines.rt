@@ -23,7 +23,7 @@ pub enum LineKind {
     /// Each item has its stamp.
     Stamped,
     /// The clock stamps the items.
-    Plain,
+    Unstamped,
 }
 
 /// What a line asks.
@@ -40,7 +40,7 @@ pub fn request_of_line(alloc: Global, kind: LineKind, line: &[u8]) -> Result<Req
     }
     match kind {
         LineKind::Stamped => request_of_stamped(alloc, line),
-        LineKind::Plain => request_of_plain(alloc, line),
+        LineKind::Unstamped => request_of_plain(alloc, line),
     }
 }
 

@@ -3,17 +3,16 @@ ghost use Rattle.std.specs.Prelude.{◌≡◌, ◌⊎◌, ◌≤◌, ◌+◌, �
 ghost use Rattle.std.specs.Io.KnownBytes.{IsAtEnd};
 ghost use Rattle.gb_base.specs.DayMinute.{DayMinute};
 ghost use Rattle.gb_outside.specs.Faults.{Counts};
-ghost use Rattle.gb_outside.specs.Images.{LeavesOnly};
 ghost use Rattle.registry_office.specs.EarlyEnds.{AreOf, EndsEarly};
 ghost use Rattle.registry_office.specs.Faults.{answer_output_failed, answer_disk_failed, session_input_failed, session_output_failed, session_disk_failed};
-ghost use Rattle.registry_office.specs.Grown.{GrownFrom};
+ghost use Rattle.registry_office.specs.Grown.{DiskGrows};
 ghost use Rattle.registry_office.specs.Intakes.{whole_of, cut_of};
 ghost use Rattle.registry_office.specs.OpeningLists.{row_requests};
 ghost use Rattle.registry_office.specs.Requests.{OnDisk, holding, held_after};
 ghost use Rattle.registry_office.specs.Sessions.{Took};
 ghost use Rattle.registry_office.specs.declared.intakes.Intake.TheVariants.{OpeningList as ListFrom};
 ghost use Rattle.registry_office.specs.declared.requests.Request.{Request};
-ghost use Rattle.registry_office.specs.inner.Inputs.{AllAnswered, PartAnswered, LeavesGrown};
+ghost use Rattle.registry_office.specs.inner.Inputs.{AllAnswered, PartAnswered, DiskGrowsBy};
 ghost use Rattle.registry_office.specs.inner.Sessions.{IsReady, Knows, Answered};
 
 use crate::answering::answer_request;
@@ -40,9 +39,9 @@ fn answer_rows<'a, J: Receiver, D: Disk, C: Clock, K: Sink>(
     ensures broken { (ticks : List DayMinute) → Knows true J.medium D.tells (C.ticks clock.old) ticks
         → OnErr result (EndsEarly true J.medium (holding (J.state receiver.old).journal ticks)
         (C.ticks clock.new) (K.written sink.old) (K.written sink.new) (D.images disk.new) list.old) }
-    ensures any_moment { (ticks : List DayMinute) → Knows true J.medium D.tells (C.ticks clock.old) ticks → J.medium ≡ OnDisk
-        → LeavesOnly D.moment D.since disk.old disk.new (GrownFrom (J.state receiver.old).journal
-        (held_after J.medium (holding (J.state receiver.old).journal ticks) list.old).journal) }
+    ensures grows { (ticks : List DayMinute) → Knows true J.medium D.tells (C.ticks clock.old) ticks → J.medium ≡ OnDisk
+        → DiskGrows D.reads D.moment D.since disk.old disk.new (J.state receiver.old).journal
+        (held_after J.medium (holding (J.state receiver.old).journal ticks) list.old).journal }
     ensures ready { answer_disk_failed result ≡ false → IsReady J.medium D.tells (J.state receiver.new) (D.reads disk.new) (D.images disk.new) }
     ensures works { (J.state receiver.new).log.failed ≡ answer_disk_failed result }
     ensures write_cause { Counts (K.faults sink.old) (K.faults sink.new) (answer_output_failed result) }
@@ -71,9 +70,9 @@ fn answer_bytes<J: Receiver, D: Disk, C: Clock, K: Sink>(
     ensures broken { (ticks : List DayMinute) → Knows true J.medium D.tells (C.ticks clock.old) ticks
         → OnErr result (EndsEarly true J.medium (holding (J.state receiver.old).journal ticks)
         (C.ticks clock.new) (K.written sink.old) (K.written sink.new) (D.images disk.new) (row_requests sender bytes.now)) }
-    ensures any_moment { (ticks : List DayMinute) → Knows true J.medium D.tells (C.ticks clock.old) ticks → J.medium ≡ OnDisk
-        → LeavesOnly D.moment D.since disk.old disk.new (GrownFrom (J.state receiver.old).journal
-        (held_after J.medium (holding (J.state receiver.old).journal ticks) (row_requests sender bytes.now)).journal) }
+    ensures grows { (ticks : List DayMinute) → Knows true J.medium D.tells (C.ticks clock.old) ticks → J.medium ≡ OnDisk
+        → DiskGrows D.reads D.moment D.since disk.old disk.new (J.state receiver.old).journal
+        (held_after J.medium (holding (J.state receiver.old).journal ticks) (row_requests sender bytes.now)).journal }
     ensures ready { answer_disk_failed result ≡ false → IsReady J.medium D.tells (J.state receiver.new) (D.reads disk.new) (D.images disk.new) }
     ensures works { (J.state receiver.new).log.failed ≡ answer_disk_failed result }
     ensures write_cause { Counts (K.faults sink.old) (K.faults sink.new) (answer_output_failed result) }
@@ -101,9 +100,9 @@ pub(crate) fn answer_list<J: Receiver, D: Disk, C: Clock, S: Source, K: Sink>(
         → Took (S.left source.old) (S.left source.new) (λ read. AllAnswered true J.medium D.tells (C.ticks clock.old) (J.state receiver.old).journal (J.state receiver.new).journal (C.ticks clock.new) (K.written sink.old) (K.written sink.new) (cut_of (ListFrom sender) (take MAX_INPUT read))) }
     ensures part { OnErr result (Took (S.left source.old) (S.left source.new) (λ read. (requests : List Request) × AreOf (whole_of (ListFrom sender)) (cut_of (ListFrom sender)) (S.left source.new) read requests
         × PartAnswered true J.medium D.tells (C.ticks clock.old) (J.state receiver.old).journal (C.ticks clock.new) (K.written sink.old) (K.written sink.new) (D.images disk.new) requests
-        × LeavesGrown D.moment D.since disk.old disk.new true J.medium D.tells (C.ticks clock.old) (J.state receiver.old).journal requests)) }
+        × DiskGrowsBy D.reads D.moment D.since disk.old disk.new true J.medium D.tells (C.ticks clock.old) (J.state receiver.old).journal requests)) }
     ensures whole { OnOk result (Took (S.left source.old) (S.left source.new) (λ read. IsAtEnd (S.left source.new) × (length read ≤ MAX_INPUT)
-        × LeavesGrown D.moment D.since disk.old disk.new true J.medium D.tells (C.ticks clock.old) (J.state receiver.old).journal (whole_of (ListFrom sender) read))) }
+        × DiskGrowsBy D.reads D.moment D.since disk.old disk.new true J.medium D.tells (C.ticks clock.old) (J.state receiver.old).journal (whole_of (ListFrom sender) read))) }
     ensures short { (result ≡ Err SessionFault.TooLong → ⊥) → Took (S.left source.old) (S.left source.new) (λ read. length read ≤ MAX_INPUT) }
     ensures long { result ≡ Err SessionFault.TooLong → Took (S.left source.old) (S.left source.new) (λ read. length read ≡ MAX_INPUT + 1) }
     ensures ready { session_disk_failed result ≡ false → IsReady J.medium D.tells (J.state receiver.new) (D.reads disk.new) (D.images disk.new) }

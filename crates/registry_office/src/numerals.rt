@@ -1,12 +1,12 @@
 // Numbers written in digits.
 ghost use Rattle.std.specs.Prelude.{◌≡◌, ◌≤◌, IfSome, IsTrue};
 ghost use Rattle.std.specs.List.{list_all};
-ghost use Rattle.registry_office.specs.Words.{is_digit, is_numeral, value_from, value_in};
+ghost use Rattle.registry_office.specs.Words.{is_digit, is_numeral, value_from, number_in};
 
 /// The number that 1 to 10 digits write, where it is in the range. Leading zeros are digits like
 /// the others.
 pub fn number_in(text: &[u8], low: u64, high: u64) -> Option<u64>
-    ensures value { result ≡ value_in low high text.now }
+    ensures value { result ≡ number_in low high text.now }
     ensures range { IfSome result (λ value. (low ≤ value) × (value ≤ high)) }
 {
     if !is_numeral(text) {

@@ -14,7 +14,7 @@ use std::marker::Model;
 
 /// Where the reading of a list stands.
 #[derive(Clone, Copy, Debug, PartialEq, Eq)]
-pub enum Place {
+pub enum Stage {
     /// The first record was no header, which is still to be said.
     WrongHeader,
     /// Rows may come.
@@ -30,7 +30,7 @@ pub struct OpeningList<'a> {
     sender: u32,
     records: Records<'a>,
     row: ByteRecord,
-    place: Place,
+    stage: Stage,
 }
 
 impl<'a> Model for OpeningList<'a> {
@@ -40,7 +40,7 @@ impl<'a> Model for OpeningList<'a> {
 
     ghost Value = { List Request };
 
-    ghost view = { λ a. requests_at a.place a.sender a.records };
+    ghost view = { λ a. requests_at a.stage a.sender a.records };
 }
 
 impl<'a> OpeningList<'a> {
@@ -55,18 +55,18 @@ impl<'a> OpeningList<'a> {
     {
         let mut records = Records::new(alloc, bytes);
         let mut row = ByteRecord::new(alloc);
-        let place = if !records.read(&mut row)? {
-            Place::End
+        let stage = if !records.read(&mut row)? {
+            Stage::End
         } else if is_header(&row) {
-            Place::Rows
+            Stage::Rows
         } else {
-            Place::WrongHeader
+            Stage::WrongHeader
         };
         Ok(OpeningList {
             sender,
             records,
             row,
-            place,
+            stage,
         })
     }
 
@@ -78,19 +78,19 @@ impl<'a> OpeningList<'a> {
         ensures well_formed { IfOk result (λ next. IfSome next (λ request. IsTrue (asks_well request))) }
         ensures built { IfOk result (λ next. IfSome next (λ request. IsTrue (asks_built request))) }
     {
-        let place = self.place;
-        self.place = Place::End;
-        match place {
-            Place::WrongHeader => Ok(Some(Request::refused(alloc, b"malformed header\n")?)),
-            Place::Rows => {
+        let stage = self.stage;
+        self.stage = Stage::End;
+        match stage {
+            Stage::WrongHeader => Ok(Some(Request::refused(alloc, b"malformed header\n")?)),
+            Stage::Rows => {
                 if !self.records.read(&mut self.row)? {
                     return Ok(None);
                 }
                 let request = request_of_row(alloc, self.sender, &self.row)?;
-                self.place = Place::Rows;
+                self.stage = Stage::Rows;
                 Ok(Some(request))
             }
-            Place::End => Ok(None),
+            Stage::End => Ok(None),
         }
     }
 }

@@ -68,7 +68,7 @@ fn a_row_asks_for_what_its_line_asks(rt: HostRuntime) -> Result<(), Fail> {
     let alloc = rt.alloc();
     let line =
         b"{\"sender\":9,\"reference\":7,\"item\":{\"kind\":\"filing\",\"applicant\":10,\"conditional\":false,\"acts\":[{\"act\":\"open\",\"folio\":7,\"district\":12,\"parcel\":345,\"sub\":6,\"area\":800,\"owners\":[10]}],\"docs\":[{\"doc\":\"consent\",\"act\":1,\"person\":10,\"form\":\"certified\"}]}}";
-    let of_line = request_of_line(alloc, LineKind::Plain, line)?;
+    let of_line = request_of_line(alloc, LineKind::Unstamped, line)?;
     let rows = b"folio,district,parcel,sub,area,owner\n7,12,345,6,800,10\n";
     let of_row = OpeningList::new(alloc, 9, rows)?.next(alloc)?;
     let same = match (&of_line, &of_row) {

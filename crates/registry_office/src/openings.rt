@@ -4,7 +4,7 @@ ghost use Rattle.csv.specs.Records.{field_at, fields_of};
 ghost use Rattle.act_model.specs.WellFormed.{is_inventory, well_formed};
 ghost use Rattle.registry_office.specs.Built.{is_built};
 ghost use Rattle.registry_office.specs.OpeningLists.{filing_for, is_header, opening_of};
-ghost use Rattle.registry_office.specs.Words.{value_in};
+ghost use Rattle.registry_office.specs.Words.{number_in};
 ghost use Rattle.registry_office.specs.inner.OpeningLists.{names_columns, opening_at, says};
 
 use crate::numerals::number_in;
@@ -44,7 +44,7 @@ fn names_columns(first: &ByteRecord) -> bool
         && field_is(first, 5, b"owner")
 }
 
-/// Whether the field at this place is there and says this.
+/// Whether the field at this index is there and says this.
 fn field_is(row: &ByteRecord, index: usize, text: &[u8]) -> bool
     ensures { result ≡ says (field_at (fields_of row.now) index) text.now }
 {
@@ -90,9 +90,9 @@ fn opening_of_six(row: &ByteRecord) -> Option<Opening>
     })
 }
 
-/// The number in the field at this place, where it is there and in the range.
+/// The number in the field at this index, where it is there and in the range.
 fn number_at(row: &ByteRecord, index: usize, low: u64, high: u64) -> Option<u64>
-    ensures value { result ≡ option_and_then (value_in low high) (field_at (fields_of row.now) index) }
+    ensures value { result ≡ option_and_then (number_in low high) (field_at (fields_of row.now) index) }
     ensures range { IfSome result (λ value. (low ≤ value) × (value ≤ high)) }
 {
     number_in(row.get(index)?, low, high)

@@ -9,12 +9,11 @@ use std::alloc::Global;
 pub(crate) trait Receiver {
     ghost use Rattle.std.specs.Prelude.{◌≡◌, true, false, IsTrue};
     ghost use Rattle.gb_outside.specs.Faults.{Counts};
-    ghost use Rattle.gb_outside.specs.Images.{LeavesOnly};
     ghost use Rattle.act_model.specs.WellFormed.{well_formed};
     ghost use Rattle.receipt_journal.specs.BookState.{BookState};
-    ghost use Rattle.receipt_journal.specs.Receiving.{journal_after, receiving_failed, Answers};
+    ghost use Rattle.receipt_journal.specs.Receiving.{journal_after, receiving_disk_failed, Answers};
     ghost use Rattle.registry_office.specs.Requests.{Medium, InMemory, OnDisk, received};
-    ghost use Rattle.registry_office.specs.Grown.{GrownFrom, IsDurable};
+    ghost use Rattle.registry_office.specs.Grown.{IsDurable, DiskGrows};
 
     /// Where the receipts are.
     ghost medium: { Medium };
@@ -37,16 +36,15 @@ pub(crate) trait Receiver {
         requires durable { medium ≡ OnDisk → IsTrue D.tells → IsDurable (state self.old) (D.reads disk.old) (D.images disk.old) }
         ensures answer { Answers (received medium (state self.old).journal stamp sender reference item.now) result }
         ensures opened { result ≡ Received.MustReopen → ⊥ }
-        ensures cause { Counts (D.faults disk.old) (D.faults disk.new) (receiving_failed result) }
+        ensures cause { Counts (D.faults disk.old) (D.faults disk.new) (receiving_disk_failed result) }
         ensures journal { (state self.new).journal ≡ journal_after (state self.old).journal stamp sender reference item.now result }
-        ensures works { (state self.new).log.failed ≡ receiving_failed result }
+        ensures works { (state self.new).log.failed ≡ receiving_disk_failed result }
         ensures durable { medium ≡ OnDisk → IsTrue D.tells → (state self.new).log.failed ≡ false
             → IsDurable (state self.new) (D.reads disk.new) (D.images disk.new) }
         ensures in_memory { medium ≡ InMemory → disk.new ≡ disk.old }
-        ensures no_disk { medium ≡ InMemory → receiving_failed result ≡ false }
-        ensures any_moment { medium ≡ OnDisk → IsTrue D.tells → LeavesOnly D.moment D.since disk.old disk.new
-            (GrownFrom (state self.old).journal (journal_after (state self.old).journal stamp sender reference item.now
-            (received medium (state self.old).journal stamp sender reference item.now))) };
+        ensures no_disk { medium ≡ InMemory → receiving_disk_failed result ≡ false }
+        ensures grows { medium ≡ OnDisk → IsTrue D.tells → DiskGrows D.reads D.moment D.since disk.old disk.new (state self.old).journal (journal_after (state self.old).journal stamp sender reference item.now
+            (received medium (state self.old).journal stamp sender reference item.now)) };
 }
 
 impl Receiver for Journal {

@@ -4,11 +4,10 @@ ghost use Rattle.std.specs.Io.KnownBytes.{Appends};
 ghost use Rattle.gb_base.specs.DayMinute.{DayMinute};
 ghost use Rattle.gb_outside.specs.Bytes.{AppendsFront};
 ghost use Rattle.gb_outside.specs.Faults.{Counts};
-ghost use Rattle.gb_outside.specs.Images.{LeavesOnly};
 ghost use Rattle.journal_disk.specs.Layout.{the_heading, IsMade};
 ghost use Rattle.journal_disk.specs.Opening.{IsKept, AnswersSynced};
 ghost use Rattle.receipt_journal.specs.Standing.{StandsForJournal};
-ghost use Rattle.registry_office.specs.Disks.{FindsBy, IsJournalFile, KeepsGrown, LeftAnew};
+ghost use Rattle.registry_office.specs.Disks.{FindsBy, IsJournalFile, KeepsGrown, LeftAnew, WritesBehind};
 ghost use Rattle.registry_office.specs.EarlyEnds.{EndsEarly, AreOf};
 ghost use Rattle.registry_office.specs.Grown.{GrownFrom, IsDurable};
 ghost use Rattle.registry_office.specs.Intakes.{whole_of, cut_of};
@@ -39,9 +38,7 @@ fn receive<R: AllocGlobal, S: Source, K: Sink, D: Disk, C: Clock>(
     requires works { book.old.log.failed ≡ false }
     requires stands { IsTrue D.tells → IsDurable book.old (D.reads disk.old) (D.images disk.old) }
     ensures session { (ticks : List DayMinute) (input : List ℕ) → AllTell D.tells (C.ticks clock.old) (S.left source.old) ticks input
-        → Receives (whole_of intake) (cut_of intake) (holding book.old.journal ticks) input (S.left source.old) (S.left source.new) (C.ticks clock.new) (K.written sink.old) (K.written sink.new) book.new.journal (D.images disk.new) result }
-    ensures any_moment { (ticks : List DayMinute) (input : List ℕ) → AllTell D.tells (C.ticks clock.old) (S.left source.old) ticks input
-        → LeavesOnly D.moment D.since disk.old disk.new (GrownFrom book.old.journal (held_after OnDisk (holding book.old.journal ticks) (whole_of intake input)).journal) }
+        → Receives (whole_of intake) (cut_of intake) (holding book.old.journal ticks) input (S.left source.old) (S.left source.new) (C.ticks clock.new) (K.written sink.old) (K.written sink.new) book.new.journal D.reads D.images D.moment D.since disk.old disk.new result }
     ensures stands { IsTrue D.tells → disk_fault result ≡ false → IsDurable book.new (D.reads disk.new) (D.images disk.new) }
     ensures at_end { result ≡ Status.Ok → IfSome (S.left source.old) (λ _. S.left source.new ≡ Some []) }
     ensures short { (result ≡ Status.InputTooLong → ⊥) → Took (S.left source.old) (S.left source.new) (λ read. length read ≤ most_input) }
@@ -81,7 +78,9 @@ pub(crate) fn receive_disk<R: AllocGlobal, S: Source, K: Sink, D: Disk, C: Clock
         → AppendsFront (K.written sink.old) (K.written sink.new) (outcome (Some (Receive intake)) held input).written }
     ensures early { (held : Held) (input : List ℕ) → Told (Some (Receive intake)) D.tells (D.reads disk.old) (S.left source.old) (C.ticks clock.old) held input → (result ≡ Status.Ok → ⊥)
         → Took (S.left source.old) (S.left source.new) (λ read. (requests : List Request) × AreOf (whole_of intake) (cut_of intake) (S.left source.new) read requests
-        × EndsEarly true OnDisk held (C.ticks clock.new) (K.written sink.old) (K.written sink.new) (LeftAnew (disk_fault result) (D.images disk.old) (D.images disk.new)) requests) }
+        × EndsEarly true OnDisk held (C.ticks clock.new) (K.written sink.old) (K.written sink.new) (LeftAnew (disk_fault result) (D.images disk.old) (D.images disk.new)) requests
+        × KeepsGrown D.reads D.images D.moment D.since disk.old disk.new (disk_fault result) held.journal (held_after OnDisk held requests).journal
+        × WritesBehind (tells_of_opening result) held.journal (held_after OnDisk held requests).journal (D.reads disk.old) (D.reads disk.new)) }
     ensures cut { (held : Held) (input : List ℕ) → Told (Some (Receive intake)) D.tells (D.reads disk.old) (S.left source.old) (C.ticks clock.old) held input
         → (result ≡ Status.ReadFault) ⊎ (result ≡ Status.InputTooLong)
         → Took (S.left source.old) (S.left source.new) (λ read. Appends (K.written sink.old) (K.written sink.new) (replies OnDisk held (cut_of intake (take most_input read)))) }
@@ -92,7 +91,7 @@ pub(crate) fn receive_disk<R: AllocGlobal, S: Source, K: Sink, D: Disk, C: Clock
         → (result ≡ Status.ReadFault) ⊎ (result ≡ Status.InputTooLong)
         → Took (S.left source.old) (S.left source.new) (λ read. C.ticks clock.new ≡ Some (held_after OnDisk held (cut_of intake (take most_input read))).ticks) }
 
-    // What a stop leaves.
+    // What a stop leaves, and which bytes are written.
     ensures acknowledged { (held : Held) (input : List ℕ) (front back : List Request) (file : List ℕ)
         → Told (Some (Receive intake)) D.tells (D.reads disk.old) (S.left source.old) (C.ticks clock.old) held input → whole_of intake input ≡ front ++ back
         → (replies OnDisk held front ≡ [] → ⊥) → HasWritten (K.written sink.old) (K.written sink.new) (replies OnDisk held front)
@@ -100,6 +99,8 @@ pub(crate) fn receive_disk<R: AllocGlobal, S: Source, K: Sink, D: Disk, C: Clock
         → GrownFrom (held_after OnDisk held front).journal (outcome (Some (Receive intake)) held input).journal file }
     ensures any_moment { (held : Held) (input : List ℕ) → Told (Some (Receive intake)) D.tells (D.reads disk.old) (S.left source.old) (C.ticks clock.old) held input
         → KeepsGrown D.reads D.images D.moment D.since disk.old disk.new (disk_fault result) held.journal (outcome (Some (Receive intake)) held input).journal }
+    ensures frames { (held : Held) (input : List ℕ) → Told (Some (Receive intake)) D.tells (D.reads disk.old) (S.left source.old) (C.ticks clock.old) held input
+        → WritesBehind (tells_of_opening result) held.journal (outcome (Some (Receive intake)) held input).journal (D.reads disk.old) (D.reads disk.new) }
 
     // What the file stood for; where it stood for no journal, nothing else is touched, and it stays.
     ensures found { IsTrue D.tells → FindsBy (D.reads disk.old) result }

@@ -1,4 +1,4 @@
-// What an input asks at one place.
+// What one line or row of an input asks.
 use act_model::Item;
 use gb_base::{NoMemory, Stamp};
 use std::alloc::Global;
@@ -36,8 +36,8 @@ impl Reply {
     }
 }
 
-/// What an input asks at one place: nothing, or a text that is refused with this reply, or that
-/// an item be received, which the clock stamps where it has no stamp of its own.
+/// What one line or row of an input asks: nothing, or a text that is refused with this reply, or
+/// that an item be received, which the clock stamps where it has no stamp of its own.
 #[derive(Debug, Drop)]
 pub enum Request {
     /// Nothing.

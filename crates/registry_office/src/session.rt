@@ -5,16 +5,15 @@ ghost use Rattle.std.specs.Io.KnownBytes.{IsAtEnd};
 ghost use Rattle.gb_base.specs.DayMinute.{DayMinute};
 ghost use Rattle.gb_outside.specs.Bytes.{IsGot, Reads, read_failed as read_of_source_failed};
 ghost use Rattle.gb_outside.specs.Faults.{Counts};
-ghost use Rattle.gb_outside.specs.Images.{LeavesOnly};
 ghost use Rattle.registry_office.specs.EarlyEnds.{AreOf, EndsEarly};
 ghost use Rattle.registry_office.specs.Faults.{answer_output_failed, answer_disk_failed, session_input_failed, session_output_failed, session_disk_failed};
-ghost use Rattle.registry_office.specs.Grown.{GrownFrom};
+ghost use Rattle.registry_office.specs.Grown.{DiskGrows};
 ghost use Rattle.registry_office.specs.Lines.{request_of_line};
 ghost use Rattle.registry_office.specs.inner.Asking.{is_stamped_by_clock};
 ghost use Rattle.registry_office.specs.Requests.{InMemory, OnDisk, holding, held_after};
 ghost use Rattle.registry_office.specs.Sessions.{behind, ended_requests, line_requests, Took};
 ghost use Rattle.registry_office.specs.declared.requests.Request.{Request};
-ghost use Rattle.registry_office.specs.inner.Inputs.{AllAnswered, PartAnswered, LeavesGrown};
+ghost use Rattle.registry_office.specs.inner.Inputs.{AllAnswered, PartAnswered, DiskGrowsBy};
 ghost use Rattle.registry_office.specs.inner.Sessions.{IsReady, Knows, Answered};
 
 use crate::answering::answer_request;
@@ -42,9 +41,9 @@ fn answer_line<J: Receiver, D: Disk, C: Clock, K: Sink>(
     ensures broken { (ticks : List DayMinute) → Knows (is_stamped_by_clock kind) J.medium D.tells (C.ticks clock.old) ticks
         → OnErr result (EndsEarly (is_stamped_by_clock kind) J.medium (holding (J.state receiver.old).journal ticks)
         (C.ticks clock.new) (K.written sink.old) (K.written sink.new) (D.images disk.new) (request_of_line kind line.now ∷ [])) }
-    ensures any_moment { (ticks : List DayMinute) → Knows (is_stamped_by_clock kind) J.medium D.tells (C.ticks clock.old) ticks → J.medium ≡ OnDisk
-        → LeavesOnly D.moment D.since disk.old disk.new (GrownFrom (J.state receiver.old).journal
-        (held_after J.medium (holding (J.state receiver.old).journal ticks) (request_of_line kind line.now ∷ [])).journal) }
+    ensures grows { (ticks : List DayMinute) → Knows (is_stamped_by_clock kind) J.medium D.tells (C.ticks clock.old) ticks → J.medium ≡ OnDisk
+        → DiskGrows D.reads D.moment D.since disk.old disk.new (J.state receiver.old).journal
+        (held_after J.medium (holding (J.state receiver.old).journal ticks) (request_of_line kind line.now ∷ [])).journal }
     ensures ready { answer_disk_failed result ≡ false → IsReady J.medium D.tells (J.state receiver.new) (D.reads disk.new) (D.images disk.new) }
     ensures works { (J.state receiver.new).log.failed ≡ answer_disk_failed result }
     ensures in_memory { J.medium ≡ InMemory → disk.new ≡ disk.old }
@@ -76,9 +75,9 @@ fn answer_ended<J: Receiver, D: Disk, C: Clock, K: Sink>(
     ensures broken { (ticks : List DayMinute) → Knows (is_stamped_by_clock kind) J.medium D.tells (C.ticks clock.old) ticks
         → OnErr result (EndsEarly (is_stamped_by_clock kind) J.medium (holding (J.state receiver.old).journal ticks)
         (C.ticks clock.new) (K.written sink.old) (K.written sink.new) (D.images disk.new) (ended_requests kind line.old.items (end.now ++ 10 ∷ []))) }
-    ensures any_moment { (ticks : List DayMinute) → Knows (is_stamped_by_clock kind) J.medium D.tells (C.ticks clock.old) ticks → J.medium ≡ OnDisk
-        → LeavesOnly D.moment D.since disk.old disk.new (GrownFrom (J.state receiver.old).journal
-        (held_after J.medium (holding (J.state receiver.old).journal ticks) (ended_requests kind line.old.items (end.now ++ 10 ∷ []))).journal) }
+    ensures grows { (ticks : List DayMinute) → Knows (is_stamped_by_clock kind) J.medium D.tells (C.ticks clock.old) ticks → J.medium ≡ OnDisk
+        → DiskGrows D.reads D.moment D.since disk.old disk.new (J.state receiver.old).journal
+        (held_after J.medium (holding (J.state receiver.old).journal ticks) (ended_requests kind line.old.items (end.now ++ 10 ∷ []))).journal }
     ensures ready { answer_disk_failed result ≡ false → IsReady J.medium D.tells (J.state receiver.new) (D.reads disk.new) (D.images disk.new) }
     ensures works { (J.state receiver.new).log.failed ≡ answer_disk_failed result }
     ensures in_memory { J.medium ≡ InMemory → disk.new ≡ disk.old }
@@ -126,9 +125,9 @@ fn answer_piece<J: Receiver, D: Disk, C: Clock, K: Sink>(
     ensures broken { (ticks : List DayMinute) → Knows (is_stamped_by_clock kind) J.medium D.tells (C.ticks clock.old) ticks
         → OnErr result (EndsEarly (is_stamped_by_clock kind) J.medium (holding (J.state receiver.old).journal ticks)
         (C.ticks clock.new) (K.written sink.old) (K.written sink.new) (D.images disk.new) (ended_requests kind line.old.items piece.now)) }
-    ensures any_moment { (ticks : List DayMinute) → Knows (is_stamped_by_clock kind) J.medium D.tells (C.ticks clock.old) ticks → J.medium ≡ OnDisk
-        → LeavesOnly D.moment D.since disk.old disk.new (GrownFrom (J.state receiver.old).journal
-        (held_after J.medium (holding (J.state receiver.old).journal ticks) (ended_requests kind line.old.items piece.now)).journal) }
+    ensures grows { (ticks : List DayMinute) → Knows (is_stamped_by_clock kind) J.medium D.tells (C.ticks clock.old) ticks → J.medium ≡ OnDisk
+        → DiskGrows D.reads D.moment D.since disk.old disk.new (J.state receiver.old).journal
+        (held_after J.medium (holding (J.state receiver.old).journal ticks) (ended_requests kind line.old.items piece.now)).journal }
     ensures ready { answer_disk_failed result ≡ false → IsReady J.medium D.tells (J.state receiver.new) (D.reads disk.new) (D.images disk.new) }
     ensures works { (J.state receiver.new).log.failed ≡ answer_disk_failed result }
     ensures in_memory { J.medium ≡ InMemory → disk.new ≡ disk.old }
@@ -167,9 +166,9 @@ pub(crate) fn answer_input<J: Receiver, D: Disk, C: Clock, S: Source, K: Sink>(
         → Took (S.left source.old) (S.left source.new) (λ read. AllAnswered (is_stamped_by_clock kind) J.medium D.tells (C.ticks clock.old) (J.state receiver.old).journal (J.state receiver.new).journal (C.ticks clock.new) (K.written sink.old) (K.written sink.new) (ended_requests kind [] (take MAX_INPUT read))) }
     ensures part { OnErr result (Took (S.left source.old) (S.left source.new) (λ read. (requests : List Request) × AreOf (line_requests kind) (ended_requests kind []) (S.left source.new) read requests
         × PartAnswered (is_stamped_by_clock kind) J.medium D.tells (C.ticks clock.old) (J.state receiver.old).journal (C.ticks clock.new) (K.written sink.old) (K.written sink.new) (D.images disk.new) requests
-        × LeavesGrown D.moment D.since disk.old disk.new (is_stamped_by_clock kind) J.medium D.tells (C.ticks clock.old) (J.state receiver.old).journal requests)) }
+        × DiskGrowsBy D.reads D.moment D.since disk.old disk.new (is_stamped_by_clock kind) J.medium D.tells (C.ticks clock.old) (J.state receiver.old).journal requests)) }
     ensures whole { OnOk result (Took (S.left source.old) (S.left source.new) (λ read. IsAtEnd (S.left source.new) × (length read ≤ MAX_INPUT)
-        × LeavesGrown D.moment D.since disk.old disk.new (is_stamped_by_clock kind) J.medium D.tells (C.ticks clock.old) (J.state receiver.old).journal (line_requests kind read))) }
+        × DiskGrowsBy D.reads D.moment D.since disk.old disk.new (is_stamped_by_clock kind) J.medium D.tells (C.ticks clock.old) (J.state receiver.old).journal (line_requests kind read))) }
     ensures short { (result ≡ Err SessionFault.TooLong → ⊥) → Took (S.left source.old) (S.left source.new) (λ read. length read ≤ MAX_INPUT) }
     ensures long { result ≡ Err SessionFault.TooLong → Took (S.left source.old) (S.left source.new) (λ read. length read ≡ MAX_INPUT + 1) }
     ensures ready { session_disk_failed result ≡ false → IsReady J.medium D.tells (J.state receiver.new) (D.reads disk.new) (D.images disk.new) }

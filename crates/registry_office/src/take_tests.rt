@@ -63,7 +63,7 @@ fn no_other_call_of_the_disk_is_made(rt: HostRuntime) -> Result<(), Fail> {
     Ok(())
 }
 
-/// The first read fails, and each of the three writes.
+/// Each of the two reads fails, and each of the three writes.
 #[test]
 fn lines_are_taken_again_after_a_fault_of_source_or_sink(rt: HostRuntime) -> Result<(), Fail> {
     for (reads, writes, wanted) in [

@@ -2,8 +2,7 @@
 ghost use Rattle.std.specs.Prelude.{◌≡◌, ◌≤◌, ◌+◌, ℕ, List, [], Some, false, length, IsTrue, IfSome};
 ghost use Rattle.gb_base.specs.DayMinute.{DayMinute};
 ghost use Rattle.gb_outside.specs.Faults.{Counts};
-ghost use Rattle.gb_outside.specs.Images.{LeavesOnly};
-ghost use Rattle.registry_office.specs.Grown.{GrownFrom, IsDurable};
+ghost use Rattle.registry_office.specs.Grown.{IsDurable, DiskGrows};
 ghost use Rattle.registry_office.specs.Intakes.{whole_of, cut_of};
 ghost use Rattle.registry_office.specs.Receivings.{Receives};
 ghost use Rattle.registry_office.specs.Requests.{OnDisk, holding, held_after};
@@ -34,9 +33,7 @@ pub fn take<R: AllocGlobal, S: Source, K: Sink, D: Disk, C: Clock>(
 
     // What was received and replied to, where all tell what they hold.
     ensures session { (ticks : List DayMinute) (input : List ℕ) → AllTell D.tells (C.ticks clock.old) (S.left source.old) ticks input
-        → Receives (whole_of Lines) (cut_of Lines) (holding book.old.journal ticks) input (S.left source.old) (S.left source.new) (C.ticks clock.new) (K.written sink.old) (K.written sink.new) book.new.journal (D.images disk.new) result }
-    ensures any_moment { (ticks : List DayMinute) (input : List ℕ) → AllTell D.tells (C.ticks clock.old) (S.left source.old) ticks input
-        → LeavesOnly D.moment D.since disk.old disk.new (GrownFrom book.old.journal (held_after OnDisk (holding book.old.journal ticks) (whole_of Lines input)).journal) }
+        → Receives (whole_of Lines) (cut_of Lines) (holding book.old.journal ticks) input (S.left source.old) (S.left source.new) (C.ticks clock.new) (K.written sink.old) (K.written sink.new) book.new.journal D.reads D.images D.moment D.since disk.old disk.new result }
 
     // The book stands on the disk with its journal, unless the disk failed.
     ensures works { book.new.log.failed ≡ disk_fault result }
@@ -53,7 +50,15 @@ pub fn take<R: AllocGlobal, S: Source, K: Sink, D: Disk, C: Clock>(
     ensures disk { Counts (D.faults disk.old) (D.faults disk.new) (disk_fault result) }
     ensures others { IsTrue (is_of_session result) }
 {
-    status_of(answer_input(rt.alloc(), LineKind::Plain, book, disk, clock, source, sink))
+    status_of(answer_input(
+        rt.alloc(),
+        LineKind::Unstamped,
+        book,
+        disk,
+        clock,
+        source,
+        sink,
+    ))
 }
 
 /// Receives the rows of the opening list that the input is, as `take` does lines.
@@ -69,9 +74,7 @@ pub(crate) fn take_list<R: AllocGlobal, S: Source, K: Sink, D: Disk, C: Clock>(
     requires works { book.old.log.failed ≡ false }
     requires stands { IsTrue D.tells → IsDurable book.old (D.reads disk.old) (D.images disk.old) }
     ensures session { (ticks : List DayMinute) (input : List ℕ) → AllTell D.tells (C.ticks clock.old) (S.left source.old) ticks input
-        → Receives (whole_of (ListFrom sender)) (cut_of (ListFrom sender)) (holding book.old.journal ticks) input (S.left source.old) (S.left source.new) (C.ticks clock.new) (K.written sink.old) (K.written sink.new) book.new.journal (D.images disk.new) result }
-    ensures any_moment { (ticks : List DayMinute) (input : List ℕ) → AllTell D.tells (C.ticks clock.old) (S.left source.old) ticks input
-        → LeavesOnly D.moment D.since disk.old disk.new (GrownFrom book.old.journal (held_after OnDisk (holding book.old.journal ticks) (whole_of (ListFrom sender) input)).journal) }
+        → Receives (whole_of (ListFrom sender)) (cut_of (ListFrom sender)) (holding book.old.journal ticks) input (S.left source.old) (S.left source.new) (C.ticks clock.new) (K.written sink.old) (K.written sink.new) book.new.journal D.reads D.images D.moment D.since disk.old disk.new result }
     ensures works { book.new.log.failed ≡ disk_fault result }
     ensures stands { IsTrue D.tells → disk_fault result ≡ false → IsDurable book.new (D.reads disk.new) (D.images disk.new) }
     ensures at_end { result ≡ Status.Ok → IfSome (S.left source.old) (λ _. S.left source.new ≡ Some []) }

@@ -7,7 +7,7 @@ ghost use Rattle.gb_outside.specs.Faults.{Counts};
 ghost use Rattle.journal_disk.specs.Layout.{the_heading, made_from, IsMade, IsUnmade};
 ghost use Rattle.journal_disk.specs.Opening.{IsKept, AnswersSynced};
 ghost use Rattle.receipt_journal.specs.Standing.{StandsForJournal};
-ghost use Rattle.registry_office.specs.Disks.{FindsBy, IsJournalFile, KeepsGrown, LeftAnew};
+ghost use Rattle.registry_office.specs.Disks.{FindsBy, IsJournalFile, KeepsGrown, LeftAnew, WritesBehind};
 ghost use Rattle.registry_office.specs.EarlyEnds.{EndsEarly, AreOf};
 ghost use Rattle.registry_office.specs.Grown.{GrownFrom};
 ghost use Rattle.registry_office.specs.Outcomes.{outcome, requests_of, cut_requests_of, replies_of, uses_disk, uses_input, receives, Told};
@@ -101,19 +101,27 @@ pub fn run<R: AllocGlobal, S: Source, K: Sink, D: Disk, C: Clock, L: Listener, G
         → Took (S.left source.old) (S.left source.new) (λ read. C.ticks clock.new ≡ Some (held_after OnDisk held (cut_requests_of (command_of (map rc_str_bytes words.now)) (take most_input read))).ticks) }
 
     // Where a command that receives ends early, the first requests of what was read are replied to
-    // whole; at most one more was begun, and the clock asked for no other.
+    // whole; at most one more was begun, the clock was asked for no other, and no other receipt came
+    // to the disk at any moment.
     ensures early { (held : Held) (input : List ℕ)
         → Told (command_of (map rc_str_bytes words.now)) D.tells (D.reads disk.old) (S.left source.old) (C.ticks clock.old) held input
         → receives (command_of (map rc_str_bytes words.now)) ≡ true → (result ≡ Status.Ok → ⊥)
         → Took (S.left source.old) (S.left source.new) (λ read. (requests : List Request) × AreOf (requests_of (command_of (map rc_str_bytes words.now))) (cut_requests_of (command_of (map rc_str_bytes words.now))) (S.left source.new) read requests
-        × EndsEarly true OnDisk held (C.ticks clock.new) (K.written sink.old) (K.written sink.new) (LeftAnew (disk_fault result) (D.images disk.old) (D.images disk.new)) requests) }
+        × EndsEarly true OnDisk held (C.ticks clock.new) (K.written sink.old) (K.written sink.new) (LeftAnew (disk_fault result) (D.images disk.old) (D.images disk.new)) requests
+        × KeepsGrown D.reads D.images D.moment D.since disk.old disk.new (disk_fault result) held.journal (held_after OnDisk held requests).journal
+        × WritesBehind (tells_of_opening result) held.journal (held_after OnDisk held requests).journal (D.reads disk.old) (D.reads disk.new)) }
 
     // A stop at any moment after the first sync leaves the journal that was found, followed by the first
-    // of the receipts that this call receives; each reply that stands whole has its receipts in every image.
+    // of the receipts that this call receives, and their frames alone are written; each reply that stands
+    // whole has its receipts in every image.
     ensures any_moment { (held : Held) (input : List ℕ)
         → Told (command_of (map rc_str_bytes words.now)) D.tells (D.reads disk.old) (S.left source.old) (C.ticks clock.old) held input
         → uses_disk (command_of (map rc_str_bytes words.now)) ≡ true
         → KeepsGrown D.reads D.images D.moment D.since disk.old disk.new (disk_fault result) held.journal (outcome (command_of (map rc_str_bytes words.now)) held input).journal }
+    ensures frames { (held : Held) (input : List ℕ)
+        → Told (command_of (map rc_str_bytes words.now)) D.tells (D.reads disk.old) (S.left source.old) (C.ticks clock.old) held input
+        → receives (command_of (map rc_str_bytes words.now)) ≡ true
+        → WritesBehind (tells_of_opening result) held.journal (outcome (command_of (map rc_str_bytes words.now)) held input).journal (D.reads disk.old) (D.reads disk.new) }
     ensures acknowledged { (held : Held) (input : List ℕ) (front back : List Request) (file : List ℕ)
         → Told (command_of (map rc_str_bytes words.now)) D.tells (D.reads disk.old) (S.left source.old) (C.ticks clock.old) held input
         → receives (command_of (map rc_str_bytes words.now)) ≡ true → requests_of (command_of (map rc_str_bytes words.now)) input ≡ front ++ back

@@ -1,7 +1,7 @@
 // The words of the command line.
 ghost use Rattle.std.specs.Prelude.{◌≡◌, ◌≤◌, map, IfSome};
 ghost use Rattle.std.specs.Rc.{rc_str_bytes};
-ghost use Rattle.registry_office.specs.Words.{HasDesks, command_of, opening_by, settle_by, settle_lines_by, value_in};
+ghost use Rattle.registry_office.specs.Words.{HasDesks, command_of, opening_by, settle_by, settle_lines_by, number_in};
 
 use crate::intakes::Intake;
 use crate::numerals::number_in;
@@ -36,7 +36,7 @@ pub fn read_words(words: &[RcStr]) -> Option<Command>
         }
         [name, flag, value] => {
             if &**name == "settle" && &**flag == "--desks" {
-                settle(&**value)
+                settle_words(&**value)
             } else if &**name == "opening" && &**flag == "--sender" {
                 opening(&**value)
             } else {
@@ -54,8 +54,8 @@ pub fn read_words(words: &[RcStr]) -> Option<Command>
     }
 }
 
-fn settle(desks: &str) -> Option<Command>
-    ensures command { result ≡ settle_by (value_in 1 64 desks.now) }
+fn settle_words(desks: &str) -> Option<Command>
+    ensures command { result ≡ settle_by (number_in 1 64 desks.now) }
     ensures desks { IfSome result HasDesks }
 {
     Some(Command::Settle {
@@ -64,7 +64,7 @@ fn settle(desks: &str) -> Option<Command>
 }
 
 fn settle_lines(desks: &str) -> Option<Command>
-    ensures command { result ≡ settle_lines_by (value_in 1 64 desks.now) }
+    ensures command { result ≡ settle_lines_by (number_in 1 64 desks.now) }
     ensures desks { IfSome result HasDesks }
 {
     Some(Command::SettleLines {
@@ -73,7 +73,7 @@ fn settle_lines(desks: &str) -> Option<Command>
 }
 
 fn number_of_desks(text: &str) -> Option<u16>
-    ensures value { result ≡ value_in 1 64 text.now }
+    ensures value { result ≡ number_in 1 64 text.now }
     ensures bounds { IfSome result (λ desks. (1 ≤ desks) × (desks ≤ 64)) }
 {
     let desks = number_in(text.as_bytes(), 1, 64)?;
@@ -81,7 +81,7 @@ fn number_of_desks(text: &str) -> Option<u16>
 }
 
 fn opening(sender: &str) -> Option<Command>
-    ensures command { result ≡ opening_by (value_in 0 4294967295 sender.now) }
+    ensures command { result ≡ opening_by (number_in 0 4294967295 sender.now) }
     ensures desks { IfSome result HasDesks }
 {
     let sender = number_in(sender.as_bytes(), 0, u64::from(u32::MAX))?;

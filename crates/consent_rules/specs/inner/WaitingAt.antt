@@ -1,9 +1,16 @@
 -- The earlier filings that wait at a right, entry by entry.
-use Rattle.std.specs.Prelude.{ℕ, ◌&&◌, nat_lt, if◌then◌else◌, List, Option, None, option_and_then}
+use Rattle.std.specs.Prelude.{ℕ, ◌&&◌, nat_lt, if◌then◌else◌, List, Option, Some, None, option_and_then}
 use Rattle.act_model.specs.declared.receipts.Receipt.{Receipt}
 use Rattle.folio_sections.specs.Persons.{applicant_of}
-use Rattle.folio_sections.specs.Waiting.{is_pending, waiting_by}
+use Rattle.folio_sections.specs.Waiting.{is_pending}
 use Rattle.folio_sections.specs.declared.entries.Entry.{Entry}
+use Rattle.folio_sections.specs.declared.entries.What.{What}
+use Rattle.folio_sections.specs.declared.entries.What.TheVariants as what
+
+-- the filing that a content sets to wait
+abbrev pub waiting_by : What → Option ℕ
+waiting_by (what.Pending filing until) = Some filing
+waiting_by other = None
 
 -- the applicant of filing n, where it is earlier than filing m and waits
 abbrev pub applicant_waiting : List Receipt → ℕ → List Entry → ℕ → Option ℕ

@@ -5,7 +5,7 @@ use Rattle.gb_base.specs.Keys.{key_cmp, same_key}
 use Rattle.gb_base.specs.declared.keys.Key.{Key}
 use Rattle.folio_sections.specs.PartState.{PartState}
 
--- the index has the place of the part of each key, and no other
+-- the index says where the part of each key stands, and nothing else
 abbrev pub IsIndexOf : BTreeMap Key ℕ → List PartState → Type 0
 IsIndexOf index parts = (k : Key) → get key_cmp index k ≡ position (λ p. same_key p.key k) parts
 

@@ -6,7 +6,7 @@ use Rattle.receipt_journal.specs.declared.received.Received.{Received}
 use Rattle.receipt_journal.specs.declared.received.Received.TheVariants as answer
 use Rattle.registry_office.specs.Built.{is_built}
 use Rattle.registry_office.specs.declared.lines.LineKind.{LineKind}
-use Rattle.registry_office.specs.declared.lines.LineKind.TheVariants.{Stamped, Plain}
+use Rattle.registry_office.specs.declared.lines.LineKind.TheVariants.{Stamped, Unstamped}
 use Rattle.registry_office.specs.declared.requests.Request.{Request}
 use Rattle.registry_office.specs.declared.requests.Request.TheVariants.{Nothing, Refused, Receive}
 
@@ -46,4 +46,4 @@ is_fault answer.Memory = true
 -- the clock stamps the items of such lines
 abbrev pub is_stamped_by_clock : LineKind → Bool
 is_stamped_by_clock Stamped = false
-is_stamped_by_clock Plain = true
+is_stamped_by_clock Unstamped = true

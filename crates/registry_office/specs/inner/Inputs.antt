@@ -1,10 +1,9 @@
 -- How far a session has come with its input.
 use Rattle.std.specs.Prelude.{◌≡◌, ℕ, Bool, List, Option}
 use Rattle.gb_base.specs.DayMinute.{DayMinute}
-use Rattle.gb_outside.specs.Images.{LeavesOnly}
 use Rattle.act_model.specs.declared.receipts.Receipt.{Receipt}
 use Rattle.registry_office.specs.EarlyEnds.{EndsEarly}
-use Rattle.registry_office.specs.Grown.{GrownFrom}
+use Rattle.registry_office.specs.Grown.{DiskGrows}
 use Rattle.registry_office.specs.Requests.{Medium, OnDisk, holding, held_after}
 use Rattle.registry_office.specs.declared.requests.Request.{Request}
 use Rattle.registry_office.specs.inner.Sessions.{Knows, Answered}
@@ -19,8 +18,8 @@ abbrev pub PartAnswered : Bool → Medium → Bool → Option (List DayMinute) �
 PartAnswered by_clock medium tells known0 journal0 known1 written0 written1 images requests =
     (ticks : List DayMinute) → Knows by_clock medium tells known0 ticks → EndsEarly by_clock medium (holding journal0 ticks) known1 written0 written1 images requests
 
--- A stop leaves a journal that has grown by some of these requests.
-abbrev pub LeavesGrown : {D : Type 0} → (D → ℕ) → (D → ℕ → List ℕ → Type 0) → D → D → Bool → Medium → Bool → Option (List DayMinute) → List Receipt → List Request → Type 0
-LeavesGrown moment since old new by_clock medium tells known0 journal0 requests =
+-- The journal on the disk grows by some of these requests.
+abbrev pub DiskGrowsBy : {D : Type 0} → (D → List ℕ) → (D → ℕ) → (D → ℕ → List ℕ → Type 0) → D → D → Bool → Medium → Bool → Option (List DayMinute) → List Receipt → List Request → Type 0
+DiskGrowsBy reads moment since old new by_clock medium tells known0 journal0 requests =
     (ticks : List DayMinute) → Knows by_clock medium tells known0 ticks → medium ≡ OnDisk
-    → LeavesOnly moment since old new (GrownFrom journal0 (held_after medium (holding journal0 ticks) requests).journal)
+    → DiskGrows reads moment since old new journal0 (held_after medium (holding journal0 ticks) requests).journal

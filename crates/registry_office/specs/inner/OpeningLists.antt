@@ -2,9 +2,9 @@
 use Rattle.std.specs.Prelude.{ℕ, Bool, false, ◌&&◌, List, [], ◌∷◌, map, codes, bytes_eq, Option, Some, None, option_and_then}
 use Rattle.csv.specs.Records.{field_at}
 use Rattle.registry_office.specs.OpeningLists.{◌>>=◌, row_request}
-use Rattle.registry_office.specs.Words.{value_in}
-use Rattle.registry_office.specs.declared.opening_lists.Place.{Place}
-use Rattle.registry_office.specs.declared.opening_lists.Place.TheVariants.{WrongHeader, Rows, End}
+use Rattle.registry_office.specs.Words.{number_in}
+use Rattle.registry_office.specs.declared.opening_lists.Stage.{Stage}
+use Rattle.registry_office.specs.declared.opening_lists.Stage.TheVariants.{WrongHeader, Rows, End}
 use Rattle.registry_office.specs.declared.openings.Opening.{Opening}
 use Rattle.registry_office.specs.declared.requests.Request.{Request}
 use Rattle.registry_office.specs.declared.requests.Request.TheVariants.{Refused}
@@ -22,7 +22,7 @@ names_columns fields =
 
 -- the number in a field that is there
 abbrev pub number_at : ℕ → ℕ → List (List ℕ) → ℕ → Option ℕ
-number_at low high fields index = option_and_then (value_in low high) (field_at fields index)
+number_at low high fields index = option_and_then (number_in low high) (field_at fields index)
 
 -- what the first six fields of a row open
 abbrev pub opening_at : List (List ℕ) → Option Opening
@@ -35,8 +35,8 @@ opening_at fields = do
   owner ← number_at 1 4294967295 fields 5
   Some (record { folio = folio; inventory = record { district = district; parcel = parcel; sub = sub; area = area }; owner = owner })
 
--- what is still asked at a place of the list, where these records are left
-abbrev pub requests_at : Place → ℕ → List (List (List ℕ)) → List Request
+-- what is still asked at a stage of the list, where these records are left
+abbrev pub requests_at : Stage → ℕ → List (List (List ℕ)) → List Request
 requests_at WrongHeader sender records = Refused (codes "malformed header\n") ∷ []
 requests_at Rows sender records = map (row_request sender) records
 requests_at End sender records = []

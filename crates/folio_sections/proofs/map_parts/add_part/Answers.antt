@@ -1,6 +1,6 @@
 use Rattle.std.proofs.Common.{◌∙◌, ap, is_some, sym}
 use Rattle.folio_sections.proofs.HeldParts.{held_again, index_pushed, is_at}
-use Rattle.folio_sections.proofs.Places.{is_some-position}
+use Rattle.folio_sections.proofs.Indexes.{is_some-position}
 use Rattle.folio_sections.proofs.map_parts.add_part.Goals as goal
 
 pub returns-then-contains_key-clause-held : goal.returns-then-contains_key-clause-held
@@ -10,6 +10,6 @@ returns-then-contains_key-clause-held c =
 
 pub returns-clause-index : goal.returns-clause-index
 returns-clause-index c =
-    index_pushed c.args.index.now c.insert.new.self c.args.parts.now.items c.push.new.self.items c.args.key c.new.result c.len-place.result
-    c.requires c.in_ok-insert.ensures.updates (c.len-place.ensures ∙ c.args.parts.now.ok.0) c.in_ok-push.ensures.items c.new.ensures.key
+    index_pushed c.args.index.now c.insert.new.self c.args.parts.now.items c.push.new.self.items c.args.key c.new.result c.len-end.result
+    c.requires c.in_ok-insert.ensures.updates (c.len-end.ensures ∙ c.args.parts.now.ok.0) c.in_ok-push.ensures.items c.new.ensures.key
     (sym (is_some-position (is_at c.args.key) c.args.parts.now.items) ∙ ap is_some (sym (c.requires c.args.key)) ∙ sym c.contains_key.ensures ∙ c.if-contains_key.false)

@@ -2,7 +2,7 @@ use Rattle.std.proofs.Common.{◌≡◌, ◌++◌, ◌∷◌, [], ◌∙◌, ref
 use Rattle.std.proofs.lemmas.Result.{MatchResult-from_err}
 use Rattle.gb_outside.specs.Bytes.{AppendsFront}
 use Rattle.act_model.specs.declared.receipts.Receipt.{Receipt}
-use Rattle.receipt_journal.specs.Receiving.{journal_after, receiving_failed}
+use Rattle.receipt_journal.specs.Receiving.{journal_after, receiving_disk_failed}
 use Rattle.receipt_journal.specs.Standing.{StandsForJournal}
 use Rattle.registry_office.specs.Requests.{received, received_text}
 use Rattle.registry_office.proofs.Durable.{durable_stands, none_failed}
@@ -14,7 +14,7 @@ pub returns-in_err-text-clause-missed : goal.returns-in_err-text-clause-missed
 returns-in_err-text-clause-missed g c = λ ticks tells.
     MatchResult-from_err c.from_residual.result _ _ c.from_residual.ensures.0
     (λ _. unanswered refl (λ on_disk file image.
-    let run = c.receive-answer.ensures.any_moment on_disk (tells on_disk) in
+    let run = (c.receive-answer.ensures.grows on_disk (tells on_disk)).left in
     run.each file (g.met.D.Disk.counts_now c.receive-answer.new.disk _ file (tells on_disk) run.later image)))
 
 pub returns-in_err-write_all-clause-missed : goal.returns-in_err-write_all-clause-missed
@@ -27,4 +27,4 @@ returns-in_err-write_all-clause-missed g c = λ ticks tells.
     (c.as_slice.ensures.value ∙ c.in_ok-text.ensures.text ∙ ap (λ answer. received_text answer ++ 10 ∷ []) same) c.in_err-write_all.ensures.part)
     (λ on_disk file image. subst (λ (j : List Receipt). StandsForJournal file j)
     (c.receive-answer.ensures.journal ∙ ap (λ answer. journal_after (g.J.Receiver.state c.args.receiver.now).journal c.args.stamp c.args.sender c.args.reference c.args.item.now answer) same)
-    (durable_stands _ _ _ file (c.receive-answer.ensures.durable on_disk (tells on_disk) (c.receive-answer.ensures.works ∙ ap receiving_failed same ∙ none_failed g.J.Receiver.medium (g.J.Receiver.state c.args.receiver.now).journal c.args.stamp c.args.sender c.args.reference c.args.item.now)) image)))
+    (durable_stands _ _ _ file (c.receive-answer.ensures.durable on_disk (tells on_disk) (c.receive-answer.ensures.works ∙ ap receiving_disk_failed same ∙ none_failed g.J.Receiver.medium (g.J.Receiver.state c.args.receiver.now).journal c.args.stamp c.args.sender c.args.reference c.args.item.now)) image)))

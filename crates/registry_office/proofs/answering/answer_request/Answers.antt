@@ -1,14 +1,13 @@
 use Rattle.std.proofs.Common.{◌≡◌, Bool, true, ◌∷◌, [], ap, subst, Some, List}
 use Rattle.std.proofs.lemmas.Result.{MatchResult-from_err, on_ok_weaker, on_err_weaker}
 use Rattle.gb_base.specs.DayMinute.{DayMinute}
-use Rattle.gb_outside.specs.Images.{LeavesOnly}
 use Rattle.act_model.specs.declared.receipts.Receipt.{Receipt}
 use Rattle.registry_office.specs.inner.Asking.{asks_clock, has_no_stamp}
-use Rattle.registry_office.specs.Grown.{GrownFrom}
+use Rattle.registry_office.specs.Grown.{DiskGrows}
 use Rattle.registry_office.specs.Requests.{holding}
 use Rattle.registry_office.proofs.Durable.{durable_stands}
 use Rattle.registry_office.proofs.OneRequest.{IsStamped, is_stamped, answered_nothing, answered_refused, answered_item, early_refused, early_item, item_grows}
-use Rattle.registry_office.proofs.Replies.{grows, grown_at, leaves_same}
+use Rattle.registry_office.proofs.Replies.{grows, grown_at, disk_same}
 use Rattle.registry_office.proofs.answering.answer_request.Goals as goal
 
 -- the stamp of the item, and what the clock gives then
@@ -24,18 +23,18 @@ returns-in_err-write_all-in-Refused-clause-broken g c = λ by_clock ticks asks k
     (λ _. early_refused by_clock _ _ ticks _ _ _ _ _ c.in-Refused.reply c.in-Refused.is knows.clock (rw c.text.ensures at c.in_err-write_all-in-Refused.ensures.part)
     (λ on_disk file image. grown_at _ file (durable_stands _ _ _ file (c.requires.ready.durable on_disk (knows.disk on_disk)) image)))
 
-pub returns-in_err-write_all-in-Refused-clause-any_moment : goal.returns-in_err-write_all-in-Refused-clause-any_moment
-returns-in_err-write_all-in-Refused-clause-any_moment g c = λ by_clock ticks asks knows on_disk.
-    leaves_same g.D.Disk.moment g.D.Disk.since c.args.disk.now _ _ _ (g.J.Receiver.state c.args.receiver.now) _ _
+pub returns-in_err-write_all-in-Refused-clause-grows : goal.returns-in_err-write_all-in-Refused-clause-grows
+returns-in_err-write_all-in-Refused-clause-grows g c = λ by_clock ticks asks knows on_disk.
+    disk_same g.D.Disk.reads g.D.Disk.moment g.D.Disk.since c.args.disk.now _ _ _ (g.J.Receiver.state c.args.receiver.now) _
     (grows _ (holding (g.J.Receiver.state c.args.receiver.now).journal ticks) (c.args.request.now ∷ [])) on_disk (knows.disk on_disk) c.requires.ready
     (λ file left. g.met.D.Disk.only_now c.args.disk.now file (knows.disk on_disk) left)
 
 pub returns-in-Nothing-clause-answered : goal.returns-in-Nothing-clause-answered
 returns-in-Nothing-clause-answered g c = λ by_clock ticks asks knows. answered_nothing by_clock _ _ ticks _ _ _ c.in-Nothing.is knows.clock
 
-pub returns-in-Nothing-clause-any_moment : goal.returns-in-Nothing-clause-any_moment
-returns-in-Nothing-clause-any_moment g c = λ by_clock ticks asks knows on_disk.
-    leaves_same g.D.Disk.moment g.D.Disk.since c.args.disk.now _ _ _ (g.J.Receiver.state c.args.receiver.now) _ _
+pub returns-in-Nothing-clause-grows : goal.returns-in-Nothing-clause-grows
+returns-in-Nothing-clause-grows g c = λ by_clock ticks asks knows on_disk.
+    disk_same g.D.Disk.reads g.D.Disk.moment g.D.Disk.since c.args.disk.now _ _ _ (g.J.Receiver.state c.args.receiver.now) _
     (grows _ (holding (g.J.Receiver.state c.args.receiver.now).journal ticks) (c.args.request.now ∷ [])) on_disk (knows.disk on_disk) c.requires.ready
     (λ file left. g.met.D.Disk.only_now c.args.disk.now file (knows.disk on_disk) left)
 
@@ -43,9 +42,9 @@ pub returns-in_ok-write_all-in-Refused-clause-answered : goal.returns-in_ok-writ
 returns-in_ok-write_all-in-Refused-clause-answered g c = λ by_clock ticks asks knows.
     answered_refused by_clock _ _ ticks _ _ _ _ c.in-Refused.reply c.in-Refused.is knows.clock (rw c.text.ensures at c.in_ok-write_all-in-Refused.ensures.whole)
 
-pub returns-in_ok-write_all-in-Refused-clause-any_moment : goal.returns-in_ok-write_all-in-Refused-clause-any_moment
-returns-in_ok-write_all-in-Refused-clause-any_moment g c = λ by_clock ticks asks knows on_disk.
-    leaves_same g.D.Disk.moment g.D.Disk.since c.args.disk.now _ _ _ (g.J.Receiver.state c.args.receiver.now) _ _
+pub returns-in_ok-write_all-in-Refused-clause-grows : goal.returns-in_ok-write_all-in-Refused-clause-grows
+returns-in_ok-write_all-in-Refused-clause-grows g c = λ by_clock ticks asks knows on_disk.
+    disk_same g.D.Disk.reads g.D.Disk.moment g.D.Disk.since c.args.disk.now _ _ _ (g.J.Receiver.state c.args.receiver.now) _
     (grows _ (holding (g.J.Receiver.state c.args.receiver.now).journal ticks) (c.args.request.now ∷ [])) on_disk (knows.disk on_disk) c.requires.ready
     (λ file left. g.met.D.Disk.only_now c.args.disk.now file (knows.disk on_disk) left)
 
@@ -59,8 +58,8 @@ returns-in-Receive-clause-broken g c = λ by_clock ticks asks knows.
     let s = stamped g c by_clock ticks (subst (λ r. asks_clock r ≡ true → by_clock ≡ true) c.in-Receive.is asks) knows.clock in
     on_err_weaker c.answer_item.result (λ missed. early_item by_clock _ _ ticks _ _ _ _ _ _ _ _ _ _ c.in-Receive.is s missed) (c.answer_item.ensures.missed s.later knows.disk)
 
-pub returns-in-Receive-clause-any_moment : goal.returns-in-Receive-clause-any_moment
-returns-in-Receive-clause-any_moment g c = λ by_clock ticks asks knows on_disk.
+pub returns-in-Receive-clause-grows : goal.returns-in-Receive-clause-grows
+returns-in-Receive-clause-grows g c = λ by_clock ticks asks knows on_disk.
     let s = stamped g c by_clock ticks (subst (λ r. asks_clock r ≡ true → by_clock ≡ true) c.in-Receive.is asks) knows.clock in
-    subst (λ (to : List Receipt). LeavesOnly g.D.Disk.moment g.D.Disk.since c.args.disk.now c.answer_item.new.disk (GrownFrom (g.J.Receiver.state c.args.receiver.now).journal to))
-    (item_grows by_clock _ _ ticks _ _ _ _ _ _ _ c.in-Receive.is s) (c.answer_item.ensures.any_moment s.later on_disk (knows.disk on_disk))
+    subst (λ (to : List Receipt). DiskGrows g.D.Disk.reads g.D.Disk.moment g.D.Disk.since c.args.disk.now c.answer_item.new.disk (g.J.Receiver.state c.args.receiver.now).journal to)
+    (item_grows by_clock _ _ ticks _ _ _ _ _ _ _ c.in-Receive.is s) (c.answer_item.ensures.grows s.later on_disk (knows.disk on_disk))

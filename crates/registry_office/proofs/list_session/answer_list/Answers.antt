@@ -1,12 +1,11 @@
 use Rattle.std.proofs.Common.{inl, inr, ℕ, true, List, [], refl, ◌∙◌, subst}
 use Rattle.std.proofs.lemmas.Result.{MatchResult-from_err}
-use Rattle.gb_outside.specs.Images.{LeavesOnly}
 use Rattle.registry_office.specs.EarlyEnds.{EndsEarly}
-use Rattle.registry_office.specs.Grown.{GrownFrom}
+use Rattle.registry_office.specs.Grown.{DiskGrows}
 use Rattle.registry_office.specs.OpeningLists.{row_requests}
 use Rattle.registry_office.specs.Requests.{holding, held_after}
 use Rattle.registry_office.proofs.EarlyEnds.{early_before}
-use Rattle.registry_office.proofs.Replies.{leaves_same, grows}
+use Rattle.registry_office.proofs.Replies.{disk_same, grows}
 use Rattle.registry_office.proofs.SessionInputs.{took_as}
 use Rattle.registry_office.proofs.list_session.answer_list.Goals as goal
 
@@ -18,7 +17,7 @@ returns-in_err-input-clause-part g c =
       inl refl,
       (λ ticks knows. early_before _ _ _ (g.J.Receiver.state c.args.receiver.now) ticks _ _ _ _ [] knows.clock knows.disk c.requires.ready),
       (λ ticks knows on_disk.
-          leaves_same g.D.Disk.moment g.D.Disk.since c.args.disk.now _ _ _ (g.J.Receiver.state c.args.receiver.now) _ _
+          disk_same g.D.Disk.reads g.D.Disk.moment g.D.Disk.since c.args.disk.now _ _ _ (g.J.Receiver.state c.args.receiver.now) _
           (grows g.J.Receiver.medium (holding (g.J.Receiver.state c.args.receiver.now).journal ticks) []) on_disk (knows.disk on_disk) c.requires.ready
           (λ file left. g.met.D.Disk.only_now c.args.disk.now file (knows.disk on_disk) left)),
     )))
@@ -31,6 +30,6 @@ returns-in_err-answer_bytes-clause-part g c =
       inr (did.0, did.1, refl),
       (λ ticks knows. subst (λ (bytes : List ℕ). EndsEarly true g.J.Receiver.medium (holding (g.J.Receiver.state c.args.receiver.now).journal ticks) (g.C.Clock.ticks c.answer_bytes.new.clock) (g.K.Sink.written c.args.sink.now) (g.K.Sink.written c.answer_bytes.new.sink) (g.D.Disk.images c.answer_bytes.new.disk) (row_requests c.args.sender bytes))
           (c.as_slice.ensures.value ∙ did.2) (c.in_err-answer_bytes.ensures.broken ticks knows)),
-      (λ ticks knows on_disk. subst (λ (bytes : List ℕ). LeavesOnly g.D.Disk.moment g.D.Disk.since c.args.disk.now c.answer_bytes.new.disk (GrownFrom (g.J.Receiver.state c.args.receiver.now).journal (held_after g.J.Receiver.medium (holding (g.J.Receiver.state c.args.receiver.now).journal ticks) (row_requests c.args.sender bytes)).journal))
-          (c.as_slice.ensures.value ∙ did.2) (c.in_err-answer_bytes.ensures.any_moment ticks knows on_disk)),
+      (λ ticks knows on_disk. subst (λ (bytes : List ℕ). DiskGrows g.D.Disk.reads g.D.Disk.moment g.D.Disk.since c.args.disk.now c.answer_bytes.new.disk (g.J.Receiver.state c.args.receiver.now).journal (held_after g.J.Receiver.medium (holding (g.J.Receiver.state c.args.receiver.now).journal ticks) (row_requests c.args.sender bytes)).journal)
+          (c.as_slice.ensures.value ∙ did.2) (c.in_err-answer_bytes.ensures.grows ticks knows on_disk)),
     )))

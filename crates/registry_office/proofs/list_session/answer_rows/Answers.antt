@@ -1,15 +1,14 @@
 use Rattle.std.proofs.Common.{◌≡◌, true, List, [], ◌∷◌, ◌++◌, refl, sym, ◌∙◌, subst, append-nil}
 use Rattle.std.proofs.lemmas.Result.{MatchResult-from_err}
 use Rattle.gb_base.specs.DayMinute.{DayMinute}
-use Rattle.gb_outside.specs.Images.{LeavesOnly}
 use Rattle.act_model.specs.declared.receipts.Receipt.{Receipt}
 use Rattle.registry_office.specs.EarlyEnds.{EndsEarly}
-use Rattle.registry_office.specs.Grown.{GrownFrom}
+use Rattle.registry_office.specs.Grown.{DiskGrows}
 use Rattle.registry_office.specs.Requests.{holding}
 use Rattle.registry_office.specs.inner.Sessions.{Knows, Answered}
 use Rattle.registry_office.proofs.EarlyEnds.{early_then, early_longer, early_all}
-use Rattle.registry_office.proofs.Replies.{answered_then, left_within, knows_then}
-use Rattle.registry_office.proofs.RowsAnswered.{one_row_more, left_by_first}
+use Rattle.registry_office.proofs.Replies.{answered_then, disk_within, knows_then}
+use Rattle.registry_office.proofs.RowsAnswered.{one_row_more, disk_by_first}
 use Rattle.registry_office.proofs.Takings.{at_some}
 use Rattle.registry_office.proofs.list_session.answer_rows.Goals as goal
 
@@ -23,13 +22,13 @@ returns-in_err-request-clause-broken g c = λ ticks knows.
     (early_longer _ _ held _ _ _ _ so.done c.loop-request.list
     (early_all _ _ _ _ ticks (g.J.Receiver.state c.loop-request.receiver) _ _ _ _ _ so.done knows.disk first c.loop-request.invariant.ready)))
 
-pub returns-in_err-request-clause-any_moment : goal.returns-in_err-request-clause-any_moment
-returns-in_err-request-clause-any_moment g c = λ ticks knows on_disk.
+pub returns-in_err-request-clause-grows : goal.returns-in_err-request-clause-grows
+returns-in_err-request-clause-grows g c = λ ticks knows on_disk.
     let so = c.loop-request.invariant.so_far in
     let first = so.answered ticks knows in
     let held = holding (g.J.Receiver.state c.args.receiver.now).journal ticks in
-    left_by_first g.D.Disk.moment g.D.Disk.since c.args.disk.now c.loop-request.disk _ held _ _ c.args.list.now so.done c.loop-request.list so.split first.receipts
-    (c.loop-request.invariant.left ticks knows on_disk)
+    disk_by_first g.D.Disk.reads g.D.Disk.moment g.D.Disk.since c.args.disk.now c.loop-request.disk _ held _ c.args.list.now so.done c.loop-request.list so.split first.receipts
+    (c.loop-request.invariant.grows ticks knows on_disk)
 
 pub returns-in_err-answer_request-clause-broken : goal.returns-in_err-answer_request-clause-broken
 returns-in_err-answer_request-clause-broken g c = λ ticks knows.
@@ -42,15 +41,15 @@ returns-in_err-answer_request-clause-broken g c = λ ticks knows.
     (early_longer _ _ held _ _ _ _ (so.done ++ c.in-Some.request ∷ []) c.next.new.self
     (early_then _ _ held _ _ _ _ _ _ _ so.done (c.in-Some.request ∷ []) first (c.in_err-answer_request.ensures.broken true _ (λ asks. refl) later))))
 
-pub returns-in_err-answer_request-clause-any_moment : goal.returns-in_err-answer_request-clause-any_moment
-returns-in_err-answer_request-clause-any_moment g c = λ ticks knows on_disk.
+pub returns-in_err-answer_request-clause-grows : goal.returns-in_err-answer_request-clause-grows
+returns-in_err-answer_request-clause-grows g c = λ ticks knows on_disk.
     let so = c.loop-request.invariant.so_far in
     let first = so.answered ticks knows in
     let held = holding (g.J.Receiver.state c.args.receiver.now).journal ticks in
     let later = knows_then _ _ _ _ _ ticks held _ _ _ so.done knows first in
-    left_within g.D.Disk.moment g.D.Disk.since c.args.disk.now c.loop-request.disk c.answer_request.new.disk _ _ _ _ ticks _ _ _ _ so.done (c.in-Some.request ∷ []) c.next.new.self first
+    disk_within g.D.Disk.reads g.D.Disk.moment g.D.Disk.since c.args.disk.now c.loop-request.disk c.answer_request.new.disk _ _ _ _ ticks _ _ _ _ so.done (c.in-Some.request ∷ []) c.next.new.self first
     (one_row_more c.args.list.now so.done c.loop-request.list c.next.new.self c.in-Some.request so.split (at_some _ c.in-Some.request (λ request. c.loop-request.list ≡ request ∷ c.next.new.self) c.in-Some.is c.in_ok-request.ensures.next))
-    (c.loop-request.invariant.left ticks knows on_disk) (c.in_err-answer_request.ensures.any_moment true _ (λ asks. refl) later on_disk)
+    (c.loop-request.invariant.grows ticks knows on_disk) (c.in_err-answer_request.ensures.grows true _ (λ asks. refl) later on_disk)
 
 pub loop-request-preserved-in_ok-answer_request : goal.loop-request-preserved-in_ok-answer_request
 loop-request-preserved-in_ok-answer_request g c =
@@ -64,12 +63,12 @@ loop-request-preserved-in_ok-answer_request g c =
     answered_then _ _ (holding journal0 ticks) _ _ _ _ _ _ _ so.done (c.in-Some.request ∷ []) first
     (c.in_ok-answer_request.ensures.answered true _ (λ asks. refl) (knows_then _ _ _ _ _ ticks (holding journal0 ticks) _ _ _ so.done knows first)) in record {
       so_far = record { done = so.done ++ c.in-Some.request ∷ []; split = (one_row_more c.args.list.now so.done c.loop-request.list c.next.new.self c.in-Some.request so.split (at_some _ c.in-Some.request (λ request. c.loop-request.list ≡ request ∷ c.next.new.self) c.in-Some.is c.in_ok-request.ensures.next)); answered = both };
-      left = λ ticks knows on_disk.
+      grows = λ ticks knows on_disk.
           let first = so.answered ticks knows in
           let later = knows_then _ _ _ _ _ ticks (holding journal0 ticks) _ _ _ so.done knows first in
-          subst (λ (j : List Receipt). LeavesOnly g.D.Disk.moment g.D.Disk.since c.args.disk.now c.answer_request.new.disk (GrownFrom (g.J.Receiver.state c.args.receiver.now).journal j)) (sym (both ticks knows).receipts)
-          (left_within g.D.Disk.moment g.D.Disk.since c.args.disk.now c.loop-request.disk c.answer_request.new.disk _ _ _ _ ticks _ _ _ (so.done ++ c.in-Some.request ∷ []) so.done (c.in-Some.request ∷ []) [] first
-          (sym (append-nil (so.done ++ c.in-Some.request ∷ []))) (inv.left ticks knows on_disk) (c.in_ok-answer_request.ensures.any_moment true _ (λ asks. refl) later on_disk));
+          subst (λ (j : List Receipt). DiskGrows g.D.Disk.reads g.D.Disk.moment g.D.Disk.since c.args.disk.now c.answer_request.new.disk (g.J.Receiver.state c.args.receiver.now).journal j) (sym (both ticks knows).receipts)
+          (disk_within g.D.Disk.reads g.D.Disk.moment g.D.Disk.since c.args.disk.now c.loop-request.disk c.answer_request.new.disk _ _ _ _ ticks _ _ _ (so.done ++ c.in-Some.request ∷ []) so.done (c.in-Some.request ∷ []) [] first
+          (sym (append-nil (so.done ++ c.in-Some.request ∷ []))) (inv.grows ticks knows on_disk) (c.in_ok-answer_request.ensures.grows true _ (λ asks. refl) later on_disk));
       ready = c.in_ok-answer_request.ensures.ready refl;
       quiet_sink = c.in_ok-answer_request.ensures.write_cause.else_same refl ∙ inv.quiet_sink;
       quiet_disk = c.in_ok-answer_request.ensures.disk_cause.else_same refl ∙ inv.quiet_disk;
@@ -87,12 +86,12 @@ loop-request-preserved g c =
     answered_then _ _ (holding journal0 ticks) _ _ _ _ _ _ _ so.done (c.in-Some.request ∷ []) first
     (c.in_ok-answer_request.ensures.answered true _ (λ asks. refl) (knows_then _ _ _ _ _ ticks (holding journal0 ticks) _ _ _ so.done knows first)) in record {
       so_far = record { done = so.done ++ c.in-Some.request ∷ []; split = (one_row_more c.args.list.now so.done c.loop-request.list c.next.new.self c.in-Some.request so.split (at_some _ c.in-Some.request (λ request. c.loop-request.list ≡ request ∷ c.next.new.self) c.in-Some.is c.in_ok-request.ensures.next)); answered = both };
-      left = λ ticks knows on_disk.
+      grows = λ ticks knows on_disk.
           let first = so.answered ticks knows in
           let later = knows_then _ _ _ _ _ ticks (holding journal0 ticks) _ _ _ so.done knows first in
-          subst (λ (j : List Receipt). LeavesOnly g.D.Disk.moment g.D.Disk.since c.args.disk.now c.answer_request.new.disk (GrownFrom (g.J.Receiver.state c.args.receiver.now).journal j)) (sym (both ticks knows).receipts)
-          (left_within g.D.Disk.moment g.D.Disk.since c.args.disk.now c.loop-request.disk c.answer_request.new.disk _ _ _ _ ticks _ _ _ (so.done ++ c.in-Some.request ∷ []) so.done (c.in-Some.request ∷ []) [] first
-          (sym (append-nil (so.done ++ c.in-Some.request ∷ []))) (inv.left ticks knows on_disk) (c.in_ok-answer_request.ensures.any_moment true _ (λ asks. refl) later on_disk));
+          subst (λ (j : List Receipt). DiskGrows g.D.Disk.reads g.D.Disk.moment g.D.Disk.since c.args.disk.now c.answer_request.new.disk (g.J.Receiver.state c.args.receiver.now).journal j) (sym (both ticks knows).receipts)
+          (disk_within g.D.Disk.reads g.D.Disk.moment g.D.Disk.since c.args.disk.now c.loop-request.disk c.answer_request.new.disk _ _ _ _ ticks _ _ _ (so.done ++ c.in-Some.request ∷ []) so.done (c.in-Some.request ∷ []) [] first
+          (sym (append-nil (so.done ++ c.in-Some.request ∷ []))) (inv.grows ticks knows on_disk) (c.in_ok-answer_request.ensures.grows true _ (λ asks. refl) later on_disk));
       ready = c.in_ok-answer_request.ensures.ready refl;
       quiet_sink = c.in_ok-answer_request.ensures.write_cause.else_same refl ∙ inv.quiet_sink;
       quiet_disk = c.in_ok-answer_request.ensures.disk_cause.else_same refl ∙ inv.quiet_disk;

@@ -1,16 +1,15 @@
 use Rattle.std.proofs.Common.{◌≡◌, inl, ⊎_elim, ℕ, List, [], true, false, refl, sym, ap, ◌∙◌, subst, take, arith, Some, IsTrue}
-use Rattle.gb_outside.specs.Images.{LeavesOnly}
 use Rattle.act_model.specs.declared.receipts.Receipt.{Receipt}
 use Rattle.journal_disk.specs.Opening.{AnswersSynced}
 use Rattle.receipt_journal.specs.Standing.{records, StandsForJournal}
 use Rattle.receipt_journal.proofs.Standings.{journal_once}
-use Rattle.registry_office.specs.Disks.{LeftAnew}
-use Rattle.registry_office.specs.Grown.{GrownFrom}
+use Rattle.registry_office.specs.Disks.{KeepsGrown, LeftAnew, WritesBehind}
+use Rattle.registry_office.specs.Grown.{IsFront, DiskGrows}
 use Rattle.registry_office.specs.Intakes.{whole_of, cut_of}
 use Rattle.registry_office.specs.Outcomes.{Told}
 use Rattle.registry_office.specs.Receivings.{Receives}
 use Rattle.registry_office.specs.Requests.{OnDisk, Held, holding, held_after}
-use Rattle.registry_office.specs.Statuses.{disk_fault}
+use Rattle.registry_office.specs.Statuses.{disk_fault, tells_of_opening}
 use Rattle.registry_office.specs.declared.words.Command.TheVariants.{Receive}
 use Rattle.registry_office.proofs.Durable.{durable_stands}
 use Rattle.registry_office.proofs.EarlyEnds.{early_of_fewer, early_unopened}
@@ -18,6 +17,7 @@ use Rattle.registry_office.proofs.Opened.{grows_synced, grows_further, keeps_gro
 use Rattle.registry_office.proofs.Replies.{grows}
 use Rattle.registry_office.proofs.SessionInputs.{took_none}
 use Rattle.registry_office.proofs.Takings.{part_of_session, begins_of}
+use Rattle.registry_office.proofs.WrittenFrames.{frames_after_opening, frames_unopened}
 use Rattle.registry_office.proofs.receiving.receive_disk.Goals as goal
 
 -- the book's journal is the one that the file stood for
@@ -26,10 +26,25 @@ same g c held tells stands = ap (λ (j : List Receipt). holding j held.ticks) (j
 
 -- what the session did
 session : (g : _) (c : goal.After-drop-book-inside-in-Ok-3 g) (held : Held) (input : List ℕ) → Told (Some (Receive c.args.intake)) g.D.Disk.tells (g.D.Disk.reads c.args.disk.now) (g.S.Source.left c.args.source.now) (g.C.Clock.ticks c.args.clock.now) held input
-    → Receives (whole_of c.args.intake) (cut_of c.args.intake) held input (g.S.Source.left c.args.source.now) (g.S.Source.left c.receive.new.source) (g.C.Clock.ticks c.receive.new.clock) (g.K.Sink.written c.args.sink.now) (g.K.Sink.written c.receive.new.sink) c.receive.new.book.journal (g.D.Disk.images c.receive.new.disk) c.receive.result
+    → Receives (whole_of c.args.intake) (cut_of c.args.intake) held input (g.S.Source.left c.args.source.now) (g.S.Source.left c.receive.new.source) (g.C.Clock.ticks c.receive.new.clock) (g.K.Sink.written c.args.sink.now) (g.K.Sink.written c.receive.new.sink) c.receive.new.book.journal g.D.Disk.reads g.D.Disk.images g.D.Disk.moment g.D.Disk.since c.open.new.disk c.receive.new.disk c.receive.result
 session g c held input told =
-    subst (λ (h : Held). Receives (whole_of c.args.intake) (cut_of c.args.intake) h input (g.S.Source.left c.args.source.now) (g.S.Source.left c.receive.new.source) (g.C.Clock.ticks c.receive.new.clock) (g.K.Sink.written c.args.sink.now) (g.K.Sink.written c.receive.new.sink) c.receive.new.book.journal (g.D.Disk.images c.receive.new.disk) c.receive.result)
+    subst (λ (h : Held). Receives (whole_of c.args.intake) (cut_of c.args.intake) h input (g.S.Source.left c.args.source.now) (g.S.Source.left c.receive.new.source) (g.C.Clock.ticks c.receive.new.clock) (g.K.Sink.written c.args.sink.now) (g.K.Sink.written c.receive.new.sink) c.receive.new.book.journal g.D.Disk.reads g.D.Disk.images g.D.Disk.moment g.D.Disk.since c.open.new.disk c.receive.new.disk c.receive.result)
     (same g c held (told.disk_tells refl) (told.disk_stands refl)) (c.receive.ensures.session held.ticks input (record { disk = told.disk_tells refl; clock = told.clock_tells refl; source = told.source_left refl }))
+
+-- what it did to the disk, and what the opening did before
+moments : (g : _) (c : goal.After-drop-book-inside-in-Ok-3 g) (held : Held) (to : List Receipt) → IsTrue g.D.Disk.tells → StandsForJournal (g.D.Disk.reads c.args.disk.now) held.journal → IsFront held.journal to
+    → DiskGrows g.D.Disk.reads g.D.Disk.moment g.D.Disk.since c.open.new.disk c.receive.new.disk held.journal to
+    → KeepsGrown g.D.Disk.reads g.D.Disk.images g.D.Disk.moment g.D.Disk.since c.args.disk.now c.receive.new.disk (disk_fault c.receive.result) held.journal to
+moments g c held to tells stands front grew =
+    grows_further g.D.Disk.reads g.D.Disk.images g.D.Disk.moment g.D.Disk.since c.args.disk.now c.open.new.disk c.receive.new.disk held.journal to _
+    (grows_synced g.D.Disk.reads g.D.Disk.images g.D.Disk.moment g.D.Disk.since c.args.disk.now c.open.new.disk held.journal to stands front (c.in-Ok.ensures.any_moment tells)) grew.left
+
+bytes : (g : _) (c : goal.After-drop-book-inside-in-Ok-3 g) (held : Held) (to : List Receipt) → IsTrue g.D.Disk.tells → IsFront held.journal to
+    → DiskGrows g.D.Disk.reads g.D.Disk.moment g.D.Disk.since c.open.new.disk c.receive.new.disk held.journal to
+    → WritesBehind (tells_of_opening c.receive.result) held.journal to (g.D.Disk.reads c.args.disk.now) (g.D.Disk.reads c.receive.new.disk)
+bytes g c held to tells front grew =
+    frames_after_opening (tells_of_opening c.receive.result) held.journal to (g.D.Disk.reads c.args.disk.now) (g.D.Disk.reads c.open.new.disk) (g.D.Disk.reads c.receive.new.disk)
+    (c.in-Ok.ensures.kept tells).same (c.in-Ok.ensures.made tells) (c.in-Ok.ensures.torn tells) front grew.written
 
 pub returns-in-Ok-clause-written : goal.returns-in-Ok-clause-written
 returns-in-Ok-clause-written g c = λ held input told ok. (session g c held input told).written ok
@@ -44,7 +59,7 @@ returns-in-Ok-clause-ticks g c = λ held input told ok. (session g c held input 
 
 pub returns-in-Ok-clause-part : goal.returns-in-Ok-clause-part
 returns-in-Ok-clause-part g c = λ held input told other.
-    part_of_session (whole_of c.args.intake) (cut_of c.args.intake) (begins_of c.args.intake) held input (g.S.Source.left c.args.source.now) _ _ _ _ _ _ c.receive.result (told.source_left refl) (session g c held input told) other
+    part_of_session (whole_of c.args.intake) (cut_of c.args.intake) (begins_of c.args.intake) held input (g.S.Source.left c.args.source.now) _ _ _ _ _ g.D.Disk.reads g.D.Disk.images g.D.Disk.moment g.D.Disk.since c.open.new.disk c.receive.new.disk c.receive.result (told.source_left refl) (session g c held input told) other
 
 pub returns-in-Ok-clause-early : goal.returns-in-Ok-clause-early
 returns-in-Ok-clause-early g c = λ held input told other.
@@ -57,6 +72,8 @@ returns-in-Ok-clause-early g c = λ held input told other.
         took.did.1,
         early_of_fewer true OnDisk held (g.C.Clock.ticks c.receive.new.clock) (g.K.Sink.written c.args.sink.now) (g.K.Sink.written c.receive.new.sink) (g.D.Disk.images c.receive.new.disk) (LeftAnew (disk_fault c.receive.result) (g.D.Disk.images c.args.disk.now) (g.D.Disk.images c.receive.new.disk)) took.did.0
             (λ file left. left_of (disk_fault c.receive.result) (g.D.Disk.images c.args.disk.now) (g.D.Disk.images c.receive.new.disk) file left) took.did.2,
+        moments g c held (held_after OnDisk held took.did.0).journal (told.disk_tells refl) (told.disk_stands refl) (grows OnDisk held took.did.0) took.did.3,
+        bytes g c held (held_after OnDisk held took.did.0).journal (told.disk_tells refl) (grows OnDisk held took.did.0) took.did.3,
       );
     }
 
@@ -81,11 +98,11 @@ returns-in-Ok-clause-acknowledged g c = λ held input front back file told split
 
 pub returns-in-Ok-clause-any_moment : goal.returns-in-Ok-clause-any_moment
 returns-in-Ok-clause-any_moment g c = λ held input told.
-    grows_further g.D.Disk.reads g.D.Disk.images g.D.Disk.moment g.D.Disk.since c.args.disk.now c.open.new.disk c.receive.new.disk held.journal (held_after OnDisk held (whole_of c.args.intake input)).journal _
-    (grows_synced g.D.Disk.reads g.D.Disk.images g.D.Disk.moment g.D.Disk.since c.args.disk.now c.open.new.disk held.journal (held_after OnDisk held (whole_of c.args.intake input)).journal (told.disk_stands refl) (grows OnDisk held (whole_of c.args.intake input))
-    (c.in-Ok.ensures.any_moment (told.disk_tells refl)))
-    (subst (λ (h : Held). LeavesOnly g.D.Disk.moment g.D.Disk.since c.open.new.disk c.receive.new.disk (GrownFrom h.journal (held_after OnDisk h (whole_of c.args.intake input)).journal)) (same g c held (told.disk_tells refl) (told.disk_stands refl))
-    (c.receive.ensures.any_moment held.ticks input (record { disk = told.disk_tells refl; clock = told.clock_tells refl; source = told.source_left refl })))
+    moments g c held (held_after OnDisk held (whole_of c.args.intake input)).journal (told.disk_tells refl) (told.disk_stands refl) (grows OnDisk held (whole_of c.args.intake input)) (session g c held input told).grows
+
+pub returns-in-Ok-clause-frames : goal.returns-in-Ok-clause-frames
+returns-in-Ok-clause-frames g c = λ held input told.
+    bytes g c held (held_after OnDisk held (whole_of c.args.intake input)).journal (told.disk_tells refl) (grows OnDisk held (whole_of c.args.intake input)) (session g c held input told).grows
 
 pub returns-in-Ok-clause-found : goal.returns-in-Ok-clause-found
 returns-in-Ok-clause-found g c = λ tells. found_by_session c.receive.result (g.D.Disk.reads c.args.disk.now) c.receive.ensures.others (c.in-Ok.book.journal, (c.in-Ok.ensures.opened tells).found)
@@ -124,15 +141,28 @@ returns-in-Err-clause-ticks g c = λ held input told ok. absurd ((opening_status
 pub returns-in-Err-clause-part : goal.returns-in-Err-clause-part
 returns-in-Err-clause-part g c = λ held input told other. no_front (g.K.Sink.written c.args.sink.now) _
 
+-- an opening that failed leaves the journal that was found, and writes of an unmade file alone
+synced : (g : _) (c : goal.After-status_of_opening g) → IsTrue g.D.Disk.tells → AnswersSynced g.D.Disk.reads g.D.Disk.images g.D.Disk.moment g.D.Disk.since c.args.disk.now c.open.new.disk (disk_fault c.status_of_opening.result)
+synced g c tells =
+    subst (AnswersSynced g.D.Disk.reads g.D.Disk.images g.D.Disk.moment g.D.Disk.since c.args.disk.now c.open.new.disk) (sym (disk_at_opening c.status_of_opening.result c.in-Err.fault c.status_of_opening.ensures)) (c.in-Err.ensures.any_moment tells)
+
+unopened_bytes : (g : _) (c : goal.After-status_of_opening g) (from to : List Receipt) → IsTrue g.D.Disk.tells → WritesBehind (tells_of_opening c.status_of_opening.result) from to (g.D.Disk.reads c.args.disk.now) (g.D.Disk.reads c.open.new.disk)
+unopened_bytes g c from to tells =
+    frames_unopened (tells_of_opening c.status_of_opening.result) from to (g.D.Disk.reads c.args.disk.now) (g.D.Disk.reads c.open.new.disk) (c.in-Err.ensures.kept tells).same
+    (opening_status c.status_of_opening.result c.in-Err.fault c.status_of_opening.ensures).not_told (c.in-Err.ensures.torn tells)
+
 pub returns-in-Err-clause-early : goal.returns-in-Err-clause-early
 returns-in-Err-clause-early g c = λ held input told other.
+    let requests = cut_of c.args.intake (take 67108864 []) in
+    let to = (held_after OnDisk held requests).journal in
     took_none _ _ (
-      cut_of c.args.intake (take 67108864 []),
+      requests,
       inl refl,
-      early_unopened held (g.C.Clock.ticks c.args.clock.now) (g.K.Sink.written c.args.sink.now) (LeftAnew (disk_fault c.status_of_opening.result) (g.D.Disk.images c.args.disk.now) (g.D.Disk.images c.open.new.disk)) (cut_of c.args.intake (take 67108864 [])) (told.clock_tells refl)
+      early_unopened held (g.C.Clock.ticks c.args.clock.now) (g.K.Sink.written c.args.sink.now) (LeftAnew (disk_fault c.status_of_opening.result) (g.D.Disk.images c.args.disk.now) (g.D.Disk.images c.open.new.disk)) requests (told.clock_tells refl)
           (λ file left. left_by_opening g.D.Disk.reads g.D.Disk.images g.D.Disk.moment g.D.Disk.since c.args.disk.now c.open.new.disk (λ t c1 le image. g.met.D.Disk.counts_now c.open.new.disk t c1 (told.disk_tells refl) le image)
-          (disk_fault c.status_of_opening.result) held.journal file (told.disk_stands refl)
-          (subst (AnswersSynced g.D.Disk.reads g.D.Disk.images g.D.Disk.moment g.D.Disk.since c.args.disk.now c.open.new.disk) (sym (disk_at_opening c.status_of_opening.result c.in-Err.fault c.status_of_opening.ensures)) (c.in-Err.ensures.any_moment (told.disk_tells refl))) left),
+          (disk_fault c.status_of_opening.result) held.journal file (told.disk_stands refl) (synced g c (told.disk_tells refl)) left),
+      keeps_grown g.D.Disk.reads g.D.Disk.images g.D.Disk.moment g.D.Disk.since c.args.disk.now c.open.new.disk held.journal to _ (told.disk_stands refl) (grows OnDisk held requests) (synced g c (told.disk_tells refl)),
+      unopened_bytes g c held.journal to (told.disk_tells refl),
     )
 
 pub returns-in-Err-clause-cut : goal.returns-in-Err-clause-cut
@@ -150,7 +180,10 @@ returns-in-Err-clause-acknowledged g c = λ held input front back file told spli
 pub returns-in-Err-clause-any_moment : goal.returns-in-Err-clause-any_moment
 returns-in-Err-clause-any_moment g c = λ held input told.
     keeps_grown g.D.Disk.reads g.D.Disk.images g.D.Disk.moment g.D.Disk.since c.args.disk.now c.open.new.disk held.journal (held_after OnDisk held (whole_of c.args.intake input)).journal _ (told.disk_stands refl) (grows OnDisk held (whole_of c.args.intake input))
-    (subst (AnswersSynced g.D.Disk.reads g.D.Disk.images g.D.Disk.moment g.D.Disk.since c.args.disk.now c.open.new.disk) (sym (disk_at_opening c.status_of_opening.result c.in-Err.fault c.status_of_opening.ensures)) (c.in-Err.ensures.any_moment (told.disk_tells refl)))
+    (synced g c (told.disk_tells refl))
+
+pub returns-in-Err-clause-frames : goal.returns-in-Err-clause-frames
+returns-in-Err-clause-frames g c = λ held input told. unopened_bytes g c held.journal (held_after OnDisk held (whole_of c.args.intake input)).journal (told.disk_tells refl)
 
 pub returns-in-Err-clause-short : goal.returns-in-Err-clause-short
 returns-in-Err-clause-short g c = λ other. took_none _ _ (omega arith)
@@ -168,8 +201,7 @@ pub returns-in-Err-clause-made : goal.returns-in-Err-clause-made
 returns-in-Err-clause-made g c = λ tells told. let never : true ≡ false = sym told ∙ (opening_status c.status_of_opening.result c.in-Err.fault c.status_of_opening.ensures).not_told in absurd cc
 
 pub returns-in-Err-clause-kept_any_moment : goal.returns-in-Err-clause-kept_any_moment
-returns-in-Err-clause-kept_any_moment g c = λ tells none.
-    subst (AnswersSynced g.D.Disk.reads g.D.Disk.images g.D.Disk.moment g.D.Disk.since c.args.disk.now c.open.new.disk) (sym (disk_at_opening c.status_of_opening.result c.in-Err.fault c.status_of_opening.ensures)) (c.in-Err.ensures.any_moment tells)
+returns-in-Err-clause-kept_any_moment g c = λ tells none. synced g c tells
 
 pub returns-in-Err-clause-no_usage : goal.returns-in-Err-clause-no_usage
 returns-in-Err-clause-no_usage g c = (opening_status c.status_of_opening.result c.in-Err.fault c.status_of_opening.ensures).not_usage

@@ -1,4 +1,4 @@
-use Rattle.std.proofs.Common.{◌*◌, ◌≤◌, length, ap, arith}
+use Rattle.std.proofs.Common.{length, ap, arith}
 use Rattle.registry_office.proofs.Settled.{all_settled, registrar_verdicts, registrar_few, registrar_rights}
 use Rattle.registry_office.proofs.registrar.alone.Goals as goal
 

@@ -4,9 +4,8 @@ use Rattle.std.proofs.lemmas.Grind.{common_steps}
 use Rattle.std.proofs.lemmas.List.{take_at}
 use Rattle.std.proofs.lemmas.Result.{MatchResult-from_err}
 use Rattle.gb_base.specs.DayMinute.{DayMinute}
-use Rattle.gb_outside.specs.Images.{LeavesOnly}
 use Rattle.act_model.specs.declared.receipts.Receipt.{Receipt}
-use Rattle.registry_office.specs.Grown.{GrownFrom}
+use Rattle.registry_office.specs.Grown.{DiskGrows}
 use Rattle.registry_office.specs.Lines.{request_of_line}
 use Rattle.registry_office.specs.inner.Asking.{is_stamped_by_clock}
 use Rattle.registry_office.specs.Requests.{holding}
@@ -15,7 +14,7 @@ use Rattle.registry_office.specs.EarlyEnds.{EndsEarly}
 use Rattle.registry_office.specs.inner.Sessions.{Knows, Answered}
 use Rattle.registry_office.proofs.LineRequests.{behind-append}
 use Rattle.registry_office.proofs.EarlyEnds.{early_then, early_before, early_all}
-use Rattle.registry_office.proofs.Replies.{answered_then, left_within, leaves_same, grows, knows_then}
+use Rattle.registry_office.proofs.Replies.{answered_then, disk_within, disk_same, grows, knows_then}
 use Rattle.registry_office.proofs.SessionInputs.{took_none, took_more, took_same, are_ended, requests_of_more, requests_of_last, requests_of_most, requests_of_short}
 use Rattle.registry_office.proofs.session.answer_input.Goals as goal
 
@@ -27,7 +26,7 @@ returns-in_err-block-clause-part g c =
       are_ended c.args.kind _ [] (omega arith),
       (λ ticks knows. early_before _ _ _ (g.J.Receiver.state c.args.receiver.now) ticks _ _ _ _ [] knows.clock knows.disk c.requires.ready),
       (λ ticks knows on_disk.
-          leaves_same g.D.Disk.moment g.D.Disk.since c.args.disk.now _ _ _ (g.J.Receiver.state c.args.receiver.now) _ _
+          disk_same g.D.Disk.reads g.D.Disk.moment g.D.Disk.since c.args.disk.now _ _ _ (g.J.Receiver.state c.args.receiver.now) _
           (grows g.J.Receiver.medium (holding (g.J.Receiver.state c.args.receiver.now).journal ticks) []) on_disk (knows.disk on_disk) c.requires.ready
           (λ file left. g.met.D.Disk.only_now c.args.disk.now file (knows.disk on_disk) left)),
     ))
@@ -44,7 +43,7 @@ returns-then-read-count-clause-part g c =
       (ended_requests c.args.kind [] read),
       inl (ap (ended_requests c.args.kind []) (sym (take_at read _ 67108864 (did.0 ∙ grind (arith, c.room_for.ensures.left))))),
       (λ ticks knows. early_all _ _ _ _ ticks (g.J.Receiver.state c.loop.receiver) _ _ _ _ _ (ended_requests c.args.kind [] read) knows.disk (did.2 ticks knows) c.loop.invariant.ready),
-      (λ ticks knows on_disk. subst (λ (j : List Receipt). LeavesOnly g.D.Disk.moment g.D.Disk.since c.args.disk.now c.loop.disk (GrownFrom (g.J.Receiver.state c.args.receiver.now).journal j)) (did.2 ticks knows).receipts (c.loop.invariant.left ticks knows on_disk)),
+      (λ ticks knows on_disk. subst (λ (j : List Receipt). DiskGrows g.D.Disk.reads g.D.Disk.moment g.D.Disk.since c.args.disk.now c.loop.disk (g.J.Receiver.state c.args.receiver.now).journal j) (did.2 ticks knows).receipts (c.loop.invariant.grows ticks knows on_disk)),
     ))
 
 pub returns-then-read-count-clause-long : goal.returns-then-read-count-clause-long
@@ -68,9 +67,9 @@ returns-in_err-answer_piece-in-Bytes-clause-part g c =
       (λ ticks knows. subst (EndsEarly (is_stamped_by_clock c.args.kind) _ (holding (g.J.Receiver.state c.args.receiver.now).journal ticks) _ _ _ _) more
           (early_then _ _ (holding (g.J.Receiver.state c.args.receiver.now).journal ticks) _ _ _ _ _ _ _ (ended_requests c.args.kind [] read) (ended_requests c.args.kind c.loop.line.items (take c.in-Bytes.read c.read_block.new.block)) (did.2 ticks knows)
           (rw is at (c.in_err-answer_piece-in-Bytes.ensures.broken _ (knows_then _ _ _ _ _ ticks (holding (g.J.Receiver.state c.args.receiver.now).journal ticks) _ _ _ (ended_requests c.args.kind [] read) knows (did.2 ticks knows)))))),
-      (λ ticks knows on_disk. left_within g.D.Disk.moment g.D.Disk.since c.args.disk.now c.loop.disk c.answer_piece.new.disk _ _ _ _ ticks _ _ _ _ (ended_requests c.args.kind [] read) (ended_requests c.args.kind c.loop.line.items (take c.in-Bytes.read c.read_block.new.block)) [] (did.2 ticks knows)
-          (sym more ∙ sym (append-nil ((ended_requests c.args.kind [] read) ++ (ended_requests c.args.kind c.loop.line.items (take c.in-Bytes.read c.read_block.new.block))))) (c.loop.invariant.left ticks knows on_disk)
-          (rw is at (c.in_err-answer_piece-in-Bytes.ensures.any_moment _ (knows_then _ _ _ _ _ ticks (holding (g.J.Receiver.state c.args.receiver.now).journal ticks) _ _ _ (ended_requests c.args.kind [] read) knows (did.2 ticks knows)) on_disk))),
+      (λ ticks knows on_disk. disk_within g.D.Disk.reads g.D.Disk.moment g.D.Disk.since c.args.disk.now c.loop.disk c.answer_piece.new.disk _ _ _ _ ticks _ _ _ _ (ended_requests c.args.kind [] read) (ended_requests c.args.kind c.loop.line.items (take c.in-Bytes.read c.read_block.new.block)) [] (did.2 ticks knows)
+          (sym more ∙ sym (append-nil ((ended_requests c.args.kind [] read) ++ (ended_requests c.args.kind c.loop.line.items (take c.in-Bytes.read c.read_block.new.block))))) (c.loop.invariant.grows ticks knows on_disk)
+          (rw is at (c.in_err-answer_piece-in-Bytes.ensures.grows _ (knows_then _ _ _ _ _ ticks (holding (g.J.Receiver.state c.args.receiver.now).journal ticks) _ _ _ (ended_requests c.args.kind [] read) knows (did.2 ticks knows)) on_disk))),
     )))
 
 pub returns-in_err-answer_piece-in-Bytes-clause-short : goal.returns-in_err-answer_piece-in-Bytes-clause-short
@@ -88,9 +87,9 @@ returns-in_err-answer_line-in-End-clause-part g c =
       (λ ticks knows. subst (EndsEarly (is_stamped_by_clock c.args.kind) _ (holding (g.J.Receiver.state c.args.receiver.now).journal ticks) _ _ _ _) last
           (early_then _ _ (holding (g.J.Receiver.state c.args.receiver.now).journal ticks) _ _ _ _ _ _ _ (ended_requests c.args.kind [] read) (request_of_line c.args.kind c.loop.line.items ∷ []) (did.2 ticks knows)
           (rw c.as_slice.ensures.value at (c.in_err-answer_line-in-End.ensures.broken _ (knows_then _ _ _ _ _ ticks (holding (g.J.Receiver.state c.args.receiver.now).journal ticks) _ _ _ (ended_requests c.args.kind [] read) knows (did.2 ticks knows)))))),
-      (λ ticks knows on_disk. left_within g.D.Disk.moment g.D.Disk.since c.args.disk.now c.loop.disk c.answer_line.new.disk _ _ _ _ ticks _ _ _ _ (ended_requests c.args.kind [] read) (request_of_line c.args.kind c.loop.line.items ∷ []) [] (did.2 ticks knows)
-          (sym last ∙ sym (append-nil ((ended_requests c.args.kind [] read) ++ request_of_line c.args.kind c.loop.line.items ∷ []))) (c.loop.invariant.left ticks knows on_disk)
-          (rw c.as_slice.ensures.value at (c.in_err-answer_line-in-End.ensures.any_moment _ (knows_then _ _ _ _ _ ticks (holding (g.J.Receiver.state c.args.receiver.now).journal ticks) _ _ _ (ended_requests c.args.kind [] read) knows (did.2 ticks knows)) on_disk))),
+      (λ ticks knows on_disk. disk_within g.D.Disk.reads g.D.Disk.moment g.D.Disk.since c.args.disk.now c.loop.disk c.answer_line.new.disk _ _ _ _ ticks _ _ _ _ (ended_requests c.args.kind [] read) (request_of_line c.args.kind c.loop.line.items ∷ []) [] (did.2 ticks knows)
+          (sym last ∙ sym (append-nil ((ended_requests c.args.kind [] read) ++ request_of_line c.args.kind c.loop.line.items ∷ []))) (c.loop.invariant.grows ticks knows on_disk)
+          (rw c.as_slice.ensures.value at (c.in_err-answer_line-in-End.ensures.grows _ (knows_then _ _ _ _ _ ticks (holding (g.J.Receiver.state c.args.receiver.now).journal ticks) _ _ _ (ended_requests c.args.kind [] read) knows (did.2 ticks knows)) on_disk))),
     )))
 
 pub returns-in-End-clause-all : goal.returns-in-End-clause-all
@@ -110,9 +109,9 @@ returns-in-End-clause-whole g c =
     (λ read did. (
       subst IsAtEnd (sym c.in-End.ensures.content.1) c.in-End.ensures.content.0,
       omega (arith, did.0, c.loop.invariant.short),
-      (λ ticks knows on_disk. left_within g.D.Disk.moment g.D.Disk.since c.args.disk.now c.loop.disk c.answer_line.new.disk _ _ _ _ ticks _ _ _ _ (ended_requests c.args.kind [] read) (request_of_line c.args.kind c.loop.line.items ∷ []) [] (did.2 ticks knows)
-          (sym (requests_of_last c.args.kind c.loop.line.items read did.1) ∙ sym (append-nil ((ended_requests c.args.kind [] read) ++ request_of_line c.args.kind c.loop.line.items ∷ []))) (c.loop.invariant.left ticks knows on_disk)
-          (rw c.as_slice.ensures.value at (c.in_ok-answer_line-in-End.ensures.any_moment _ (knows_then _ _ _ _ _ ticks (holding (g.J.Receiver.state c.args.receiver.now).journal ticks) _ _ _ (ended_requests c.args.kind [] read) knows (did.2 ticks knows)) on_disk))),
+      (λ ticks knows on_disk. disk_within g.D.Disk.reads g.D.Disk.moment g.D.Disk.since c.args.disk.now c.loop.disk c.answer_line.new.disk _ _ _ _ ticks _ _ _ _ (ended_requests c.args.kind [] read) (request_of_line c.args.kind c.loop.line.items ∷ []) [] (did.2 ticks knows)
+          (sym (requests_of_last c.args.kind c.loop.line.items read did.1) ∙ sym (append-nil ((ended_requests c.args.kind [] read) ++ request_of_line c.args.kind c.loop.line.items ∷ []))) (c.loop.invariant.grows ticks knows on_disk)
+          (rw c.as_slice.ensures.value at (c.in_ok-answer_line-in-End.ensures.grows _ (knows_then _ _ _ _ _ ticks (holding (g.J.Receiver.state c.args.receiver.now).journal ticks) _ _ _ (ended_requests c.args.kind [] read) knows (did.2 ticks knows)) on_disk))),
     ))
 
 pub returns-in-Failed-clause-cut : goal.returns-in-Failed-clause-cut
@@ -127,7 +126,7 @@ returns-in-Failed-clause-part g c =
       (ended_requests c.args.kind [] read),
       are_ended c.args.kind _ read (omega (arith, did.0, c.loop.invariant.short)),
       (λ ticks knows. early_all _ _ _ _ ticks (g.J.Receiver.state c.loop.receiver) _ _ _ _ _ (ended_requests c.args.kind [] read) knows.disk (did.2 ticks knows) c.loop.invariant.ready),
-      (λ ticks knows on_disk. subst (λ (j : List Receipt). LeavesOnly g.D.Disk.moment g.D.Disk.since c.args.disk.now c.loop.disk (GrownFrom (g.J.Receiver.state c.args.receiver.now).journal j)) (did.2 ticks knows).receipts (c.loop.invariant.left ticks knows on_disk)),
+      (λ ticks knows on_disk. subst (λ (j : List Receipt). DiskGrows g.D.Disk.reads g.D.Disk.moment g.D.Disk.since c.args.disk.now c.loop.disk (g.J.Receiver.state c.args.receiver.now).journal j) (did.2 ticks knows).receipts (c.loop.invariant.grows ticks knows on_disk)),
     ))
 
 pub loop-preserved : goal.loop-preserved
@@ -149,13 +148,13 @@ loop-preserved g c =
             c.in_ok-answer_piece-in-Bytes.ensures.line ∙ ap (λ p. behind c.loop.line.items (take c.in-Bytes.read p)) is ∙ ap (λ l. behind l (take c.in-Bytes.read c.read_block.new.block)) did.1 ∙ sym (behind-append [] read (take c.in-Bytes.read c.read_block.new.block)),
             (λ ticks knows. subst (Answered (is_stamped_by_clock c.args.kind) _ (holding (g.J.Receiver.state c.args.receiver.now).journal ticks) _ _ _ _) (requests_of_more c.args.kind c.loop.line.items read (take c.in-Bytes.read c.read_block.new.block) did.1) (both read ticks knows (did.2 ticks knows))),
           ));
-      left = λ ticks knows on_disk.
+      grows = λ ticks knows on_disk.
           let read = c.loop.invariant.took.read in
           let first = c.loop.invariant.took.did.2 ticks knows in
-          subst (λ (j : List Receipt). LeavesOnly g.D.Disk.moment g.D.Disk.since c.args.disk.now c.answer_piece.new.disk (GrownFrom (g.J.Receiver.state c.args.receiver.now).journal j)) (sym (both read ticks knows first).receipts)
-          (left_within g.D.Disk.moment g.D.Disk.since c.args.disk.now c.loop.disk c.answer_piece.new.disk _ _ _ _ ticks _ _ _ ((ended_requests c.args.kind [] read) ++ (ended_requests c.args.kind c.loop.line.items (take c.in-Bytes.read c.read_block.new.block))) (ended_requests c.args.kind [] read) (ended_requests c.args.kind c.loop.line.items (take c.in-Bytes.read c.read_block.new.block)) [] first
-          (sym (append-nil ((ended_requests c.args.kind [] read) ++ (ended_requests c.args.kind c.loop.line.items (take c.in-Bytes.read c.read_block.new.block))))) (c.loop.invariant.left ticks knows on_disk)
-          (rw is at (c.in_ok-answer_piece-in-Bytes.ensures.any_moment _ (knows_then _ _ _ _ _ ticks (holding (g.J.Receiver.state c.args.receiver.now).journal ticks) _ _ _ (ended_requests c.args.kind [] read) knows first) on_disk)));
+          subst (λ (j : List Receipt). DiskGrows g.D.Disk.reads g.D.Disk.moment g.D.Disk.since c.args.disk.now c.answer_piece.new.disk (g.J.Receiver.state c.args.receiver.now).journal j) (sym (both read ticks knows first).receipts)
+          (disk_within g.D.Disk.reads g.D.Disk.moment g.D.Disk.since c.args.disk.now c.loop.disk c.answer_piece.new.disk _ _ _ _ ticks _ _ _ ((ended_requests c.args.kind [] read) ++ (ended_requests c.args.kind c.loop.line.items (take c.in-Bytes.read c.read_block.new.block))) (ended_requests c.args.kind [] read) (ended_requests c.args.kind c.loop.line.items (take c.in-Bytes.read c.read_block.new.block)) [] first
+          (sym (append-nil ((ended_requests c.args.kind [] read) ++ (ended_requests c.args.kind c.loop.line.items (take c.in-Bytes.read c.read_block.new.block))))) (c.loop.invariant.grows ticks knows on_disk)
+          (rw is at (c.in_ok-answer_piece-in-Bytes.ensures.grows _ (knows_then _ _ _ _ _ ticks (holding (g.J.Receiver.state c.args.receiver.now).journal ticks) _ _ _ (ended_requests c.args.kind [] read) knows first) on_disk)));
       ready = c.in_ok-answer_piece-in-Bytes.ensures.ready refl;
       in_memory = λ memory. c.in_ok-answer_piece-in-Bytes.ensures.in_memory memory ∙ c.loop.invariant.in_memory memory;
       own_stamps = λ own. c.in_ok-answer_piece-in-Bytes.ensures.own_stamps own ∙ c.loop.invariant.own_stamps own;

@@ -5,7 +5,7 @@ use Rattle.registry_office.specs.Requests.{holding}
 use Rattle.registry_office.specs.inner.Asking.{asks_clock}
 use Rattle.registry_office.proofs.LineRequests.{asks_none, asks_by_kind}
 use Rattle.registry_office.proofs.EarlyEnds.{early_before}
-use Rattle.registry_office.proofs.Replies.{leaves_same, grows}
+use Rattle.registry_office.proofs.Replies.{disk_same, grows}
 use Rattle.registry_office.proofs.session.answer_line.Goals as goal
 
 pub returns-in_err-request-clause-broken : goal.returns-in_err-request-clause-broken
@@ -13,9 +13,9 @@ returns-in_err-request-clause-broken g c = λ ticks knows.
     MatchResult-from_err c.from_residual.result _ _ c.from_residual.ensures.0
     (λ _. early_before _ _ _ (g.J.Receiver.state c.args.receiver.now) ticks _ _ _ _ _ knows.clock knows.disk c.requires.ready)
 
-pub returns-in_err-request-clause-any_moment : goal.returns-in_err-request-clause-any_moment
-returns-in_err-request-clause-any_moment g c = λ ticks knows on_disk.
-    leaves_same g.D.Disk.moment g.D.Disk.since c.args.disk.now _ _ _ (g.J.Receiver.state c.args.receiver.now) _ _
+pub returns-in_err-request-clause-grows : goal.returns-in_err-request-clause-grows
+returns-in_err-request-clause-grows g c = λ ticks knows on_disk.
+    disk_same g.D.Disk.reads g.D.Disk.moment g.D.Disk.since c.args.disk.now _ _ _ (g.J.Receiver.state c.args.receiver.now) _
     (grows _ (holding (g.J.Receiver.state c.args.receiver.now).journal ticks) (request_of_line c.args.kind c.args.line.now ∷ [])) on_disk (knows.disk on_disk) c.requires.ready
     (λ file left. g.met.D.Disk.only_now c.args.disk.now file (knows.disk on_disk) left)
 
@@ -27,9 +27,9 @@ pub returns-clause-broken : goal.returns-clause-broken
 returns-clause-broken g c = λ ticks knows.
     rw c.in_ok-request.ensures.value at (c.answer_request.ensures.broken _ ticks (λ asks. asks_by_kind c.args.kind c.args.line.now (sym (ap asks_clock c.in_ok-request.ensures.value) ∙ asks)) knows)
 
-pub returns-clause-any_moment : goal.returns-clause-any_moment
-returns-clause-any_moment g c = λ ticks knows on_disk.
-    rw c.in_ok-request.ensures.value at (c.answer_request.ensures.any_moment _ ticks (λ asks. asks_by_kind c.args.kind c.args.line.now (sym (ap asks_clock c.in_ok-request.ensures.value) ∙ asks)) knows on_disk)
+pub returns-clause-grows : goal.returns-clause-grows
+returns-clause-grows g c = λ ticks knows on_disk.
+    rw c.in_ok-request.ensures.value at (c.answer_request.ensures.grows _ ticks (λ asks. asks_by_kind c.args.kind c.args.line.now (sym (ap asks_clock c.in_ok-request.ensures.value) ∙ asks)) knows on_disk)
 
 pub returns-clause-own_stamps : goal.returns-clause-own_stamps
 returns-clause-own_stamps g c = λ own. c.answer_request.ensures.own_stamp (ap asks_clock c.in_ok-request.ensures.value ∙ asks_none c.args.kind c.args.line.now own)

@@ -1,9 +1,8 @@
 use Rattle.std.proofs.Common.{◌∷◌, ◌++◌, [], List, refl, ap, ◌∙◌, sym, subst, append-nil, append_assoc}
 use Rattle.std.proofs.lemmas.Result.{MatchResult-from_err}
 use Rattle.gb_base.specs.DayMinute.{DayMinute}
-use Rattle.gb_outside.specs.Images.{LeavesOnly}
 use Rattle.act_model.specs.declared.receipts.Receipt.{Receipt}
-use Rattle.registry_office.specs.Grown.{GrownFrom}
+use Rattle.registry_office.specs.Grown.{DiskGrows}
 use Rattle.registry_office.specs.inner.Asking.{is_stamped_by_clock}
 use Rattle.registry_office.specs.Requests.{holding, held_after}
 use Rattle.registry_office.specs.Sessions.{behind, ended_requests}
@@ -11,7 +10,7 @@ use Rattle.registry_office.specs.EarlyEnds.{EndsEarly}
 use Rattle.registry_office.specs.inner.Sessions.{Knows, Answered}
 use Rattle.registry_office.proofs.LineRequests.{behind-append, behind-none, requests_of_two, requests_of_piece, requests_at_end}
 use Rattle.registry_office.proofs.EarlyEnds.{early_then, early_longer, early_all}
-use Rattle.registry_office.proofs.Replies.{answered_then, left_within, knows_then}
+use Rattle.registry_office.proofs.Replies.{answered_then, disk_within, knows_then}
 use Rattle.registry_office.proofs.session.answer_piece.Goals as goal
 
 pub returns-in_err-answer_ended-clause-broken : goal.returns-in_err-answer_ended-clause-broken
@@ -27,17 +26,17 @@ returns-in_err-answer_ended-clause-broken g c = λ ticks knows.
     (early_longer _ _ held _ _ _ _ (xs ++ ys) (ended_requests c.args.kind (behind c.loop-end.line.items (c.in-Some.end.now ++ 10 ∷ [])) c.in-Some.behind.now)
     (early_then _ _ held _ _ _ _ _ _ _ xs ys first (c.in_err-answer_ended.ensures.broken _ later))))
 
-pub returns-in_err-answer_ended-clause-any_moment : goal.returns-in_err-answer_ended-clause-any_moment
-returns-in_err-answer_ended-clause-any_moment g c = λ ticks knows on_disk.
+pub returns-in_err-answer_ended-clause-grows : goal.returns-in_err-answer_ended-clause-grows
+returns-in_err-answer_ended-clause-grows g c = λ ticks knows on_disk.
     let so = c.loop-end.invariant.so_far in
     let first = so.answered ticks knows in
     let held = holding (g.J.Receiver.state c.args.receiver.now).journal ticks in
     let xs = ended_requests c.args.kind c.args.line.now.items so.done in
     let ys = ended_requests c.args.kind c.loop-end.line.items (c.in-Some.end.now ++ 10 ∷ []) in
     let later = knows_then _ _ _ _ _ ticks held _ _ _ xs knows first in
-    left_within g.D.Disk.moment g.D.Disk.since c.args.disk.now c.loop-end.disk c.answer_ended.new.disk _ _ _ _ ticks _ _ _ _ xs ys (ended_requests c.args.kind (behind c.loop-end.line.items (c.in-Some.end.now ++ 10 ∷ [])) c.in-Some.behind.now) first
+    disk_within g.D.Disk.reads g.D.Disk.moment g.D.Disk.since c.args.disk.now c.loop-end.disk c.answer_ended.new.disk _ _ _ _ ticks _ _ _ _ xs ys (ended_requests c.args.kind (behind c.loop-end.line.items (c.in-Some.end.now ++ 10 ∷ [])) c.in-Some.behind.now) first
     (requests_of_piece c.args.kind c.args.line.now.items c.loop-end.line.items c.args.piece.now so.done c.loop-end.rest.now c.in-Some.end.now c.in-Some.behind.now so.whole so.line c.in-Some.ensures.whole)
-    (c.loop-end.invariant.left ticks knows on_disk) (c.in_err-answer_ended.ensures.any_moment _ later on_disk)
+    (c.loop-end.invariant.grows ticks knows on_disk) (c.in_err-answer_ended.ensures.grows _ later on_disk)
 
 pub loop-end-preserved : goal.loop-end-preserved
 loop-end-preserved g c =
@@ -60,12 +59,12 @@ loop-end-preserved g c =
         answered = λ ticks knows. subst (Answered by _ (holding journal0 ticks) _ _ _ _)
             (ap (λ l. xs ++ ended_requests c.args.kind l (c.in-Some.end.now ++ 10 ∷ [])) so.line ∙ sym (requests_of_two c.args.kind c.args.line.now.items so.done (c.in-Some.end.now ++ 10 ∷ []))) (both ticks knows);
       };
-      left = λ ticks knows on_disk.
+      grows = λ ticks knows on_disk.
           let first = so.answered ticks knows in
           let later = knows_then _ _ _ _ _ ticks (holding journal0 ticks) _ _ _ xs knows first in
-          subst (λ (j : List Receipt). LeavesOnly g.D.Disk.moment g.D.Disk.since c.args.disk.now c.answer_ended.new.disk (GrownFrom (g.J.Receiver.state c.args.receiver.now).journal j)) (sym (both ticks knows).receipts)
-          (left_within g.D.Disk.moment g.D.Disk.since c.args.disk.now c.loop-end.disk c.answer_ended.new.disk _ _ _ _ ticks _ _ _ (xs ++ ys) xs ys [] first
-          (sym (append-nil (xs ++ ys))) (inv.left ticks knows on_disk) (c.in_ok-answer_ended.ensures.any_moment _ later on_disk));
+          subst (λ (j : List Receipt). DiskGrows g.D.Disk.reads g.D.Disk.moment g.D.Disk.since c.args.disk.now c.answer_ended.new.disk (g.J.Receiver.state c.args.receiver.now).journal j) (sym (both ticks knows).receipts)
+          (disk_within g.D.Disk.reads g.D.Disk.moment g.D.Disk.since c.args.disk.now c.loop-end.disk c.answer_ended.new.disk _ _ _ _ ticks _ _ _ (xs ++ ys) xs ys [] first
+          (sym (append-nil (xs ++ ys))) (inv.grows ticks knows on_disk) (c.in_ok-answer_ended.ensures.grows _ later on_disk));
       ready = c.in_ok-answer_ended.ensures.ready refl;
       in_memory = λ memory. c.in_ok-answer_ended.ensures.in_memory memory ∙ inv.in_memory memory;
       own_stamps = λ own. c.in_ok-answer_ended.ensures.own_stamps own ∙ inv.own_stamps own;
@@ -83,14 +82,14 @@ returns-in_err-extend_from_slice-clause-broken g c = λ ticks knows.
     (λ _. subst (EndsEarly (is_stamped_by_clock c.args.kind) _ held _ _ _ _) (sym (requests_at_end c.args.kind c.args.line.now.items c.loop-end.line.items c.args.piece.now so.done c.loop-end.rest.now so.whole c.in_default.ensures.none))
     (early_all _ _ _ _ ticks (g.J.Receiver.state c.loop-end.receiver) _ _ _ _ _ xs knows.disk first c.loop-end.invariant.ready))
 
-pub returns-in_err-extend_from_slice-clause-any_moment : goal.returns-in_err-extend_from_slice-clause-any_moment
-returns-in_err-extend_from_slice-clause-any_moment g c = λ ticks knows on_disk.
+pub returns-in_err-extend_from_slice-clause-grows : goal.returns-in_err-extend_from_slice-clause-grows
+returns-in_err-extend_from_slice-clause-grows g c = λ ticks knows on_disk.
     let so = c.loop-end.invariant.so_far in
     let first = so.answered ticks knows in
     let held = holding (g.J.Receiver.state c.args.receiver.now).journal ticks in
     let xs = ended_requests c.args.kind c.args.line.now.items so.done in
-    subst (λ (j : List Receipt). LeavesOnly g.D.Disk.moment g.D.Disk.since c.args.disk.now c.loop-end.disk (GrownFrom (g.J.Receiver.state c.args.receiver.now).journal j))
-    (first.receipts ∙ ap (λ rs. (held_after g.J.Receiver.medium held rs).journal) (sym (requests_at_end c.args.kind c.args.line.now.items c.loop-end.line.items c.args.piece.now so.done c.loop-end.rest.now so.whole c.in_default.ensures.none))) (c.loop-end.invariant.left ticks knows on_disk)
+    subst (λ (j : List Receipt). DiskGrows g.D.Disk.reads g.D.Disk.moment g.D.Disk.since c.args.disk.now c.loop-end.disk (g.J.Receiver.state c.args.receiver.now).journal j)
+    (first.receipts ∙ ap (λ rs. (held_after g.J.Receiver.medium held rs).journal) (sym (requests_at_end c.args.kind c.args.line.now.items c.loop-end.line.items c.args.piece.now so.done c.loop-end.rest.now so.whole c.in_default.ensures.none))) (c.loop-end.invariant.grows ticks knows on_disk)
 
 pub returns-clause-answered : goal.returns-clause-answered
 returns-clause-answered g c = λ ticks knows.
@@ -100,14 +99,14 @@ returns-clause-answered g c = λ ticks knows.
     let xs = ended_requests c.args.kind c.args.line.now.items so.done in
     subst (Answered (is_stamped_by_clock c.args.kind) _ held _ _ _ _) (sym (requests_at_end c.args.kind c.args.line.now.items c.loop-end.line.items c.args.piece.now so.done c.loop-end.rest.now so.whole c.in_default.ensures.none)) first
 
-pub returns-clause-any_moment : goal.returns-clause-any_moment
-returns-clause-any_moment g c = λ ticks knows on_disk.
+pub returns-clause-grows : goal.returns-clause-grows
+returns-clause-grows g c = λ ticks knows on_disk.
     let so = c.loop-end.invariant.so_far in
     let first = so.answered ticks knows in
     let held = holding (g.J.Receiver.state c.args.receiver.now).journal ticks in
     let xs = ended_requests c.args.kind c.args.line.now.items so.done in
-    subst (λ (j : List Receipt). LeavesOnly g.D.Disk.moment g.D.Disk.since c.args.disk.now c.loop-end.disk (GrownFrom (g.J.Receiver.state c.args.receiver.now).journal j))
-    (first.receipts ∙ ap (λ rs. (held_after g.J.Receiver.medium held rs).journal) (sym (requests_at_end c.args.kind c.args.line.now.items c.loop-end.line.items c.args.piece.now so.done c.loop-end.rest.now so.whole c.in_default.ensures.none))) (c.loop-end.invariant.left ticks knows on_disk)
+    subst (λ (j : List Receipt). DiskGrows g.D.Disk.reads g.D.Disk.moment g.D.Disk.since c.args.disk.now c.loop-end.disk (g.J.Receiver.state c.args.receiver.now).journal j)
+    (first.receipts ∙ ap (λ rs. (held_after g.J.Receiver.medium held rs).journal) (sym (requests_at_end c.args.kind c.args.line.now.items c.loop-end.line.items c.args.piece.now so.done c.loop-end.rest.now so.whole c.in_default.ensures.none))) (c.loop-end.invariant.grows ticks knows on_disk)
 
 pub returns-clause-line : goal.returns-clause-line
 returns-clause-line g c =

@@ -1,31 +1,17 @@
-use Rattle.std.proofs.Common.{true, List, refl, sym, ◌∙◌, subst}
+use Rattle.std.proofs.Common.{refl, sym, ◌∙◌, subst}
 use Rattle.gb_outside.specs.Faults.{Counts}
-use Rattle.registry_office.specs.Requests.{OnDisk}
 use Rattle.registry_office.specs.Intakes.{whole_of, cut_of}
 use Rattle.registry_office.specs.declared.intakes.Intake.TheVariants.{OpeningList}
-use Rattle.registry_office.specs.declared.requests.Request.{Request}
-use Rattle.registry_office.specs.inner.Inputs.{LeavesGrown}
-use Rattle.registry_office.proofs.Takings.{begins_of, acknowledged, answered_input, cut_input, cut_journal_of, cut_ticks_of, early_input, early_read, left_input, ok_by_status, err_by_status, long_by_status, cut_by_status, short_by_status, of_session}
+use Rattle.registry_office.proofs.Takings.{begins_of, session_of_input, ok_by_status, long_by_status, short_by_status, of_session}
 use Rattle.registry_office.proofs.Whole.{ends_some}
 use Rattle.registry_office.proofs.taking.take_list.Goals as goal
 
 pub returns-clause-session : goal.returns-clause-session
 returns-clause-session g c = λ ticks input told.
-    let Left = λ (requests : List Request). LeavesGrown g.D.Disk.moment g.D.Disk.since c.args.disk.now c.answer_list.new.disk true OnDisk g.D.Disk.tells (g.C.Clock.ticks c.args.clock.now) c.args.book.now.journal requests in record {
-      written = λ ok. (answered_input (whole_of (OpeningList c.args.sender)) (cut_of (OpeningList c.args.sender)) (begins_of (OpeningList c.args.sender)) g.D.Disk.tells (g.C.Clock.ticks c.args.clock.now) (g.C.Clock.ticks c.answer_list.new.clock) c.args.book.now c.answer_list.new.receiver (g.S.Source.left c.args.source.now) (g.S.Source.left c.answer_list.new.source) (g.K.Sink.written c.args.sink.now) (g.K.Sink.written c.answer_list.new.sink) (g.D.Disk.reads c.answer_list.new.disk) (g.D.Disk.images c.answer_list.new.disk) ticks input told (ok_by_status c.answer_list.result c.status_of.result _ c.status_of.ensures ok c.answer_list.ensures.all)).wrote;
-      received = λ ok. (answered_input (whole_of (OpeningList c.args.sender)) (cut_of (OpeningList c.args.sender)) (begins_of (OpeningList c.args.sender)) g.D.Disk.tells (g.C.Clock.ticks c.args.clock.now) (g.C.Clock.ticks c.answer_list.new.clock) c.args.book.now c.answer_list.new.receiver (g.S.Source.left c.args.source.now) (g.S.Source.left c.answer_list.new.source) (g.K.Sink.written c.args.sink.now) (g.K.Sink.written c.answer_list.new.sink) (g.D.Disk.reads c.answer_list.new.disk) (g.D.Disk.images c.answer_list.new.disk) ticks input told (ok_by_status c.answer_list.result c.status_of.result _ c.status_of.ensures ok c.answer_list.ensures.all)).receipts;
-      ticks = λ ok. (answered_input (whole_of (OpeningList c.args.sender)) (cut_of (OpeningList c.args.sender)) (begins_of (OpeningList c.args.sender)) g.D.Disk.tells (g.C.Clock.ticks c.args.clock.now) (g.C.Clock.ticks c.answer_list.new.clock) c.args.book.now c.answer_list.new.receiver (g.S.Source.left c.args.source.now) (g.S.Source.left c.answer_list.new.source) (g.K.Sink.written c.args.sink.now) (g.K.Sink.written c.answer_list.new.sink) (g.D.Disk.reads c.answer_list.new.disk) (g.D.Disk.images c.answer_list.new.disk) ticks input told (ok_by_status c.answer_list.result c.status_of.result _ c.status_of.ensures ok c.answer_list.ensures.all)).clock refl;
-      early = λ other. early_read (whole_of (OpeningList c.args.sender)) (cut_of (OpeningList c.args.sender)) (begins_of (OpeningList c.args.sender)) g.D.Disk.tells (g.C.Clock.ticks c.args.clock.now) (g.C.Clock.ticks c.answer_list.new.clock) c.args.book.now c.answer_list.new.receiver (g.S.Source.left c.args.source.now) (g.S.Source.left c.answer_list.new.source) (g.K.Sink.written c.args.sink.now) (g.K.Sink.written c.answer_list.new.sink) (g.D.Disk.reads c.answer_list.new.disk) (g.D.Disk.images c.answer_list.new.disk) ticks input told Left (err_by_status c.answer_list.result c.status_of.result _ c.status_of.ensures other c.answer_list.ensures.part);
-      cut_replies = λ which. cut_input (whole_of (OpeningList c.args.sender)) (cut_of (OpeningList c.args.sender)) (begins_of (OpeningList c.args.sender)) g.D.Disk.tells (g.C.Clock.ticks c.args.clock.now) (g.C.Clock.ticks c.answer_list.new.clock) c.args.book.now c.answer_list.new.receiver (g.S.Source.left c.args.source.now) (g.S.Source.left c.answer_list.new.source) (g.K.Sink.written c.args.sink.now) (g.K.Sink.written c.answer_list.new.sink) (g.D.Disk.reads c.answer_list.new.disk) (g.D.Disk.images c.answer_list.new.disk) ticks input told (c.answer_list.ensures.cut (cut_by_status c.answer_list.result c.status_of.result c.status_of.ensures which));
-      cut_journal = λ which. cut_journal_of (whole_of (OpeningList c.args.sender)) (cut_of (OpeningList c.args.sender)) (begins_of (OpeningList c.args.sender)) g.D.Disk.tells (g.C.Clock.ticks c.args.clock.now) (g.C.Clock.ticks c.answer_list.new.clock) c.args.book.now c.answer_list.new.receiver (g.S.Source.left c.args.source.now) (g.S.Source.left c.answer_list.new.source) (g.K.Sink.written c.args.sink.now) (g.K.Sink.written c.answer_list.new.sink) (g.D.Disk.reads c.answer_list.new.disk) (g.D.Disk.images c.answer_list.new.disk) ticks input told (c.answer_list.ensures.cut (cut_by_status c.answer_list.result c.status_of.result c.status_of.ensures which));
-      cut_ticks = λ which. cut_ticks_of (whole_of (OpeningList c.args.sender)) (cut_of (OpeningList c.args.sender)) (begins_of (OpeningList c.args.sender)) g.D.Disk.tells (g.C.Clock.ticks c.args.clock.now) (g.C.Clock.ticks c.answer_list.new.clock) c.args.book.now c.answer_list.new.receiver (g.S.Source.left c.args.source.now) (g.S.Source.left c.answer_list.new.source) (g.K.Sink.written c.args.sink.now) (g.K.Sink.written c.answer_list.new.sink) (g.D.Disk.reads c.answer_list.new.disk) (g.D.Disk.images c.answer_list.new.disk) ticks input told (c.answer_list.ensures.cut (cut_by_status c.answer_list.result c.status_of.result c.status_of.ensures which));
-      acknowledged = λ front back file split wrote image. acknowledged ticks _ _ _ _ _ (whole_of (OpeningList c.args.sender) input) front back file
-          (early_input (whole_of (OpeningList c.args.sender)) (cut_of (OpeningList c.args.sender)) (begins_of (OpeningList c.args.sender)) g.D.Disk.tells (g.C.Clock.ticks c.args.clock.now) (g.C.Clock.ticks c.answer_list.new.clock) c.args.book.now c.answer_list.new.receiver (g.S.Source.left c.args.source.now) (g.S.Source.left c.answer_list.new.source) (g.K.Sink.written c.args.sink.now) (g.K.Sink.written c.answer_list.new.sink) (g.D.Disk.reads c.answer_list.new.disk) (g.D.Disk.images c.answer_list.new.disk) ticks input told Left c.answer_list.result c.answer_list.ensures.all (λ worked. c.answer_list.ensures.ready worked) c.answer_list.ensures.part) split wrote image;
-    }
-
-pub returns-clause-any_moment : goal.returns-clause-any_moment
-returns-clause-any_moment g c = λ ticks input told.
-    left_input (whole_of (OpeningList c.args.sender)) (cut_of (OpeningList c.args.sender)) (begins_of (OpeningList c.args.sender)) g.D.Disk.tells (g.C.Clock.ticks c.args.clock.now) (g.C.Clock.ticks c.answer_list.new.clock) c.args.book.now c.answer_list.new.receiver (g.S.Source.left c.args.source.now) (g.S.Source.left c.answer_list.new.source) (g.K.Sink.written c.args.sink.now) (g.K.Sink.written c.answer_list.new.sink) (g.D.Disk.reads c.answer_list.new.disk) (g.D.Disk.images c.answer_list.new.disk) ticks input told g.D.Disk.moment g.D.Disk.since c.args.disk.now c.answer_list.new.disk c.answer_list.result c.answer_list.ensures.whole c.answer_list.ensures.part
+    session_of_input (whole_of (OpeningList c.args.sender)) (cut_of (OpeningList c.args.sender)) (begins_of (OpeningList c.args.sender)) g.D.Disk.tells (g.C.Clock.ticks c.args.clock.now) (g.C.Clock.ticks c.answer_list.new.clock) c.args.book.now c.answer_list.new.receiver
+    (g.S.Source.left c.args.source.now) (g.S.Source.left c.answer_list.new.source) (g.K.Sink.written c.args.sink.now) (g.K.Sink.written c.answer_list.new.sink)
+    g.D.Disk.reads g.D.Disk.images g.D.Disk.moment g.D.Disk.since c.args.disk.now c.answer_list.new.disk ticks input told c.answer_list.result c.status_of.result c.status_of.ensures
+    c.answer_list.ensures.all c.answer_list.ensures.cut c.answer_list.ensures.part c.answer_list.ensures.whole c.answer_list.ensures.ready
 
 pub returns-clause-works : goal.returns-clause-works
 returns-clause-works g c = c.answer_list.ensures.works ∙ sym (of_session c.answer_list.result c.status_of.result c.status_of.ensures).3

@@ -2,13 +2,13 @@ use Rattle.std.proofs.Common.{◌≡◌, Option, Some, List, take, true, subst, 
 use Rattle.std.specs.Io.KnownBytes.{Appends}
 use Rattle.gb_outside.specs.Bytes.{AppendsFront}
 use Rattle.receipt_journal.specs.Standing.{StandsForJournal}
-use Rattle.registry_office.specs.Disks.{LeftAnew}
+use Rattle.registry_office.specs.Disks.{KeepsGrown, LeftAnew, WritesBehind}
 use Rattle.registry_office.specs.EarlyEnds.{EndsEarly, AreOf}
 use Rattle.registry_office.specs.Intakes.{whole_of, cut_of}
 use Rattle.registry_office.specs.Outcomes.{outcome, requests_of, cut_requests_of, replies_of, uses_disk, Told}
 use Rattle.registry_office.specs.Requests.{OnDisk, held_after}
 use Rattle.registry_office.specs.Sessions.{Took}
-use Rattle.registry_office.specs.Statuses.{disk_fault}
+use Rattle.registry_office.specs.Statuses.{disk_fault, tells_of_opening}
 use Rattle.registry_office.specs.declared.requests.Request.{Request}
 use Rattle.registry_office.specs.declared.words.Command.{Command}
 use Rattle.registry_office.proofs.Takings.{cut_by_status, err_by_status, short_by_status, read_part_of_early}
@@ -39,9 +39,10 @@ returns-in-Some-SettleLines-clause-cut g c = λ held input told which.
 
 pub returns-in-Some-Receive-clause-read_part : goal.returns-in-Some-Receive-clause-read_part
 returns-in-Some-Receive-clause-read_part g c = λ held input told uses other unended.
+    let took = c.receive_disk.ensures.early held input (subst (λ (command : Option Command). Told command g.D.Disk.tells (g.D.Disk.reads c.args.disk.now) (g.S.Source.left c.args.source.now) (g.C.Clock.ticks c.args.clock.now) held input) (sym c.read_words.ensures.command ∙ c.in-Some-Receive.is ∙ ap (λ (command : Command). Some command) c.in-Some-Receive.field-0-is) told) other in
     subst (λ (command : Option Command). Took (g.S.Source.left c.args.source.now) (g.S.Source.left c.receive_disk.new.source) (λ read. AppendsFront (g.K.Sink.written c.args.sink.now) (g.K.Sink.written c.receive_disk.new.sink) (replies_of command held (cut_requests_of command (take 67108864 read))))) (sym (sym c.read_words.ensures.command ∙ c.in-Some-Receive.is ∙ ap (λ (command : Command). Some command) c.in-Some-Receive.field-0-is))
     (read_part_of_early true OnDisk (whole_of c.in-Some-Receive.intake) (cut_of c.in-Some-Receive.intake) held (g.S.Source.left c.args.source.now) (g.S.Source.left c.receive_disk.new.source) (g.C.Clock.ticks c.receive_disk.new.clock) (g.K.Sink.written c.args.sink.now) (g.K.Sink.written c.receive_disk.new.sink)
-    (LeftAnew (disk_fault c.receive_disk.result) (g.D.Disk.images c.args.disk.now) (g.D.Disk.images c.receive_disk.new.disk)) (c.receive_disk.ensures.early held input (subst (λ (command : Option Command). Told command g.D.Disk.tells (g.D.Disk.reads c.args.disk.now) (g.S.Source.left c.args.source.now) (g.C.Clock.ticks c.args.clock.now) held input) (sym c.read_words.ensures.command ∙ c.in-Some-Receive.is ∙ ap (λ (command : Command). Some command) c.in-Some-Receive.field-0-is) told) other) unended)
+    (LeftAnew (disk_fault c.receive_disk.result) (g.D.Disk.images c.args.disk.now) (g.D.Disk.images c.receive_disk.new.disk)) (record { read = took.read; consumed = took.consumed; did = (took.did.0, took.did.1, took.did.2) }) unended)
 
 pub returns-in-Some-Receive-clause-cut : goal.returns-in-Some-Receive-clause-cut
 returns-in-Some-Receive-clause-cut g c = λ held input told which.
@@ -61,5 +62,7 @@ returns-in-Some-Receive-clause-cut_ticks g c = λ held input told receiving whic
 pub returns-in-Some-Receive-clause-early : goal.returns-in-Some-Receive-clause-early
 returns-in-Some-Receive-clause-early g c = λ held input told receiving other.
     subst (λ (command : Option Command). Took (g.S.Source.left c.args.source.now) (g.S.Source.left c.receive_disk.new.source) (λ read. (requests : List Request) × AreOf (requests_of command) (cut_requests_of command) (g.S.Source.left c.receive_disk.new.source) read requests
-    × EndsEarly true OnDisk held (g.C.Clock.ticks c.receive_disk.new.clock) (g.K.Sink.written c.args.sink.now) (g.K.Sink.written c.receive_disk.new.sink) (LeftAnew (disk_fault c.receive_disk.result) (g.D.Disk.images c.args.disk.now) (g.D.Disk.images c.receive_disk.new.disk)) requests)) (sym (sym c.read_words.ensures.command ∙ c.in-Some-Receive.is ∙ ap (λ (command : Command). Some command) c.in-Some-Receive.field-0-is))
+    × EndsEarly true OnDisk held (g.C.Clock.ticks c.receive_disk.new.clock) (g.K.Sink.written c.args.sink.now) (g.K.Sink.written c.receive_disk.new.sink) (LeftAnew (disk_fault c.receive_disk.result) (g.D.Disk.images c.args.disk.now) (g.D.Disk.images c.receive_disk.new.disk)) requests
+    × KeepsGrown g.D.Disk.reads g.D.Disk.images g.D.Disk.moment g.D.Disk.since c.args.disk.now c.receive_disk.new.disk (disk_fault c.receive_disk.result) held.journal (held_after OnDisk held requests).journal
+    × WritesBehind (tells_of_opening c.receive_disk.result) held.journal (held_after OnDisk held requests).journal (g.D.Disk.reads c.args.disk.now) (g.D.Disk.reads c.receive_disk.new.disk))) (sym (sym c.read_words.ensures.command ∙ c.in-Some-Receive.is ∙ ap (λ (command : Command). Some command) c.in-Some-Receive.field-0-is))
     (c.receive_disk.ensures.early held input (subst (λ (command : Option Command). Told command g.D.Disk.tells (g.D.Disk.reads c.args.disk.now) (g.S.Source.left c.args.source.now) (g.C.Clock.ticks c.args.clock.now) held input) (sym c.read_words.ensures.command ∙ c.in-Some-Receive.is ∙ ap (λ (command : Command). Some command) c.in-Some-Receive.field-0-is) told) other)

@@ -1,6 +1,0 @@
-use Rattle.std.proofs.Common.{ℕ, ◌<◌, get_or, IsTrue}
-use Rattle.gb_base.specs.declared.keys.Key.{Key}
-use Rattle.consent_rules.proofs.test_checks.check_held.Given as goal
-
-abbrev pub invariant-loop-key : goal.invariant-loop-key
-invariant-loop-key g l = (i : ℕ) (d : Key) → i < l.key-index → IsTrue (g.P.Parts.holds l.parts (get_or l.keys i d))

@@ -1,0 +1,147 @@
+// Whether a filing can be judged on parts that are lent.
+ghost use Rattle.std.specs.Prelude.{◌≡◌, true, All, IsSome, IsTrue, Contains, Some};
+ghost use Rattle.std.specs.List.{list_all};
+ghost use Rattle.gb_base.specs.declared.keys.Key.{Key};
+ghost use Rattle.act_model.specs.Touches.{created_before, filing_at, keys_of_filing};
+ghost use Rattle.folio_sections.specs.Judging.{IsKnownExchange, KnowsExchanges};
+ghost use Rattle.consent_rules.specs.inner.Held.{HasParts};
+
+use crate::parts_read::live_right;
+use act_model::{Act, Journal, RightKind, RightSpec, act_at, filing_at, filing_keys};
+use folio_sections::Parts;
+use gb_base::{FolioId, Key, ReceiptNo, RightId};
+
+/// Whether the filing can be judged on these parts: it is there, the parts of its keys are held,
+/// and each right that recedes in it, where it is live, is as an earlier filing creates it.
+pub fn can_be_judged<P: Parts>(parts: &P, journal: &Journal, filing: ReceiptNo) -> bool
+    ensures filing { result ≡ true → IsSome (filing_at journal.now.receipts filing) }
+    ensures held { result ≡ true → (k : Key) → Contains (keys_of_filing journal.now.receipts filing) k → IsTrue (P.holds parts.now k) }
+    ensures exchanges { result ≡ true → KnowsExchanges journal.now.receipts filing (P.at parts.now) }
+    ensures enough { IsSome (filing_at journal.now.receipts filing)
+        → ((k : Key) → Contains (keys_of_filing journal.now.receipts filing) k → IsTrue (P.holds parts.now k))
+        → KnowsExchanges journal.now.receipts filing (P.at parts.now) → result ≡ true }
+{
+    match filing_at(journal, filing) {
+        Some(found) => {
+            let keys = filing_keys(journal, filing);
+            are_held(parts, keys.as_slice())
+                && know_exchanges(parts, journal, filing, found.acts.list())
+        }
+        None => false,
+    }
+}
+
+/// Whether the parts of these keys are held.
+fn are_held<P: Parts>(parts: &P, keys: &[Key]) -> bool
+    ensures { result ≡ list_all (P.holds parts.now) keys.now }
+{
+    keys.iter().all(|key| is_held(parts, *key))
+}
+
+/// Whether the part of a key is held.
+pub fn is_held<P: Parts>(parts: &P, key: Key) -> bool
+    ensures { result ≡ P.holds parts.now key }
+{
+    match key {
+        Key::Title(folio) => parts.title(folio).is_some(),
+        Key::Right(folio, right) => parts.right(folio, right).is_some(),
+        Key::Case(folio) => parts.case(folio).is_some(),
+    }
+}
+
+/// Whether it is so of each of these acts of the filing.
+fn know_exchanges<P: Parts>(parts: &P, journal: &Journal, filing: ReceiptNo, acts: &[Act]) -> bool
+    ensures known { result ≡ true → All (IsKnownExchange journal.now.receipts filing (P.at parts.now)) acts.now }
+    ensures enough { All (HasParts (P.holds parts.now) (P.at parts.now)) acts.now
+        → All (IsKnownExchange journal.now.receipts filing (P.at parts.now)) acts.now → result ≡ true }
+{
+    for act in acts {
+        if !knows_exchange(parts, journal, filing, act) {
+            return false;
+        }
+    }
+    true
+}
+
+/// Whether the right that recedes in the act, where it is live, is as an earlier filing creates
+/// it.
+fn knows_exchange<P: Parts>(parts: &P, journal: &Journal, filing: ReceiptNo, act: &Act) -> bool
+    ensures known { result ≡ true → IsKnownExchange journal.now.receipts filing (P.at parts.now) act.now }
+    ensures enough { HasParts (P.holds parts.now) (P.at parts.now) act.now
+        → IsKnownExchange journal.now.receipts filing (P.at parts.now) act.now → result ≡ true }
+{
+    match act {
+        Act::Exchange { folio, recede, .. } => match parts.right(*folio, *recede) {
+            Some(part) => match live_right(part) {
+                Some(made) => was_created(journal, filing, *folio, *recede, made.spec),
+                None => true,
+            },
+            None => false,
+        },
+        _ => true,
+    }
+}
+
+/// Whether an earlier filing creates just this right in the folio.
+fn was_created(
+    journal: &Journal,
+    filing: ReceiptNo,
+    folio: FolioId,
+    right: RightId,
+    spec: RightSpec,
+) -> bool
+    ensures created { result ≡ true → created_before journal.now.receipts filing folio right ≡ Some spec }
+    ensures enough { created_before journal.now.receipts filing folio right ≡ Some spec → result ≡ true }
+{
+    match created_before(journal, filing, folio, right) {
+        Some(created) => is_same(created, spec),
+        None => false,
+    }
+}
+
+fn created_before(
+    journal: &Journal,
+    filing: ReceiptNo,
+    folio: FolioId,
+    right: RightId,
+) -> Option<RightSpec>
+    ensures { result ≡ created_before journal.now.receipts filing folio right }
+{
+    if right.receipt() >= filing {
+        return None;
+    }
+    let found = filing_at(journal, right.receipt())?;
+    let act = act_at(found, right.act())?;
+    if act.folio() == folio {
+        act.right_created()
+    } else {
+        None
+    }
+}
+
+fn is_same(one: RightSpec, other: RightSpec) -> bool
+    ensures same { result ≡ true → one ≡ other }
+    ensures enough { one ≡ other → result ≡ true }
+{
+    is_same_kind(one.kind, other.kind)
+        && one.capital == other.capital
+        && one.holder == other.holder
+        && one.group == other.group
+}
+
+fn is_same_kind(one: RightKind, other: RightKind) -> bool
+    ensures same { result ≡ true → one ≡ other }
+    ensures enough { one ≡ other → result ≡ true }
+{
+    match (one, other) {
+        (RightKind::PersonalEasement, RightKind::PersonalEasement) => true,
+        (RightKind::Usufruct, RightKind::Usufruct) => true,
+        (RightKind::Mortgage { rate_bp: rate }, RightKind::Mortgage { rate_bp: other }) => {
+            rate == other
+        }
+        (RightKind::LandCharge { rate_bp: rate }, RightKind::LandCharge { rate_bp: other }) => {
+            rate == other
+        }
+        _ => false,
+    }
+}

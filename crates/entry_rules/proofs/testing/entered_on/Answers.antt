@@ -1,6 +1,0 @@
-use Rattle.entry_rules.proofs.TestKeys.{still_held}
-use Rattle.entry_rules.proofs.testing.entered_on.Goals as goal
-
-pub enter_in-requires : goal.enter_in-requires
-enter_in-requires g c =
-    still_held c.args.journal.now.receipts c.receipt-of.result c.in_ok-parts.parts c.in_ok-parts-2.parts c.in_ok-parts.ensures c.in_ok-parts-2.ensures
