@@ -1,5 +1,5 @@
 -- How many entries are brought at each key of a filing.
-use Rattle.std.proofs.Common.{◌≡◌, ℕ, ◌<◌, ◌≤◌, true, false, nat_lt, cond, List, [], ◌∷◌, length, map, flat_map, Contains, Option, Some, None, refl, sym, ap, subst, ◌∙◌, ⊎_elim, arith, suc, zero, length-append}
+use Rattle.std.proofs.Common.{◌≡◌, ℕ, ◌-◌, ◌<◌, ◌≤◌, true, false, nat_lt, cond, List, [], ◌∷◌, length, map, flat_map, Contains, Option, Some, None, refl, sym, ap, subst, ◌∙◌, ⊎_elim, arith}
 use Rattle.std.specs.List.{AllByRecursion}
 use Rattle.std.specs.List.Sorted.{IsStrictlySortedBy}
 use Rattle.std.specs.Option.{option_map_or}
@@ -8,6 +8,7 @@ use Rattle.std.proofs.lemmas.Bool.Decides.{nat_tests}
 use Rattle.std.proofs.lemmas.List.{length-map}
 use Rattle.std.proofs.lemmas.List.Concat.{flat_map-cons}
 use Rattle.std.proofs.lemmas.List.Elements.{Contains-append_right}
+use Rattle.std.proofs.lemmas.List.FromFn.{length-range_with_len}
 use Rattle.std.proofs.lemmas.List.Sums.{count_by-le-length, length-filter}
 use Rattle.gb_base.specs.Keys.{key_cmp, same_key}
 use Rattle.gb_base.specs.declared.keys.Key.{Key}
@@ -16,8 +17,9 @@ use Rattle.act_model.specs.Receiving.{day_of}
 use Rattle.act_model.specs.Touches.{keys_in_order, keys_of_filing}
 use Rattle.act_model.specs.declared.receipts.Receipt.{Receipt}
 use Rattle.folio_sections.specs.Adding.{HasRoom}
-use Rattle.folio_sections.specs.Entering.{below, entry_by, notices_at, notices_brought, waiting_unnoticed}
+use Rattle.folio_sections.specs.Entering.{entry_by, notices_at, notices_brought, waiting_unnoticed}
 use Rattle.folio_sections.specs.Entries.{at}
+use Rattle.folio_sections.specs.Waiting.{below}
 use Rattle.folio_sections.specs.declared.entries.Entry.{Entry}
 use Rattle.folio_sections.specs.declared.entries.What.TheVariants as what
 use Rattle.folio_sections.specs.inner.Unnoticed.{lacks_notice}
@@ -93,20 +95,12 @@ notices_fit journal m i at0 room roomy =
     (λ k there. subst (λ n. n ≤ room k) (sym (length-map (waiting_unnoticed m (at0 k)) (λ n. entry_by journal i k (what.Notice n)))) (roomy k there))
 
 -- no more filings wait than come before
-below_few : (m : ℕ) → length (below m) ≤ m
-below_few zero = omega arith
-below_few (suc zero) = omega arith
-below_few (suc (suc n)) =
-    let few = below_few (suc n) in
-    let more = length-append (below (suc n)) (suc n ∷ []) in
-    omega arith
-
 pub unnoticed_few : (m : ℕ) (entries : List Entry) → length (waiting_unnoticed m entries) ≤ m
 unnoticed_few m entries =
     let all = ap length (unnoticed_is m entries) in
     let kept = length-filter (λ n. lacks_notice n entries) (below m) in
     let most = count_by-le-length (λ n. lacks_notice n entries) (below m) in
-    let few = below_few m in
+    let few = length-range_with_len 1 (m - 1) in
     omega arith
 
 -- ---- lapses
