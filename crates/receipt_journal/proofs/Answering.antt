@@ -67,8 +67,12 @@ appended_to journal r =
 -- the gate of a journal with more receipts stands no earlier
 pub gate_further : (journal more : List Receipt) → gate_behind journal ≤ gate_behind (journal ++ more)
 gate_further journal more =
-    omega (arith, ap (λ (l : List (List ℕ)). length (frames_of l)) (map-append spelling journal more),
-    ap length (frames-append (records journal) (records more)), length-append (frames_of (records journal)) (frames_of (records more)))
+    omega (
+      arith,
+      ap (λ (l : List (List ℕ)). length (frames_of l)) (map-append spelling journal more),
+      ap length (frames-append (records journal) (records more)),
+      length-append (frames_of (records journal)) (frames_of (records more)),
+    )
 
 -- the disk has room for what the journal accepts
 accepted_on_disk : (size : ℕ) (expected : Added) → size ≤ file_limit → on_disk size expected ≡ in_journal expected
