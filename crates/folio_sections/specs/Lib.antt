@@ -7,6 +7,11 @@ pub mod Entries
 pub mod Groups
 pub mod Held
 pub mod Judging
+pub mod Kept
+pub mod KeptCases
+pub mod KeptEntries
+pub mod KeptPlaces
+pub mod KeptRights
 pub mod Limits
 pub mod Looking
 pub mod PartState

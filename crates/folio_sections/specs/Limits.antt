@@ -1,4 +1,4 @@
--- How many rights a folio takes, and how many defects a filing has at most.
+-- How many rights a folio takes, how many defects a filing has at most, and how much a case of a forced sale holds.
 use Rattle.std.specs.Prelude.{ℕ}
 
 -- the most creating acts of a folio, whatever became of their filings
@@ -8,3 +8,11 @@ most_creations = 256
 -- the most curable defects of a filing: six sections, eight acts
 abbrev pub most_defects : ℕ
 most_defects = 48
+
+-- the most seizures in a case
+abbrev pub most_seizures : ℕ
+most_seizures = 8
+
+-- the most registrations in a case
+abbrev pub most_registrations : ℕ
+most_registrations = 32

@@ -14,6 +14,7 @@ mod entry_list;
 mod filings;
 mod groups;
 mod judgements;
+pub mod laws;
 mod map_parts;
 #[cfg(test)]
 mod map_tests;
