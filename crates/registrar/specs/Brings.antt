@@ -1,0 +1,71 @@
+-- What an item brings about: entries and a verdict (GBO §§ 16 to 18).
+use Rattle.std.specs.Prelude.{ℕ, List, [], ◌++◌}
+use Rattle.std.specs.Option.{option_map_or}
+use Rattle.gb_base.specs.declared.keys.Key.{Key}
+use Rattle.act_model.specs.Receiving.{receipt_at}
+use Rattle.act_model.specs.declared.items.Filing.{Filing}
+use Rattle.act_model.specs.declared.items.Item.{Item}
+use Rattle.act_model.specs.declared.items.Item.TheVariants as item
+use Rattle.act_model.specs.declared.receipts.Receipt.{Receipt}
+use Rattle.folio_sections.specs.Entering.{enters}
+use Rattle.folio_sections.specs.Judging.{judged, judged_filing}
+use Rattle.folio_sections.specs.declared.entries.Entry.{Entry}
+use Rattle.folio_sections.specs.declared.judgements.Judgement.{Judgement}
+use Rattle.folio_sections.specs.declared.judgements.Judgement.TheVariants.{Enter, Reject, Interim}
+use Rattle.interim_orders.specs.Lapses.{lapse_brought, lapsed}
+use Rattle.interim_orders.specs.Orders.{deadline_of, end_brought, order_brought, state_of}
+use Rattle.interim_orders.specs.declared.answers.Lapse.{Lapse}
+use Rattle.interim_orders.specs.declared.answers.Lapse.TheVariants as lapse
+use Rattle.interim_orders.specs.declared.states.FilingState.{FilingState}
+use Rattle.interim_orders.specs.declared.states.FilingState.TheVariants.{NotPending, Pending}
+use Rattle.registrar.specs.declared.verdicts.Verdict.{Verdict}
+use Rattle.registrar.specs.declared.verdicts.Verdict.TheVariants as verdict
+
+-- entries, and what becomes of the item
+pub record Brought : Type 0 where
+  pub entries : List Entry
+  pub verdict : Verdict
+
+-- nothing, since no filing waits that the item names
+abbrev pub nothing_pending : Brought
+nothing_pending = record { entries = []; verdict = verdict.NotPending }
+
+-- filing i, so judged, is entered, rejected or set to wait
+abbrev pub brought_by_filing : List Receipt → ℕ → (Key → List Entry) → Judgement → Brought
+brought_by_filing journal i at Enter = record { entries = enters journal i i at; verdict = verdict.Entered }
+brought_by_filing journal i at (Reject section) = record { entries = []; verdict = verdict.Rejected section }
+brought_by_filing journal i at (Interim defects) =
+    record { entries = order_brought journal i; verdict = verdict.Interim (deadline_of journal i) defects }
+
+-- Filing m, judged anew with what cure i brings, is entered or rejected, and waits no longer. With defects that are left it
+-- waits on.
+abbrev pub brought_by_cure : List Receipt → ℕ → ℕ → (Key → List Entry) → Judgement → Brought
+brought_by_cure journal m i at Enter =
+    record { entries = enters journal m i at ++ end_brought journal m i; verdict = verdict.Cured }
+brought_by_cure journal m i at (Reject section) =
+    record { entries = end_brought journal m i; verdict = verdict.CureRejected section }
+brought_by_cure journal m i at (Interim defects) = record { entries = []; verdict = verdict.StillOpen defects }
+
+-- the same, by the state in which cure i finds filing m
+abbrev pub brought_in_state : List Receipt → ℕ → ℕ → (Key → List Entry) → FilingState → Brought
+brought_in_state journal m i at (Pending until) =
+    option_map_or (brought_by_cure journal m i at) (judged journal m i at) nothing_pending
+brought_in_state journal m i at NotPending = nothing_pending
+
+-- what becomes of a lapse by its answer
+abbrev pub verdict_on_lapse : Lapse → Verdict
+verdict_on_lapse lapse.Rejected = verdict.Lapsed
+verdict_on_lapse (lapse.TooEarly until) = verdict.TooEarly until
+verdict_on_lapse lapse.NotPending = verdict.NotPending
+
+-- what item i brings
+abbrev pub brought_by_item : List Receipt → ℕ → (Key → List Entry) → Item → Brought
+brought_by_item journal i at (item.Filing f) = brought_by_filing journal i at (judged_filing journal i f i at)
+brought_by_item journal i at (item.Cure m docs) = brought_in_state journal m i at (state_of journal m i at)
+brought_by_item journal i at (item.Lapse m) =
+    record { entries = lapse_brought journal i at; verdict = verdict_on_lapse (lapsed journal i at) }
+brought_by_item journal i at other = nothing_pending
+
+-- what receipt i brings; nothing where there is none
+abbrev pub brings : List Receipt → ℕ → (Key → List Entry) → Brought
+brings journal i at = option_map_or (λ r. brought_by_item journal i at r.item) (receipt_at journal i) nothing_pending

@@ -1,0 +1,26 @@
+// What becomes of an item.
+use folio_sections::Defects;
+use gb_base::{Day, Section};
+
+/// What becomes of an item.
+#[derive(Clone, Debug, Drop)]
+pub enum Verdict {
+    /// The filing is entered (GBO § 44).
+    Entered,
+    /// The filing is rejected under this section (GBO § 18).
+    Rejected(Section),
+    /// The filing waits for cures of these defects, in time until this day (GBO § 18).
+    Interim { until: Day, defects: Defects },
+    /// By this cure the filing that it names is entered.
+    Cured,
+    /// The filing that the cure names is rejected under this section.
+    CureRejected(Section),
+    /// The filing that the cure names waits on, for cures of these defects.
+    StillOpen(Defects),
+    /// The filing that the lapse names is rejected, since its deadline is over (GBO § 18).
+    Lapsed,
+    /// The deadline of the filing that the lapse names is not over: this day is the last of it.
+    TooEarly(Day),
+    /// The filing that the item names does not wait.
+    NotPending,
+}
