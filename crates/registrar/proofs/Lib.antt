@@ -1,2 +1,4 @@
 -- Lemmas.
+pub mod Additions
 pub mod Dealing
+pub mod WaitingStates

@@ -1,3 +1,8 @@
 -- What contracts cite.
 pub mod Brings
+pub mod ItemKeys
+pub mod Rooms
+pub mod Schedules
+pub mod ScratchRoom
 pub mod Settling
+pub mod inner

@@ -1,6 +1,9 @@
 //! The one registrar: what each item brings about, and the register of a whole journal.
 #![tactic(auto)]
 
+mod scratch;
+mod settling;
 mod verdicts;
 
+pub use scratch::Scratch;
 pub use verdicts::Verdict;

@@ -1,0 +1,33 @@
+-- How much room an item needs at its keys.
+use Rattle.std.specs.Prelude.{ℕ, ◌+◌, ◌≤◌, List, length, Contains}
+use Rattle.std.specs.Option.{option_map_or}
+use Rattle.gb_base.specs.declared.keys.Key.{Key}
+use Rattle.act_model.specs.Receiving.{receipt_at}
+use Rattle.act_model.specs.declared.items.Item.{Item}
+use Rattle.act_model.specs.declared.items.Item.TheVariants as item
+use Rattle.act_model.specs.declared.receipts.Receipt.{Receipt}
+use Rattle.folio_sections.specs.Entering.{waiting_unnoticed}
+use Rattle.folio_sections.specs.declared.entries.Entry.{Entry}
+use Rattle.registrar.specs.ItemKeys.{keys_of_item}
+
+-- the most entries that an item brings at one key, official notices apart
+abbrev pub most_brought : ℕ
+most_brought = 3
+
+-- where filing m may be entered at a key: an official notice for each earlier one that waits there without one, besides
+abbrev pub room_to_enter : ℕ → List Entry → ℕ
+room_to_enter m entries = most_brought + length (waiting_unnoticed m entries)
+
+-- what item i wants at one of its keys
+abbrev pub room_by_item : ℕ → Item → List Entry → ℕ
+room_by_item i (item.Filing f) entries = room_to_enter i entries
+room_by_item i (item.Cure m docs) entries = room_to_enter m entries
+room_by_item i other entries = 1
+
+-- the same of receipt i
+abbrev pub room_wanted : List Receipt → ℕ → List Entry → ℕ
+room_wanted journal i entries = option_map_or (λ r. room_by_item i r.item entries) (receipt_at journal i) 1
+
+-- each of the item's keys has it
+abbrev pub HasItsRoom : List Receipt → ℕ → (Key → List Entry) → (Key → ℕ) → Type 0
+HasItsRoom journal i at room = (k : Key) → Contains (keys_of_item journal i) k → room_wanted journal i (at k) ≤ room k

@@ -1,0 +1,14 @@
+-- The orders in which the items of a journal may be settled (GBO § 17): of two that touch one key the earlier comes first.
+use Rattle.std.specs.Prelude.{◌≡◌, ◌↔◌, ℕ, ◌<◌, ◌≤◌, List, length, Any, AllPairs, Contains}
+use Rattle.act_model.specs.declared.receipts.Receipt.{Receipt}
+use Rattle.registrar.specs.ItemKeys.{keys_of_item}
+
+-- two items touch a key in common
+abbrev pub Conflicts : List Receipt → ℕ → ℕ → Type 0
+Conflicts journal i j = Any (λ k. Contains (keys_of_item journal j) k) (keys_of_item journal i)
+
+-- Each number of the journal stands once, and of two that conflict the smaller stands ahead.
+pub record IsPermitted (journal : List Receipt) (order : List ℕ) : Type 0 where
+  pub all : (n : ℕ) → Contains order n ↔ (1 ≤ n) × (n ≤ length journal)
+  pub once : AllPairs (λ i later. i ≡ later → ⊥) order
+  pub in_turn : AllPairs (λ i later. Conflicts journal i later → i < later) order

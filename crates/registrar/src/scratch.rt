@@ -1,0 +1,32 @@
+// What a settlement works in.
+ghost use Rattle.std.specs.Prelude.{◌≤◌, IfOk};
+
+use gb_base::NoMemory;
+use std::alloc::Global;
+use std::marker::Model;
+
+/// What a settlement works in, so that it takes no memory. Filings, cures and lapses need none of
+/// it; it only keeps how much it is for.
+#[derive(Debug, Drop)]
+pub struct Scratch {
+    rights: usize,
+    swaps: usize,
+}
+
+impl Model for Scratch {
+    ghost use Rattle.registrar.specs.ScratchRoom.{ScratchRoom};
+
+    ghost Value = { ScratchRoom };
+
+    ghost view = { λ a. record { rights = a.rights; swaps = a.swaps } };
+}
+
+impl Scratch {
+    /// Room for so many rights of a folio, and for so many exchanges of ranks among them.
+    pub fn with_room(_alloc: Global, rights: usize, swaps: usize) -> Result<Scratch, NoMemory>
+        ensures rights { IfOk result (λ scratch. rights ≤ scratch.rights) }
+        ensures swaps { IfOk result (λ scratch. swaps ≤ scratch.swaps) }
+    {
+        Ok(Scratch { rights, swaps })
+    }
+}

@@ -1,0 +1,164 @@
+// What an item brings, added to the parts of a register (GBO §§ 16 to 18).
+ghost use Rattle.std.specs.Prelude.{◌≡◌, ◌<◌, ◌≤◌, Some, length, option_map, Contains, IsSome, IsTrue};
+ghost use Rattle.gb_base.specs.declared.keys.Key.{Key};
+ghost use Rattle.act_model.specs.Receiving.{receipt_at};
+ghost use Rattle.act_model.specs.Touches.{filing_at, keys_of_filing};
+ghost use Rattle.folio_sections.specs.Adding.{AddsList, HasRoom};
+ghost use Rattle.folio_sections.specs.Entering.{enters};
+ghost use Rattle.folio_sections.specs.Judging.{KnowsExchanges};
+ghost use Rattle.interim_orders.specs.Orders.{state_of};
+ghost use Rattle.registrar.specs.Brings.{brought_by_cure, brought_by_filing, brought_by_item, brought_in_state, verdict_on_lapse};
+ghost use Rattle.registrar.specs.ItemKeys.{keys_by_item};
+ghost use Rattle.registrar.specs.inner.Exchanges.{KnowsItsExchanges};
+
+use crate::Verdict;
+use act_model::{Item, Journal};
+use consent_rules::{Judgement, judge};
+use entry_rules::enter;
+use folio_sections::Parts;
+use gb_base::ReceiptNo;
+use interim_orders::{FilingState, Lapse, close_order, enter_notices, lapse, open_order, state};
+
+/// Adds what this item of the journal brings, and says what becomes of it.
+pub fn settle<P: Parts>(parts: &mut P, journal: &Journal, item: ReceiptNo, what: &Item) -> Verdict
+    requires received { item ≤ length journal.now.receipts }
+    requires item { option_map (λ r. r.item) (receipt_at journal.now.receipts item) ≡ Some what.now }
+    requires held { (k : Key) → Contains (keys_by_item journal.now.receipts item what.now) k → IsTrue (P.holds parts.old k) }
+    requires room { HasRoom (P.room parts.old) (brought_by_item journal.now.receipts item (P.at parts.old) what.now).entries }
+    requires exchanges { KnowsItsExchanges journal.now.receipts item (P.at parts.old) what.now }
+    ensures verdict { result ≡ (brought_by_item journal.now.receipts item (P.at parts.old) what.now).verdict }
+    ensures added { AddsList (P.at parts.old) (P.at parts.new) (P.room parts.old) (P.room parts.new)
+        (brought_by_item journal.now.receipts item (P.at parts.old) what.now).entries }
+    ensures held { P.holds parts.new ≡ P.holds parts.old }
+{
+    match what {
+        Item::Filing(_) => {
+            let judgement = judge(parts, journal, item, item);
+            settle_filing(parts, journal, item, judgement)
+        }
+        Item::Cure { filing, .. } => settle_cure(parts, journal, item, *filing),
+        Item::Lapse { .. } => verdict_on_lapse(lapse(parts, journal, item)),
+        Item::Seize { .. } => Verdict::NotPending,
+        Item::Register { .. } => Verdict::NotPending,
+        Item::OpenBids { .. } => Verdict::NotPending,
+        Item::Award { .. } => Verdict::NotPending,
+        Item::Distribute { .. } => Verdict::NotPending,
+    }
+}
+
+/// A filing is entered, rejected or set to wait, as it is judged.
+fn settle_filing<P: Parts>(
+    parts: &mut P,
+    journal: &Journal,
+    filing: ReceiptNo,
+    judgement: Judgement,
+) -> Verdict
+    requires filing { IsSome (filing_at journal.now.receipts filing) }
+    requires received { filing ≤ length journal.now.receipts }
+    requires held { (k : Key) → Contains (keys_of_filing journal.now.receipts filing) k → IsTrue (P.holds parts.old k) }
+    requires room { HasRoom (P.room parts.old) (brought_by_filing journal.now.receipts filing (P.at parts.old) judgement).entries }
+    ensures verdict { result ≡ (brought_by_filing journal.now.receipts filing (P.at parts.old) judgement).verdict }
+    ensures added { AddsList (P.at parts.old) (P.at parts.new) (P.room parts.old) (P.room parts.new)
+        (brought_by_filing journal.now.receipts filing (P.at parts.old) judgement).entries }
+    ensures held { P.holds parts.new ≡ P.holds parts.old }
+{
+    match judgement {
+        Judgement::Enter => {
+            enter_with_notices(parts, journal, filing, filing);
+            Verdict::Entered
+        }
+        Judgement::Reject(section) => Verdict::Rejected(section),
+        Judgement::Interim(defects) => {
+            let until = open_order(parts, journal, filing);
+            Verdict::Interim { until, defects }
+        }
+    }
+}
+
+/// A cure of a filing that waits has it judged anew.
+fn settle_cure<P: Parts>(
+    parts: &mut P,
+    journal: &Journal,
+    item: ReceiptNo,
+    filing: ReceiptNo,
+) -> Verdict
+    requires received { item ≤ length journal.now.receipts }
+    requires held { filing < item → (k : Key) → Contains (keys_of_filing journal.now.receipts filing) k → IsTrue (P.holds parts.old k) }
+    requires room { HasRoom (P.room parts.old)
+        (brought_in_state journal.now.receipts filing item (P.at parts.old) (state_of journal.now.receipts filing item (P.at parts.old))).entries }
+    requires exchanges { filing < item → KnowsExchanges journal.now.receipts filing (P.at parts.old) }
+    ensures verdict { result ≡ (brought_in_state journal.now.receipts filing item (P.at parts.old) (state_of journal.now.receipts filing item (P.at parts.old))).verdict }
+    ensures added { AddsList (P.at parts.old) (P.at parts.new) (P.room parts.old) (P.room parts.new)
+        (brought_in_state journal.now.receipts filing item (P.at parts.old) (state_of journal.now.receipts filing item (P.at parts.old))).entries }
+    ensures held { P.holds parts.new ≡ P.holds parts.old }
+{
+    match state(parts, journal, item, filing) {
+        FilingState::Pending { .. } => {
+            let judgement = judge(parts, journal, filing, item);
+            settle_waiting(parts, journal, item, filing, judgement)
+        }
+        FilingState::NotPending => Verdict::NotPending,
+    }
+}
+
+/// A filing that waits, and is judged anew with a cure, is entered, rejected or waits on.
+fn settle_waiting<P: Parts>(
+    parts: &mut P,
+    journal: &Journal,
+    item: ReceiptNo,
+    filing: ReceiptNo,
+    judgement: Judgement,
+) -> Verdict
+    requires filing { IsSome (filing_at journal.now.receipts filing) }
+    requires received { item ≤ length journal.now.receipts }
+    requires held { (k : Key) → Contains (keys_of_filing journal.now.receipts filing) k → IsTrue (P.holds parts.old k) }
+    requires room { HasRoom (P.room parts.old) (brought_by_cure journal.now.receipts filing item (P.at parts.old) judgement).entries }
+    ensures verdict { result ≡ (brought_by_cure journal.now.receipts filing item (P.at parts.old) judgement).verdict }
+    ensures added { AddsList (P.at parts.old) (P.at parts.new) (P.room parts.old) (P.room parts.new)
+        (brought_by_cure journal.now.receipts filing item (P.at parts.old) judgement).entries }
+    ensures held { P.holds parts.new ≡ P.holds parts.old }
+{
+    match judgement {
+        Judgement::Enter => {
+            enter_with_notices(parts, journal, item, filing);
+            close_order(parts, journal, item, filing);
+            Verdict::Cured
+        }
+        Judgement::Reject(section) => {
+            close_order(parts, journal, item, filing);
+            Verdict::CureRejected(section)
+        }
+        Judgement::Interim(defects) => Verdict::StillOpen(defects),
+    }
+}
+
+/// Enters a filing by this item: official notices for those that wait, its places, and the contents
+/// of its acts.
+fn enter_with_notices<P: Parts>(
+    parts: &mut P,
+    journal: &Journal,
+    item: ReceiptNo,
+    filing: ReceiptNo,
+)
+    requires filing { IsSome (filing_at journal.now.receipts filing) }
+    requires received { item ≤ length journal.now.receipts }
+    requires held { (k : Key) → Contains (keys_of_filing journal.now.receipts filing) k → IsTrue (P.holds parts.old k) }
+    requires room { HasRoom (P.room parts.old) (enters journal.now.receipts filing item (P.at parts.old)) }
+    ensures added { AddsList (P.at parts.old) (P.at parts.new) (P.room parts.old) (P.room parts.new)
+        (enters journal.now.receipts filing item (P.at parts.old)) }
+    ensures held { P.holds parts.new ≡ P.holds parts.old }
+{
+    enter_notices(parts, journal, item, filing);
+    enter(parts, journal, item, filing);
+}
+
+/// What becomes of a lapse by its answer.
+fn verdict_on_lapse(answer: Lapse) -> Verdict
+    ensures { result ≡ verdict_on_lapse answer }
+{
+    match answer {
+        Lapse::Rejected => Verdict::Lapsed,
+        Lapse::TooEarly(until) => Verdict::TooEarly(until),
+        Lapse::NotPending => Verdict::NotPending,
+    }
+}
