@@ -1,5 +1,5 @@
 // What an item brings, added to the parts of a register (GBO §§ 16 to 18).
-ghost use Rattle.std.specs.Prelude.{◌≡◌, ◌<◌, ◌≤◌, Some, length, option_map, Contains, IsSome, IsTrue};
+ghost use Rattle.std.specs.Prelude.{◌≡◌, ◌<◌, ◌≤◌, ℕ, Some, length, option_map, Contains, IsSome, IsTrue};
 ghost use Rattle.gb_base.specs.declared.keys.Key.{Key};
 ghost use Rattle.act_model.specs.Receiving.{receipt_at};
 ghost use Rattle.act_model.specs.Touches.{filing_at, keys_of_filing};
@@ -7,6 +7,7 @@ ghost use Rattle.folio_sections.specs.Adding.{AddsList, HasRoom};
 ghost use Rattle.folio_sections.specs.Entering.{enters};
 ghost use Rattle.folio_sections.specs.Judging.{KnowsExchanges};
 ghost use Rattle.interim_orders.specs.Orders.{state_of};
+ghost use Rattle.interim_orders.specs.declared.states.FilingState.TheVariants.{Pending};
 ghost use Rattle.registrar.specs.Brings.{brought_by_cure, brought_by_filing, brought_by_item, brought_in_state, verdict_on_lapse};
 ghost use Rattle.registrar.specs.ItemKeys.{keys_by_item};
 ghost use Rattle.registrar.specs.inner.Exchanges.{KnowsItsExchanges};
@@ -86,7 +87,7 @@ fn settle_cure<P: Parts>(
     requires held { filing < item → (k : Key) → Contains (keys_of_filing journal.now.receipts filing) k → IsTrue (P.holds parts.old k) }
     requires room { HasRoom (P.room parts.old)
         (brought_in_state journal.now.receipts filing item (P.at parts.old) (state_of journal.now.receipts filing item (P.at parts.old))).entries }
-    requires exchanges { filing < item → KnowsExchanges journal.now.receipts filing (P.at parts.old) }
+    requires exchanges { (until : ℕ) → state_of journal.now.receipts filing item (P.at parts.old) ≡ Pending until → KnowsExchanges journal.now.receipts filing (P.at parts.old) }
     ensures verdict { result ≡ (brought_in_state journal.now.receipts filing item (P.at parts.old) (state_of journal.now.receipts filing item (P.at parts.old))).verdict }
     ensures added { AddsList (P.at parts.old) (P.at parts.new) (P.room parts.old) (P.room parts.new)
         (brought_in_state journal.now.receipts filing item (P.at parts.old) (state_of journal.now.receipts filing item (P.at parts.old))).entries }
