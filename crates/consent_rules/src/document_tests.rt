@@ -10,7 +10,7 @@ use gb_base::{Day, Key, Section};
 use std::alloc::Global;
 use std::process::Abort;
 
-/// The register with a land charge of owner 10 as receipt 4, with these documents.
+/// The register with a filing by owner 10 for a land charge as receipt 4, with these documents.
 fn charged(rt: &impl Abort, alloc: Global, docs: &[Doc]) -> TestRegister {
     let mut register = register(rt, alloc);
     let acts = one(create(rt, 7, charge(rt, 10_000, 20, 1), None));
@@ -19,7 +19,7 @@ fn charged(rt: &impl Abort, alloc: Global, docs: &[Doc]) -> TestRegister {
     register
 }
 
-/// The register with the cancellation of 2.1 as receipt 4, with consents of owner and holder.
+/// The register with the cancellation of 2.1 as receipt 4, with these documents.
 fn cancelling(rt: &impl Abort, alloc: Global, docs: &[Doc]) -> TestRegister {
     let mut register = register(rt, alloc);
     let cancel = Act::Cancel {

@@ -14,7 +14,7 @@ use folio_sections::{Defect, Defects, Documents, Judgement, Parts};
 use gb_base::ReceiptNo;
 
 /// Filing `filing`, judged on the register as it stands, with its documents and those of its cures
-/// up to receipt `upto`. Takes no memory.
+/// up to receipt `upto` (GBO § 18). `can_be_judged` tests what this asks. Takes no memory.
 pub fn judge<P: Parts>(
     parts: &P,
     journal: &Journal,

@@ -5,7 +5,7 @@ use Rattle.folio_sections.specs.declared.entries.Entry.{Entry}
 use Rattle.folio_sections.specs.declared.entries.What.{What}
 use Rattle.folio_sections.specs.declared.entries.What.TheVariants as what
 
--- a content distributes the proceeds
+-- a content distributes the proceeds (ZVG § 105)
 abbrev pub is_distribution : What → Bool
 is_distribution what.Distributed = true
 is_distribution other = false
@@ -14,16 +14,16 @@ is_distribution other = false
 abbrev pub case : List Entry → List Entry
 case entries = after_last (λ e. is_distribution e.what) entries
 
--- a content seizes the land
+-- a content seizes the land (ZVG § 20)
 abbrev pub is_seizure : What → Bool
 is_seizure what.Seized = true
 is_seizure other = false
 
--- the case runs: the land is seized in it
+-- the case runs: the land is seized in it (ZVG § 20)
 abbrev pub is_running : List Entry → Bool
 is_running entries = list_any (λ e. is_seizure e.what) (case entries)
 
--- how many seizures the case has
+-- how many seizures the case has (ZVG §§ 20, 27)
 abbrev pub seizures : List Entry → ℕ
 seizures entries = count_by (λ e. is_seizure e.what) (case entries)
 
@@ -32,7 +32,7 @@ abbrev pub award_by : ℕ → Option ℕ → What → Option ℕ
 award_by receipt before (what.Awarded buyer bid) = Some receipt
 award_by receipt before other = before
 
--- the receipt of the case's last award
+-- the receipt of the case's last award (ZVG § 81)
 abbrev pub award : List Entry → Option ℕ
 award entries = fold (λ before e. award_by e.receipt before e.what) None (case entries)
 
@@ -41,6 +41,6 @@ abbrev pub call_by : ℕ → Option ℕ → What → Option ℕ
 call_by receipt before (what.Bids costs) = Some receipt
 call_by receipt before other = before
 
--- the receipt of the case's last call to bid
+-- the receipt of the case's last call to bid (ZVG § 66)
 abbrev pub call : List Entry → Option ℕ
 call entries = fold (λ before e. call_by e.receipt before e.what) None (case entries)

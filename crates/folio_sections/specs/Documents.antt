@@ -44,7 +44,7 @@ abbrev pub is_consent_of : ℕ → ℕ → Doc → Bool
 is_consent_of a person (doc.Consent act p given) = act == a && p == person
 is_consent_of a person other = false
 
--- a certified one
+-- a certified consent of the person for the act
 abbrev pub is_certified_consent_of : ℕ → ℕ → Doc → Bool
 is_certified_consent_of a person (doc.Consent act p form.Certified) = act == a && p == person
 is_certified_consent_of a person other = false

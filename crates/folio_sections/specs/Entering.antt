@@ -41,7 +41,7 @@ waiting_unnoticed m entries = filter (λ n. is_none (notice n entries)) (waiting
 abbrev pub notices_at : List Receipt → ℕ → ℕ → (Key → List Entry) → Key → List Entry
 notices_at journal m i at key = map (λ n. entry_by journal i key (what.Notice n)) (waiting_unnoticed m (at key))
 
--- all of them, key by key
+-- the official notices that the entry of filing m brings, key by key
 abbrev pub notices_brought : List Receipt → ℕ → ℕ → (Key → List Entry) → List Entry
 notices_brought journal m i at = flat_map (notices_at journal m i at) (keys_in_order journal m)
 
@@ -55,7 +55,7 @@ placed_in journal m i at folio =
     (what.Placed m (create_in_division false folio (acts_of journal m)) (create_in_division true folio (acts_of journal m))) ∷ []
     else []
 
--- the same at a key, where it is a title
+-- the place that filing m gets at a key, where this is the title of a folio
 abbrev pub placed_at : List Receipt → ℕ → ℕ → (Key → List Entry) → Key → List Entry
 placed_at journal m i at (Title folio) = placed_in journal m i at folio
 placed_at journal m i at (Right folio right) = []

@@ -15,12 +15,12 @@ IsPlacedInTime journal e (Title folio) = IfSome (place_by journal folio e.day e.
 IsPlacedInTime journal e (Right folio right) = Unit {0}
 IsPlacedInTime journal e (Case folio) = Unit {0}
 
--- so is the filing that an entry sets to wait
+-- the filing that an entry sets to wait is its receipt or an earlier one
 abbrev pub WaitsInTime : ℕ → What → Type 0
 WaitsInTime receipt (what.Pending filing until) = filing ≤ receipt
 WaitsInTime receipt other = Unit {0}
 
--- so is the filing of a right where it is created
+-- the filing of a right that an entry creates is its receipt or an earlier one
 abbrev pub IsCreatedInTime : ℕ → Key → What → Type 0
 IsCreatedInTime receipt (Right folio right) (what.Created made) = right.receipt ≤ receipt
 IsCreatedInTime receipt key other = Unit {0}

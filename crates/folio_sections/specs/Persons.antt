@@ -36,7 +36,7 @@ abbrev pub persons : Option (List ℕ) → List ℕ
 persons (Some people) = people
 persons None = []
 
--- the owners as of an act
+-- the owners as of an act, as a list: empty where there are none
 abbrev pub owners_then : ℕ → (Key → List Entry) → List Act → ℕ → List ℕ
 owners_then m at before folio = persons (owners_as_of m at before folio)
 

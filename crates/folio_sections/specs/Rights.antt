@@ -15,7 +15,7 @@ abbrev pub created_by : Option Created → What → Option Created
 created_by before (what.Created made) = Some made
 created_by before other = before
 
--- the right as it was created
+-- the right as it was created (BGB § 873)
 abbrev pub created : List Entry → Option Created
 created entries = fold (λ before e. created_by before e.what) None entries
 
@@ -26,7 +26,7 @@ live_by before (what.Cancelled expired) = false
 live_by before what.Expired = false
 live_by before other = before
 
--- the right is live: it was created, and neither cancelled nor expired since
+-- the right is live: it was created, and neither cancelled nor expired since (BGB § 875, ZVG § 91)
 abbrev pub is_live : List Entry → Bool
 is_live entries = fold (λ before e. live_by before e.what) false entries
 
@@ -34,7 +34,7 @@ is_live entries = fold (λ before e. live_by before e.what) false entries
 abbrev pub live_right : List Entry → Option Created
 live_right entries = if is_live entries then created entries else None
 
--- a content enters the right of a priority notice
+-- a content enters the right of a priority notice (BGB § 883(3))
 abbrev pub is_conversion : What → Bool
 is_conversion what.Converted = true
 is_conversion other = false
@@ -50,7 +50,7 @@ is_full_form (Some form.Full) = true
 is_full_form (Some form.Notice) = false
 is_full_form None = false
 
--- the right itself is entered, and not only a priority notice for it
+-- the right itself is entered, and not only a priority notice for it (BGB § 883)
 abbrev pub is_full : List Entry → Bool
 is_full entries = is_full_form (form_of entries)
 
@@ -59,12 +59,12 @@ abbrev pub new_holder_by : Option ℕ → What → Option ℕ
 new_holder_by before (what.Holder person) = Some person
 new_holder_by before other = before
 
--- the holder: the last new one, else the one with whom the right was created
+-- the holder: the last new one, else the one with whom the right was created (BGB § 873)
 abbrev pub holder : List Entry → Option ℕ
 holder entries =
     option_or (fold (λ before e. new_holder_by before e.what) None entries) (option_map (λ made. made.spec.holder) (created entries))
 
--- the holder whom filing m concerns: the one of the moment of its official notice, where it stands, else the holder
+-- the holder whom filing m concerns (GBO § 18(2)): that of the moment of its official notice, where it stands, else the holder
 abbrev pub holder_for : ℕ → List Entry → Option ℕ
 holder_for m entries = if is_some (notice m entries) then holder (before_notice m entries) else holder entries
 
@@ -73,12 +73,12 @@ abbrev pub remaining_by : Option ℕ → What → Option ℕ
 remaining_by before (what.Remains capital) = Some capital
 remaining_by before other = before
 
--- the capital: the one that the last award left, else the one with which the right was created
+-- the capital: the one that the last award left, else the one with which the right was created (ZVG § 52)
 abbrev pub capital : List Entry → Option ℕ
 capital entries =
     option_or (fold (λ before e. remaining_by before e.what) None entries) (option_map (λ made. made.spec.capital) (created entries))
 
--- a content spends the right's reservation
+-- a content spends the right's reservation (BGB § 881)
 abbrev pub is_exercise : What → Bool
 is_exercise (what.Exercised by) = true
 is_exercise other = false

@@ -7,7 +7,7 @@ use Rattle.folio_sections.specs.declared.entries.Entry.{Entry}
 use Rattle.folio_sections.specs.declared.entries.What.{What}
 use Rattle.folio_sections.specs.declared.entries.What.TheVariants as what
 
--- a content opens the folio
+-- a content opens the folio (GBO § 3)
 abbrev pub is_opening : What → Bool
 is_opening (what.Opened inventory owners) = true
 is_opening other = false
@@ -21,7 +21,7 @@ abbrev pub inventory_by : Option Inventory → What → Option Inventory
 inventory_by before (what.Opened inventory owners) = Some inventory
 inventory_by before other = before
 
--- the parcel that the folio is kept for
+-- the parcel that the folio is kept for (GBV § 6)
 abbrev pub inventory : List Entry → Option Inventory
 inventory entries = fold (λ before e. inventory_by before e.what) None entries
 
@@ -32,17 +32,17 @@ owners_by before (what.Owner owners) = Some owners
 owners_by before (what.AwardOwner buyer) = Some (buyer ∷ [])
 owners_by before other = before
 
--- the owners
+-- the owners (BGB § 925, ZVG § 90)
 abbrev pub owners : List Entry → Option (List ℕ)
 owners entries = fold (λ before e. owners_by before e.what) None entries
 
--- a content makes the buyer of an award the owner
+-- a content makes the buyer of an award the owner (ZVG § 90)
 abbrev pub is_award_owner : What → Bool
 is_award_owner (what.AwardOwner buyer) = true
 is_award_owner other = false
 
 -- The owners whom filing m concerns: those of the moment of its official notice, where it stands and no award's owner
--- follows it, else the owners.
+-- follows it, else the owners (GBO § 18(2)).
 abbrev pub owners_for : ℕ → List Entry → Option (List ℕ)
 owners_for m entries =
     if is_some (notice m entries) && not (list_any (λ e. is_award_owner e.what) (after_notice m entries))

@@ -41,7 +41,7 @@ notice m entries =
 abbrev pub before_notice : ℕ → List Entry → List Entry
 before_notice m entries = before_first (λ e. is_notice_of m e.what) entries
 
--- the entries behind it
+-- the entries behind the official notice of filing m
 abbrev pub after_notice : ℕ → List Entry → List Entry
 after_notice m entries = after_first (λ e. is_notice_of m e.what) entries
 

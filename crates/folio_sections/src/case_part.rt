@@ -77,7 +77,8 @@ impl CasePart {
         self.list.key()
     }
 
-    /// Whether a case runs: the land is seized, and the proceeds are not distributed yet.
+    /// Whether a case runs: the land is seized (ZVG § 20), and the proceeds are not distributed
+    /// yet.
     pub fn running(&self) -> bool
         ensures { result ≡ is_running self.now.entries }
     {
@@ -115,7 +116,7 @@ impl CasePart {
             .fold(None, |before, entry| call_by(before, entry))
     }
 
-    /// The day until which a filing waits for cures; None where it does not wait.
+    /// The day until which a filing waits for cures (GBO § 18); None where it does not wait.
     pub fn pending(&self, filing: ReceiptNo) -> Option<Day>
         ensures { result ≡ pending filing self.now.entries }
     {
@@ -123,7 +124,7 @@ impl CasePart {
     }
 
     /// The first filing above `after`, and below `filing`, that waits here without an official
-    /// notice; None where there is none.
+    /// notice (GBO § 18(2)); None where there is none.
     pub fn next_unnoticed(&self, after: Option<ReceiptNo>, filing: ReceiptNo) -> Option<ReceiptNo>
         ensures { result ≡ find (is_above after) (waiting_unnoticed filing self.now.entries) }
     {

@@ -1,5 +1,6 @@
 //! The parts of a folio: what stands at its title, at its rights and at its forced sale, and what
-//! is read from them.
+//! is read from them; the documents of a filing, and the definitions that the crates of the rules
+//! share.
 #![tactic(auto)]
 
 mod adding;

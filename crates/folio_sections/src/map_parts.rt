@@ -35,7 +35,8 @@ impl Model for MapParts {
 }
 
 impl MapParts {
-    /// The empty parts at these keys, which may repeat and come in any order.
+    /// The empty parts at these keys, which may repeat and come in any order. NoMemory where no
+    /// memory is found.
     pub fn new(alloc: Global, keys: &[Key]) -> Result<MapParts, NoMemory>
         ensures held { IfOk result (λ parts. (k : Key) → is_held parts k ≡ is_given keys.now k) }
         ensures empty { IfOk result (λ parts. All (λ p. p.entries ≡ []) parts) }

@@ -78,7 +78,8 @@ impl RightPart {
         self.list.key()
     }
 
-    /// Whether the right is live: created, and neither cancelled nor expired since.
+    /// Whether the right is live (BGB § 875, ZVG § 91): created, and neither cancelled nor expired
+    /// since.
     pub fn live(&self) -> bool
         ensures { result ≡ is_live self.now.entries }
     {
@@ -87,7 +88,7 @@ impl RightPart {
             .fold(false, |before, entry| live_by(before, &entry.what))
     }
 
-    /// The right as it was created; None where it never was.
+    /// The right as it was created (BGB § 873); None where it never was.
     pub fn created(&self) -> Option<Created>
         ensures { result ≡ created self.now.entries }
     {
@@ -104,7 +105,8 @@ impl RightPart {
         }
     }
 
-    /// The holder: the last new one, else that of the creation; None where there is neither.
+    /// The holder: the last new one, else that of the creation (BGB § 873); None where there is
+    /// neither.
     pub fn holder(&self) -> Option<Person>
         ensures { result ≡ holder self.now.entries }
     {
@@ -112,7 +114,7 @@ impl RightPart {
     }
 
     /// The holder whom a filing concerns: the one of the moment of its official notice, where it
-    /// stands, else the holder.
+    /// stands, else the holder (GBO § 18(2)).
     pub fn holder_for(&self, filing: ReceiptNo) -> Option<Person>
         ensures { result ≡ holder_for filing self.now.entries }
     {
@@ -142,14 +144,14 @@ impl RightPart {
         self.entries().iter().any(|entry| is_exercise(&entry.what))
     }
 
-    /// The day until which a filing waits for cures; None where it does not wait.
+    /// The day until which a filing waits for cures (GBO § 18); None where it does not wait.
     pub fn pending(&self, filing: ReceiptNo) -> Option<Day>
         ensures { result ≡ pending filing self.now.entries }
     {
         waiting::pending(filing, self.entries())
     }
 
-    /// The day of the official notice of a filing; None where none stands.
+    /// The day of the official notice of a filing (GBO § 18(2)); None where none stands.
     pub fn notice(&self, filing: ReceiptNo) -> Option<Day>
         ensures { result ≡ notice filing self.now.entries }
     {
@@ -157,7 +159,7 @@ impl RightPart {
     }
 
     /// The first filing above `after`, and below `filing`, that waits here without an official
-    /// notice; None where there is none.
+    /// notice (GBO § 18(2)); None where there is none.
     pub fn next_unnoticed(&self, after: Option<ReceiptNo>, filing: ReceiptNo) -> Option<ReceiptNo>
         ensures { result ≡ find (is_above after) (waiting_unnoticed filing self.now.entries) }
     {

@@ -87,7 +87,7 @@ impl TitlePart {
         self.entries().iter().any(|entry| is_opening(&entry.what))
     }
 
-    /// The parcel that the folio is kept for; None where it is not open.
+    /// The parcel that the folio is kept for (GBV § 6); None where it is not open.
     pub fn inventory(&self) -> Option<Inventory>
         ensures { result ≡ inventory self.now.entries }
     {
@@ -96,7 +96,7 @@ impl TitlePart {
             .fold(None, |before, entry| inventory_by(before, &entry.what))
     }
 
-    /// The owners; None where no entry names any.
+    /// The owners (BGB § 925, ZVG § 90); None where no entry names any.
     pub fn owners(&self) -> Option<Owners>
         ensures { result ≡ owners self.now.entries }
     {
@@ -104,7 +104,7 @@ impl TitlePart {
     }
 
     /// The owners whom a filing concerns: those of the moment of its official notice, where it
-    /// stands and no award's owner follows it, else the owners.
+    /// stands and no award's owner follows it, else the owners (GBO § 18(2)).
     pub fn owners_for(&self, filing: ReceiptNo) -> Option<Owners>
         ensures { result ≡ owners_for filing self.now.entries }
     {
@@ -118,14 +118,14 @@ impl TitlePart {
         }
     }
 
-    /// The day until which a filing waits for cures; None where it does not wait.
+    /// The day until which a filing waits for cures (GBO § 18); None where it does not wait.
     pub fn pending(&self, filing: ReceiptNo) -> Option<Day>
         ensures { result ≡ pending filing self.now.entries }
     {
         waiting::pending(filing, self.entries())
     }
 
-    /// The day of the official notice of a filing; None where none stands.
+    /// The day of the official notice of a filing (GBO § 18(2)); None where none stands.
     pub fn notice(&self, filing: ReceiptNo) -> Option<Day>
         ensures { result ≡ notice filing self.now.entries }
     {
@@ -133,7 +133,7 @@ impl TitlePart {
     }
 
     /// The first filing above `after`, and below `filing`, that waits here without an official
-    /// notice; None where there is none.
+    /// notice (GBO § 18(2)); None where there is none.
     pub fn next_unnoticed(&self, after: Option<ReceiptNo>, filing: ReceiptNo) -> Option<ReceiptNo>
         ensures { result ≡ find (is_above after) (waiting_unnoticed filing self.now.entries) }
     {

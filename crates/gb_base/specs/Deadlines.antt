@@ -1,4 +1,4 @@
--- When the waiting of a filing ends (GBO § 18).
+-- The last day for a cure (GBO § 18).
 use Rattle.std.specs.Prelude.{ℕ, ◌+◌, ◌%◌, ◌==◌, if◌then◌else◌}
 
 -- how many days a day is behind a Monday: day 0, 1970-01-01, was a Thursday

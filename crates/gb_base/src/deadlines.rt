@@ -1,4 +1,4 @@
-// When the waiting of a filing ends.
+// The last day for a cure (GBO § 18).
 ghost use Rattle.std.specs.Prelude.{◌≡◌, ◌≤◌, ◌+◌};
 ghost use Rattle.jiff_core.specs.Weekday.{monday_zero};
 ghost use Rattle.gb_base.specs.DayMinute.{IsStampDay};

@@ -6,7 +6,7 @@ use gb_base::Day;
 pub enum Lapse {
     /// The deadline is not over: this day is the last of it.
     TooEarly(Day),
-    /// The filing named does not wait.
+    /// The filing named does not wait, or the item is no lapse.
     NotPending,
     /// The filing is rejected.
     Rejected,

@@ -15,8 +15,8 @@ use act_model::{Item, Journal};
 use folio_sections::{Parts, day_of};
 use gb_base::{Day, ReceiptNo};
 
-/// Answers a lapse, and where the deadline is over ends the waiting of the filing that it names. It
-/// takes no memory and cannot fail.
+/// Answers a lapse, and where the deadline is over ends the waiting of the filing that it names
+/// (GBO § 18(1)). It takes no memory and cannot fail.
 pub fn lapse<P: Parts>(parts: &mut P, journal: &Journal, item: ReceiptNo) -> Lapse
     requires received { item ≤ length journal.now.receipts }
     requires held { (m : ℕ) → lapse_at journal.now.receipts item ≡ Some m → m < item

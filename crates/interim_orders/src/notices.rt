@@ -12,7 +12,7 @@ use folio_sections::{Parts, What, add, entry_by};
 use gb_base::{Key, ReceiptNo};
 
 /// Enters, at each key of a filing that this item enters, the official notice of each earlier filing
-/// that waits there without one. It takes no memory and cannot fail.
+/// that waits there without one (GBO § 18(2)). It takes no memory and cannot fail.
 pub fn enter_notices<P: Parts>(parts: &mut P, journal: &Journal, item: ReceiptNo, filing: ReceiptNo)
     requires received { item ≤ length journal.now.receipts }
     requires held { (k : Key) → Contains (keys_of_filing journal.now.receipts filing) k → IsTrue (P.holds parts.old k) }

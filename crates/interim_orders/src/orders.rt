@@ -10,9 +10,9 @@ use act_model::{Journal, filing_keys};
 use folio_sections::{Parts, What, add, day_of, entry_by};
 use gb_base::{Day, ReceiptNo, deadline};
 
-/// Sets a filing with curable defects to wait at each of its keys, and says until when: for 30
-/// days, and on to the next Monday where the last is a Saturday or Sunday (BGB § 193). It takes no
-/// memory and cannot fail.
+/// Sets a filing with curable defects to wait at each of its keys (GBO § 18(1)), and says until
+/// when: for 30 days, and on to the next Monday where the last is a Saturday or Sunday (BGB § 193).
+/// It takes no memory and cannot fail.
 pub fn open_order<P: Parts>(parts: &mut P, journal: &Journal, filing: ReceiptNo) -> Day
     requires filing { IsSome (filing_at journal.now.receipts filing) }
     requires held { (k : Key) → Contains (keys_of_filing journal.now.receipts filing) k → IsTrue (P.holds parts.old k) }
@@ -26,7 +26,8 @@ pub fn open_order<P: Parts>(parts: &mut P, journal: &Journal, filing: ReceiptNo)
     until
 }
 
-/// Ends the waiting of a filing at each of its keys. It takes no memory and cannot fail.
+/// Ends the waiting of a filing at each of its keys (GBO § 18(1)). It takes no memory and cannot
+/// fail.
 pub fn close_order<P: Parts>(parts: &mut P, journal: &Journal, item: ReceiptNo, filing: ReceiptNo)
     requires received { item ≤ length journal.now.receipts }
     requires held { (k : Key) → Contains (keys_of_filing journal.now.receipts filing) k → IsTrue (P.holds parts.old k) }

@@ -9,16 +9,16 @@ use act_model::{Journal, filing_keys};
 use folio_sections::Parts;
 use gb_base::{Day, Key, ReceiptNo};
 
-/// Whether a filing waits for cures.
+/// Whether a filing waits for cures (GBO § 18).
 #[derive(Clone, Copy, Debug, PartialEq, Eq)]
 pub enum FilingState {
-    /// It waits until this day, and beyond it until a lapse is filed.
+    /// It waits until this day, and beyond it until a cure or a lapse ends it.
     Pending { until: Day },
     /// It does not wait.
     NotPending,
 }
 
-/// The state of a filing as an item finds it. Only an earlier filing can be pending.
+/// The state of a filing as an item finds it (GBO § 18). Only an earlier filing can be pending.
 pub fn state<P: Parts>(
     parts: &P,
     journal: &Journal,
