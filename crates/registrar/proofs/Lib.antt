@@ -1,2 +1,4 @@
 -- Lemmas.
+pub mod Added
+pub mod ByItem
 pub mod Dealing
