@@ -2,3 +2,4 @@
 pub mod Added
 pub mod ByItem
 pub mod Dealing
+pub mod EntriesKept
