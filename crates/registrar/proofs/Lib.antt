@@ -3,3 +3,4 @@ pub mod Added
 pub mod ByItem
 pub mod Dealing
 pub mod EntriesKept
+pub mod Unrejected
