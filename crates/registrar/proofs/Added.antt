@@ -34,6 +34,10 @@ all_filtered P p (x ∷ xs) all =
       | false ↦ all_filtered P p xs all.1
     ]
 
+pub each_so : {X : Type 0} (P : X → Type 0) (xs : List X) → ((x : X) → P x) → AllByRecursion P xs
+each_so P [] each = tt
+each_so P (x ∷ xs) each = (each x, each_so P xs each)
+
 -- what holds of all that a list contains holds of each in turn
 pub all_contained : {X : Type 0} (P : X → Type 0) (xs : List X) → ((x : X) → Contains xs x → P x) → AllByRecursion P xs
 all_contained P xs each = all_weaker (Contains xs) P xs each (recursion_from_All (Contains xs) xs (All-contains_itself xs))

@@ -4,3 +4,4 @@ pub mod ByItem
 pub mod Dealing
 pub mod EntriesKept
 pub mod Unrejected
+pub mod WaitingReads
