@@ -47,6 +47,10 @@ pub all_in_range : (a n bound : ℕ) → a + n ≤ bound → AllByRecursion (λ 
 all_in_range a zero bound within = tt
 all_in_range a (suc n) bound within = (omega arith, all_in_range (a + 1) n bound (omega arith))
 
+pub cond_same : {X : Type 0} (b : Bool) (x y : X) → x ≡ y → cond b x y ≡ y
+cond_same true x y same = same
+cond_same false x y same = refl
+
 -- two lists, of which each element of the first stands well with each of the second
 pub pairs_append : {X : Type 0} (R : X → X → Type 0) (xs ys : List X) → AllPairs R xs → AllPairs R ys → All (λ x. All (R x) ys) xs → AllPairs R (xs ++ ys)
 pairs_append R xs ys first second across i j d less within =

@@ -19,7 +19,7 @@ pub all_there : (journal : List Receipt) (m i : ℕ) (es : List Entry) → AllBy
 all_there journal m i es all = all_weaker (IsBrought journal m i) (λ e. Contains (keys_of_filing journal m) e.key) es (λ e brought. brought.there) all
 
 -- what holds of the entries before and of each that is brought, at its key, holds of all at a key
-kept_here : (P : Key → Entry → Type 0) (journal : List Receipt) (m i : ℕ) (before : Key → List Entry) (es : List Entry)
+pub kept_here : (P : Key → Entry → Type 0) (journal : List Receipt) (m i : ℕ) (before : Key → List Entry) (es : List Entry)
     → ((e : Entry) → IsBrought journal m i e → P e.key e) → AllByRecursion (IsBrought journal m i) es
     → (k : Key) → All (P k) (before k) → All (P k) (with_entries before es k)
 kept_here P journal m i before es each all k old =

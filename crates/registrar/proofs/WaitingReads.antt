@@ -1,5 +1,5 @@
 -- Which filings wait at a key, behind entries that leave it and behind marks that set or end it.
-use Rattle.std.proofs.Common.{◌≡◌, ℕ, Bool, true, false, ◌&&◌, ◌||◌, cond, is_none, List, [], ◌∷◌, ◌++◌, map, fold, Option, Some, None, refl, ap, ◌∙◌}
+use Rattle.std.proofs.Common.{◌≡◌, ℕ, true, false, ◌&&◌, ◌||◌, cond, is_none, List, [], ◌∷◌, ◌++◌, map, fold, Option, Some, None, refl, ap, ◌∙◌}
 use Rattle.std.specs.List.{AllByRecursion, enumerate_from}
 use Rattle.std.specs.Option.{option_map_or}
 use Rattle.std.proofs.lemmas.List.Sums.{fold-append}
@@ -22,7 +22,7 @@ use Rattle.folio_sections.specs.declared.entries.Entry.{Entry}
 use Rattle.folio_sections.specs.declared.entries.What.{What}
 use Rattle.folio_sections.specs.declared.entries.What.TheVariants as what
 use Rattle.folio_sections.proofs.Unchanged.{all_both}
-use Rattle.registrar.proofs.Added.{all_flat_mapped, all_mapped, each_so}
+use Rattle.registrar.proofs.Added.{all_flat_mapped, all_mapped, cond_same, each_so}
 use Rattle.registrar.proofs.Dealing.{KeepsWaiting}
 
 -- ---- contents that leave it
@@ -107,13 +107,9 @@ marked n before journal i w k [] twice = refl
 marked n before journal i w k (j ∷ keys) twice =
     elim (same_key j k) as (λ b. fold (λ b e. until_by n b e.what) before (cond b (entry_by journal i j w ∷ at (map (λ j. entry_by journal i j w) keys) k) (at (map (λ j. entry_by journal i j w) keys) k)) ≡ cond (b || has k keys) (until_by n before w) before) [
       | true ↦ marked n (until_by n before w) journal i w k keys twice
-          ∙ either (has k keys) (until_by n (until_by n before w) w) (until_by n before w) (twice before)
+          ∙ cond_same (has k keys) (until_by n (until_by n before w) w) (until_by n before w) (twice before)
       | false ↦ marked n before journal i w k keys twice
     ]
-  where
-    either : (b : Bool) (x y : Option ℕ) → x ≡ y → cond b x y ≡ y
-    either true x y same = same
-    either false x y same = refl
 
 -- behind such a content at each of these keys
 pub pending_marked : (n : ℕ) (before : List Entry) (journal : List Receipt) (i : ℕ) (w : What) (k : Key) (keys : List Key) → ((b : Option ℕ) → until_by n (until_by n b w) w ≡ until_by n b w)
