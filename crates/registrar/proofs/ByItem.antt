@@ -28,8 +28,9 @@ use Rattle.folio_sections.specs.inner.Unnoticed.{lacks_notice}
 use Rattle.folio_sections.proofs.Unchanged.{all_both}
 use Rattle.folio_sections.proofs.Unnoticed.{unnoticed_is}
 use Rattle.entry_rules.proofs.Entered.{keys_are}
+use Rattle.interim_orders.proofs.Noticing.{all_map as all_weaker}
 use Rattle.interim_orders.specs.Orders.{deadline_of, end_brought, order_brought}
-use Rattle.registrar.proofs.Added.{all_contained, all_filtered, all_flat_mapped, all_in_range, all_mapped, all_weaker}
+use Rattle.registrar.proofs.Added.{all_contained, all_filtered, all_flat_mapped, all_in_range, all_mapped}
 use Rattle.registrar.proofs.Dealing.{Deals, IsBrought, Turn, is_it, finds}
 
 -- ---- one entry
@@ -153,12 +154,14 @@ content_by_item journal m acts docs i at a (Assign folio right holder) within ow
     (at_right journal m i folio right (what.Holder holder) (own (Right folio right) (0, omega arith, refl)) tt tt tt, tt)
 content_by_item journal m acts docs i at a (Cancel folio right) within own =
     (at_right journal m i folio right _ (own (Right folio right) (1, omega arith, refl)) tt tt tt, tt)
-content_by_item journal m acts docs i at a (Exchange folio recede rise) within own =
-    (at_right journal m i folio recede (what.Exchanged recede rise a) (own (Right folio recede) (0, omega arith, refl)) tt tt tt,
-      (at_right journal m i folio rise (what.Exchanged recede rise a) (own (Right folio rise) (1, omega arith, refl)) tt tt tt, tt))
-content_by_item journal m acts docs i at a (Exercise folio behind spec) within own =
-    (at_right journal m i folio (new_right m a) _ (own (Right folio (new_right m a)) (2, omega arith, refl)) tt within tt,
-      (at_right journal m i folio behind (what.Exercised (new_right m a)) (own (Right folio behind) (1, omega arith, refl)) tt tt tt, tt))
+content_by_item journal m acts docs i at a (Exchange folio recede rise) within own = (
+  at_right journal m i folio recede (what.Exchanged recede rise a) (own (Right folio recede) (0, omega arith, refl)) tt tt tt,
+  (at_right journal m i folio rise (what.Exchanged recede rise a) (own (Right folio rise) (1, omega arith, refl)) tt tt tt, tt),
+)
+content_by_item journal m acts docs i at a (Exercise folio behind spec) within own = (
+  at_right journal m i folio (new_right m a) _ (own (Right folio (new_right m a)) (2, omega arith, refl)) tt within tt,
+  (at_right journal m i folio behind (what.Exercised (new_right m a)) (own (Right folio behind) (1, omega arith, refl)) tt tt tt, tt),
+)
 
 contents_from : (journal : List Receipt) (m : ℕ) (acts : List Act) (docs : List Doc) (i : ℕ) (at : Key → List Entry) (a : ℕ) (rest : List Act) → m ≤ i
     → ((k : Key) → Contains (keys_of_acts journal m a rest) k → Contains (keys_of_filing journal m) k)

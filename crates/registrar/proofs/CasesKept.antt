@@ -38,11 +38,16 @@ act_no_case journal m a (NoticeFor folio spec) = (tt, (tt, tt))
 act_no_case journal m a (Convert folio right) = (tt, (tt, tt))
 act_no_case journal m a (Assign folio right holder) = (tt, tt)
 act_no_case journal m a (Cancel folio right) = (tt, (tt, tt))
-act_no_case journal m a (Exchange folio recede rise) =
-    (tt, (tt, elim (was_in_division_three journal m folio recede) as (λ b. AllByRecursion IsNoCase (cond b (Title folio ∷ []) [])) [
+act_no_case journal m a (Exchange folio recede rise) = (
+  tt,
+  (
+    tt,
+    elim (was_in_division_three journal m folio recede) as (λ b. AllByRecursion IsNoCase (cond b (Title folio ∷ []) [])) [
       | true ↦ (tt, tt)
       | false ↦ tt
-    ]))
+    ],
+  ),
+)
 act_no_case journal m a (Exercise folio behind spec) = (tt, (tt, (tt, tt)))
 
 acts_no_case : (journal : List Receipt) (m a : ℕ) (acts : List Act) → AllByRecursion IsNoCase (keys_of_acts journal m a acts)

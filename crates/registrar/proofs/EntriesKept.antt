@@ -11,7 +11,8 @@ use Rattle.act_model.proofs.KeyOrder.{has, has_decides}
 use Rattle.folio_sections.specs.Entries.{at, with_entries}
 use Rattle.folio_sections.specs.KeptEntries.{IsCreatedInTime, IsPlacedInTime, ReceiptsRise, WaitsInTime}
 use Rattle.folio_sections.specs.declared.entries.Entry.{Entry}
-use Rattle.registrar.proofs.Added.{all_here, all_weaker, pairs_append, unchanged_elsewhere}
+use Rattle.interim_orders.proofs.Noticing.{all_map as all_weaker}
+use Rattle.registrar.proofs.Added.{all_here, pairs_append, unchanged_elsewhere}
 use Rattle.registrar.proofs.Dealing.{Deals, IsBrought}
 
 -- all that is brought stands at keys of the filing

@@ -68,10 +68,11 @@ few_from : (journal : List Receipt) (m : ℕ) (acts : List Act) (n : ℕ) (rest 
     → AllByRecursion (λ (numbered : ℕ × Act). IfSome (creating_rank journal (new_right m numbered.0)) (λ k. k ≤ most_creations)) (enumerate_from (n + 1) rest)
 few_from journal m acts n [] within all = tt
 few_from journal m acts n (act ∷ rest) within all =
-    let behind : number_behind (take n acts) ≡ n + 1 = ap (λ k. k + 1) (length-take-le n acts (omega arith)) in
-    (subst (λ a. IfSome (creating_rank journal (new_right m a)) (λ k. k ≤ most_creations)) behind
-      (in_limit (creating_rank journal (new_right m (number_behind (take n acts)))) all.0),
-      few_from journal m acts (n + 1) rest (omega arith) all.1)
+    let behind : number_behind (take n acts) ≡ n + 1 = ap (λ k. k + 1) (length-take-le n acts (omega arith)) in (
+      subst (λ a. IfSome (creating_rank journal (new_right m a)) (λ k. k ≤ most_creations)) behind
+          (in_limit (creating_rank journal (new_right m (number_behind (take n acts)))) all.0),
+      few_from journal m acts (n + 1) rest (omega arith) all.1,
+    )
 
 -- ---- rights that acts name are of earlier filings
 
@@ -130,11 +131,12 @@ acts_older : (journal : List Receipt) (m : ℕ) (f : Filing) (i : ℕ) (at : Key
     → ((k : Key) → Contains (keys_of_acts journal m a acts) k → Contains (keys_of_filing journal m) k) → AllByRecursion (λ act. lacks_right at act ≡ false) acts
     → AllByRecursion (NamesEarlier i) acts
 acts_older journal m f i at a [] deals own live = tt
-acts_older journal m f i at a (act ∷ acts) deals own live =
-    (act_older journal m f i at a act deals
+acts_older journal m f i at a (act ∷ acts) deals own live = (
+  act_older journal m f i at a act deals
       (λ k there. own k (Contains-append_left (keys_of_act journal m a act) (keys_of_acts journal m (a + 1) acts) k there)) live.0,
-      acts_older journal m f i at (a + 1) acts deals
-      (λ k there. own k (Contains-append_right (keys_of_act journal m a act) (keys_of_acts journal m (a + 1) acts) k there)) live.1)
+  acts_older journal m f i at (a + 1) acts deals
+      (λ k there. own k (Contains-append_right (keys_of_act journal m a act) (keys_of_acts journal m (a + 1) acts) k there)) live.1,
+)
 
 -- an act has a key
 first_key : (journal : List Receipt) (m a : ℕ) (act : Act) → (k : Key) × Contains (keys_of_act journal m a act) k

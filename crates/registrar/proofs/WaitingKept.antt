@@ -45,9 +45,9 @@ waiting_entered journal m f i at deals =
 -- ---- a filing that is set to wait at each of its keys, or waits no longer
 
 -- the content is about filing m alone, and says the same a second time
-record Marks (m : ℕ) (w : What) : Type 0 where
-  others : (n : ℕ) (b : Option ℕ) → eqb m n ≡ false → until_by n b w ≡ b
-  twice : (n : ℕ) (b : Option ℕ) → until_by n (until_by n b w) w ≡ until_by n b w
+pub record Marks (m : ℕ) (w : What) : Type 0 where
+  pub others : (n : ℕ) (b : Option ℕ) → eqb m n ≡ false → until_by n b w ≡ b
+  pub twice : (n : ℕ) (b : Option ℕ) → until_by n (until_by n b w) w ≡ until_by n b w
 
 set_twice : (c : Bool) (o b : Option ℕ) → cond c o (cond c o b) ≡ cond c o b
 set_twice true o b = refl
@@ -56,24 +56,26 @@ set_twice false o b = refl
 set_other : (c : Bool) (o b : Option ℕ) → c ≡ false → cond c o b ≡ b
 set_other c o b is = ap (λ d. cond d o b) is
 
-order_marks : (m until : ℕ) → Marks m (what.Pending m until)
+pub order_marks : (m until : ℕ) → Marks m (what.Pending m until)
 order_marks m until =
     record { others = λ n b is. set_other (eqb m n) (Some until) b is; twice = λ n b. set_twice (eqb m n) (Some until) b }
 
-end_marks : (m : ℕ) → Marks m (what.Settled m)
+pub end_marks : (m : ℕ) → Marks m (what.Settled m)
 end_marks m = record { others = λ n b is. set_other (eqb m n) None b is; twice = λ n b. set_twice (eqb m n) None b }
 
 -- what such a content brings
-abbrev marks_brought : List Receipt → ℕ → ℕ → What → List Entry
+abbrev pub marks_brought : List Receipt → ℕ → ℕ → What → List Entry
 marks_brought journal m i w = map (λ k. entry_by journal i k w) (keys_in_order journal m)
 
-other_waits : (journal : List Receipt) (m i n : ℕ) (w : What) (before : Key → List Entry) (k : Key) → Marks m w → eqb m n ≡ false
+-- another filing waits as before
+pub other_waits : (journal : List Receipt) (m i n : ℕ) (w : What) (before : Key → List Entry) (k : Key) → Marks m w → eqb m n ≡ false
     → pending n (with_entries before (marks_brought journal m i w) k) ≡ pending n (before k)
 other_waits journal m i n w before k mark other =
     pending_marked n (before k) journal i w k (keys_in_order journal m) (mark.twice n)
     ∙ cond_same (has k (keys_in_order journal m)) (until_by n (pending n (before k)) w) (pending n (before k)) (mark.others n (pending n (before k)) other)
 
-own_waits : (journal : List Receipt) (m i : ℕ) (w : What) (before : Key → List Entry) (k : Key) → Marks m w → Contains (keys_of_filing journal m) k
+-- filing m waits as the content says
+pub own_waits : (journal : List Receipt) (m i : ℕ) (w : What) (before : Key → List Entry) (k : Key) → Marks m w → Contains (keys_of_filing journal m) k
     → pending m (with_entries before (marks_brought journal m i w) k) ≡ until_by m (pending m (before k)) w
 own_waits journal m i w before k mark there =
     pending_marked m (before k) journal i w k (keys_in_order journal m) (mark.twice m)
