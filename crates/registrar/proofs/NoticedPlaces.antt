@@ -80,7 +80,7 @@ in_all P (y ∷ ys) x there all = ⊎_elim (λ same. subst P same all.0) (λ lat
 abbrev pub LacksNotice : List Entry → ℕ → Type 0
 LacksNotice entries n = (is_pending n entries ≡ true) × (is_noticed n entries ≡ false)
 
-not_false : (b : Bool) → not b ≡ true → b ≡ false
+pub not_false : (b : Bool) → not b ≡ true → b ≡ false
 not_false true h = absurd (false≢true h)
 not_false false h = refl
 
