@@ -1,7 +1,7 @@
 -- What the entry of a filing, its interim order and the end of its waiting make of one title that is in order.
 use Rattle.std.proofs.Common.{◌≡◌, ℕ, ◌<◌, Bool, true, false, cond, eqb, ◌&&◌, List, [], ◌∷◌, ◌++◌, All, Option, Some, None, is_none, is_some, refl, sym, ap, subst, ◌∙◌, ⊎_elim, append_assoc, arith}
 use Rattle.std.specs.List.{AllByRecursion}
-use Rattle.std.proofs.lemmas.Bool.{cases_Bool, cases_eq, eqb-true, false≢true}
+use Rattle.std.proofs.lemmas.Bool.{cases_Bool, eqb-true, false≢true}
 use Rattle.std.proofs.lemmas.Bool.Decides.{nat_tests}
 use Rattle.std.proofs.lemmas.List.{append-nil}
 use Rattle.gb_base.specs.declared.keys.Key.{Key}
@@ -20,7 +20,7 @@ use Rattle.folio_sections.proofs.Unchanged.{all_both}
 use Rattle.registrar.proofs.Dealing.{KeepsWaiting}
 use Rattle.registrar.proofs.NoticedPlaces.{Noticing}
 use Rattle.registrar.proofs.PlaceReads.{has_place_by_notice, is_noticed, is_ranked, ranked_below, waits_as_before, waits_behind}
-use Rattle.registrar.proofs.RankedTitles.{InOrder, IsUnplaced, PlacedByNotice, PlacedByNoticeBut, Ranked, SetsNone, by_notice_all, by_notice_on, ranked_on, ranked_with}
+use Rattle.registrar.proofs.RankedTitles.{InOrder, IsUnplaced, PlacedByNoticeBut, Ranked, SetsNone, by_notice_all, by_notice_on, ranked_on, ranked_with}
 
 -- ---- contents that neither set a place nor make a filing wait
 
@@ -82,12 +82,12 @@ title_ordered journal folio m i until key xs old before own =
     by_test n (eqb m n) (pending n xs) (λ same. other (sym (eqb-true m n same))) (sym (ap is_some (waits_behind n xs e)) ∙ waits) in
     record {
       ranked = ranked_on journal folio xs (e ∷ []) old.ranked ((refl, tt), tt)
-      (λ x n has less waits.
-      let below : x < m = ranked_below m x (places_among journal folio xs) before has in
-      others n (λ same. let is : n ≡ m = same in omega arith) waits);
+          (λ x n has less waits.
+          let below : x < m = ranked_below m x (places_among journal folio xs) before has in
+          others n (λ same. let is : n ≡ m = same in omega arith) waits);
       by_notice = by_notice_all m (xs ++ e ∷ [])
-      (by_notice_on m xs (e ∷ []) (λ x other waits. old.by_notice x waits) (λ x other waits. (others x other waits, (refl, tt))))
-      (λ waits. all_both (λ y. is_placed m y.what ≡ false) xs (e ∷ []) own (refl, tt));
+          (by_notice_on m xs (e ∷ []) (λ x other waits. old.by_notice x waits) (λ x other waits. (others x other waits, (refl, tt))))
+          (λ waits. all_both (λ y. is_placed m y.what ≡ false) xs (e ∷ []) own (refl, tt));
     }
   where
     by_test : (n : ℕ) (b : Bool) (before : Option ℕ) → (b ≡ true → ⊥) → is_some (cond b (Some until) before) ≡ true → is_some before ≡ true
@@ -189,11 +189,12 @@ entry_by_notice journal folio m i mid contents ready quiet =
     let acts = acts_of journal m in
     let place = place_list journal m i folio mid in
     by_notice_on m mid (place ++ contents) (λ x other waits. ready.noticing.order.by_notice x waits)
-    (λ x other waits.
-    (sym (waits_as_before x mid (place ++ contents) (entry_keeps journal folio m i mid contents quiet)) ∙ waits,
-    all_both (λ e. is_placed x e.what ≡ false) place contents
-    (place_of_other journal folio m i x (creates_there journal folio m && is_none (notice m mid)) (create_in_division false folio acts) (create_in_division true folio acts) other)
-    (quiet_unplaced x contents quiet)))
+    (λ x other waits. (
+      sym (waits_as_before x mid (place ++ contents) (entry_keeps journal folio m i mid contents quiet)) ∙ waits,
+      all_both (λ e. is_placed x e.what ≡ false) place contents
+          (place_of_other journal folio m i x (creates_there journal folio m && is_none (notice m mid)) (create_in_division false folio acts) (create_in_division true folio acts) other)
+          (quiet_unplaced x contents quiet),
+    ))
 
 -- a filing that never waited is entered
 pub title_entered : (journal : List Receipt) (folio m i : ℕ) (mid contents : List Entry) → IsReady journal folio m mid → AllByRecursion (λ e. IsQuiet e.what) contents
@@ -201,7 +202,7 @@ pub title_entered : (journal : List Receipt) (folio m i : ℕ) (mid contents : L
 title_entered journal folio m i mid contents ready quiet rests = record {
   ranked = entry_ranked journal folio m i mid contents ready quiet;
   by_notice = by_notice_all m (with_entry journal m i folio mid contents) (entry_by_notice journal folio m i mid contents ready quiet)
-  (λ waits. absurd (false≢true (sym rests ∙ sym (waits_as_before m mid (place_list journal m i folio mid ++ contents) (entry_keeps journal folio m i mid contents quiet)) ∙ waits)));
+      (λ waits. absurd (false≢true (sym rests ∙ sym (waits_as_before m mid (place_list journal m i folio mid ++ contents) (entry_keeps journal folio m i mid contents quiet)) ∙ waits)));
 }
 
 -- a filing that waited is entered, and waits no longer

@@ -1,7 +1,7 @@
 -- The official notices that the entry of filing m brings at a title, and the places that they set.
-use Rattle.std.proofs.Common.{◌≡◌, ◌⊎◌, ℕ, zero, suc, ◌+◌, ◌-◌, ◌<◌, ◌≤◌, Bool, true, false, cond, eqb, not, ◌||◌, List, [], ◌∷◌, ◌++◌, filter, map, Option, Some, None, is_none, refl, sym, ap, subst, ◌∙◌, ⊎_elim, inl, inr, append_assoc, arith}
+use Rattle.std.proofs.Common.{◌≡◌, ℕ, zero, suc, ◌+◌, ◌-◌, ◌<◌, ◌≤◌, Bool, true, false, cond, eqb, not, ◌||◌, List, [], ◌∷◌, ◌++◌, filter, map, Some, None, is_none, refl, sym, ap, subst, ◌∙◌, ⊎_elim, inl, inr, append_assoc, arith}
 use Rattle.std.specs.List.{AllByRecursion, cons_option, range_with_len}
-use Rattle.std.proofs.lemmas.Bool.{cases_Bool, eqb-true, false≢true, not_from_false, or_from, or_parts}
+use Rattle.std.proofs.lemmas.Bool.{cases_Bool, false≢true, not_from_false, or_from, or_parts}
 use Rattle.std.proofs.lemmas.Bool.Decides.{nat_tests}
 use Rattle.std.proofs.lemmas.List.{append-nil}
 use Rattle.std.proofs.lemmas.List.Folds.{list_any-append}
@@ -16,8 +16,9 @@ use Rattle.folio_sections.specs.declared.entries.Entry.{Entry}
 use Rattle.folio_sections.specs.declared.entries.What.TheVariants as what
 use Rattle.folio_sections.specs.declared.title_places.TitlePlace.{TitlePlace}
 use Rattle.folio_sections.proofs.Unchanged.{all_both}
+use Rattle.interim_orders.proofs.Noticing.{all_map}
 use Rattle.registrar.proofs.PlaceReads.{has_place_by_notice, is_noticed, is_ranked, lacks_is, waits_as_before}
-use Rattle.registrar.proofs.RankedTitles.{InOrder, IsUnplaced, Ranked, ranked_on, ranked_with, unnoticed_has_no_place}
+use Rattle.registrar.proofs.RankedTitles.{InOrder, IsUnplaced, Ranked, ranked_on, ranked_with, all_before_unnoticed}
 
 -- ---- numbers in ascending order
 
@@ -34,15 +35,11 @@ all_filtered P q (x ∷ xs) all =
       | false ↦ λ fails. all_filtered P q xs all.1
     ] refl
 
-all_mapped : {X : Type 0} (P Q : X → Type 0) (xs : List X) → ((x : X) → P x → Q x) → AllByRecursion P xs → AllByRecursion Q xs
-all_mapped P Q [] f all = tt
-all_mapped P Q (x ∷ xs) f all = (f x all.0, all_mapped P Q xs f all.1)
-
 rises_filtered : (q : ℕ → Bool) (xs : List ℕ) → Rises xs → Rises (filter q xs)
 rises_filtered q [] up = tt
 rises_filtered q (x ∷ xs) up =
     elim (q x) as (λ b. Rises (cond b (x ∷ filter q xs) (filter q xs))) [
-      | true ↦ (all_mapped (λ y. (x < y) × (q y ≡ true)) (λ y. x < y) (filter q xs) (λ y both. both.0) (all_filtered (λ y. x < y) q xs up.0), rises_filtered q xs up.1)
+      | true ↦ (all_map (λ y. (x < y) × (q y ≡ true)) (λ y. x < y) (filter q xs) (λ y both. both.0) (all_filtered (λ y. x < y) q xs up.0), rises_filtered q xs up.1)
       | false ↦ rises_filtered q xs up.1
     ]
 
@@ -91,7 +88,7 @@ unnoticed_rise m entries =
 
 pub unnoticed_lack : (m : ℕ) (entries : List Entry) → AllByRecursion (λ n. (n < m) × LacksNotice entries n) (waiting_unnoticed m entries)
 unnoticed_lack m entries =
-    all_mapped (λ n. ((n < m) × (is_pending n entries ≡ true)) × (is_none (notice n entries) ≡ true)) (λ n. (n < m) × LacksNotice entries n) (waiting_unnoticed m entries)
+    all_map (λ n. ((n < m) × (is_pending n entries ≡ true)) × (is_none (notice n entries) ≡ true)) (λ n. (n < m) × LacksNotice entries n) (waiting_unnoticed m entries)
     (λ n all. (all.0.0, (all.0.1, not_false (is_noticed n entries) (sym (lacks_is n entries all.0.1) ∙ all.1))))
     (all_filtered (λ n. (n < m) × (is_pending n entries ≡ true)) (λ n. is_none (notice n entries)) (waiting_before m entries)
     (all_filtered (λ n. n < m) (λ n. is_pending n entries) (below m) (below_less m)))
@@ -131,10 +128,13 @@ lack_on : (journal : List Receipt) (i : ℕ) (key : Key) (n : ℕ) (rest : List 
 lack_on journal i key n [] entries up lack = tt
 lack_on journal i key n (x ∷ rest) entries up lack =
     let less : n < x = up.0 in
-    let other : eqb n x ≡ false = grind (arith, nat_tests, less) in
-    ((waits_as_before x entries (notice_entry journal i key n ∷ []) (tt, tt) ∙ lack.0.0,
-    noticed_on journal i key n x entries ∙ or_from (is_noticed x entries) (eqb n x || false) lack.0.1 (or_from (eqb n x) false other refl)),
-    lack_on journal i key n rest entries up.1 lack.1)
+    let other : eqb n x ≡ false = grind (arith, nat_tests, less) in (
+      (
+        waits_as_before x entries (notice_entry journal i key n ∷ []) (tt, tt) ∙ lack.0.0,
+        noticed_on journal i key n x entries ∙ or_from (is_noticed x entries) (eqb n x || false) lack.0.1 (or_from (eqb n x) false other refl),
+      ),
+      lack_on journal i key n rest entries up.1 lack.1,
+    )
 
 -- a filing before the next that waits and creates a right there has its place
 earlier_placed : (journal : List Receipt) (folio m n : ℕ) (rest : List ℕ) (entries : List Entry) → n < m → Rises (n ∷ rest) → Noticing journal folio m (n ∷ rest) entries
@@ -156,7 +156,7 @@ ranked_noticing journal folio m i key n rest entries within up so_far =
       | true ↦ λ creates.
           ranked_with journal folio entries e (place_of journal folio e.day n) so_far.order.ranked
           (ap (λ b. cond b (Some (place_of journal folio e.day n)) None) creates) tt tt
-          (unnoticed_has_no_place journal folio entries n so_far.order so_far.lack.0.0 creates so_far.lack.0.1)
+          (all_before_unnoticed journal folio entries n so_far.order so_far.lack.0.0 creates so_far.lack.0.1)
           (earlier_placed journal folio m n rest entries within up so_far)
       | false ↦ λ other.
           ranked_on journal folio entries (e ∷ []) so_far.order.ranked
@@ -202,10 +202,10 @@ all_notices_ranked journal folio m i key entries order =
     let ns = waiting_unnoticed m entries in
     let lack = unnoticed_lack m entries in
     all_noticed_from journal folio m i key ns entries
-    (all_mapped (λ n. (n < m) × LacksNotice entries n) (λ n. n < m) ns (λ n both. both.0) lack) (unnoticed_rise m entries)
+    (all_map (λ n. (n < m) × LacksNotice entries n) (λ n. n < m) ns (λ n both. both.0) lack) (unnoticed_rise m entries)
     (record {
       order = order;
-      lack = all_mapped (λ n. (n < m) × LacksNotice entries n) (LacksNotice entries) ns (λ n both. both.1) lack;
+      lack = all_map (λ n. (n < m) × LacksNotice entries n) (LacksNotice entries) ns (λ n both. both.1) lack;
       left = λ n less creates lacks. unnoticed_has journal folio m n entries less creates lacks;
     })
 
@@ -230,4 +230,4 @@ pub notices_before : (journal : List Receipt) (folio m i : ℕ) (key : Key) (ent
     → AllByRecursion (λ p. p.filing < m) (places_among journal folio (map (notice_entry journal i key) (waiting_unnoticed m entries)))
 notices_before journal folio m i key entries =
     noticed_before journal folio m i key (waiting_unnoticed m entries)
-    (all_mapped (λ n. (n < m) × LacksNotice entries n) (λ n. n < m) (waiting_unnoticed m entries) (λ n both. both.0) (unnoticed_lack m entries))
+    (all_map (λ n. (n < m) × LacksNotice entries n) (λ n. n < m) (waiting_unnoticed m entries) (λ n both. both.0) (unnoticed_lack m entries))

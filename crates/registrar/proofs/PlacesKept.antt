@@ -1,5 +1,5 @@
 -- What an item brings for a filing leaves the places of each folio in order (BGB § 879, GBO § 18).
-use Rattle.std.proofs.Common.{◌≡◌, ℕ, ◌<◌, true, false, cond, not, List, [], ◌∷◌, ◌++◌, map, All, Contains, IsTrue, Some, is_none, is_some, refl, sym, ap, subst, ◌∙◌, append_assoc, arith}
+use Rattle.std.proofs.Common.{◌≡◌, ℕ, ◌<◌, true, false, cond, List, [], ◌∷◌, ◌++◌, map, All, Contains, is_some, refl, sym, ap, subst, ◌∙◌, append_assoc, arith}
 use Rattle.std.specs.List.{AllByRecursion}
 use Rattle.std.proofs.lemmas.List.{append-nil}
 use Rattle.std.proofs.lemmas.List.Elements.{All-from_recursion, recursion_from_All}
@@ -13,9 +13,9 @@ use Rattle.folio_sections.specs.Entering.{enters, entry_by, waiting_unnoticed}
 use Rattle.folio_sections.specs.Entries.{at, with_entries}
 use Rattle.folio_sections.specs.Kept.{Kept}
 use Rattle.folio_sections.specs.KeptEntries.{IsPlacedInTime, ReceiptsRise, WaitsInTime}
-use Rattle.folio_sections.specs.KeptPlaces.{PlacesAscend, is_placed}
-use Rattle.folio_sections.specs.Places.{creates_there, places_among}
-use Rattle.folio_sections.specs.Waiting.{is_pending, notice}
+use Rattle.folio_sections.specs.KeptPlaces.{PlacesAscend}
+use Rattle.folio_sections.specs.Places.{places_among}
+use Rattle.folio_sections.specs.Waiting.{is_pending}
 use Rattle.folio_sections.specs.declared.entries.Entry.{Entry}
 use Rattle.folio_sections.specs.declared.entries.What.{What}
 use Rattle.folio_sections.specs.declared.entries.What.TheVariants as what
@@ -27,7 +27,7 @@ use Rattle.registrar.proofs.EnteredTitles.{IsReady, title_cured, title_ended, ti
 use Rattle.registrar.proofs.NewAtTitles.{contents_at, contents_quiet, entered_elsewhere, entered_there, is_key, marked_at, noticed_title}
 use Rattle.registrar.proofs.NoticedPlaces.{all_notices_ranked, not_false, notice_entry, notices_before}
 use Rattle.registrar.proofs.PlaceReads.{is_noticed, lacks_is, never_waits_before, places_before, places_both, unplaced_before, waits_as_before}
-use Rattle.registrar.proofs.RankedTitles.{InOrder, IsUnplaced, of_titles, title_of, unnoticed_has_no_place}
+use Rattle.registrar.proofs.RankedTitles.{InOrder, IsUnplaced, of_titles, title_of, all_before_unnoticed}
 
 -- ---- entries of earlier receipts at a title
 
@@ -119,7 +119,7 @@ ready_for_cure journal m i at0 folio kept waits =
     record {
       noticing = noticing;
       before = λ creates lacks.
-          unnoticed_has_no_place journal folio mid m noticing.order waits_on creates (not_false (is_noticed m mid) (sym (lacks_is m mid waits_on) ∙ lacks));
+          all_before_unnoticed journal folio mid m noticing.order waits_on creates (not_false (is_noticed m mid) (sym (lacks_is m mid waits_on) ∙ lacks));
     }
 
 -- a title that is no key of filing m gets quiet contents at most

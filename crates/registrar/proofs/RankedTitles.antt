@@ -1,5 +1,5 @@
 -- What is kept at one title: its places ascend, and its filings that wait have their places by their notices.
-use Rattle.std.proofs.Common.{◌≡◌, ◌⊎◌, ℕ, ◌<◌, ◌≤◌, Bool, true, false, eqb, ◌||◌, ◌==◌, List, [], ◌∷◌, ◌++◌, get_or, length, All, AllPairs, Option, Some, None, is_some, IsTrue, refl, sym, ap, subst, ◌∙◌, ⊎_elim, inl, inr, arith}
+use Rattle.std.proofs.Common.{◌≡◌, ℕ, ◌<◌, true, false, eqb, ◌||◌, ◌==◌, List, [], ◌∷◌, ◌++◌, get_or, All, AllPairs, Some, None, refl, sym, ap, subst, ◌∙◌, ⊎_elim, arith}
 use Rattle.std.specs.List.{AllByRecursion, cons_option}
 use Rattle.std.proofs.lemmas.Bool.{cases_eq, cases_lt, eqb-true, false≢true, or_cases, or_left}
 use Rattle.std.proofs.lemmas.Bool.Decides.{nat_tests}
@@ -139,10 +139,10 @@ all_before journal folio xs n old waits creates none k d within =
     (cases_eq x n)))
     (cases_lt x n)
 
--- so a filing that waits without a notice
-pub unnoticed_has_no_place : (journal : List Receipt) (folio : ℕ) (xs : List Entry) (n : ℕ) → InOrder journal folio xs → is_pending n xs ≡ true → creates_there journal folio n ≡ true
+-- so than one that waits without a notice, which has no place
+pub all_before_unnoticed : (journal : List Receipt) (folio : ℕ) (xs : List Entry) (n : ℕ) → InOrder journal folio xs → is_pending n xs ≡ true → creates_there journal folio n ≡ true
     → is_noticed n xs ≡ false → All (λ p. p.filing < n) (places_among journal folio xs)
-unnoticed_has_no_place journal folio xs n old waits creates unnoticed =
+all_before_unnoticed journal folio xs n old waits creates unnoticed =
     all_before journal folio xs n old.ranked waits creates (has_no_place journal folio n xs unnoticed (old.by_notice n waits))
 
 -- ---- no place but by the notice
