@@ -4,9 +4,15 @@ pub mod Additions
 pub mod ByItem
 pub mod CasesKept
 pub mod Dealing
+pub mod EnteredTitles
 pub mod EntriesKept
 pub mod ItemRooms
 pub mod KnownExchanges
+pub mod NewAtTitles
+pub mod NoticedPlaces
+pub mod PlaceReads
+pub mod PlacesKept
+pub mod RankedTitles
 pub mod Rooms
 pub mod Unrejected
 pub mod WaitingKept
