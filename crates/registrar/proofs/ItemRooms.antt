@@ -19,21 +19,21 @@ use Rattle.interim_orders.specs.Lapses.{lapse_at, lapse_in}
 use Rattle.interim_orders.specs.Orders.{deadline_of, state_of}
 use Rattle.interim_orders.specs.declared.states.FilingState.{FilingState}
 use Rattle.interim_orders.specs.declared.states.FilingState.TheVariants.{NotPending, Pending}
-use Rattle.registrar.proofs.Rooms.{RoomyToEnter, cure_fits, entry_fits, marks_fit_too}
+use Rattle.registrar.proofs.Rooms.{cure_fits, entry_fits, marks_fit_too}
 use Rattle.registrar.proofs.WaitingStates.{found_waiting}
 use Rattle.registrar.specs.Brings.{brought_by_cure, brought_by_filing, brought_by_item, brought_in_state, nothing_pending}
 use Rattle.registrar.specs.ItemKeys.{keys_by_item, keys_of_named}
-use Rattle.registrar.specs.Rooms.{room_by_item, room_to_enter}
+use Rattle.registrar.specs.Rooms.{HasRoomToEnter, room_by_item, room_to_enter}
 
 no_entry : (room : Key → ℕ) → HasRoom room []
 no_entry room k = omega arith
 
-filing_fits : (journal : List Receipt) (i : ℕ) (at : Key → List Entry) (room : Key → ℕ) (judgement : Judgement) → IsJournal journal → RoomyToEnter journal i at room → HasRoom room (brought_by_filing journal i at judgement).entries
+filing_fits : (journal : List Receipt) (i : ℕ) (at : Key → List Entry) (room : Key → ℕ) (judgement : Judgement) → IsJournal journal → HasRoomToEnter journal i at room → HasRoom room (brought_by_filing journal i at judgement).entries
 filing_fits journal i at room Enter stands roomy = entry_fits journal i i at room stands roomy
 filing_fits journal i at room (Reject section) stands roomy = no_entry room
 filing_fits journal i at room (Interim defects) stands roomy = marks_fit_too journal i i (Some (deadline_of journal i)) at room roomy
 
-waiting_fits : (journal : List Receipt) (m i : ℕ) (at : Key → List Entry) (room : Key → ℕ) (judgement : Option Judgement) → IsJournal journal → RoomyToEnter journal m at room → HasRoom room (option_map_or (brought_by_cure journal m i at) judgement nothing_pending).entries
+waiting_fits : (journal : List Receipt) (m i : ℕ) (at : Key → List Entry) (room : Key → ℕ) (judgement : Option Judgement) → IsJournal journal → HasRoomToEnter journal m at room → HasRoom room (option_map_or (brought_by_cure journal m i at) judgement nothing_pending).entries
 waiting_fits journal m i at room (Some Enter) stands roomy = cure_fits journal m i at room stands roomy
 waiting_fits journal m i at room (Some (Reject section)) stands roomy = marks_fit_too journal m i None at room roomy
 waiting_fits journal m i at room (Some (Interim defects)) stands roomy = no_entry room

@@ -17,7 +17,7 @@ use Rattle.folio_sections.proofs.Additions.{length-at}
 use Rattle.interim_orders.proofs.Room.{marks_fit, notices_fit}
 use Rattle.interim_orders.specs.Orders.{end_brought}
 use Rattle.interim_orders.specs.inner.Marks.{marks}
-use Rattle.registrar.specs.Rooms.{room_to_enter}
+use Rattle.registrar.specs.Rooms.{HasRoomToEnter}
 
 -- so much at these keys, and nothing elsewhere
 abbrev only_at : List Key → (Key → ℕ) → Key → ℕ
@@ -41,17 +41,13 @@ counted journal m i at stands = record {
   ended = marks_fit journal m i None (only_at (keys_of_filing journal m) (λ k. 1)) (at_its_keys (keys_of_filing journal m) (λ k. 1));
 }
 
--- so much at each key of filing m
-abbrev pub RoomyToEnter : List Receipt → ℕ → (Key → List Entry) → (Key → ℕ) → Type 0
-RoomyToEnter journal m at room = (k : Key) → Contains (keys_of_filing journal m) k → room_to_enter m (at k) ≤ room k
-
 -- what is brought at a key is no more than the room there
 within : (n room : ℕ) (b : Bool) (a c e : ℕ) → a ≤ cond b n 0 → c ≤ cond b 2 0 → e ≤ cond b 1 0 → (b ≡ true → 3 + n ≤ room) → a + (c + e) ≤ room
 within n room true a c e ha hc he roomy = let wide = roomy refl in omega arith
 within n room false a c e ha hc he roomy = omega arith
 
 -- all that a cure brings by which filing m is entered
-pub cure_fits : (journal : List Receipt) (m i : ℕ) (at : Key → List Entry) (room : Key → ℕ) → IsJournal journal → RoomyToEnter journal m at room → HasRoom room (enters journal m i at ++ end_brought journal m i)
+pub cure_fits : (journal : List Receipt) (m i : ℕ) (at : Key → List Entry) (room : Key → ℕ) → IsJournal journal → HasRoomToEnter journal m at room → HasRoom room (enters journal m i at ++ end_brought journal m i)
 cure_fits journal m i at room stands roomy k =
     let counts = counted journal m i at stands in
     let notices = notices_brought journal m i at in
@@ -64,12 +60,12 @@ cure_fits journal m i at room stands roomy k =
     omega arith
 
 -- the entry alone
-pub entry_fits : (journal : List Receipt) (m i : ℕ) (at : Key → List Entry) (room : Key → ℕ) → IsJournal journal → RoomyToEnter journal m at room → HasRoom room (enters journal m i at)
+pub entry_fits : (journal : List Receipt) (m i : ℕ) (at : Key → List Entry) (room : Key → ℕ) → IsJournal journal → HasRoomToEnter journal m at room → HasRoom room (enters journal m i at)
 entry_fits journal m i at room stands roomy k =
     let all = cure_fits journal m i at room stands roomy k in
     let both = length-at (enters journal m i at) (end_brought journal m i) k in
     omega arith
 
 -- what brings one entry at each key
-pub marks_fit_too : (journal : List Receipt) (m i : ℕ) (until : Option ℕ) (at : Key → List Entry) (room : Key → ℕ) → RoomyToEnter journal m at room → HasRoom room (marks journal m i until)
+pub marks_fit_too : (journal : List Receipt) (m i : ℕ) (until : Option ℕ) (at : Key → List Entry) (room : Key → ℕ) → HasRoomToEnter journal m at room → HasRoom room (marks journal m i until)
 marks_fit_too journal m i until at room roomy = marks_fit journal m i until room (λ k there. let wide = roomy k there in omega arith)

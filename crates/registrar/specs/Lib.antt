@@ -1,6 +1,7 @@
 -- What contracts cite.
 pub mod Brings
 pub mod ItemKeys
+pub mod OpenFolios
 pub mod Rooms
 pub mod Schedules
 pub mod ScratchRoom
