@@ -1,2 +1,4 @@
 -- Lemmas.
+pub mod ContainedParts
 pub mod Dealing
+pub mod LeavingRights
