@@ -2,5 +2,6 @@
 pub mod ContainedParts
 pub mod CreatedKept
 pub mod Dealing
+pub mod ExchangedKept
 pub mod LeavingRights
 pub mod RightReads
