@@ -1,5 +1,5 @@
 -- What the entry of a filing brings, act by act.
-use Rattle.std.proofs.Common.{◌≡◌, ℕ, suc, zero, ◌+◌, ◌-◌, ◌<◌, ◌≤◌, Bool, true, false, cond, eqb, ◌&&◌, ◌||◌, List, [], ◌∷◌, ◌++◌, All, Any, Contains, IsSomeAnd, IsTrue, Option, Some, None, find, flat_map, map, option_map, slice_get, is_none, is_some, refl, sym, ap, subst, ◌∙◌, ⊎_elim, arith}
+use Rattle.std.proofs.Common.{◌≡◌, ℕ, suc, zero, ◌+◌, ◌-◌, ◌<◌, ◌≤◌, Bool, true, false, cond, eqb, ◌&&◌, ◌||◌, List, [], ◌∷◌, ◌++◌, All, Any, Contains, IsSomeAnd, IsTrue, Option, Some, None, find, flat_map, map, option_and_then, option_map, slice_get, is_none, is_some, refl, sym, ap, subst, ◌∙◌, ⊎_elim, append_assoc, arith}
 use Rattle.std.specs.List.{AllByRecursion, enumerate_from}
 use Rattle.std.specs.Option.{option_map_or}
 use Rattle.std.proofs.lemmas.Bool.{cases_Bool, cond-false, eqb-true, false≢true, ne_eqb, or_left, or_right}
@@ -9,15 +9,16 @@ use Rattle.gb_base.specs.declared.keys.Key.{Key}
 use Rattle.gb_base.specs.declared.keys.Key.TheVariants.{Title, Right, Case}
 use Rattle.act_model.proofs.KeyOrder.{in_key_order_members, itself, same_is}
 use Rattle.act_model.specs.Acts.{folio_of, is_in_division_three, right_created}
-use Rattle.act_model.specs.Touches.{act_at, acts_of, filing_at, keys_in_order, keys_of_act, keys_of_acts, keys_of_filing}
+use Rattle.act_model.specs.Touches.{act_at, acts_of, filing_at, keys_in_order, keys_of_act, keys_of_acts, keys_of_filing, new_right}
 use Rattle.act_model.specs.declared.filing_acts.Act.{Act}
 use Rattle.act_model.specs.declared.items.Filing.{Filing}
 use Rattle.act_model.specs.declared.receipts.Receipt.{Receipt}
 use Rattle.act_model.specs.declared.rights.RightSpec.{RightSpec}
 use Rattle.folio_sections.specs.Documents.{documents}
 use Rattle.folio_sections.specs.Entering.{content, contents_brought, enters, entry_by, notices_at, notices_brought, placed_at, places_brought, waiting_unnoticed, with_notices, with_places}
-use Rattle.folio_sections.specs.Entries.{at}
-use Rattle.folio_sections.specs.KeptRights.{SetsPlace}
+use Rattle.folio_sections.specs.Entries.{at, with_entries}
+use Rattle.folio_sections.proofs.Additions.{at-append}
+use Rattle.folio_sections.specs.KeptRights.{act_of_right}
 use Rattle.folio_sections.specs.Places.{create_in_division, creates_in_division, creates_there, is_of_division, place_by}
 use Rattle.folio_sections.specs.Waiting.{is_notice_of, is_pending, notice}
 use Rattle.folio_sections.specs.declared.entries.Entry.{Entry}
@@ -37,6 +38,24 @@ pub brought_is : (journal : List Receipt) (m : ℕ) (f : Filing) (i : ℕ) (at0 
     → enters journal m i at0 ≡ notices_brought journal m i at0 ++ (places_brought journal m i (with_notices journal m i at0) ++ contents_brought journal m i (standing journal m i at0) f)
 brought_is journal m f i at0 is =
     ap (λ o. notices_brought journal m i at0 ++ option_map_or (λ g. places_brought journal m i (with_notices journal m i at0) ++ contents_brought journal m i (standing journal m i at0) g) o []) is
+
+-- entries that are added together, and one after the other
+pub with_both : (at0 : Key → List Entry) (xs ys : List Entry) → with_entries at0 (xs ++ ys) ≡ with_entries (with_entries at0 xs) ys
+with_both at0 xs ys = λ j k. at_each k j
+  where
+    at_each : (k : Key) → at0 k ++ at (xs ++ ys) k ≡ (at0 k ++ at xs k) ++ at ys k
+    at_each k = ap (λ zs. at0 k ++ zs) (at-append xs ys k) ∙ sym (append_assoc (at0 k) (at xs k) (at ys k))
+
+-- the contents come last
+pub contents_last : (journal : List Receipt) (m : ℕ) (f : Filing) (i : ℕ) (at0 : Key → List Entry) → filing_at journal m ≡ Some f
+    → with_entries at0 (enters journal m i at0) ≡ with_entries (standing journal m i at0) (contents_brought journal m i (standing journal m i at0) f)
+contents_last journal m f i at0 is =
+    let before = with_notices journal m i at0 in
+    let places = places_brought journal m i before in
+    let contents = contents_brought journal m i (standing journal m i at0) f in
+    ap (with_entries at0) (brought_is journal m f i at0 is)
+    ∙ with_both at0 (notices_brought journal m i at0) (places ++ contents)
+    ∙ with_both before places contents
 
 -- what holds of all that leaves rights, and of the contents, holds of all that is brought
 pub all_brought : (P : Entry → Type 0) (journal : List Receipt) (m : ℕ) (f : Filing) (i : ℕ) (at0 : Key → List Entry) → filing_at journal m ≡ Some f → ((e : Entry) → LeavesRights e.what → P e)
@@ -76,6 +95,9 @@ at_number xs k x is =
 
 pub act_is : (f : Filing) (a : ℕ) (act : Act) → IsActOf f a act → act_at f a ≡ Some act
 act_is f a act own = subst (λ n. act_at f n ≡ Some act) own.number (at_number f.acts own.place act own.there)
+
+pub act_of_new_right : (journal : List Receipt) (m : ℕ) (f : Filing) (a : ℕ) (act : Act) → filing_at journal m ≡ Some f → IsActOf f a act → act_of_right journal (new_right m a) ≡ Some act
+act_of_new_right journal m f a act filing own = ap (option_and_then (λ g. act_at g a)) filing ∙ act_is f a act own
 
 -- what each act brings has it, where it is one of the filing's and this is known of it
 pub all_contents : (P : Entry → Type 0) (Q : ℕ → Act → Type 0) (journal : List Receipt) (m i : ℕ) (at0 : Key → List Entry) (f : Filing)
