@@ -1,5 +1,5 @@
 -- How a right reads once further entries come to it: as created, with its reserve and the right whose rank it takes up.
-use Rattle.std.proofs.Common.{◌≡◌, ℕ, ◌+◌, Bool, true, false, cond, List, [], ◌∷◌, ◌++◌, Contains, IfSome, IsSomeAnd, IsTrue, Option, Some, None, count_by, fold, is_some, refl, sym, ap, subst, ◌∙◌, arith}
+use Rattle.std.proofs.Common.{◌≡◌, ℕ, suc, zero, ◌<◌, Bool, true, false, cond, List, [], ◌∷◌, ◌++◌, Contains, IfSome, IsSomeAnd, IsTrue, Option, Some, None, fold, get_or, length, is_some, refl, sym, ap, subst, ◌∙◌, arith}
 use Rattle.std.specs.List.{AllByRecursion, list_any}
 use Rattle.std.proofs.lemmas.Bool.{false≢true}
 use Rattle.std.proofs.lemmas.List.Sums.{fold-append, sum_by-append, sum_by_from}
@@ -57,10 +57,24 @@ left_from before (e ∷ es) all =
 pub created_left : (xs ys : List Entry) → AllByRecursion (λ e. LeavesRights e.what) ys → created (xs ++ ys) ≡ created xs
 created_left xs ys all = fold-append (λ b e. created_by b e.what) None xs ys ∙ left_from (created xs) ys all
 
--- an entry that creates it is enough
-pub is_creation : What → Bool
+-- the content creates the right
+abbrev pub is_creation : What → Bool
 is_creation (what.Created made) = true
 is_creation other = false
+
+created_here : (before : Option Created) (w : What) → is_creation w ≡ true → is_some (created_by before w) ≡ true
+created_here before (what.Created made) creates = refl
+created_here before other creates = absurd (false≢true creates)
+
+-- an entry that creates it is enough
+pub created_where : (es : List Entry) (e : Entry) → is_creation e.what ≡ true → Contains es e → is_some (created es) ≡ true
+created_where es e creates among = by None es among.0 among.1 among.2
+  where
+    by : (before : Option Created) (ds : List Entry) (k : ℕ) → k < length ds → get_or ds k e ≡ e → is_some (fold (λ b d. created_by b d.what) before ds) ≡ true
+    by before [] k within is = absurd (omega arith)
+    by before (d ∷ ds) zero within is =
+        some_from (created_by before d.what) ds (created_here before d.what (ap (λ (c : Entry). is_creation c.what) is ∙ creates))
+    by before (d ∷ ds) (suc k) within is = by (created_by before d.what) ds k (omega arith) is
 
 -- ---- a live right is created
 
