@@ -1,7 +1,6 @@
 -- What holds of each element of lists that are mapped, joined or filtered, and what such lists contain.
 use Rattle.std.proofs.Common.{◌≡◌, ℕ, suc, zero, ◌+◌, ◌<◌, Bool, true, false, cond, ◌||◌, List, [], ◌∷◌, ◌++◌, length, get_or, map, filter, flat_map, slice_get, Any, Contains, Some, refl, sym, ap, subst, ◌∙◌, arith}
 use Rattle.std.specs.List.{AllByRecursion, enumerate_from, list_any}
-use Rattle.std.proofs.lemmas.Bool.{false≢true}
 use Rattle.std.proofs.lemmas.List.Concat.{flat_map-cons}
 use Rattle.std.proofs.lemmas.List.Elements.{All-contains_itself, Contains-append_left, Contains-append_right, recursion_from_All}
 use Rattle.folio_sections.proofs.Unchanged.{all_both}
@@ -52,9 +51,10 @@ all_numbered P n (x ∷ xs) all = (all.0, all_numbered P (n + 1) xs all.1)
 -- an element's number says where it stands
 pub all_at_numbers : {X : Type 0} (P : ℕ → X → Type 0) (n : ℕ) (xs : List X) → ((k : ℕ) (x : X) → slice_get xs k ≡ Some x → P (n + k) x) → AllByRecursion (λ numbered. P numbered.0 numbered.1) (enumerate_from n xs)
 all_at_numbers P n [] there = tt
-all_at_numbers P n (x ∷ xs) there =
-    (subst (λ k. P k x) (omega arith) (there 0 x refl),
-    all_at_numbers P (n + 1) xs (λ k y is. subst (λ j. P j y) (omega arith) (there (suc k) y is)))
+all_at_numbers P n (x ∷ xs) there = (
+  subst (λ k. P k x) (omega arith) (there 0 x refl),
+  all_at_numbers P (n + 1) xs (λ k y is. subst (λ j. P j y) (omega arith) (there (suc k) y is)),
+)
 
 -- ---- what is contained
 
@@ -81,6 +81,7 @@ contains_kept {X = X} p xs x passes among = by xs among.0 among.1 among.2
     behind : (b : Bool) (z : X) (zs : List X) → Contains zs x → Contains (cond b (z ∷ zs) zs) x
     behind true z zs there = contains_later z zs x there
     behind false z zs there = there
+
     by : (zs : List X) (k : ℕ) → k < length zs → get_or zs k x ≡ x → Contains (filter p zs) x
     by [] k within is = absurd (omega arith)
     by (z ∷ zs) zero within is =

@@ -1,6 +1,6 @@
 -- Each right stays entered as the journal has it filed.
-use Rattle.std.proofs.Common.{◌≡◌, ℕ, ◌≤◌, true, false, cond, List, [], ◌∷◌, ◌++◌, Any, Contains, IfSome, IsSomeAnd, Option, Some, None, is_some, refl, sym, ap, subst, ◌∙◌, arith}
-use Rattle.std.specs.List.{AllByRecursion, enumerate_from}
+use Rattle.std.proofs.Common.{◌≡◌, ℕ, ◌≤◌, true, cond, List, ◌++◌, Any, Contains, IfSome, IsSomeAnd, Option, Some, None, is_some, refl, sym, ap, subst, ◌∙◌, arith}
+use Rattle.std.specs.List.{AllByRecursion}
 use Rattle.std.specs.Option.{option_and_then}
 use Rattle.std.proofs.lemmas.Bool.{false≢true}
 use Rattle.std.proofs.lemmas.List.Elements.{All-append, All-from_recursion, All-weaker}
@@ -10,7 +10,7 @@ use Rattle.gb_base.specs.declared.keys.Key.TheVariants.{Title, Right, Case}
 use Rattle.act_model.proofs.CreationRanks.{has_rank}
 use Rattle.act_model.specs.Acts.{folio_of, right_created}
 use Rattle.act_model.specs.Creations.{creating_rank, folio_of_creation}
-use Rattle.act_model.specs.Touches.{filing_at, keys_of_act, new_right}
+use Rattle.act_model.specs.Touches.{keys_of_act, new_right}
 use Rattle.act_model.specs.declared.documents.Doc.{Doc}
 use Rattle.act_model.specs.declared.filing_acts.Act.{Act}
 use Rattle.act_model.specs.declared.filing_acts.Act.TheVariants.{Open, Transfer, Create, NoticeFor, Convert, Assign, Cancel, Exchange, Exercise}
@@ -99,7 +99,7 @@ is_created : (journal : List Receipt) (at1 : Key → List Entry) (m a i : ℕ) (
     → IsCreatedAsFiled journal at1 (folio_of act) (new_right m a) i (as_entered journal m acts i places a act spec)
 is_created journal at1 m a i acts places act spec filed is few place = record {
   filed = subst (λ o. IsSomeAnd o (IsAsFiled (folio_of act) (as_entered journal m acts i places a act spec))) (sym filed)
-  (record { there = refl; spec = is; reserve = refl; ahead_of = refl });
+      (record { there = refl; spec = is; reserve = refl; ahead_of = refl });
   rank = ranked (λ n. n ≤ most_creations) (creating_rank journal (new_right m a)) (has_its_rank journal m a act spec filed is) few;
   placed = place;
 }

@@ -1,6 +1,6 @@
 -- Plain rights alone stay exchanged, and a reservation stays used at most once.
-use Rattle.std.proofs.Common.{◌≡◌, ℕ, ◌+◌, ◌<◌, ◌≤◌, List, [], ◌∷◌, ◌++◌, sym, subst, arith}
-use Rattle.std.specs.List.{AllByRecursion, enumerate_from}
+use Rattle.std.proofs.Common.{ℕ, ◌+◌, ◌≤◌, List, ◌++◌, sym, subst, arith}
+use Rattle.std.specs.List.{AllByRecursion}
 use Rattle.std.proofs.lemmas.List.Elements.{All-append, All-from_recursion, All-weaker}
 use Rattle.gb_base.specs.RightNo.{RightNo}
 use Rattle.gb_base.specs.declared.keys.Key.{Key}

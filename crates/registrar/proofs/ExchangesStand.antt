@@ -1,23 +1,19 @@
 -- What stands once of exchanges and reservations stands on, and how many entries use a reservation.
-use Rattle.std.proofs.Common.{◌≡◌, ℕ, ◌+◌, ◌≤◌, Bool, true, false, cond, List, [], ◌∷◌, ◌++◌, IsSome, IsSomeAnd, Option, Some, None, count_by, is_some, refl, sym, ap, subst, ◌∙◌, arith}
+use Rattle.std.proofs.Common.{◌≡◌, ℕ, ◌+◌, Bool, cond, List, [], ◌∷◌, ◌++◌, IsSome, IsSomeAnd, Option, Some, None, count_by, is_some, refl, ap, ◌∙◌, arith}
 use Rattle.std.specs.List.{AllByRecursion}
-use Rattle.std.proofs.lemmas.List.Elements.{All-append, All-from_recursion, All-weaker}
 use Rattle.std.proofs.lemmas.List.Sums.{sum_by-append, sum_by_from}
 use Rattle.gb_base.specs.RightNo.{RightNo}
 use Rattle.gb_base.specs.declared.keys.Key.{Key}
 use Rattle.gb_base.specs.declared.keys.Key.TheVariants.{Title, Right, Case}
 use Rattle.act_model.specs.declared.receipts.Receipt.{Receipt}
-use Rattle.folio_sections.specs.Entries.{at, with_entries}
-use Rattle.folio_sections.specs.KeptRights.{ActsOnItsKind, ExchangedArePlain, IsPlain, StandsAhead, StandsPlain}
+use Rattle.folio_sections.specs.KeptRights.{ActsOnItsKind, IsPlain, StandsAhead, StandsPlain}
 use Rattle.folio_sections.specs.Rights.{created, is_exercise}
 use Rattle.folio_sections.specs.declared.entries.Created.{Created}
 use Rattle.folio_sections.specs.declared.entries.Entry.{Entry}
 use Rattle.folio_sections.specs.declared.entries.What.{What}
 use Rattle.folio_sections.specs.declared.entries.What.TheVariants as what
-use Rattle.folio_sections.proofs.Unchanged.{all_at}
-use Rattle.registrar.proofs.ContainedParts.{all_weaker}
 use Rattle.registrar.proofs.LeavingRights.{LeavesRights}
-use Rattle.registrar.proofs.RightReads.{SameReads, created_left, same_itself}
+use Rattle.registrar.proofs.RightReads.{SameReads}
 
 -- ---- what stands once stands on, as long as the rights read as they did
 

@@ -1,31 +1,24 @@
 -- What the entry of a filing brings, act by act.
-use Rattle.std.proofs.Common.{◌≡◌, ℕ, suc, zero, ◌+◌, ◌-◌, ◌<◌, ◌≤◌, Bool, true, false, cond, eqb, ◌&&◌, ◌||◌, List, [], ◌∷◌, ◌++◌, All, Any, Contains, IsSomeAnd, IsTrue, Option, Some, None, find, flat_map, map, option_and_then, option_map, slice_get, is_none, is_some, refl, sym, ap, subst, ◌∙◌, ⊎_elim, append_assoc, arith}
+use Rattle.std.proofs.Common.{◌≡◌, ℕ, suc, zero, ◌+◌, ◌-◌, true, false, cond, eqb, List, [], ◌∷◌, ◌++◌, Contains, Some, None, option_and_then, slice_get, refl, sym, ap, subst, ◌∙◌, append_assoc, arith}
 use Rattle.std.specs.List.{AllByRecursion, enumerate_from}
 use Rattle.std.specs.Option.{option_map_or}
-use Rattle.std.proofs.lemmas.Bool.{cases_Bool, cond-false, eqb-true, false≢true, ne_eqb, or_left, or_right}
-use Rattle.std.proofs.lemmas.List.Elements.{Contains-append_left, Contains-append_right, recursion_from_All}
+use Rattle.std.proofs.lemmas.Bool.{cond-false, ne_eqb}
+use Rattle.std.proofs.lemmas.List.Elements.{Contains-append_left, Contains-append_right}
 use Rattle.gb_base.specs.Keys.{same_key}
 use Rattle.gb_base.specs.declared.keys.Key.{Key}
-use Rattle.gb_base.specs.declared.keys.Key.TheVariants.{Title, Right, Case}
-use Rattle.act_model.proofs.KeyOrder.{in_key_order_members, itself, same_is}
-use Rattle.act_model.specs.Acts.{folio_of, is_in_division_three, right_created}
-use Rattle.act_model.specs.Touches.{act_at, acts_of, filing_at, keys_in_order, keys_of_act, keys_of_acts, keys_of_filing, new_right}
+use Rattle.act_model.proofs.KeyOrder.{same_is}
+use Rattle.act_model.specs.Touches.{act_at, filing_at, keys_of_act, keys_of_acts, keys_of_filing, new_right}
 use Rattle.act_model.specs.declared.filing_acts.Act.{Act}
 use Rattle.act_model.specs.declared.items.Filing.{Filing}
 use Rattle.act_model.specs.declared.receipts.Receipt.{Receipt}
-use Rattle.act_model.specs.declared.rights.RightSpec.{RightSpec}
 use Rattle.folio_sections.specs.Documents.{documents}
-use Rattle.folio_sections.specs.Entering.{content, contents_brought, enters, entry_by, notices_at, notices_brought, placed_at, places_brought, waiting_unnoticed, with_notices, with_places}
+use Rattle.folio_sections.specs.Entering.{content, contents_brought, enters, notices_brought, places_brought, with_notices, with_places}
 use Rattle.folio_sections.specs.Entries.{at, with_entries}
 use Rattle.folio_sections.proofs.Additions.{at-append}
 use Rattle.folio_sections.specs.KeptRights.{act_of_right}
-use Rattle.folio_sections.specs.Places.{create_in_division, creates_in_division, creates_there, is_of_division, place_by}
-use Rattle.folio_sections.specs.Waiting.{is_notice_of, is_pending, notice}
 use Rattle.folio_sections.specs.declared.entries.Entry.{Entry}
-use Rattle.folio_sections.specs.declared.entries.What.{What}
-use Rattle.folio_sections.specs.declared.entries.What.TheVariants as what
-use Rattle.folio_sections.proofs.Unchanged.{all_at, all_both}
-use Rattle.registrar.proofs.ContainedParts.{all_at_numbers, all_joined, all_mapped, all_paired, all_parts, all_themselves, all_weaker, any_in_first, any_in_second, any_of, contains_first, contains_kept, contains_later, contains_part, list_any_of}
+use Rattle.folio_sections.proofs.Unchanged.{all_both}
+use Rattle.registrar.proofs.ContainedParts.{all_at_numbers, all_joined, all_paired, all_themselves, all_weaker}
 use Rattle.registrar.proofs.LeavingRights.{LeavesRights, notices_leave_rights, places_leave_rights}
 
 -- ---- the three parts of what is brought

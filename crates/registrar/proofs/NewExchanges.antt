@@ -1,5 +1,5 @@
 -- What a filing's entry exchanges and exercises is of its kind.
-use Rattle.std.proofs.Common.{◌≡◌, ℕ, ◌<◌, Bool, true, false, cond, not, ◌||◌, List, [], ◌∷◌, ◌++◌, Contains, IfSome, IsSome, IsSomeAnd, Option, Some, None, is_some, refl, sym, ap, subst, ◌∙◌, arith}
+use Rattle.std.proofs.Common.{◌≡◌, ℕ, ◌<◌, Bool, true, false, cond, not, ◌||◌, List, [], ◌++◌, Contains, IfSome, IsSome, IsSomeAnd, Option, Some, None, is_some, refl, sym, subst, arith}
 use Rattle.std.specs.List.{AllByRecursion, enumerate_from}
 use Rattle.std.specs.Option.{option_map_or}
 use Rattle.std.proofs.lemmas.Bool.{false≢true, or_parts}
@@ -156,9 +156,10 @@ act_fits journal m f i at0 a (Exchange folio recede rise) filing filed own known
     let at1 = with_entries at0 (enters journal m i at0) in
     let same = read_on journal at0 (enters journal m i at0) filed in
     let live = or_parts (not (lives at0 folio recede)) (not (lives at0 folio rise)) known.0.0 in
-    let fit = or_parts (is_barred_from_exchange journal at0 folio recede) (is_barred_from_exchange journal at0 folio rise) known.0.1 in
-    (plain_stays journal at0 at1 folio recede same (plain_here journal at0 folio recede live.0 fit.0),
-    plain_stays journal at0 at1 folio rise same (plain_here journal at0 folio rise live.1 fit.1))
+    let fit = or_parts (is_barred_from_exchange journal at0 folio recede) (is_barred_from_exchange journal at0 folio rise) known.0.1 in (
+      plain_stays journal at0 at1 folio recede same (plain_here journal at0 folio recede live.0 fit.0),
+      plain_stays journal at0 at1 folio rise same (plain_here journal at0 folio rise live.1 fit.1),
+    )
 act_fits journal m f i at0 a (Exercise folio behind_right spec) filing filed own known among =
     let at1 = with_entries at0 (enters journal m i at0) in
     let same = read_on journal at0 (enters journal m i at0) filed in
@@ -167,11 +168,12 @@ act_fits journal m f i at0 a (Exercise folio behind_right spec) filing filed own
     let left = (or_parts (is_spent es) (option_map_or (λ made. reserves_less made.reserve spec.capital) (live_right es) true) known.1.0).1 in
     let reserved = reserved_by (created es) (created (at1 (Right folio behind_right))) (same folio behind_right) (reserved_of (is_live es) (created es) spec.capital left) in
     let act = Exercise folio behind_right spec in
-    let ahead : StandsAhead at1 folio behind_right new =
-    (ahead_of folio (act_of_right journal new) act (created (at1 (Right folio new))) (act_of_new_right journal m f a act filing own)
-    (new_stands journal m f i at0 a folio behind_right spec filing among)
-    (created_has (AsItsAct journal folio new) (at1 (Right folio new)) (as_acts journal at1 folio new filed)),
-    All-head (λ right. right.receipt < m) behind_right [] known.1.1) in
+    let ahead : StandsAhead at1 folio behind_right new = (
+      ahead_of folio (act_of_right journal new) act (created (at1 (Right folio new))) (act_of_new_right journal m f a act filing own)
+          (new_stands journal m f i at0 a folio behind_right spec filing among)
+          (created_has (AsItsAct journal folio new) (at1 (Right folio new)) (as_acts journal at1 folio new filed)),
+      All-head (λ right. right.receipt < m) behind_right [] known.1.1,
+    ) in
     (reserved, ahead)
 act_fits journal m f i at0 a other filing filed own known among = tt
 

@@ -1,12 +1,12 @@
 -- Where a filing creates a right, its place stands before the right does, by its notice or as it is entered.
-use Rattle.std.proofs.Common.{◌≡◌, ℕ, ◌<◌, ◌≤◌, Bool, true, false, cond, eqb, ◌&&◌, ◌||◌, List, [], ◌∷◌, All, Any, Contains, IsSomeAnd, Option, Some, None, find, option_map, slice_get, is_none, is_some, refl, sym, ap, subst, ◌∙◌, ⊎_elim, arith}
+use Rattle.std.proofs.Common.{◌≡◌, ℕ, ◌<◌, ◌≤◌, Bool, true, false, cond, eqb, ◌&&◌, ◌||◌, List, [], ◌∷◌, All, Any, Contains, IsSomeAnd, Option, Some, None, find, option_map, is_none, is_some, refl, sym, ap, subst, ◌∙◌, ⊎_elim, arith}
 use Rattle.std.specs.List.{AllByRecursion}
 use Rattle.std.specs.Option.{option_map_or}
 use Rattle.std.proofs.lemmas.Bool.{cases_Bool, eq-eqb, eqb-true, false≢true, or_left, or_right}
 use Rattle.std.proofs.lemmas.List.Elements.{recursion_from_All}
 use Rattle.gb_base.specs.Keys.{same_key}
 use Rattle.gb_base.specs.declared.keys.Key.{Key}
-use Rattle.gb_base.specs.declared.keys.Key.TheVariants.{Title, Right, Case}
+use Rattle.gb_base.specs.declared.keys.Key.TheVariants.{Title}
 use Rattle.act_model.proofs.KeyOrder.{in_key_order_members, itself}
 use Rattle.act_model.specs.Acts.{folio_of, is_in_division_three, right_created}
 use Rattle.act_model.specs.Touches.{acts_of, filing_at, keys_in_order, keys_of_filing}
@@ -22,9 +22,8 @@ use Rattle.folio_sections.specs.Waiting.{is_notice_of, is_pending, notice}
 use Rattle.folio_sections.specs.declared.entries.Entry.{Entry}
 use Rattle.folio_sections.specs.declared.entries.What.{What}
 use Rattle.folio_sections.specs.declared.entries.What.TheVariants as what
-use Rattle.folio_sections.specs.declared.title_places.TitlePlace.{TitlePlace}
 use Rattle.folio_sections.proofs.Unchanged.{all_at, all_both}
-use Rattle.registrar.proofs.ContainedParts.{all_mapped, all_parts, all_weaker, any_in_first, any_in_second, any_of, contains_first, contains_kept, contains_later, contains_part, list_any_of}
+use Rattle.registrar.proofs.ContainedParts.{all_mapped, all_parts, all_weaker, any_in_first, any_in_second, any_of, contains_first, contains_kept, contains_part, list_any_of}
 use Rattle.registrar.proofs.NewContents.{IsActOf, standing}
 
 -- ---- a filing with a creating act creates in the act's folio

@@ -1,19 +1,18 @@
 -- How a right reads once further entries come to it: as created, with its reserve and the right whose rank it takes up.
-use Rattle.std.proofs.Common.{◌≡◌, ℕ, suc, zero, ◌<◌, Bool, true, false, cond, List, [], ◌∷◌, ◌++◌, Contains, IfSome, IsSomeAnd, IsTrue, Option, Some, None, fold, get_or, length, is_some, refl, sym, ap, subst, ◌∙◌, arith}
-use Rattle.std.specs.List.{AllByRecursion, list_any}
+use Rattle.std.proofs.Common.{◌≡◌, ℕ, suc, zero, ◌<◌, Bool, true, false, cond, List, [], ◌∷◌, ◌++◌, Contains, IfSome, IsSomeAnd, Option, Some, None, fold, get_or, length, is_some, refl, sym, ap, subst, ◌∙◌, arith}
+use Rattle.std.specs.List.{AllByRecursion}
 use Rattle.std.proofs.lemmas.Bool.{false≢true}
-use Rattle.std.proofs.lemmas.List.Sums.{fold-append, sum_by-append, sum_by_from}
+use Rattle.std.proofs.lemmas.List.Sums.{fold-append}
 use Rattle.gb_base.specs.RightNo.{RightNo}
 use Rattle.act_model.specs.declared.filing_acts.Act.{Act}
 use Rattle.act_model.specs.declared.receipts.Receipt.{Receipt}
-use Rattle.folio_sections.specs.Entering.{reserve_of, right_behind}
 use Rattle.folio_sections.specs.KeptRights.{IsAsFiled, act_of_right}
 use Rattle.folio_sections.specs.Rights.{created, created_by, is_live, live_by, live_right}
 use Rattle.folio_sections.specs.declared.entries.Created.{Created}
 use Rattle.folio_sections.specs.declared.entries.Entry.{Entry}
 use Rattle.folio_sections.specs.declared.entries.What.{What}
 use Rattle.folio_sections.specs.declared.entries.What.TheVariants as what
-use Rattle.registrar.proofs.ContainedParts.{all_weaker, first_of_both}
+use Rattle.registrar.proofs.ContainedParts.{first_of_both}
 use Rattle.registrar.proofs.LeavingRights.{LeavesRights}
 
 -- ---- the right as created
