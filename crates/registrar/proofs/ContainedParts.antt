@@ -1,0 +1,118 @@
+-- What holds of each element of lists that are mapped, joined or filtered, and what such lists contain.
+use Rattle.std.proofs.Common.{◌≡◌, ℕ, suc, zero, ◌+◌, ◌<◌, Bool, true, false, cond, ◌||◌, List, [], ◌∷◌, ◌++◌, length, get_or, map, filter, flat_map, slice_get, Any, Contains, Some, refl, sym, ap, subst, ◌∙◌, arith}
+use Rattle.std.specs.List.{AllByRecursion, enumerate_from, list_any}
+use Rattle.std.proofs.lemmas.List.Concat.{flat_map-cons}
+use Rattle.std.proofs.lemmas.List.Elements.{All-contains_itself, Contains-append_left, Contains-append_right, recursion_from_All}
+use Rattle.folio_sections.proofs.Unchanged.{all_both}
+
+-- ---- each element
+
+pub all_mapped : {X Y : Type 0} (P : Y → Type 0) (f : X → Y) (xs : List X) → ((x : X) → P (f x)) → AllByRecursion P (map f xs)
+all_mapped P f [] each = tt
+all_mapped P f (x ∷ xs) each = (each x, all_mapped P f xs each)
+
+-- what each part brings has it, given what is known of each part
+pub all_joined : {X Y : Type 0} (P : Y → Type 0) (Q : X → Type 0) (f : X → List Y) (xs : List X) → ((x : X) → Q x → AllByRecursion P (f x)) → AllByRecursion Q xs → AllByRecursion P (flat_map f xs)
+all_joined P Q f [] each known = tt
+all_joined P Q f (x ∷ xs) each known =
+    subst (AllByRecursion P) (sym (flat_map-cons f x xs))
+    (all_both P (f x) (flat_map f xs) (each x known.0) (all_joined P Q f xs each known.1))
+
+pub all_parts : {X Y : Type 0} (P : Y → Type 0) (f : X → List Y) (xs : List X) → ((x : X) → AllByRecursion P (f x)) → AllByRecursion P (flat_map f xs)
+all_parts P f [] each = tt
+all_parts P f (x ∷ xs) each =
+    subst (AllByRecursion P) (sym (flat_map-cons f x xs)) (all_both P (f x) (flat_map f xs) (each x) (all_parts P f xs each))
+
+pub all_weaker : {X : Type 0} (P Q : X → Type 0) (xs : List X) → ((x : X) → P x → Q x) → AllByRecursion P xs → AllByRecursion Q xs
+all_weaker P Q [] f all = tt
+all_weaker P Q (x ∷ xs) f all = (f x all.0, all_weaker P Q xs f all.1)
+
+pub all_paired : {X : Type 0} (P Q : X → Type 0) (xs : List X) → AllByRecursion P xs → AllByRecursion Q xs → AllByRecursion (λ x. P x × Q x) xs
+all_paired P Q [] first second = tt
+all_paired P Q (x ∷ xs) first second = ((first.0, second.0), all_paired P Q xs first.1 second.1)
+
+pub first_of_both : {X : Type 0} (P : X → Type 0) (xs ys : List X) → AllByRecursion P (xs ++ ys) → AllByRecursion P xs
+first_of_both P [] ys all = tt
+first_of_both P (x ∷ xs) ys all = (all.0, first_of_both P xs ys all.1)
+
+pub second_of_both : {X : Type 0} (P : X → Type 0) (xs ys : List X) → AllByRecursion P (xs ++ ys) → AllByRecursion P ys
+second_of_both P [] ys all = all
+second_of_both P (x ∷ xs) ys all = second_of_both P xs ys all.1
+
+-- each element is one of them
+pub all_themselves : {X : Type 0} (xs : List X) → AllByRecursion (Contains xs) xs
+all_themselves xs = recursion_from_All (Contains xs) xs (All-contains_itself xs)
+
+-- each element under its number
+pub all_numbered : {X : Type 0} (P : X → Type 0) (n : ℕ) (xs : List X) → AllByRecursion P xs → AllByRecursion (λ numbered. P numbered.1) (enumerate_from n xs)
+all_numbered P n [] all = tt
+all_numbered P n (x ∷ xs) all = (all.0, all_numbered P (n + 1) xs all.1)
+
+-- an element's number says where it stands
+pub all_at_numbers : {X : Type 0} (P : ℕ → X → Type 0) (n : ℕ) (xs : List X) → ((k : ℕ) (x : X) → slice_get xs k ≡ Some x → P (n + k) x) → AllByRecursion (λ numbered. P numbered.0 numbered.1) (enumerate_from n xs)
+all_at_numbers P n [] there = tt
+all_at_numbers P n (x ∷ xs) there = (
+  subst (λ k. P k x) (omega arith) (there 0 x refl),
+  all_at_numbers P (n + 1) xs (λ k y is. subst (λ j. P j y) (omega arith) (there (suc k) y is)),
+)
+
+-- ---- what is contained
+
+pub contains_first : {X : Type 0} (x : X) (xs : List X) → Contains (x ∷ xs) x
+contains_first x xs = (0, omega arith, refl)
+
+pub contains_later : {X : Type 0} (y : X) (xs : List X) (x : X) → Contains xs x → Contains (y ∷ xs) x
+contains_later y xs x there = Contains-append_right (y ∷ []) xs x there
+
+pub contains_part : {X Y : Type 0} (f : X → List Y) (xs : List X) (x : X) (y : Y) → Contains xs x → Contains (f x) y → Contains (flat_map f xs) y
+contains_part {X = X} f xs x y among here = by xs among.0 among.1 among.2
+  where
+    by : (zs : List X) (k : ℕ) → k < length zs → get_or zs k x ≡ x → Contains (flat_map f zs) y
+    by [] k within is = absurd (omega arith)
+    by (z ∷ zs) zero within is =
+        subst (λ ys. Contains ys y) (sym (flat_map-cons f z zs))
+        (Contains-append_left (f z) (flat_map f zs) y (subst (λ w. Contains (f w) y) (sym is) here))
+    by (z ∷ zs) (suc k) within is =
+        subst (λ ys. Contains ys y) (sym (flat_map-cons f z zs)) (Contains-append_right (f z) (flat_map f zs) y (by zs k (omega arith) is))
+
+pub contains_kept : {X : Type 0} (p : X → Bool) (xs : List X) (x : X) → p x ≡ true → Contains xs x → Contains (filter p xs) x
+contains_kept {X = X} p xs x passes among = by xs among.0 among.1 among.2
+  where
+    behind : (b : Bool) (z : X) (zs : List X) → Contains zs x → Contains (cond b (z ∷ zs) zs) x
+    behind true z zs there = contains_later z zs x there
+    behind false z zs there = there
+
+    by : (zs : List X) (k : ℕ) → k < length zs → get_or zs k x ≡ x → Contains (filter p zs) x
+    by [] k within is = absurd (omega arith)
+    by (z ∷ zs) zero within is =
+        subst (λ b. Contains (cond b (z ∷ filter p zs) (filter p zs)) x) (sym (ap p is ∙ passes))
+        (subst (λ w. Contains (w ∷ filter p zs) x) (sym is) (contains_first x (filter p zs)))
+    by (z ∷ zs) (suc k) within is = behind (p z) z (filter p zs) (by zs k (omega arith) is)
+
+pub contains_at : {X : Type 0} (xs : List X) (k : ℕ) (x : X) → slice_get xs k ≡ Some x → Contains xs x
+contains_at [] k x is = absurd (cc is)
+contains_at (y ∷ xs) zero x is =
+    let same : y ≡ x = cc is in
+    subst (λ z. Contains (z ∷ xs) x) (sym same) (contains_first x xs)
+contains_at (y ∷ xs) (suc k) x is = contains_later y xs x (contains_at xs k x is)
+
+-- some element has what one of them has
+pub any_of : {X : Type 0} (P : X → Type 0) (xs : List X) (x : X) → Contains xs x → P x → Any P xs
+any_of P xs x among has = (among.0, x, among.1, among.2, has)
+
+pub any_in_first : {X : Type 0} (P : X → Type 0) (xs ys : List X) → Any P xs → Any P (xs ++ ys)
+any_in_first P xs ys some = any_of P (xs ++ ys) some.1 (Contains-append_left xs ys some.1 (some.0, some.2, some.3)) some.4
+
+pub any_in_second : {X : Type 0} (P : X → Type 0) (xs ys : List X) → Any P ys → Any P (xs ++ ys)
+any_in_second P xs ys some = any_of P (xs ++ ys) some.1 (Contains-append_right xs ys some.1 (some.0, some.2, some.3)) some.4
+
+pub list_any_of : {X : Type 0} (p : X → Bool) (xs : List X) (k : ℕ) (x : X) → slice_get xs k ≡ Some x → p x ≡ true → list_any p xs ≡ true
+list_any_of p [] k x is passes = absurd (cc is)
+list_any_of p (y ∷ xs) zero x is passes =
+    let same : y ≡ x = cc is in
+    ap (λ b. b || list_any p xs) (ap p same ∙ passes)
+list_any_of p (y ∷ xs) (suc k) x is passes = by (p y) (list_any_of p xs k x is passes)
+  where
+    by : (b : Bool) → list_any p xs ≡ true → (b || list_any p xs) ≡ true
+    by true later = refl
+    by false later = later
