@@ -40,7 +40,7 @@ waiting_fits journal m i at room (Some (Interim defects)) stands roomy = no_entr
 waiting_fits journal m i at room None stands roomy = no_entry room
 
 -- the keys of an earlier filing are those of the item that names it
-named : (journal : List Receipt) (i m : ℕ) (k : Key) → m < i → Contains (keys_of_filing journal m) k → Contains (keys_of_named journal i m) k
+pub named : (journal : List Receipt) (i m : ℕ) (k : Key) → m < i → Contains (keys_of_filing journal m) k → Contains (keys_of_named journal i m) k
 named journal i m k earlier there =
     let less : nat_lt m i ≡ true = grind (arith, nat_tests, earlier) in
     subst (λ b. Contains (cond b (keys_of_filing journal m) []) k) (sym less) there
@@ -57,7 +57,7 @@ lapse_of_item : (o : Option Receipt) (what : Item) → option_map (λ r. r.item)
 lapse_of_item (Some r) what is = ap (λ x. option_and_then lapse_in x) is
 lapse_of_item None what is = ap (λ x. option_and_then lapse_in x) is
 
-lapse_names : (journal : List Receipt) (i m n : ℕ) → option_map (λ r. r.item) (receipt_at journal i) ≡ Some (item.Lapse m) → lapse_at journal i ≡ Some n → m ≡ n
+pub lapse_names : (journal : List Receipt) (i m n : ℕ) → option_map (λ r. r.item) (receipt_at journal i) ≡ Some (item.Lapse m) → lapse_at journal i ≡ Some n → m ≡ n
 lapse_names journal i m n is names =
     let same : Some m ≡ Some n = sym (lapse_of_item (receipt_at journal i) (item.Lapse m) is) ∙ names in
     ap (λ o. option_map_or (λ x. x) o 0) same

@@ -5,6 +5,7 @@ pub mod ByItem
 pub mod CasesKept
 pub mod ContainedParts
 pub mod CreatedKept
+pub mod CuresKeep
 pub mod Dealing
 pub mod EnteredTitles
 pub mod EntriesKept
@@ -12,6 +13,8 @@ pub mod ExchangedKept
 pub mod ExchangesStand
 pub mod ExercisedOnce
 pub mod ItemRooms
+pub mod ItemsKeep
+pub mod Keeping
 pub mod KnownExchanges
 pub mod LeavingRights
 pub mod NewAtTitles
@@ -24,6 +27,7 @@ pub mod PlacesKept
 pub mod RankedTitles
 pub mod RightReads
 pub mod Rooms
+pub mod StepLemmas
 pub mod Unrejected
 pub mod WaitingKept
 pub mod WaitingReads

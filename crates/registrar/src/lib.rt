@@ -3,7 +3,9 @@
 
 mod scratch;
 mod settling;
+mod steps;
 mod verdicts;
 
 pub use scratch::Scratch;
+pub use steps::step;
 pub use verdicts::Verdict;

@@ -1,0 +1,70 @@
+-- What an item brings leaves a kept register.
+use Rattle.std.proofs.Common.{◌≡◌, ℕ, ◌-◌, ◌<◌, eqb, Bool, true, false, cond, ◌==◌, nat_lt, List, [], ◌∷◌, ◌++◌, All, Contains, IsSome, IsTrue, zero, suc, Option, Some, None, option_and_then, option_map, is_some, refl, sym, ap, subst, ◌∙◌, arith}
+use Rattle.std.specs.List.{slice_get}
+use Rattle.std.specs.Option.{option_map_or}
+use Rattle.std.proofs.lemmas.Bool.{false≢true}
+use Rattle.std.proofs.lemmas.Bool.Decides.{nat_tests}
+use Rattle.std.proofs.lemmas.List.Elements.{All-head, All-tail}
+use Rattle.gb_base.specs.declared.keys.Key.{Key}
+use Rattle.act_model.specs.Receiving.{IsJournal, day_of, receipt_at}
+use Rattle.act_model.specs.Touches.{filing_at, filing_in, keys_of_filing}
+use Rattle.act_model.specs.WellFormed.{is_filing, well_formed}
+use Rattle.act_model.specs.declared.items.Filing.{Filing}
+use Rattle.act_model.specs.declared.items.Item.{Item}
+use Rattle.act_model.specs.declared.items.Item.TheVariants as item
+use Rattle.act_model.specs.declared.receipts.Receipt.{Receipt}
+use Rattle.folio_sections.specs.Documents.{documents}
+use Rattle.folio_sections.specs.Judging.{defects, interim_or_enter, judged, judged_filing, judgement_by, rejection}
+use Rattle.folio_sections.specs.Kept.{Kept}
+use Rattle.folio_sections.specs.Waiting.{is_pending, pending}
+use Rattle.folio_sections.specs.declared.entries.Entry.{Entry}
+use Rattle.folio_sections.specs.declared.judgements.Defect.{Defect}
+use Rattle.folio_sections.specs.declared.judgements.Judgement.{Judgement}
+use Rattle.folio_sections.specs.declared.judgements.Judgement.TheVariants.{Enter, Interim, Reject}
+use Rattle.gb_base.specs.declared.sections.Section.{Section}
+use Rattle.registrar.proofs.Dealing.{Deals, IsFit, Turn}
+use Rattle.registrar.proofs.Dealing.Turn.{finds, is_it}
+use Rattle.registrar.proofs.Keeping.{Leaves, cure_leaves, end_leaves, entry_leaves, none_leave, order_leaves}
+use Rattle.registrar.proofs.Unrejected.{is_fit}
+use Rattle.registrar.specs.Brings.{brought_by_filing}
+
+-- ---- a filing of a journal is well formed
+
+filing_well : (w : Item) (f : Filing) → IsTrue (well_formed w) → filing_in w ≡ Some f → IsTrue (is_filing f)
+filing_well (item.Filing g) f well is = subst (λ o. IsTrue (option_map_or is_filing o true)) is well
+filing_well other f well is = absurd (false≢true (ap is_some is))
+
+got_well : (rs : List Receipt) (k : ℕ) (f : Filing) → All (λ r. IsTrue (well_formed r.item)) rs → option_and_then (λ r. filing_in r.item) (slice_get rs k) ≡ Some f → IsTrue (is_filing f)
+got_well [] k f well is = absurd (false≢true (ap is_some is))
+got_well (r ∷ rs) zero f well is = filing_well r.item f (All-head (λ q. IsTrue (well_formed q.item)) r rs well) is
+got_well (r ∷ rs) (suc k) f well is = got_well rs k f (All-tail (λ q. IsTrue (well_formed q.item)) r rs well) is
+
+pub well_filed : (journal : List Receipt) (m : ℕ) (f : Filing) → IsJournal journal → filing_at journal m ≡ Some f → IsTrue (is_filing f)
+well_filed journal m f stands =
+    elim (eqb m 0) as (λ b. option_and_then (λ r. filing_in r.item) (cond b None (slice_get journal (m - 1))) ≡ Some f → IsTrue (is_filing f)) [
+      | true ↦ λ is. absurd (false≢true (ap is_some is))
+      | false ↦ λ is. got_well journal (m - 1) f stands.items is
+    ]
+
+-- ---- what is not rejected is fit
+
+abbrev is_rejected : Judgement → Bool
+is_rejected Enter = false
+is_rejected (Reject section) = true
+is_rejected (Interim defects) = false
+
+unrejected : (o : Option Section) (found : List Defect) (judgement : Judgement) → judgement_by o found ≡ judgement → is_rejected judgement ≡ false → o ≡ None
+unrejected (Some s) found judgement is open_yet = absurd (false≢true (sym open_yet ∙ sym (ap is_rejected is)))
+unrejected None found judgement is open_yet = refl
+
+pub fit_as_judged : (journal : List Receipt) (m : ℕ) (f : Filing) (i : ℕ) (at : Key → List Entry) (judgement : Judgement) → Deals journal m f i at → judged_filing journal m f i at ≡ judgement → is_rejected judgement ≡ false → IsFit journal m f at
+fit_as_judged journal m f i at judgement deals is open_yet =
+    is_fit journal m f i (documents journal m f i) at deals
+    (unrejected (rejection journal m f (documents journal m f i) at) (defects journal m f (documents journal m f i) at) judgement is open_yet)
+
+-- ---- a filing, as it is judged
+
+pub filing_leaves : (journal : List Receipt) (i : ℕ) (f : Filing) (at : Key → List Entry) (judgement : Judgement) → Deals journal i f i at → judged_filing journal i f i at ≡ judgement → Leaves journal i at (brought_by_filing journal i at judgement).entries
+filing_leaves journal i f at Enter deals is = entry_leaves journal i f at deals (fit_as_judged journal i f i at Enter deals is refl)
+filing_leaves journal i f at (Reject section) deals is = none_leave journal i at deals.kept
+filing_leaves journal i f at (Interim defects) deals is = order_leaves journal i f at deals (fit_as_judged journal i f i at (Interim defects) deals is refl)

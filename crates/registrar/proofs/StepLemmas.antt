@@ -1,0 +1,61 @@
+-- What a step needs and leaves, by what receipt i says.
+use Rattle.std.proofs.Common.{◌≡◌, ℕ, ◌≤◌, List, [], Contains, Option, Some, None, option_map, is_some, refl, sym, ap, subst, ◌∙◌}
+use Rattle.std.specs.Option.{option_map_or}
+use Rattle.gb_base.specs.declared.keys.Key.{Key}
+use Rattle.act_model.specs.Receiving.{IsJournal, receipt_at}
+use Rattle.act_model.specs.declared.items.Item.{Item}
+use Rattle.act_model.specs.declared.items.Item.TheVariants as item
+use Rattle.act_model.specs.declared.receipts.Receipt.{Receipt}
+use Rattle.folio_sections.specs.Adding.{AddsAll, AddsList, HasRoom}
+use Rattle.folio_sections.specs.Entries.{with_entries}
+use Rattle.folio_sections.specs.Kept.{Kept}
+use Rattle.folio_sections.specs.declared.entries.Entry.{Entry}
+use Rattle.registrar.proofs.CuresKeep.{AreEarlier, item_leaves}
+use Rattle.registrar.proofs.ItemRooms.{item_fits}
+use Rattle.registrar.proofs.Keeping.{Leaves, none_leave}
+use Rattle.registrar.proofs.KnownExchanges.{known_when_filed, known_while_waiting}
+use Rattle.registrar.proofs.WaitingStates.{found_waiting}
+use Rattle.registrar.specs.Brings.{brings, brought_by_item, nothing_pending}
+use Rattle.registrar.specs.ItemKeys.{keys_by_item, keys_of_item}
+use Rattle.registrar.specs.Rooms.{HasItsRoom, room_by_item, room_wanted}
+use Rattle.registrar.specs.inner.Exchanges.{KnowsItsExchanges}
+
+pub brings_is : (journal : List Receipt) (i : ℕ) (at : Key → List Entry) (r : Receipt) → receipt_at journal i ≡ Some r → brings journal i at ≡ brought_by_item journal i at r.item
+brings_is journal i at r is = ap (λ o. option_map_or (λ x. brought_by_item journal i at x.item) o nothing_pending) is
+
+keys_are : (journal : List Receipt) (i : ℕ) (r : Receipt) → receipt_at journal i ≡ Some r → keys_of_item journal i ≡ keys_by_item journal i r.item
+keys_are journal i r is = ap (λ o. option_map_or (λ x. keys_by_item journal i x.item) o []) is
+
+wants : (journal : List Receipt) (i : ℕ) (r : Receipt) (entries : List Entry) → receipt_at journal i ≡ Some r → room_wanted journal i entries ≡ room_by_item i r.item entries
+wants journal i r entries is = ap (λ o. option_map_or (λ x. room_by_item i x.item entries) o 1) is
+
+pub step_fits : (journal : List Receipt) (i : ℕ) (at : Key → List Entry) (room : Key → ℕ) (r : Receipt) → IsJournal journal → receipt_at journal i ≡ Some r → HasItsRoom journal i at room → HasRoom room (brought_by_item journal i at r.item).entries
+step_fits journal i at room r stands is roomy =
+    item_fits journal i at room r.item stands (ap (option_map (λ x. x.item)) is)
+    (λ k there. subst (λ n. n ≤ room k) (wants journal i r (at k) is) (roomy k (subst (λ ks. Contains ks k) (sym (keys_are journal i r is)) there)))
+
+earlier_by_item : (journal : List Receipt) (i : ℕ) (at : Key → List Entry) (r : Receipt) → receipt_at journal i ≡ Some r → AreEarlier i at (keys_of_item journal i) → AreEarlier i at (keys_by_item journal i r.item)
+earlier_by_item journal i at r is before = subst (AreEarlier i at) (keys_are journal i r is) before
+
+exchanges_known : (journal : List Receipt) (i : ℕ) (at : Key → List Entry) (w : Item) → Kept journal at → AreEarlier i at (keys_by_item journal i w) → KnowsItsExchanges journal i at w
+exchanges_known journal i at (item.Filing f) kept before = known_when_filed journal at i kept before
+exchanges_known journal i at (item.Cure m docs) kept before = λ until is.
+    let waits = (found_waiting journal m i at until is).waits in
+    known_while_waiting journal at m waits.key kept waits.there (ap is_some waits.waits)
+exchanges_known journal i at other kept before = tt
+
+pub step_knows : (journal : List Receipt) (i : ℕ) (at : Key → List Entry) (r : Receipt) → Kept journal at → receipt_at journal i ≡ Some r → AreEarlier i at (keys_of_item journal i) → KnowsItsExchanges journal i at r.item
+step_knows journal i at r kept is before = exchanges_known journal i at r.item kept (earlier_by_item journal i at r is before)
+
+-- what receipt i brings leaves a kept register; where there is none, nothing is brought
+pub brings_leaves : (journal : List Receipt) (i : ℕ) (at : Key → List Entry) → IsJournal journal → Kept journal at → AreEarlier i at (keys_of_item journal i) → Leaves journal i at (brings journal i at).entries
+brings_leaves journal i at stands kept =
+    elim (receipt_at journal i) as (λ o. receipt_at journal i ≡ o → AreEarlier i at (option_map_or (λ r. keys_by_item journal i r.item) o []) → Leaves journal i at (option_map_or (λ r. brought_by_item journal i at r.item) o nothing_pending).entries) [
+      | Some r ↦ λ is before. item_leaves journal i at r.item stands kept (ap (option_map (λ x. x.item)) is) before
+      | None ↦ λ is before. none_leave journal i at kept
+    ] refl
+
+pub step_leaves : (journal : List Receipt) (i : ℕ) (at0 at1 : Key → List Entry) → IsJournal journal → Kept journal at0 → AreEarlier i at0 (keys_of_item journal i) → AddsAll at0 at1 (brings journal i at0).entries → Kept journal at1
+step_leaves journal i at0 at1 stands kept before added =
+    let same : at1 ≡ with_entries at0 (brings journal i at0).entries = λ j k. added k j in
+    subst (Kept journal) (sym same) (brings_leaves journal i at0 stands kept before).kept
