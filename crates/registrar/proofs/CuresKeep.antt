@@ -30,6 +30,11 @@ use Rattle.registrar.proofs.WaitingStates.{found_waiting, waiting_is_a_filing}
 use Rattle.registrar.specs.Brings.{brought_by_cure, brought_by_item, brought_in_state, nothing_pending}
 use Rattle.registrar.specs.ItemKeys.{keys_by_item, keys_of_named}
 
+-- a receipt of which the item is known is there
+pub there_is : (o : Option Receipt) (w : Item) → option_map (λ r. r.item) o ≡ Some w → IsSome o
+there_is (Some r) w is = refl
+there_is None w is = absurd (false≢true (ap is_some is))
+
 -- all entries at these keys are of earlier items than i
 abbrev pub AreEarlier : ℕ → (Key → List Entry) → List Key → Type 0
 AreEarlier i at keys = (k : Key) → Contains keys k → All (λ e. e.receipt < i) (at k)
@@ -50,9 +55,9 @@ some_is (Some f) there = refl
 some_is None there = absurd (false≢true there)
 
 -- it waits at each of its keys, since it waits at one
-found : (journal : List Receipt) (m i : ℕ) (at : Key → List Entry) (until : ℕ) → IsJournal journal → Kept journal at → AreEarlier i at (keys_of_named journal i m)
+found : (journal : List Receipt) (m i : ℕ) (at : Key → List Entry) (until : ℕ) → IsSome (receipt_at journal i) → IsJournal journal → Kept journal at → AreEarlier i at (keys_of_named journal i m)
     → state_of journal m i at ≡ Pending until → Found journal m i at
-found journal m i at until stands kept before is =
+found journal m i at until received stands kept before is =
     let finds_it = found_waiting journal m i at until is in
     let there = waiting_is_a_filing journal m i at until is in
     let f = some_filing (filing_at journal m) there in
@@ -60,6 +65,7 @@ found journal m i at until stands kept before is =
     record {
       filing = f;
       deals = record {
+        received = received;
         kept = kept;
         filing = filing;
         well = well_filed journal m f stands filing;
@@ -77,32 +83,33 @@ cure_as_judged journal m f i at Enter deals earlier is = cure_leaves journal m f
 cure_as_judged journal m f i at (Reject section) deals earlier is = end_leaves journal m f i at deals
 cure_as_judged journal m f i at (Interim defects) deals earlier is = none_leave journal i at deals.kept
 
-cure_in_state : (journal : List Receipt) (m i : ℕ) (at : Key → List Entry) (state : FilingState) → IsJournal journal → Kept journal at → AreEarlier i at (keys_of_named journal i m) → state_of journal m i at ≡ state → Leaves journal i at (brought_in_state journal m i at state).entries
-cure_in_state journal m i at (Pending until) stands kept before is =
-    let it = found journal m i at until stands kept before is in
+cure_in_state : (journal : List Receipt) (m i : ℕ) (at : Key → List Entry) (state : FilingState) → IsSome (receipt_at journal i) → IsJournal journal → Kept journal at → AreEarlier i at (keys_of_named journal i m) → state_of journal m i at ≡ state → Leaves journal i at (brought_in_state journal m i at state).entries
+cure_in_state journal m i at (Pending until) received stands kept before is =
+    let it = found journal m i at until received stands kept before is in
     let judgement : judged journal m i at ≡ Some (judged_filing journal m it.filing i at) = ap (option_map (λ f. judged_filing journal m f i at)) it.deals.filing in
     subst (λ o. Leaves journal i at (option_map_or (brought_by_cure journal m i at) o nothing_pending).entries) (sym judgement)
     (cure_as_judged journal m it.filing i at (judged_filing journal m it.filing i at) it.deals it.earlier refl)
-cure_in_state journal m i at NotPending stands kept before is = none_leave journal i at kept
+cure_in_state journal m i at NotPending received stands kept before is = none_leave journal i at kept
 
 -- ---- lapses
 
-lapse_in_state : (journal : List Receipt) (m i : ℕ) (at : Key → List Entry) (state : FilingState) → IsJournal journal → Kept journal at → AreEarlier i at (keys_of_named journal i m) → state_of journal m i at ≡ state
+lapse_in_state : (journal : List Receipt) (m i : ℕ) (at : Key → List Entry) (state : FilingState) → IsSome (receipt_at journal i) → IsJournal journal → Kept journal at → AreEarlier i at (keys_of_named journal i m) → state_of journal m i at ≡ state
     → Leaves journal i at (brought_by_lapse (end_brought journal m i) (lapse_by (day_of journal i) state))
-lapse_in_state journal m i at (Pending until) stands kept before is =
+lapse_in_state journal m i at (Pending until) received stands kept before is =
     elim (nat_lt until (day_of journal i)) as (λ b. Leaves journal i at (brought_by_lapse (end_brought journal m i) (cond b answer.Rejected (answer.TooEarly until)))) [
-      | true ↦ let it = found journal m i at until stands kept before is in end_leaves journal m it.filing i at it.deals
+      | true ↦ let it = found journal m i at until received stands kept before is in end_leaves journal m it.filing i at it.deals
       | false ↦ none_leave journal i at kept
     ]
-lapse_in_state journal m i at NotPending stands kept before is = none_leave journal i at kept
+lapse_in_state journal m i at NotPending received stands kept before is = none_leave journal i at kept
 
 lapse_leaves : (journal : List Receipt) (i m : ℕ) (at : Key → List Entry) → IsJournal journal → Kept journal at → AreEarlier i at (keys_of_named journal i m) → option_map (λ r. r.item) (receipt_at journal i) ≡ Some (item.Lapse m)
     → Leaves journal i at (lapse_brought journal i at)
 lapse_leaves journal i m at stands kept before is =
+    let received = there_is (receipt_at journal i) (item.Lapse m) is in
     elim (lapse_at journal i) as (λ o. lapse_at journal i ≡ o → Leaves journal i at (option_map_or (λ n. brought_by_lapse (end_brought journal n i) (option_map_or (λ x. lapse_by (day_of journal i) (state_of journal x i at)) o answer.NotPending)) o [])) [
       | Some n ↦ λ names.
           let same = lapse_names journal i m n is names in
-          lapse_in_state journal n i at (state_of journal n i at) stands kept (subst (λ x. AreEarlier i at (keys_of_named journal i x)) same before) refl
+          lapse_in_state journal n i at (state_of journal n i at) received stands kept (subst (λ x. AreEarlier i at (keys_of_named journal i x)) same before) refl
       | None ↦ λ none. none_leave journal i at kept
     ] refl
 
@@ -115,12 +122,12 @@ filing_of_item None w is = ap (λ x. option_and_then filing_in x) is
 filing_deals : (journal : List Receipt) (i : ℕ) (f : Filing) (at : Key → List Entry) → IsJournal journal → Kept journal at → AreEarlier i at (keys_of_filing journal i) → option_map (λ r. r.item) (receipt_at journal i) ≡ Some (item.Filing f) → Deals journal i f i at
 filing_deals journal i f at stands kept before is =
     let filing : filing_at journal i ≡ Some f = filing_of_item (receipt_at journal i) (item.Filing f) is in
-    record { kept = kept; filing = filing; well = well_filed journal i f stands filing; earlier = before; turn = is_it refl }
+    record { received = there_is (receipt_at journal i) (item.Filing f) is; kept = kept; filing = filing; well = well_filed journal i f stands filing; earlier = before; turn = is_it refl }
 
 pub item_leaves : (journal : List Receipt) (i : ℕ) (at : Key → List Entry) (w : Item) → IsJournal journal → Kept journal at → option_map (λ r. r.item) (receipt_at journal i) ≡ Some w → AreEarlier i at (keys_by_item journal i w)
     → Leaves journal i at (brought_by_item journal i at w).entries
 item_leaves journal i at (item.Filing f) stands kept is before =
     filing_leaves journal i f at (judged_filing journal i f i at) (filing_deals journal i f at stands kept before is) refl
-item_leaves journal i at (item.Cure m docs) stands kept is before = cure_in_state journal m i at (state_of journal m i at) stands kept before refl
+item_leaves journal i at (item.Cure m docs) stands kept is before = cure_in_state journal m i at (state_of journal m i at) (there_is (receipt_at journal i) (item.Cure m docs) is) stands kept before refl
 item_leaves journal i at (item.Lapse m) stands kept is before = lapse_leaves journal i m at stands kept before is
 item_leaves journal i at other stands kept is before = none_leave journal i at kept

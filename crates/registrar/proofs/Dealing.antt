@@ -1,8 +1,8 @@
 -- What is known where an item deals with a filing, and what holds of each entry that it brings.
-use Rattle.std.proofs.Common.{◌≡◌, ℕ, ◌<◌, ◌≤◌, false, List, All, Contains, IsTrue, IfSome, Some}
+use Rattle.std.proofs.Common.{◌≡◌, ℕ, ◌<◌, ◌≤◌, false, List, All, Contains, IsTrue, IfSome, IsSome, Some}
 use Rattle.std.specs.List.{AllByRecursion, enumerate_from}
 use Rattle.gb_base.specs.declared.keys.Key.{Key}
-use Rattle.act_model.specs.Receiving.{day_of}
+use Rattle.act_model.specs.Receiving.{day_of, receipt_at}
 use Rattle.act_model.specs.Creations.{creating_rank}
 use Rattle.act_model.specs.Touches.{filing_at, keys_of_filing, new_right}
 use Rattle.act_model.specs.WellFormed.{is_filing}
@@ -26,6 +26,7 @@ pub data Turn (journal : List Receipt) (m i : ℕ) (at : Key → List Entry) : T
 
 -- Item i deals with filing m, which is f, on a kept register whose entries at the filing's keys are of earlier items.
 pub record Deals (journal : List Receipt) (m : ℕ) (f : Filing) (i : ℕ) (at : Key → List Entry) : Type 0 where
+  pub received : IsSome (receipt_at journal i)
   pub kept : Kept journal at
   pub filing : filing_at journal m ≡ Some f
   pub well : IsTrue (is_filing f)

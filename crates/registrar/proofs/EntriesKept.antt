@@ -1,15 +1,17 @@
 -- Where an item deals with a filing, receipts never fall, and entries name nothing later.
-use Rattle.std.proofs.Common.{◌≡◌, ℕ, ◌<◌, ◌≤◌, true, false, List, ◌++◌, All, AllPairs, Contains, get_or, refl, sym, subst, arith}
+use Rattle.std.proofs.Common.{◌≡◌, ℕ, ◌<◌, ◌≤◌, true, false, List, ◌++◌, All, AllPairs, Contains, IsSome, get_or, Option, Some, None, is_some, option_map, refl, sym, ap, subst, ◌∙◌, arith}
+use Rattle.std.specs.Option.{option_map_or}
+use Rattle.std.proofs.lemmas.Bool.{false≢true}
 use Rattle.std.specs.List.{AllByRecursion}
 use Rattle.std.proofs.lemmas.List.Elements.{All-append, All-from_recursion}
 use Rattle.gb_base.specs.declared.keys.Key.{Key}
 use Rattle.act_model.specs.declared.items.Filing.{Filing}
 use Rattle.act_model.specs.declared.receipts.Receipt.{Receipt}
-use Rattle.act_model.specs.Receiving.{day_of}
+use Rattle.act_model.specs.Receiving.{day_of, receipt_at}
 use Rattle.act_model.specs.Touches.{keys_of_filing}
 use Rattle.act_model.proofs.KeyOrder.{has, has_decides}
 use Rattle.folio_sections.specs.Entries.{at, with_entries}
-use Rattle.folio_sections.specs.KeptEntries.{IsCreatedInTime, IsPlacedInTime, ReceiptsRise, WaitsInTime}
+use Rattle.folio_sections.specs.KeptEntries.{IsCreatedInTime, IsPlacedInTime, IsStamped, ReceiptsRise, WaitsInTime}
 use Rattle.folio_sections.specs.declared.entries.Entry.{Entry}
 use Rattle.interim_orders.proofs.Noticing.{all_map as all_weaker}
 use Rattle.registrar.proofs.Added.{all_here, pairs_append, unchanged_elsewhere}
@@ -56,11 +58,20 @@ never_fall_at journal m f i before es k deals all =
           (sym (unchanged_elsewhere before (keys_of_filing journal m) es k (all_there journal m i es all) lacks)) (deals.kept.receipts_rise.never_fall k)
     ] refl
 
+-- an entry of item i, on the stamp day of the item
+day_there : (o : Option Receipt) → IsSome o → option_map (λ r. r.stamp.day) o ≡ Some (option_map_or (λ r. r.stamp.day) o 0)
+day_there (Some r) there = refl
+day_there None there = absurd (false≢true there)
+
+stamped : (journal : List Receipt) (i : ℕ) (e : Entry) → IsSome (receipt_at journal i) → e.receipt ≡ i → e.day ≡ day_of journal i → IsStamped journal e
+stamped journal i e there by_item on_day =
+    ap (λ n. option_map (λ r. r.stamp.day) (receipt_at journal n)) by_item ∙ day_there (receipt_at journal i) there ∙ ap Some (sym on_day)
+
 pub receipts_rise : (journal : List Receipt) (m : ℕ) (f : Filing) (i : ℕ) (at : Key → List Entry) (es : List Entry) → Deals journal m f i at → AllByRecursion (IsBrought journal m i) es → ReceiptsRise journal (with_entries at es)
 receipts_rise journal m f i at es deals all = record {
   never_fall = λ k. never_fall_at journal m f i at es k deals all;
-  days = λ k. kept_here (λ j e. e.day ≡ day_of journal e.receipt) journal m i at es
-      (λ e brought. subst (λ n. e.day ≡ day_of journal n) (sym brought.by_item) brought.on_day) all k (deals.kept.receipts_rise.days k);
+  days = λ k. kept_here (λ j e. IsStamped journal e) journal m i at es
+      (λ e brought. stamped journal i e deals.received brought.by_item brought.on_day) all k (deals.kept.receipts_rise.days k);
   placed = λ k. kept_here (λ j e. IsPlacedInTime journal e j) journal m i at es (λ e brought. brought.placed) all k (deals.kept.receipts_rise.placed k);
   waiting = λ k. kept_here (λ j e. WaitsInTime e.receipt e.what) journal m i at es (λ e brought. brought.waits) all k (deals.kept.receipts_rise.waiting k);
   created = λ k. kept_here (λ j e. IsCreatedInTime e.receipt j e.what) journal m i at es (λ e brought. brought.created) all k (deals.kept.receipts_rise.created k);
