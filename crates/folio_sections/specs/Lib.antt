@@ -17,6 +17,7 @@ pub mod Looking
 pub mod PartState
 pub mod Persons
 pub mod Places
+pub mod Ranks
 pub mod Rights
 pub mod Titles
 pub mod Waiting
