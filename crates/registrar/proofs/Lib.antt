@@ -21,6 +21,7 @@ pub mod NewAtTitles
 pub mod NewContents
 pub mod NewExchanges
 pub mod NoticedPlaces
+pub mod Numbered
 pub mod PlaceReads
 pub mod PlaceStands
 pub mod PlacesKept

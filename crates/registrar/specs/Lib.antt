@@ -2,6 +2,7 @@
 pub mod Brings
 pub mod ItemKeys
 pub mod OpenFolios
+pub mod RegisterState
 pub mod Rooms
 pub mod Schedules
 pub mod ScratchRoom

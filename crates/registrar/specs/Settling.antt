@@ -1,5 +1,5 @@
 -- The one registrar, who settles the items of a journal one after the other, in the order of their receipts (GBO § 17).
-use Rattle.std.specs.Prelude.{ℕ, ◌+◌, ◌==◌, List, [], ◌∷◌, ◌++◌, length, find, fold, Option, option_map}
+use Rattle.std.specs.Prelude.{ℕ, ◌+◌, List, [], ◌∷◌, ◌++◌, length, fold}
 use Rattle.act_model.specs.declared.receipts.Receipt.{Receipt}
 use Rattle.folio_sections.specs.Entries.{at}
 use Rattle.folio_sections.specs.Waiting.{below}
@@ -32,7 +32,3 @@ settled_in_order journal order = fold (settled_next journal) nothing_settled ord
 -- the register that the one registrar leaves
 abbrev pub registrar : List Receipt → Settled
 registrar journal = settled_in_order journal (below (length journal + 1))
-
--- what became of item n; none where it is not settled
-abbrev pub verdict_on : Settled → ℕ → Option Verdict
-verdict_on settled n = option_map (λ s. s.1) (find (λ s. s.0 == n) settled.verdicts)

@@ -1,11 +1,13 @@
 //! The one registrar: what each item brings about, and the register of a whole journal.
 #![tactic(auto)]
 
+mod register;
 mod scratch;
 mod settling;
 mod steps;
 mod verdicts;
 
+pub use register::Register;
 pub use scratch::Scratch;
 pub use steps::step;
 pub use verdicts::Verdict;

@@ -1,0 +1,100 @@
+// The register that the one registrar leaves.
+ghost use Rattle.std.specs.Prelude.{◌≡◌, ◌-◌, ◌<◌, slice_get};
+ghost use Rattle.std.specs.List.{enumerate_from};
+ghost use Rattle.std.specs.Option.{option_copied};
+ghost use Rattle.registrar.specs.RegisterState.{verdict_among};
+
+use crate::Verdict;
+use folio_sections::{CasePart, Entry, MapParts, Parts, RightPart, TitlePart};
+use gb_base::{FolioId, ReceiptNo, RightId};
+use std::marker::Model;
+
+/// The register of a journal: its parts at the keys of all filings, what became of each item, and
+/// the open folios.
+#[derive(Drop)]
+pub struct Register {
+    parts: MapParts,
+    /// What became of each item, in the order of receipts.
+    verdicts: Vec<Verdict>,
+    /// The open folios, ascending.
+    folios: Vec<FolioId>,
+}
+
+impl Model for Register {
+    ghost use Rattle.std.specs.List.{enumerate_from};
+    ghost use Rattle.registrar.specs.RegisterState.{RegisterState};
+
+    ghost Value = { RegisterState };
+
+    ghost view = { λ a. record { parts = a.parts; verdicts = enumerate_from 1 a.verdicts.items; folios = a.folios.items } };
+}
+
+impl Register {
+    /// These parts, verdicts on the items from receipt 1 on, and open folios.
+    pub(crate) fn new(parts: MapParts, verdicts: Vec<Verdict>, folios: Vec<FolioId>) -> Register
+        ensures parts { result.parts ≡ parts }
+        ensures verdicts { result.verdicts ≡ enumerate_from 1 verdicts.items }
+        ensures folios { result.folios ≡ folios.items }
+    {
+        Register {
+            parts,
+            verdicts,
+            folios,
+        }
+    }
+
+    /// What became of receipt n; None where the journal has no such receipt.
+    pub fn verdict(&self, n: ReceiptNo) -> Option<&Verdict>
+        ensures { option_copied result ≡ verdict_among self.now.verdicts n }
+    {
+        at_number(self.verdicts.as_slice(), n)
+    }
+
+    /// What became of each receipt, from the first on.
+    pub fn verdicts(&self) -> &[Verdict]
+        ensures { enumerate_from 1 result.now ≡ self.now.verdicts }
+    {
+        self.verdicts.as_slice()
+    }
+
+    /// The open folios, ascending (GBO § 3).
+    pub fn folios(&self) -> &[FolioId]
+        ensures { result.now ≡ self.now.folios }
+    {
+        self.folios.as_slice()
+    }
+}
+
+/// The verdict of this number, from 1 on.
+fn at_number(verdicts: &[Verdict], n: ReceiptNo) -> Option<&Verdict>
+    ensures value { option_copied result ≡ slice_get verdicts.now (n - 1) }
+    ensures positive { 0 < n }
+{
+    verdicts.get(n.get() as usize - 1)
+}
+
+impl Parts for Register {
+    ghost use Rattle.folio_sections.specs.Held.{is_held, entries_at, room_at};
+
+    ghost holds = { λ r. is_held r.parts };
+
+    ghost at = { λ r. entries_at r.parts };
+
+    ghost room = { λ r. room_at r.parts };
+
+    fn title(&self, folio: FolioId) -> Option<&TitlePart> {
+        self.parts.title(folio)
+    }
+
+    fn right(&self, folio: FolioId, right: RightId) -> Option<&RightPart> {
+        self.parts.right(folio, right)
+    }
+
+    fn case(&self, folio: FolioId) -> Option<&CasePart> {
+        self.parts.case(folio)
+    }
+
+    fn append(&mut self, entry: Entry) {
+        self.parts.append(entry);
+    }
+}
