@@ -24,6 +24,7 @@ pub mod PlacesKept
 pub mod RankedTitles
 pub mod RightReads
 pub mod Rooms
+pub mod UnnoticedFew
 pub mod Unrejected
 pub mod WaitingKept
 pub mod WaitingReads
