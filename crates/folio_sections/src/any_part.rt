@@ -1,5 +1,6 @@
 // A part of any kind, so that one list holds all of them.
 ghost use Rattle.std.specs.Prelude.{◌≡◌, ◌+◌, ◌≤◌, [], ◌∷◌, ◌++◌, IsOk, OnOk, OnErr, IfSome, is_some, length};
+ghost use Rattle.folio_sections.specs.Limits.{most_at_a_key};
 ghost use Rattle.folio_sections.specs.inner.Kinds.{is_title, is_right, is_case};
 
 use crate::{CasePart, Entry, RightPart, TitlePart};
@@ -84,7 +85,8 @@ impl AnyPart {
 
     /// How many entries it has.
     pub fn len(&self) -> usize
-        ensures { result ≡ length self.now.entries }
+        ensures value { result ≡ length self.now.entries }
+        ensures most { result ≤ most_at_a_key }
     {
         match &self.kind {
             Kind::Title(part) => part.entries().len(),

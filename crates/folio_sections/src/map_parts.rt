@@ -5,6 +5,7 @@ ghost use Rattle.std.specs.List.{AllZip};
 ghost use Rattle.gb_base.specs.Keys.{same_key};
 ghost use Rattle.gb_base.specs.declared.keys.Key.{Key};
 ghost use Rattle.folio_sections.specs.Held.{is_held, entries_at, room_at, is_given};
+ghost use Rattle.folio_sections.specs.Limits.{most_at_a_key};
 ghost use Rattle.folio_sections.specs.inner.PartIndex.{Grows, IsIndexOf};
 
 use crate::any_part::AnyPart;
@@ -83,7 +84,8 @@ impl MapParts {
 
     /// How many entries stand at a key; 0 where it is not held.
     pub fn len(&self, key: Key) -> usize
-        ensures { result ≡ length (entries_at self.now key) }
+        ensures value { result ≡ length (entries_at self.now key) }
+        ensures most { result ≤ most_at_a_key }
     {
         match self.part(key) {
             Some(part) => part.len(),

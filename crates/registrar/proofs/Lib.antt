@@ -23,6 +23,7 @@ pub mod PlaceStands
 pub mod PlacesKept
 pub mod RankedTitles
 pub mod RightReads
+pub mod RoomSoFar
 pub mod Rooms
 pub mod UnnoticedFew
 pub mod Unrejected
