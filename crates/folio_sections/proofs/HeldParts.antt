@@ -93,6 +93,21 @@ all_grow_set (x ∷ xs) [] i d q all within g = absurd all
 all_grow_set (x ∷ xs) (y ∷ ys) zero d q all within g = (grows_on x y q all.0 g, all.1)
 all_grow_set (x ∷ xs) (y ∷ ys) (suc i) d q all within g = (all.0, all_grow_set xs ys i d q all.1 (omega arith) g)
 
+-- the part at a key's index grows, and no other
+pub all_grow_at : (now parts : List PartState) (k : Key) (i : ℕ) (p q : PartState) → parts ≡ now → position (is_at k) now ≡ Some i → p ≡ get_or parts i p → Grows p q → AllZip Grows now (set parts i q)
+all_grow_at now parts k i p q is h e g =
+    let stands : p ≡ get_or now i p = e ∙ ap (λ xs. get_or xs i p) is in
+    subst (λ xs. AllZip Grows now (set xs i q)) (sym is)
+    (all_grow_set now now i p q (all_grow_self now) (position-Some (is_at k) now i p h).0 (subst (λ x. Grows x q) stands g))
+
+-- that part is then found at the key
+pub found_set : (now parts : List PartState) (k : Key) (i : ℕ) (p q : PartState) → parts ≡ now → position (is_at k) now ≡ Some i → p ≡ get_or parts i p → q.key ≡ p.key → find (is_at k) (set parts i q) ≡ Some q
+found_set now parts k i p q is h e same =
+    let stands : p ≡ get_or now i p = e ∙ ap (λ xs. get_or xs i p) is in
+    let own : p.key ≡ k = key_found now k p (found_there now k i p h stands) in
+    ap (λ xs. find (is_at k) (set xs i q)) is
+    ∙ find-set (is_at k) now i q (sym (position-at (is_at k) now i h)) (position-Some (is_at k) now i p h).0 (ap (λ x. same_key x k) (same ∙ own) ∙ itself k)
+
 -- parts that had room have it still
 pub room_there : (n : ℕ) (before after : List PartState) (i : ℕ) (d : PartState) → AllZip Grows before after → All (λ p. n ≤ p.room) before → i < length after → n ≤ (get_or after i d).room
 room_there n [] [] i d all each within = absurd (omega arith)

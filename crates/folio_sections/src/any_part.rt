@@ -1,5 +1,6 @@
 // A part of any kind, so that one list holds all of them.
-ghost use Rattle.std.specs.Prelude.{◌≡◌, ◌+◌, ◌≤◌, [], ◌∷◌, ◌++◌, IsOk, OnOk, IfSome, is_some};
+ghost use Rattle.std.specs.Prelude.{◌≡◌, ◌+◌, ◌≤◌, [], ◌∷◌, ◌++◌, IsOk, OnOk, OnErr, IfSome, is_some, length};
+ghost use Rattle.folio_sections.specs.Limits.{most_at_a_key};
 ghost use Rattle.folio_sections.specs.inner.Kinds.{is_title, is_right, is_case};
 
 use crate::{CasePart, Entry, RightPart, TitlePart};
@@ -57,6 +58,7 @@ impl AnyPart {
         ensures entries { self.new.entries ≡ self.old.entries }
         ensures room { OnOk result (n ≤ self.new.room) }
         ensures kept { self.old.room ≤ self.new.room }
+        ensures unchanged { OnErr result (self.new ≡ self.old) }
         ensures succeeds { n ≤ self.old.room → IsOk result }
     {
         match &mut self.kind {
@@ -78,6 +80,18 @@ impl AnyPart {
             Kind::Title(part) => part.append(entry),
             Kind::Right(part) => part.append(entry),
             Kind::Case(part) => part.append(entry),
+        }
+    }
+
+    /// How many entries it has.
+    pub fn len(&self) -> usize
+        ensures value { result ≡ length self.now.entries }
+        ensures most { result ≤ most_at_a_key }
+    {
+        match &self.kind {
+            Kind::Title(part) => part.entries().len(),
+            Kind::Right(part) => part.entries().len(),
+            Kind::Case(part) => part.entries().len(),
         }
     }
 

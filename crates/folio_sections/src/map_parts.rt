@@ -1,10 +1,11 @@
 // Parts over keys that are given, found by key in logarithmic time.
-ghost use Rattle.std.specs.Prelude.{◌≡◌, ◌||◌, ℕ, ◌≤◌, [], All, List, IsTrue, IfOk, IsOk, OnOk, OnErr, IfSome, is_some, find, position};
+ghost use Rattle.std.specs.Prelude.{◌≡◌, ◌||◌, ℕ, ◌≤◌, [], All, List, IsTrue, IfOk, IsOk, OnOk, OnErr, IfSome, is_some, length, find, position};
 ghost use Rattle.std.specs.Option.{option_copied};
 ghost use Rattle.std.specs.List.{AllZip};
 ghost use Rattle.gb_base.specs.Keys.{same_key};
 ghost use Rattle.gb_base.specs.declared.keys.Key.{Key};
 ghost use Rattle.folio_sections.specs.Held.{is_held, entries_at, room_at, is_given};
+ghost use Rattle.folio_sections.specs.Limits.{most_at_a_key};
 ghost use Rattle.folio_sections.specs.inner.PartIndex.{Grows, IsIndexOf};
 
 use crate::any_part::AnyPart;
@@ -60,6 +61,36 @@ impl MapParts {
         ensures succeeds { All (λ p. n ≤ p.room) self.old → IsOk result }
     {
         reserve_each(&mut self.parts, n)
+    }
+
+    /// Keeps room for n entries more at a key, where it is held. Where no memory is found nothing
+    /// changes. It succeeds where the key has the room already.
+    pub fn reserve(&mut self, key: Key, n: usize) -> Result<(), NoMemory>
+        ensures held { is_held self.new ≡ is_held self.old }
+        ensures entries { entries_at self.new ≡ entries_at self.old }
+        ensures room { OnOk result (IsTrue (is_held self.new key) → n ≤ room_at self.new key) }
+        ensures kept { (k : Key) → room_at self.old k ≤ room_at self.new k }
+        ensures unchanged { OnErr result (self.new ≡ self.old) }
+        ensures succeeds { n ≤ room_at self.old key → IsOk result }
+    {
+        match self.index_of(key) {
+            Some(index) => {
+                let part = &mut self.parts[index];
+                part.reserve(n)
+            }
+            None => Ok(()),
+        }
+    }
+
+    /// How many entries stand at a key; 0 where it is not held.
+    pub fn len(&self, key: Key) -> usize
+        ensures value { result ≡ length (entries_at self.now key) }
+        ensures most { result ≤ most_at_a_key }
+    {
+        match self.part(key) {
+            Some(part) => part.len(),
+            None => 0,
+        }
     }
 
     /// Where the part of a key stands; None where it is not held.

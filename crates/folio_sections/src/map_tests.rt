@@ -51,3 +51,27 @@ fn room_for_two_serves_two(rt: HostRuntime) -> Result<(), Fail> {
     assert_eq!(rt; part.entries().len(), 2);
     Ok(())
 }
+
+#[test]
+fn each_key_has_its_own_length_and_room(rt: HostRuntime) -> Result<(), Fail> {
+    let title = Key::Title(folio(&rt, 7));
+    let case = Key::Case(folio(&rt, 7));
+    let mut parts = MapParts::new(rt.alloc(), &[case, title])?;
+    parts.reserve(title, 2)?;
+    let filing = receipt(&rt, 2);
+    let first = entry(&rt, title, 2, What::Notice { filing });
+    let second = entry(&rt, title, 3, What::Settled { filing });
+    assert!(rt; parts.title(folio(&rt, 7)).is_some());
+    add_two(&mut parts, first, second);
+    assert_eq!(rt; parts.len(title), 2);
+    assert_eq!(rt; parts.len(case), 0);
+    assert_eq!(rt; parts.len(Key::Title(folio(&rt, 8))), 0);
+    Ok(())
+}
+
+#[test]
+fn no_room_is_kept_at_a_key_that_is_not_held(rt: HostRuntime) -> Result<(), Fail> {
+    let mut parts = MapParts::new(rt.alloc(), &[Key::Title(folio(&rt, 7))])?;
+    assert!(rt; parts.reserve(Key::Case(folio(&rt, 7)), usize::MAX).is_ok());
+    Ok(())
+}

@@ -27,8 +27,10 @@ pub mod PlaceStands
 pub mod PlacesKept
 pub mod RankedTitles
 pub mod RightReads
+pub mod RoomSoFar
 pub mod Rooms
 pub mod StepLemmas
+pub mod UnnoticedFew
 pub mod Unrejected
 pub mod WaitingKept
 pub mod WaitingReads

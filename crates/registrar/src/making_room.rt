@@ -1,0 +1,32 @@
+// The room that the keys of an item keep for what it brings.
+ghost use Rattle.std.specs.Prelude.{◌≡◌, ◌+◌, ◌≤◌, Contains, IsTrue, OnOk, length};
+ghost use Rattle.gb_base.specs.declared.keys.Key.{Key};
+ghost use Rattle.act_model.specs.Touches.{keys_of_filing};
+ghost use Rattle.folio_sections.specs.Held.{entries_at, is_held, room_at};
+ghost use Rattle.registrar.specs.Rooms.{HasRoomToEnter};
+
+use act_model::{Journal, filing_keys};
+use folio_sections::MapParts;
+use gb_base::{NoMemory, ReceiptNo};
+
+/// The most entries that an item brings at one key, official notices apart.
+const MOST_BROUGHT: usize = 3;
+
+/// Keeps at each key of a filing the room that its entry may want: for a multiple of what stands
+/// there, so that a key that grows is moved seldom.
+pub(crate) fn make_room(
+    parts: &mut MapParts,
+    journal: &Journal,
+    filing: ReceiptNo,
+) -> Result<(), NoMemory>
+    requires held { (k : Key) → Contains (keys_of_filing journal.now.receipts filing) k → IsTrue (is_held parts.old k) }
+    ensures held { is_held parts.new ≡ is_held parts.old }
+    ensures entries { entries_at parts.new ≡ entries_at parts.old }
+    ensures room { OnOk result (HasRoomToEnter journal.now.receipts filing (entries_at parts.new) (room_at parts.new)) }
+{
+    for key in filing_keys(journal, filing).as_slice() {
+        let wanted = parts.len(*key) + MOST_BROUGHT;
+        parts.reserve(*key, wanted)?;
+    }
+    Ok(())
+}
