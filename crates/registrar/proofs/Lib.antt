@@ -14,6 +14,7 @@ pub mod ExchangesStand
 pub mod ExercisedOnce
 pub mod ItemRooms
 pub mod ItemsKeep
+pub mod JournalKeys
 pub mod Keeping
 pub mod KnownExchanges
 pub mod LeavingRights
@@ -26,6 +27,7 @@ pub mod PlaceReads
 pub mod PlaceStands
 pub mod PlacesKept
 pub mod RankedTitles
+pub mod Registering
 pub mod RightReads
 pub mod RoomSoFar
 pub mod Rooms

@@ -23,7 +23,7 @@ use Rattle.registrar.specs.inner.Exchanges.{KnowsItsExchanges}
 pub brings_is : (journal : List Receipt) (i : ℕ) (at : Key → List Entry) (r : Receipt) → receipt_at journal i ≡ Some r → brings journal i at ≡ brought_by_item journal i at r.item
 brings_is journal i at r is = ap (λ o. option_map_or (λ x. brought_by_item journal i at x.item) o nothing_pending) is
 
-keys_are : (journal : List Receipt) (i : ℕ) (r : Receipt) → receipt_at journal i ≡ Some r → keys_of_item journal i ≡ keys_by_item journal i r.item
+pub keys_are : (journal : List Receipt) (i : ℕ) (r : Receipt) → receipt_at journal i ≡ Some r → keys_of_item journal i ≡ keys_by_item journal i r.item
 keys_are journal i r is = ap (λ o. option_map_or (λ x. keys_by_item journal i x.item) o []) is
 
 wants : (journal : List Receipt) (i : ℕ) (r : Receipt) (entries : List Entry) → receipt_at journal i ≡ Some r → room_wanted journal i entries ≡ room_by_item i r.item entries

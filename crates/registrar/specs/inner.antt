@@ -1,2 +1,4 @@
 -- What only private clauses and proofs use.
 pub mod Exchanges
+pub mod Named
+pub mod SettledTo

@@ -2,6 +2,7 @@
 #![tactic(auto)]
 
 mod making_room;
+mod one_registrar;
 mod register;
 mod scratch;
 mod settling;

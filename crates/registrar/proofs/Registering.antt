@@ -1,0 +1,124 @@
+-- The one registrar goes on by one item.
+use Rattle.std.proofs.Common.{◌≡◌, ℕ, zero, suc, ◌+◌, ◌<◌, ◌≤◌, true, false, cond, List, [], ◌∷◌, ◌++◌, length, All, Contains, IsTrue, find, fold, Option, Some, None, is_some, refl, sym, ap, subst, ◌∙◌, length-append, arith}
+use Rattle.std.specs.List.{AllByRecursion, enumerate_from, range_with_len}
+use Rattle.std.specs.Option.{option_map_or}
+use Rattle.std.proofs.lemmas.Bool.{false≢true}
+use Rattle.std.proofs.lemmas.List.{append-nil}
+use Rattle.std.proofs.lemmas.List.Elements.{All-append, All-from_recursion, All-tail}
+use Rattle.std.proofs.lemmas.List.Sums.{fold-append}
+use Rattle.gb_base.specs.Keys.{same_key}
+use Rattle.gb_base.specs.declared.keys.Key.{Key}
+use Rattle.act_model.specs.Receiving.{IsJournal, receipt_at}
+use Rattle.act_model.specs.declared.items.Item.{Item}
+use Rattle.act_model.specs.declared.items.Item.TheVariants as item
+use Rattle.act_model.specs.declared.receipts.Receipt.{Receipt}
+use Rattle.folio_sections.specs.Adding.{AddsAll}
+use Rattle.folio_sections.specs.Entries.{at, with_entries}
+use Rattle.folio_sections.specs.Held.{entries_at}
+use Rattle.folio_sections.specs.Kept.{Kept}
+use Rattle.folio_sections.specs.PartState.{PartState}
+use Rattle.folio_sections.specs.declared.entries.Entry.{Entry}
+use Rattle.folio_sections.proofs.Additions.{at-append}
+use Rattle.folio_sections.proofs.Unchanged.{all_at}
+use Rattle.interim_orders.proofs.Noticing.{all_map}
+use Rattle.registrar.proofs.CuresKeep.{AreEarlier}
+use Rattle.registrar.proofs.StepLemmas.{brings_is, brings_leaves}
+use Rattle.registrar.specs.Brings.{Brought, brings, brought_by_item, nothing_pending}
+use Rattle.registrar.specs.ItemKeys.{keys_of_item}
+use Rattle.registrar.specs.Settling.{Settled, nothing_settled, settled_in_order, settled_next}
+use Rattle.registrar.specs.declared.verdicts.Verdict.{Verdict}
+use Rattle.registrar.specs.declared.verdicts.Verdict.TheVariants as verdict
+use Rattle.registrar.specs.inner.Named.{filing_named}
+use Rattle.registrar.specs.inner.SettledTo.{SettledTo}
+
+-- ---- one step
+
+-- what a step adds, on parts that say the same as before
+pub added_to : (journal : List Receipt) (i : ℕ) (at0 at1 at2 : Key → List Entry) → at1 ≡ at0 → AddsAll at1 at2 (brings journal i at1).entries → at2 ≡ with_entries at0 (brings journal i at0).entries
+added_to journal i at0 at1 at2 same added =
+    let there : at2 ≡ with_entries at1 (brings journal i at1).entries = λ j k. added k j in
+    there ∙ ap (λ stands. with_entries stands (brings journal i stands).entries) same
+
+-- an item that is about no filing brings nothing
+nothing_by_item : (journal : List Receipt) (i : ℕ) (stands : Key → List Entry) (w : Item) → filing_named i w ≡ None → brought_by_item journal i stands w ≡ nothing_pending
+nothing_by_item journal i stands (item.Filing f) none = absurd (false≢true (sym (ap is_some none)))
+nothing_by_item journal i stands (item.Cure m docs) none = absurd (false≢true (sym (ap is_some none)))
+nothing_by_item journal i stands (item.Lapse m) none = absurd (false≢true (sym (ap is_some none)))
+nothing_by_item journal i stands other none = refl
+
+pub brings_nothing : (journal : List Receipt) (i : ℕ) (stands : Key → List Entry) (r : Receipt) → receipt_at journal i ≡ Some r → filing_named i r.item ≡ None → brings journal i stands ≡ nothing_pending
+brings_nothing journal i stands r is none = brings_is journal i stands r is ∙ nothing_by_item journal i stands r.item none
+
+pub unchanged : (journal : List Receipt) (i : ℕ) (stands : Key → List Entry) (r : Receipt) → receipt_at journal i ≡ Some r → filing_named i r.item ≡ None → stands ≡ with_entries stands (brings journal i stands).entries
+unchanged journal i stands r is none =
+    let same : stands ≡ with_entries stands [] = λ j k. sym (append-nil (stands k)) j in
+    same ∙ ap (λ (b : Brought). with_entries stands b.entries) (sym (brings_nothing journal i stands r is none))
+
+-- ---- the fold
+
+range_more : (a n : ℕ) → range_with_len a (n + 1) ≡ range_with_len a n ++ (a + n) ∷ []
+range_more a zero = ap (λ m. m ∷ []) (omega arith)
+range_more a (suc n) =
+    let longer : suc n + 1 ≡ suc (n + 1) = omega arith in
+    let last : (a + 1) + n ≡ a + suc n = omega arith in
+    ap (range_with_len a) longer ∙ ap (λ ms. a ∷ ms) (range_more (a + 1) n ∙ ap (λ m. range_with_len (a + 1) n ++ m ∷ []) last)
+
+pub settled_more : (journal : List Receipt) (n : ℕ) → settled_in_order journal (range_with_len 1 (n + 1)) ≡ settled_next journal (settled_in_order journal (range_with_len 1 n)) (n + 1)
+settled_more journal n =
+    ap (settled_in_order journal) (range_more 1 n)
+    ∙ fold-append (settled_next journal) nothing_settled (range_with_len 1 n) ((1 + n) ∷ [])
+    ∙ ap (settled_next journal (settled_in_order journal (range_with_len 1 n))) (omega arith)
+
+numbered_more : (a : ℕ) (vs : List Verdict) (v : Verdict) → enumerate_from a (vs ++ v ∷ []) ≡ enumerate_from a vs ++ (a + length vs, v) ∷ []
+numbered_more a [] v = ap (λ m. (m, v) ∷ []) (omega arith)
+numbered_more a (w ∷ ws) v =
+    ap (λ ps. (a, w) ∷ ps) (numbered_more (a + 1) ws v ∙ ap (λ m. enumerate_from (a + 1) ws ++ (m, v) ∷ []) (omega arith))
+
+-- ---- the first so many items are settled
+
+nothing_at : (parts : List PartState) (k : Key) → All (λ p. p.entries ≡ []) parts → entries_at parts k ≡ []
+nothing_at [] k none = refl
+nothing_at (p ∷ ps) k none =
+    elim (same_key p.key k) as (λ b. option_map_or (λ (q : PartState). q.entries) (cond b (Some p) (find (λ q. same_key q.key k) ps)) [] ≡ []) [
+      | true ↦ none 0 p (omega arith)
+      | false ↦ nothing_at ps k (All-tail (λ q. q.entries ≡ []) p ps none)
+    ]
+
+pub none_settled : (journal : List Receipt) (parts : List PartState) → All (λ p. p.entries ≡ []) parts → Kept journal (λ k. []) → SettledTo journal 0 (entries_at parts) []
+none_settled journal parts none kept =
+    let empty : entries_at parts ≡ λ k. [] = λ j k. nothing_at parts k none j in
+    record {
+      entries = empty;
+      verdicts = refl;
+      count = refl;
+      kept = subst (Kept journal) (sym empty) kept;
+      earlier = λ k. subst (All (λ e. e.receipt < 0 + 1)) (sym (nothing_at parts k none)) (λ n e within. absurd (omega arith));
+    }
+
+all_before : (n : ℕ) (before more : List Entry) → All (λ e. e.receipt < n + 1) before → AllByRecursion (λ e. e.receipt ≡ n + 1) more → All (λ e. e.receipt < (n + 1) + 1) (before ++ more)
+all_before n before more earlier now =
+    All-append (λ e. e.receipt < (n + 1) + 1) before more
+    (λ j e within. let less = earlier j e within in omega arith)
+    (All-from_recursion (λ e. e.receipt < (n + 1) + 1) more (all_map (λ e. e.receipt ≡ n + 1) (λ e. e.receipt < (n + 1) + 1) more (λ e is. omega arith) now))
+
+-- one more
+pub one_settled : (journal : List Receipt) (n : ℕ) (at0 at1 : Key → List Entry) (vs : List Verdict) (v : Verdict) → IsJournal journal → SettledTo journal n at0 vs
+    → at1 ≡ with_entries at0 (brings journal (n + 1) at0).entries → v ≡ (brings journal (n + 1) at0).verdict → Kept journal at1 → SettledTo journal (n + 1) at1 (vs ++ v ∷ [])
+one_settled journal n at0 at1 vs v stands so_far added is kept =
+    let before = settled_in_order journal (range_with_len 1 n) in
+    let brought = brings journal (n + 1) at0 in
+    let again : brought ≡ brings journal (n + 1) (at before.entries) = ap (brings journal (n + 1)) so_far.entries in
+    let leaves = brings_leaves journal (n + 1) at0 stands so_far.kept (λ k there. so_far.earlier k) in
+    let both : at (before.entries ++ brought.entries) ≡ with_entries (at before.entries) brought.entries = λ j k. at-append before.entries brought.entries k j in
+    let number : 1 + length vs ≡ n + 1 = let count = so_far.count in omega arith in
+    record {
+      entries = added ∙ ap (λ b. with_entries b brought.entries) so_far.entries ∙ sym both
+          ∙ ap (λ (b : Brought). at (before.entries ++ b.entries)) again ∙ ap (λ (s : Settled). at s.entries) (sym (settled_more journal n));
+      verdicts = numbered_more 1 vs v ∙ ap (λ m. enumerate_from 1 vs ++ (m, v) ∷ []) number ∙ ap (λ ps. ps ++ (n + 1, v) ∷ []) so_far.verdicts
+          ∙ ap (λ w. before.verdicts ++ (n + 1, w) ∷ []) is ∙ ap (λ (b : Brought). before.verdicts ++ (n + 1, b.verdict) ∷ []) again
+          ∙ ap (λ (s : Settled). s.verdicts) (sym (settled_more journal n));
+      count = length-append vs (v ∷ []) ∙ ap (λ m. m + 1) so_far.count;
+      kept = kept;
+      earlier = λ k. subst (λ es. All (λ e. e.receipt < (n + 1) + 1) es) (sym (λ j. added j k))
+          (all_before n (at0 k) (at brought.entries k) (so_far.earlier k) (all_at (λ e. e.receipt ≡ n + 1) brought.entries k leaves.by_item));
+    }
