@@ -4,6 +4,8 @@ pub mod Below
 pub mod HeldParts
 pub mod Indexes
 pub mod ListLemmas
+pub mod PlaceOrder
 pub mod Progress
+pub mod RankOrder
 pub mod Unchanged
 pub mod Unnoticed
