@@ -90,15 +90,15 @@ pub rank_is_order : (ps : List TitlePlace) (x y : Ranked) (p q : TitlePlace) →
     → is_ahead ps x y ≡ is_filed_ahead x y
 rank_is_order ps x y p q up here there own =
     elim (eqb x.filing y.filing) as (λ b. eqb x.filing y.filing ≡ b
-        → cond b (nat_lt x.group y.group) (cond (same_division x.third y.third) (is_placed_ahead ps x.filing y.filing) (is_of_earlier_day ps x.filing y.filing || (are_of_one_day ps x.filing y.filing && is_behind ps x.filing y)))
-        ≡ (nat_lt x.filing y.filing || (b && nat_lt x.group y.group))) [
+    → cond b (nat_lt x.group y.group) (cond (same_division x.third y.third) (is_placed_ahead ps x.filing y.filing) (is_of_earlier_day ps x.filing y.filing || (are_of_one_day ps x.filing y.filing && is_behind ps x.filing y)))
+    ≡ (nat_lt x.filing y.filing || (b && nat_lt x.group y.group))) [
       | true ↦ λ same.
           let not_less : nat_lt x.filing y.filing ≡ false = grind (arith, nat_tests, eqb-true x.filing y.filing same) in
           ap (λ b. b || nat_lt x.group y.group) (sym not_less)
       | false ↦ λ other.
           elim (same_division x.third y.third) as (λ d. same_division x.third y.third ≡ d
-              → cond d (is_placed_ahead ps x.filing y.filing) (is_of_earlier_day ps x.filing y.filing || (are_of_one_day ps x.filing y.filing && is_behind ps x.filing y))
-              ≡ (nat_lt x.filing y.filing || false)) [
+          → cond d (is_placed_ahead ps x.filing y.filing) (is_of_earlier_day ps x.filing y.filing || (are_of_one_day ps x.filing y.filing && is_behind ps x.filing y))
+          ≡ (nat_lt x.filing y.filing || false)) [
             | true ↦ λ one. placed_ahead_is x.filing y.filing ps p q up here there ∙ sym (or_none (nat_lt x.filing y.filing))
             | false ↦ λ apart.
                 earlier_or_behind ps x.filing x.third y p q up here there (λ e. false≢true (sym other ∙ eq-eqb x.filing y.filing e)) apart own
