@@ -1,9 +1,27 @@
 //! What holds of registers.
-ghost use Rattle.std.specs.Prelude.{List, []};
+ghost use Rattle.std.specs.Prelude.{◌≡◌, ℕ, List, [], Some};
+ghost use Rattle.gb_base.specs.RightNo.{RightNo};
+ghost use Rattle.gb_base.specs.declared.keys.Key.{Key};
+ghost use Rattle.gb_base.specs.declared.keys.Key.TheVariants.{Right};
+ghost use Rattle.act_model.specs.Receiving.{IsJournal};
 ghost use Rattle.act_model.specs.declared.receipts.Receipt.{Receipt};
 ghost use Rattle.folio_sections.specs.Kept.{Kept};
+ghost use Rattle.folio_sections.specs.Places.{places};
+ghost use Rattle.folio_sections.specs.Ranks.{is_ahead, is_filed_ahead, ranked};
+ghost use Rattle.folio_sections.specs.Rights.{created};
+ghost use Rattle.folio_sections.specs.declared.entries.Created.{Created};
+ghost use Rattle.folio_sections.specs.declared.entries.Entry.{Entry};
 
 /// The register in which nothing stands is one that may come about.
 pub fn empty_register_is_kept()
     ensures { (journal : List Receipt) → Kept journal (λ _. []) }
+{}
+
+/// In every register that comes about rights stand in the order of their filings and groups, whether they are live or not:
+/// the one that is ahead by places and days is the one of the earlier filing, or of the smaller group in one filing (BGB
+/// § 879, GBO § 45).
+pub fn kept_order()
+    ensures { (journal : List Receipt) (at : Key → List Entry) (folio : ℕ) (x y : RightNo) (a b : Created)
+        → IsJournal journal → Kept journal at → created (at (Right folio x)) ≡ Some a → created (at (Right folio y)) ≡ Some b
+        → is_ahead (places journal at folio) (ranked x a) (ranked y b) ≡ is_filed_ahead (ranked x a) (ranked y b) }
 {}
