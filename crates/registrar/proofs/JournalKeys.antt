@@ -1,7 +1,8 @@
 -- The keys of the filings of a journal, and those of an item that is about one.
-use Rattle.std.proofs.Common.{◌≡◌, ℕ, zero, suc, ◌+◌, ◌-◌, ◌<◌, ◌≤◌, eqb, true, false, cond, nat_lt, List, [], ◌∷◌, ◌++◌, length, Contains, IsSome, IsTrue, Option, Some, None, option_and_then, is_some, slice_get, refl, sym, ap, subst, ◌∙◌, arith}
+use Rattle.std.proofs.Common.{◌≡◌, ℕ, zero, suc, ◌+◌, ◌-◌, ◌<◌, ◌≤◌, eqb, true, false, cond, nat_le, nat_lt, List, [], ◌∷◌, ◌++◌, length, Contains, IsSome, IsTrue, Option, Some, None, option_and_then, is_some, slice_get, refl, sym, ap, subst, ◌∙◌, arith}
 use Rattle.std.specs.Option.{option_map_or}
 use Rattle.std.proofs.lemmas.Bool.{false≢true}
+use Rattle.std.proofs.lemmas.Bool.Decides.{nat_tests}
 use Rattle.std.proofs.lemmas.List.Elements.{Contains-append_left, Contains-append_right}
 use Rattle.gb_base.specs.declared.keys.Key.{Key}
 use Rattle.act_model.proofs.KeyOrder.{has_decides, in_key_order_members}
@@ -76,3 +77,16 @@ item_named journal i m k other is there = absurd (false≢true (ap is_some is))
 
 pub item_keys : (journal : List Receipt) (i m : ℕ) (k : Key) (r : Receipt) → receipt_at journal i ≡ Some r → filing_named i r.item ≡ Some m → Contains (keys_of_item journal i) k → Contains (keys_of_filing journal m) k
 item_keys journal i m k r is names there = item_named journal i m k r.item names (subst (λ ks. Contains ks k) (keys_are journal i r is) there)
+
+-- the keys of the first so many filings, and of one more
+pub given_next : (journal : List Receipt) (i m : ℕ) (keys more all : List Key) → m ≡ i + 1 → more ≡ keys_in_order journal m → all ≡ keys ++ more
+    → ((n : ℕ) (k : Key) → n ≤ i → Contains (keys_of_filing journal n) k → IsTrue (is_given keys k))
+    → (n : ℕ) (k : Key) → n ≤ i + 1 → Contains (keys_of_filing journal n) k → IsTrue (is_given all k)
+given_next journal i m keys more all next here both so_far n k within there =
+    subst (λ ks. IsTrue (is_given ks k)) (sym both)
+    (elim (nat_le n i) as (λ b. nat_le n i ≡ b → IsTrue (is_given (keys ++ more) k)) [
+      | true ↦ λ earlier. given_before keys more k (so_far n k (grind (arith, nat_tests, earlier)) there)
+      | false ↦ λ later.
+          let last : n ≡ m = grind (arith, nat_tests, later, within, next) in
+          given_now journal m keys more k here (subst (λ x. Contains (keys_of_filing journal x) k) last there)
+    ] refl)

@@ -122,3 +122,10 @@ one_settled journal n at0 at1 vs v stands so_far added is kept =
       earlier = λ k. subst (λ es. All (λ e. e.receipt < (n + 1) + 1) es) (sym (λ j. added j k))
           (all_before n (at0 k) (at brought.entries k) (so_far.earlier k) (all_at (λ e. e.receipt ≡ n + 1) brought.entries k leaves.by_item));
     }
+
+-- the same, where the item's number and the list of verdicts are known by equations
+pub next_settled : (journal : List Receipt) (n i : ℕ) (at0 at1 : Key → List Entry) (vs all : List Verdict) (v : Verdict) → i ≡ n + 1 → IsJournal journal → SettledTo journal n at0 vs
+    → at1 ≡ with_entries at0 (brings journal i at0).entries → v ≡ (brings journal i at0).verdict → Kept journal at1 → all ≡ vs ++ v ∷ [] → SettledTo journal (n + 1) at1 all
+next_settled journal n i at0 at1 vs all v next stands so_far added is kept whole =
+    subst (SettledTo journal (n + 1) at1) (sym whole)
+    (one_settled journal n at0 at1 vs v stands so_far (added ∙ ap (λ x. with_entries at0 (brings journal x at0).entries) next) (is ∙ ap (λ x. (brings journal x at0).verdict) next) kept)

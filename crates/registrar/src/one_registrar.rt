@@ -11,13 +11,31 @@ ghost use Rattle.registrar.specs.Settling.{registrar};
 ghost use Rattle.registrar.specs.inner.Named.{filing_named};
 ghost use Rattle.registrar.specs.inner.SettledTo.{SettledTo};
 
+use crate::folios::open_folios;
 use crate::making_room::make_room;
 use crate::steps::{receipt_of, step};
-use crate::{Scratch, Verdict};
+use crate::{Register, Scratch, Verdict};
 use act_model::{Item, Journal, filing_keys};
 use folio_sections::MapParts;
+use folio_sections::laws::empty_register_is_kept;
 use gb_base::{Key, NoMemory, ReceiptNo};
 use std::alloc::Global;
+
+/// The register that one registrar leaves who takes the items of a journal in the order of their
+/// receipts, and what becomes of each item.
+pub fn alone(alloc: Global, journal: &Journal) -> Result<Register, NoMemory>
+    ensures entries { IfOk result (λ register. entries_at register.parts ≡ at (registrar journal.now.receipts).entries) }
+    ensures verdicts { IfOk result (λ register. register.verdicts ≡ (registrar journal.now.receipts).verdicts) }
+    ensures folios { IfOk result (λ register. register.folios ≡ open_folios (registrar journal.now.receipts).entries) }
+    ensures held { IfOk result (λ register. (m : ℕ) (k : Key) → Contains (keys_of_filing journal.now.receipts m) k → IsTrue (is_held register.parts k)) }
+    ensures kept { IfOk result (λ register. Kept journal.now.receipts (entries_at register.parts)) }
+{
+    let keys = keys_of_filings(alloc, journal)?;
+    let mut parts = MapParts::new(alloc, keys.as_slice())?;
+    let verdicts = settle_all(alloc, &mut parts, journal)?;
+    let folios = open_folios(alloc, keys.as_slice(), &parts)?;
+    Ok(Register::new(parts, verdicts, folios))
+}
 
 /// The keys of all filings of a journal; some come twice.
 fn keys_of_filings(alloc: Global, journal: &Journal) -> Result<Vec<Key>, NoMemory>
@@ -43,6 +61,7 @@ fn settle_all(
     ensures held { OnOk result (is_held parts.new ≡ is_held parts.old) }
     ensures settled { IfOk result (λ verdicts. SettledTo journal.now.receipts (length journal.now.receipts) (entries_at parts.new) verdicts.items) }
 {
+    empty_register_is_kept();
     let mut scratch = Scratch::with_room(alloc, 0, 0)?;
     let mut verdicts = Vec::new(alloc);
     for index in 0..journal.len() {
