@@ -18,11 +18,14 @@ pub mod NewAtTitles
 pub mod NewContents
 pub mod NewExchanges
 pub mod NoticedPlaces
+pub mod OneListOfFolios
+pub mod OpenTitles
 pub mod PlaceReads
 pub mod PlaceStands
 pub mod PlacesKept
 pub mod RankedTitles
 pub mod RightReads
+pub mod RisingNumbers
 pub mod RoomSoFar
 pub mod Rooms
 pub mod UnnoticedFew
