@@ -23,12 +23,15 @@ pub mod NewContents
 pub mod NewExchanges
 pub mod NoticedPlaces
 pub mod Numbered
+pub mod OneListOfFolios
+pub mod OpenTitles
 pub mod PlaceReads
 pub mod PlaceStands
 pub mod PlacesKept
 pub mod RankedTitles
 pub mod Registering
 pub mod RightReads
+pub mod RisingNumbers
 pub mod RoomSoFar
 pub mod Rooms
 pub mod StepLemmas

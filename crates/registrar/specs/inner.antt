@@ -1,4 +1,5 @@
 -- What only private clauses and proofs use.
 pub mod Exchanges
 pub mod Named
+pub mod OpenTitles
 pub mod SettledTo

@@ -1,6 +1,7 @@
 //! The one registrar: what each item brings about, and the register of a whole journal.
 #![tactic(auto)]
 
+mod folios;
 mod making_room;
 mod one_registrar;
 mod register;

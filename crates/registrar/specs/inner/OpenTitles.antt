@@ -1,0 +1,12 @@
+-- The titles of open folios among keys.
+use Rattle.std.specs.Prelude.{ℕ, if◌then◌else◌, List, Option, Some, None}
+use Rattle.gb_base.specs.declared.keys.Key.{Key}
+use Rattle.gb_base.specs.declared.keys.Key.TheVariants.{Title, Right, Case}
+use Rattle.folio_sections.specs.Titles.{is_open}
+use Rattle.folio_sections.specs.declared.entries.Entry.{Entry}
+
+-- the folio whose title has this key, where it is open
+abbrev pub open_title : (Key → List Entry) → Key → Option ℕ
+open_title at (Title folio) = if is_open (at (Title folio)) then Some folio else None
+open_title at (Right folio right) = None
+open_title at (Case folio) = None
