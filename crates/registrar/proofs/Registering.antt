@@ -1,5 +1,5 @@
 -- The one registrar goes on by one item.
-use Rattle.std.proofs.Common.{◌≡◌, ℕ, zero, suc, ◌+◌, ◌<◌, ◌≤◌, true, false, cond, List, [], ◌∷◌, ◌++◌, length, All, Contains, IsTrue, find, fold, Option, Some, None, is_some, refl, sym, ap, subst, ◌∙◌, length-append, arith}
+use Rattle.std.proofs.Common.{◌≡◌, ℕ, zero, suc, ◌+◌, ◌-◌, ◌<◌, ◌≤◌, true, false, cond, List, [], ◌∷◌, ◌++◌, length, All, Contains, IsTrue, find, fold, Option, Some, None, is_some, refl, sym, ap, subst, ◌∙◌, length-append, arith}
 use Rattle.std.specs.List.{AllByRecursion, enumerate_from, range_with_len}
 use Rattle.std.specs.Option.{option_map_or}
 use Rattle.std.proofs.lemmas.Bool.{false≢true}
@@ -25,7 +25,7 @@ use Rattle.registrar.proofs.CuresKeep.{AreEarlier}
 use Rattle.registrar.proofs.StepLemmas.{brings_is, brings_leaves}
 use Rattle.registrar.specs.Brings.{Brought, brings, brought_by_item, nothing_pending}
 use Rattle.registrar.specs.ItemKeys.{keys_of_item}
-use Rattle.registrar.specs.Settling.{Settled, nothing_settled, settled_in_order, settled_next}
+use Rattle.registrar.specs.Settling.{Settled, nothing_settled, registrar, settled_in_order, settled_next}
 use Rattle.registrar.specs.declared.verdicts.Verdict.{Verdict}
 use Rattle.registrar.specs.declared.verdicts.Verdict.TheVariants as verdict
 use Rattle.registrar.specs.inner.Named.{filing_named}
@@ -129,3 +129,9 @@ pub next_settled : (journal : List Receipt) (n i : ℕ) (at0 at1 : Key → List 
 next_settled journal n i at0 at1 vs all v next stands so_far added is kept whole =
     subst (SettledTo journal (n + 1) at1) (sym whole)
     (one_settled journal n at0 at1 vs v stands so_far (added ∙ ap (λ x. with_entries at0 (brings journal x at0).entries) next) (is ∙ ap (λ x. (brings journal x at0).verdict) next) kept)
+
+-- the one registrar settles as many items as the journal has
+pub registrar_is : (journal : List Receipt) → settled_in_order journal (range_with_len 1 (length journal)) ≡ registrar journal
+registrar_is journal =
+    let count : length journal ≡ (length journal + 1) - 1 = omega arith in
+    ap (λ n. settled_in_order journal (range_with_len 1 n)) count

@@ -10,6 +10,7 @@ mod settling;
 mod steps;
 mod verdicts;
 
+pub use one_registrar::alone;
 pub use register::Register;
 pub use scratch::Scratch;
 pub use steps::step;

@@ -1,0 +1,28 @@
+use Rattle.std.proofs.Common.{IsTrue, List, sym, ap, subst, ◌∙◌}
+use Rattle.folio_sections.specs.Entries.{at}
+use Rattle.folio_sections.specs.Held.{entries_at, is_given, is_held}
+use Rattle.folio_sections.specs.PartState.{PartState}
+use Rattle.registrar.proofs.OneListOfFolios.{one_list_of_folios}
+use Rattle.registrar.proofs.Registering.{registrar_is}
+use Rattle.registrar.specs.Settling.{Settled, registrar}
+use Rattle.registrar.proofs.one_registrar.alone.Goals as goal
+
+pub settle_all-requires-clause-held : goal.settle_all-requires-clause-held
+settle_all-requires-clause-held c = λ m k there.
+    subst IsTrue (sym (c.in_ok-parts.ensures.held k ∙ ap (λ ks. is_given ks k) c.as_slice.ensures.value)) (c.in_ok-keys.ensures m k there)
+
+pub open_folios-requires : goal.open_folios-requires
+open_folios-requires c = λ k.
+    ap (λ h. h k) c.in_ok-verdicts.ensures.held ∙ c.in_ok-parts.ensures.held k ∙ ap (λ ks. is_given ks k) (c.as_slice.ensures.value ∙ sym c.as_slice-2.ensures.value)
+
+pub returns-clause-folios : goal.returns-clause-folios
+returns-clause-folios c =
+    c.new-2.ensures.folios
+    ∙ one_list_of_folios c.in_ok-folios.folios.items (registrar c.args.journal.now.receipts).entries (entries_at c.settle_all.new.parts) c.in_ok-folios.ensures
+    (λ k. ap (λ stands. stands k) (c.in_ok-verdicts.ensures.settled.entries ∙ ap (λ (s : Settled). at s.entries) (registrar_is c.args.journal.now.receipts)))
+
+pub returns-clause-held : goal.returns-clause-held
+returns-clause-held c = λ m k there.
+    subst (λ (ps : List PartState). IsTrue (is_held ps k)) (sym c.new-2.ensures.parts)
+    (subst (λ h. IsTrue (h k)) (sym c.in_ok-verdicts.ensures.held)
+    (subst IsTrue (sym (c.in_ok-parts.ensures.held k ∙ ap (λ ks. is_given ks k) c.as_slice.ensures.value)) (c.in_ok-keys.ensures m k there)))
