@@ -54,17 +54,16 @@ fn room_for_two_serves_two(rt: HostRuntime) -> Result<(), Fail> {
 
 #[test]
 fn each_key_has_its_own_length_and_room(rt: HostRuntime) -> Result<(), Fail> {
-    let title = Key::Title(folio(&rt, 7));
-    let case = Key::Case(folio(&rt, 7));
-    let mut parts = MapParts::new(rt.alloc(), &[case, title])?;
-    parts.reserve(title, 2)?;
+    let seven = folio(&rt, 7);
+    let mut parts = MapParts::new(rt.alloc(), &[Key::Case(seven), Key::Title(seven)])?;
+    parts.reserve(Key::Title(seven), 2)?;
+    assert!(rt; parts.title(seven).is_some());
     let filing = receipt(&rt, 2);
-    let first = entry(&rt, title, 2, What::Notice { filing });
-    let second = entry(&rt, title, 3, What::Settled { filing });
-    assert!(rt; parts.title(folio(&rt, 7)).is_some());
+    let first = entry(&rt, Key::Title(seven), 2, What::Notice { filing });
+    let second = entry(&rt, Key::Title(seven), 3, What::Settled { filing });
     add_two(&mut parts, first, second);
-    assert_eq!(rt; parts.len(title), 2);
-    assert_eq!(rt; parts.len(case), 0);
+    assert_eq!(rt; parts.len(Key::Title(seven)), 2);
+    assert_eq!(rt; parts.len(Key::Case(seven)), 0);
     assert_eq!(rt; parts.len(Key::Title(folio(&rt, 8))), 0);
     Ok(())
 }

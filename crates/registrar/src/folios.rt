@@ -40,13 +40,7 @@ fn open_title(parts: &MapParts, key: &Key) -> Option<FolioId>
     ensures { result ≡ open_title (entries_at parts.now) key.now }
 {
     match key {
-        Key::Title(folio) => {
-            if is_open(parts, *folio) {
-                Some(*folio)
-            } else {
-                None
-            }
-        }
+        Key::Title(folio) if is_open(parts, *folio) => Some(*folio),
         _ => None,
     }
 }

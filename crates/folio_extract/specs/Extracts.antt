@@ -1,0 +1,124 @@
+-- The extract of a folio: its parcel, its owners, the filings that wait, and its rights.
+use Rattle.std.specs.Prelude.{ℕ, Bool, true, false, not, ◌&&◌, if◌then◌else◌, List, [], ◌++◌, codes, flat_map, Option, Some, None, is_none}
+use Rattle.std.specs.Fmt.{decimal}
+use Rattle.gb_base.specs.RightNo.{RightNo}
+use Rattle.gb_base.specs.Texts.{date_text, euro, right_text}
+use Rattle.gb_base.specs.declared.keys.Key.{Key}
+use Rattle.gb_base.specs.declared.keys.Key.TheVariants.{Case, Right, Title}
+use Rattle.act_model.specs.Acts.{is_in_division_three}
+use Rattle.act_model.specs.declared.land.Inventory.{Inventory}
+use Rattle.act_model.specs.declared.receipts.Receipt.{Receipt}
+use Rattle.act_model.specs.declared.rights.RightKind.{RightKind}
+use Rattle.act_model.specs.declared.rights.RightKind.TheVariants as kind
+use Rattle.folio_sections.specs.Cases.{award, is_running}
+use Rattle.folio_sections.specs.Rights.{capital, form_of, holder, is_full_form, is_spent}
+use Rattle.folio_sections.specs.Titles.{inventory, is_open, owners}
+use Rattle.folio_sections.specs.declared.entries.Created.{Created}
+use Rattle.folio_sections.specs.declared.entries.Entry.{Entry}
+use Rattle.folio_extract.specs.LiveRights.{live_rights}
+use Rattle.folio_extract.specs.WaitingFilings.{waiting_filings}
+use Rattle.folio_extract.specs.declared.live_rights.LiveRight.{LiveRight}
+use Rattle.folio_extract.specs.declared.waiting.WaitingFiling.{WaitingFiling}
+
+-- ---- the folio
+
+abbrev pub folio_line : ℕ → List ℕ
+folio_line folio = codes "folio " ++ (decimal folio ++ codes "\n")
+
+-- the parcel, where there is one
+abbrev pub inventory_line : Option Inventory → List ℕ
+inventory_line None = []
+inventory_line (Some i) =
+    codes "inventory district " ++ (decimal i.district ++ (codes " parcel " ++ (decimal i.parcel ++ (codes "/" ++ (decimal i.sub
+    ++ (codes " area " ++ (decimal i.area ++ codes "\n")))))))
+
+-- the owners in the order of naming, where there are some
+abbrev pub owners_line : Option (List ℕ) → List ℕ
+owners_line None = []
+owners_line (Some persons) = codes "owners" ++ (flat_map (λ p. codes " " ++ decimal p) persons ++ codes "\n")
+
+-- the sale note, while a forced sale runs and no award stands in it (ZVG § 19)
+abbrev pub sale_line : List Entry → List ℕ
+sale_line entries = if is_running entries && is_none (award entries) then codes "sale note\n" else []
+
+-- ---- filings that wait
+
+-- the day of an official notice, if there is one
+abbrev pub notice_part : Option ℕ → List ℕ
+notice_part None = []
+notice_part (Some day) = codes " notice " ++ date_text day
+
+-- a filing that waits at this place
+abbrev pub waiting_line : List ℕ → WaitingFiling → List ℕ
+waiting_line place w =
+    codes "pending " ++ (decimal w.filing ++ (codes " " ++ (place ++ (codes " until " ++ (date_text w.until ++ (notice_part w.notice ++ codes "\n"))))))
+
+-- all that wait at it
+abbrev pub waiting_lines : List Receipt → List ℕ → List Entry → List ℕ
+waiting_lines journal place entries = flat_map (waiting_line place) (waiting_filings journal entries)
+
+-- ---- rights
+
+-- the word for a kind of right
+abbrev pub kind_text : RightKind → List ℕ
+kind_text kind.PersonalEasement = codes "personal-easement"
+kind_text kind.Usufruct = codes "usufruct"
+kind_text (kind.Mortgage rate) = codes "mortgage"
+kind_text (kind.LandCharge rate) = codes "land-charge"
+
+-- the division of a folio in which rights of this kind stand
+abbrev pub division_text : RightKind → List ℕ
+division_text k = if is_in_division_three k then codes "III" else codes "II"
+
+-- the interest of a mortgage or a land charge, in hundredths of a percent a year
+abbrev pub rate_part : RightKind → List ℕ
+rate_part kind.PersonalEasement = []
+rate_part kind.Usufruct = []
+rate_part (kind.Mortgage rate) = codes " rate " ++ decimal rate
+rate_part (kind.LandCharge rate) = codes " rate " ++ decimal rate
+
+-- a right as such, or a priority notice for one (BGB § 883)
+abbrev pub form_text : Bool → List ℕ
+form_text true = codes "right"
+form_text false = codes "notice"
+
+-- an amount, a person, a right or a filing behind a word, where there is one
+abbrev pub part : {X : Type 0} → List ℕ → (X → List ℕ) → Option X → List ℕ
+part word text None = []
+part word text (Some x) = word ++ text x
+
+-- a word, where this holds
+abbrev pub mark : List ℕ → Bool → List ℕ
+mark word false = []
+mark word true = word
+
+-- what holds of some rights alone: the filing that it stands behind, equal rank, a reservation, that it is spent, and the right
+-- ahead of which it stands
+abbrev pub notes : List Entry → Created → List ℕ
+notes entries made =
+    part (codes " behind ") decimal made.behind ++ (mark (codes " equal") made.equal ++ (part (codes " reserve ") euro made.reserve
+    ++ (mark (codes " spent") (is_spent entries) ++ part (codes " ahead-of ") right_text made.ahead_of)))
+
+-- a right, as it stands by the entries at it
+abbrev pub right_line : List Entry → LiveRight → List ℕ
+right_line entries x =
+    codes "right " ++ (right_text x.id ++ (codes " " ++ (division_text x.made.spec.kind ++ (codes " " ++ (form_text (is_full_form (form_of entries))
+    ++ (codes " " ++ (kind_text x.made.spec.kind ++ (part (codes " ") euro (capital entries) ++ (rate_part x.made.spec.kind
+    ++ (part (codes " holder ") decimal (holder entries) ++ (codes " placed " ++ (date_text x.made.placed ++ (notes entries x.made ++ codes "\n")))))))))))))
+
+-- the right, and the filings that wait at it
+abbrev pub right_lines : List Receipt → List Entry → LiveRight → List ℕ
+right_lines journal entries x = right_line entries x ++ waiting_lines journal (right_text x.id) entries
+
+-- ---- together
+
+-- the extract of a folio
+unfoldable pub extract_text : List Receipt → (Key → List Entry) → ℕ → List ℕ
+extract_text journal at folio =
+    folio_line folio ++ (inventory_line (inventory (at (Title folio))) ++ (owners_line (owners (at (Title folio))) ++ (sale_line (at (Case folio))
+    ++ (waiting_lines journal (codes "title") (at (Title folio))
+    ++ flat_map (λ x. right_lines journal (at (Right folio x.id)) x) (live_rights journal at folio)))))
+
+-- the same, where the folio is open
+abbrev pub extract : List Receipt → (Key → List Entry) → ℕ → Option (List ℕ)
+extract journal at folio = if is_open (at (Title folio)) then Some (extract_text journal at folio) else None

@@ -1,0 +1,30 @@
+-- The report: what becomes of each item, the extract and the rank table of each open folio, and a line that ends it.
+use Rattle.std.specs.Prelude.{ℕ, List, ◌++◌, codes, flat_map, length}
+use Rattle.std.specs.Fmt.{decimal}
+use Rattle.gb_base.specs.declared.keys.Key.{Key}
+use Rattle.act_model.specs.declared.receipts.Receipt.{Receipt}
+use Rattle.folio_sections.specs.Entries.{at as at_key}
+use Rattle.folio_sections.specs.declared.entries.Entry.{Entry}
+use Rattle.registrar.specs.OpenFolios.{open_folios}
+use Rattle.registrar.specs.Settling.{Settled}
+use Rattle.registrar.specs.declared.verdicts.Verdict.{Verdict}
+use Rattle.folio_extract.specs.Extracts.{extract_text}
+use Rattle.folio_extract.specs.RankTables.{rank_table_text}
+use Rattle.folio_extract.specs.VerdictLines.{verdict_lines}
+
+-- the texts of these folios
+abbrev pub folio_texts : List Receipt → (Key → List Entry) → List ℕ → List ℕ
+folio_texts journal at folios = flat_map (λ folio. extract_text journal at folio ++ rank_table_text journal at folio) folios
+
+-- the line that ends the report
+abbrev pub end_line : ℕ → ℕ → List ℕ
+end_line receipts folios = codes "end receipts " ++ (decimal receipts ++ (codes " folios " ++ (decimal folios ++ codes "\n")))
+
+-- the report of these verdicts, and of these folios
+abbrev pub report_of : List Receipt → List (ℕ × Verdict) → (Key → List Entry) → List ℕ → List ℕ
+report_of journal verdicts at folios =
+    verdict_lines verdicts ++ (folio_texts journal at folios ++ end_line (length verdicts) (length folios))
+
+-- the report of a register
+abbrev pub report : List Receipt → Settled → List ℕ
+report journal settled = report_of journal settled.verdicts (at_key settled.entries) (open_folios settled.entries)

@@ -1,0 +1,5 @@
+//! The texts of a register: verdict lines, extracts, rank tables, and the report.
+#![tactic(auto)]
+
+mod live_rights;
+mod waiting;
