@@ -9,7 +9,7 @@ use crate::asking::{Asked, is_answered_by_some};
 use crate::waiting::Waiting;
 use act_model::Doc;
 use arrayvec::ArrayVec;
-use folio_sections::DocTest;
+use folio_sections::DocFilter;
 use gb_base::Person;
 
 /// All whose consent an act needs.
@@ -82,7 +82,7 @@ pub struct Stranger<'a> {
     pub needed: &'a Consenters<'a>,
 }
 
-impl<'a> DocTest for Stranger<'a> {
+impl<'a> DocFilter for Stranger<'a> {
     ghost use Rattle.folio_sections.specs.Documents.{is_strangers_consent};
     ghost use Rattle.consent_rules.specs.inner.Needed.{everyone};
 

@@ -7,7 +7,7 @@ use Rattle.folio_sections.proofs.documents.cures_have.Goals as goal
 
 pub loop-number-preserved : goal.loop-number-preserved
 loop-number-preserved g c =
-    any_past (λ n. nat_le n c.args.upto && list_any (g.T.DocTest.test c.args.test.now) (filter (λ d. is_between 1 c.args.acts (act_of_doc d)) (docs_by_cure c.args.journal.now.receipts n)))
+    any_past (λ n. nat_le n c.args.upto && list_any (g.T.DocFilter.test c.args.test.now) (filter (λ d. is_between 1 c.args.acts (act_of_doc d)) (docs_by_cure c.args.journal.now.receipts n)))
     c.cures_of-number-items.result.now c.loop-number.number-index c.number-item.result c.loop-number-test.true
     (rw (← c.number-item.is) (sym c.brings.ensures ∙ c.if-brings.false))
     ∙ c.loop-number.invariant
