@@ -3,7 +3,6 @@
 #![tactic(auto)]
 
 mod applying;
-mod asking;
 mod consent;
 mod consenters;
 mod defects;
@@ -11,6 +10,7 @@ mod defects;
 mod document_tests;
 mod grounds;
 mod judging;
+mod lacks;
 mod matters;
 mod needed;
 mod obstacles;
