@@ -93,25 +93,16 @@ fn cures_have<T: DocFilter>(
 ) -> bool
     ensures { result ≡ list_any (T.test test.now) (filter (λ d. is_between 1 acts (act_of_doc d)) (flat_map (docs_by_cure journal.now.receipts) (filter (λ n. nat_le n upto) (cures_of journal.now.receipts filing)))) }
 {
+    // Cures ascend: none behind the receipt counts.
     for number in journal.cures_of(filing) {
-        if brings(journal, *number, upto, acts, test) {
+        if *number > upto {
+            return false;
+        }
+        if counts_among(docs_by_cure(journal, *number), acts, test) {
             return true;
         }
     }
     false
-}
-
-/// Whether the cure stands no further than the receipt, and brings such a document.
-fn brings<T: DocFilter>(
-    journal: &Journal,
-    cure: ReceiptNo,
-    upto: ReceiptNo,
-    acts: usize,
-    test: &T,
-) -> bool
-    ensures { result ≡ (nat_le cure upto && list_any (T.test test.now) (filter (λ d. is_between 1 acts (act_of_doc d)) (docs_by_cure journal.now.receipts cure))) }
-{
-    cure <= upto && counts_among(docs_by_cure(journal, cure), acts, test)
 }
 
 /// Whether such a document is among these, for one of so many acts.
