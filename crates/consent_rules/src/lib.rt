@@ -3,6 +3,8 @@
 #![tactic(auto)]
 
 mod applying;
+#[cfg(test)]
+mod closed_folio_tests;
 mod consent;
 mod consenters;
 mod defects;
@@ -14,9 +16,15 @@ mod lacks;
 mod matters;
 mod needed;
 mod obstacles;
+#[cfg(test)]
+mod order_tests;
+#[cfg(test)]
+mod owner_tests;
 mod parts_read;
 mod persons;
 mod premises;
+#[cfg(test)]
+mod rank_tests;
 #[cfg(test)]
 mod table_tests;
 #[cfg(test)]
