@@ -29,6 +29,7 @@ pub mod PlaceReads
 pub mod PlaceStands
 pub mod PlacesKept
 pub mod RankedTitles
+pub mod ReceiptOrder
 pub mod Registering
 pub mod RightReads
 pub mod RisingNumbers
