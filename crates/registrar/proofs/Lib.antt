@@ -7,6 +7,7 @@ pub mod ContainedParts
 pub mod CreatedKept
 pub mod CuresKeep
 pub mod Dealing
+pub mod Elsewhere
 pub mod EnteredTitles
 pub mod EntriesKept
 pub mod ExchangedKept
