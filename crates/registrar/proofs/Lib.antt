@@ -1,6 +1,8 @@
 -- Lemmas.
+pub mod ActReads
 pub mod Added
 pub mod Additions
+pub mod Agreeing
 pub mod ByItem
 pub mod CasesKept
 pub mod ContainedParts
@@ -8,6 +10,7 @@ pub mod CreatedKept
 pub mod CuresKeep
 pub mod Dealing
 pub mod EnteredTitles
+pub mod EntersLocally
 pub mod EntriesKept
 pub mod ExchangedKept
 pub mod ExchangesStand
@@ -15,9 +18,11 @@ pub mod ExercisedOnce
 pub mod ItemRooms
 pub mod ItemsKeep
 pub mod JournalKeys
+pub mod JudgedLocally
 pub mod Keeping
 pub mod KnownExchanges
 pub mod LeavingRights
+pub mod Locality
 pub mod NewAtTitles
 pub mod NewContents
 pub mod NewExchanges
