@@ -15,6 +15,9 @@ pub mod EntriesKept
 pub mod ExchangedKept
 pub mod ExchangesStand
 pub mod ExercisedOnce
+pub mod FilingKeysStay
+pub mod ItemKeysHeld
+pub mod ItemKeysStay
 pub mod ItemRooms
 pub mod ItemsKeep
 pub mod JournalKeys
