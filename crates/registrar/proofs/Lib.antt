@@ -1,6 +1,8 @@
 -- Lemmas.
+pub mod ActReads
 pub mod Added
 pub mod Additions
+pub mod Agreeing
 pub mod ByItem
 pub mod CasesKept
 pub mod ContainedParts
@@ -9,16 +11,22 @@ pub mod CuresKeep
 pub mod Dealing
 pub mod Elsewhere
 pub mod EnteredTitles
+pub mod EntersLocally
 pub mod EntriesKept
 pub mod ExchangedKept
 pub mod ExchangesStand
 pub mod ExercisedOnce
+pub mod FilingKeysStay
+pub mod ItemKeysHeld
+pub mod ItemKeysStay
 pub mod ItemRooms
 pub mod ItemsKeep
 pub mod JournalKeys
+pub mod JudgedLocally
 pub mod Keeping
 pub mod KnownExchanges
 pub mod LeavingRights
+pub mod Locality
 pub mod NewAtTitles
 pub mod NewContents
 pub mod NewExchanges

@@ -1,0 +1,140 @@
+-- The judgement of a filing follows from what stands at the filing's keys.
+use Rattle.std.proofs.Common.{◌≡◌, ℕ, ◌+◌, Bool, true, false, not, ◌&&◌, ◌==◌, List, [], ◌∷◌, filter, find, flat_map, map, take, All, Contains, IsTrue, Some, refl, ap}
+use Rattle.std.specs.List.{AllByRecursion, enumerate_from, list_any}
+use Rattle.std.proofs.lemmas.List.Elements.{recursion_from_All}
+use Rattle.gb_base.specs.declared.keys.Key.{Key}
+use Rattle.gb_base.specs.declared.keys.Key.TheVariants.{Title, Right}
+use Rattle.gb_base.specs.declared.sections.Section.{Section}
+use Rattle.gb_base.specs.declared.sections.Section.TheVariants as section
+use Rattle.act_model.proofs.KeyOrder.{has_decides}
+use Rattle.act_model.specs.Touches.{filing_at, keys_of_filing}
+use Rattle.act_model.specs.declared.documents.Doc.{Doc}
+use Rattle.act_model.specs.declared.filing_acts.Act.{Act}
+use Rattle.act_model.specs.declared.filing_acts.Act.TheVariants.{Open, Transfer, Create, NoticeFor, Convert, Assign, Cancel, Exchange, Exercise}
+use Rattle.act_model.specs.declared.items.Filing.{Filing}
+use Rattle.act_model.specs.declared.receipts.Receipt.{Receipt}
+use Rattle.consent_rules.proofs.HeldLemmas.{parts_of_filing}
+use Rattle.consent_rules.specs.inner.Held.{HasParts}
+use Rattle.folio_sections.specs.Documents.{documents, is_strangers_consent}
+use Rattle.folio_sections.specs.Held.{is_given}
+use Rattle.folio_sections.specs.Judging.{curables, defects, defects_under, grounds, holds, is_defective, is_plain_among, is_rejected_under, is_silent_among, judged_filing, judgement_by, lacks_owner, lacks_owner_of_exchange, rejection, with_before, KnowsExchanges}
+use Rattle.folio_sections.specs.Persons.{number_behind}
+use Rattle.folio_sections.specs.declared.entries.Entry.{Entry}
+use Rattle.folio_sections.specs.declared.judgements.Defect.{Defect}
+use Rattle.interim_orders.proofs.Noticing.{all_map}
+use Rattle.registrar.proofs.ActReads.{affected_locally, applicants_locally, assignment_locally, conversion_locally, exchange_locally, folio_locally, needed_locally, others_locally, owner_side_locally, reservation_locally, right_locally, ReadsSame}
+pub use Rattle.registrar.proofs.Agreeing.{AgreesAt}
+use Rattle.registrar.proofs.Agreeing.{any_same, filter_same}
+
+-- ---- an act
+
+-- what an act needs is at the filing's keys
+act_reads : (keys : List Key) (at0 at1 : Key → List Entry) (act : Act) → AgreesAt keys at0 at1 → HasParts (is_given keys) at0 act → ReadsSame at0 at1 act
+act_reads keys at0 at1 (Open folio inventory owners) agrees parts = agrees (Title folio) ((has_decides (Title folio) keys).0 parts)
+act_reads keys at0 at1 (Transfer folio owners) agrees parts = agrees (Title folio) ((has_decides (Title folio) keys).0 parts)
+act_reads keys at0 at1 (Create folio spec reserve) agrees parts = agrees (Title folio) ((has_decides (Title folio) keys).0 parts)
+act_reads keys at0 at1 (NoticeFor folio spec) agrees parts = agrees (Title folio) ((has_decides (Title folio) keys).0 parts)
+act_reads keys at0 at1 (Convert folio right) agrees parts = record {
+  title = agrees (Title folio) ((has_decides (Title folio) keys).0 parts.title);
+  right = agrees (Right folio right) ((has_decides (Right folio right) keys).0 parts.right);
+}
+act_reads keys at0 at1 (Assign folio right holder) agrees parts = agrees (Right folio right) ((has_decides (Right folio right) keys).0 parts)
+act_reads keys at0 at1 (Cancel folio right) agrees parts = record {
+  title = agrees (Title folio) ((has_decides (Title folio) keys).0 parts.title);
+  right = agrees (Right folio right) ((has_decides (Right folio right) keys).0 parts.right);
+}
+act_reads keys at0 at1 (Exchange folio recede rise) agrees parts = record {
+  recede = agrees (Right folio recede) ((has_decides (Right folio recede) keys).0 parts.recede);
+  rise = agrees (Right folio rise) ((has_decides (Right folio rise) keys).0 parts.rise);
+  title = λ stands. agrees (Title folio) ((has_decides (Title folio) keys).0 (parts.title stands));
+}
+act_reads keys at0 at1 (Exercise folio behind spec) agrees parts = record {
+  title = agrees (Title folio) ((has_decides (Title folio) keys).0 parts.title);
+  right = agrees (Right folio behind) ((has_decides (Right folio behind) keys).0 parts.right);
+}
+
+-- so all acts of the filing read the same in both
+acts_read : (journal : List Receipt) (m : ℕ) (f : Filing) (at0 at1 : Key → List Entry) → filing_at journal m ≡ Some f → KnowsExchanges journal m at0 → AgreesAt (keys_of_filing journal m) at0 at1 → AllByRecursion (ReadsSame at0 at1) f.acts
+acts_read journal m f at0 at1 is known agrees =
+    let keys = keys_of_filing journal m in
+    all_map (HasParts (is_given keys) at0) (ReadsSame at0 at1) f.acts (λ act parts. act_reads keys at0 at1 act agrees parts)
+    (recursion_from_All (HasParts (is_given keys) at0) f.acts
+    (parts_of_filing (is_given keys) at0 journal m f is (λ k there. (has_decides k keys).1 there) known))
+
+-- what holds of each act holds of each with the acts before it
+paired : (P : Act → Type 0) (all : List Act) (n : ℕ) (acts : List Act) → AllByRecursion P acts → AllByRecursion (λ (p : List Act × Act). P p.1) (map (λ (p : ℕ × Act). (take p.0 all, p.1)) (enumerate_from n acts))
+paired P all n [] each = tt
+paired P all n (act ∷ acts) each = (each.0, paired P all (n + 1) acts each.1)
+
+-- ---- grounds for rejection
+
+holds_locally : (journal : List Receipt) (m : ℕ) (f : Filing) (docs : List Doc) (at0 at1 : Key → List Entry) (s : Section) (before : List Act) (act : Act) → ReadsSame at0 at1 act → holds journal m f docs at1 s before act ≡ holds journal m f docs at0 s before act
+holds_locally journal m f docs at0 at1 section.Limit before act same = refl
+holds_locally journal m f docs at0 at1 section.Gbo3 before act same = folio_locally at0 at1 before act same
+holds_locally journal m f docs at0 at1 section.Bgb873 before act same = right_locally at0 at1 act same
+holds_locally journal m f docs at0 at1 section.Bgb883 before act same = conversion_locally at0 at1 act same
+holds_locally journal m f docs at0 at1 section.Bgb880 before act same = exchange_locally journal at0 at1 act same
+holds_locally journal m f docs at0 at1 section.Bgb881 before act same = reservation_locally at0 at1 act same
+holds_locally journal m f docs at0 at1 section.Bgb1059 before act same = assignment_locally at0 at1 act same
+holds_locally journal m f docs at0 at1 section.Gbo13 before act same = ap (λ people. not (list_any (λ p. p == f.applicant) people)) (applicants_locally m at0 at1 before act same)
+holds_locally journal m f docs at0 at1 section.Gbo20 before act same = refl
+holds_locally journal m f docs at0 at1 section.Gbo19 before act same =
+    λ j. is_silent_among docs (number_behind before) (affected_locally m docs at0 at1 before act same j)
+        && not (list_any (is_strangers_consent (number_behind before) (needed_locally journal m docs at0 at1 before act same j)) docs)
+holds_locally journal m f docs at0 at1 other before act same = refl
+
+ground_locally : (journal : List Receipt) (m : ℕ) (f : Filing) (docs : List Doc) (at0 at1 : Key → List Entry) (s : Section) → AllByRecursion (λ (p : List Act × Act). ReadsSame at0 at1 p.1) (with_before f.acts)
+    → list_any (λ p. holds journal m f docs at1 s p.0 p.1) (with_before f.acts) ≡ list_any (λ p. holds journal m f docs at0 s p.0 p.1) (with_before f.acts)
+ground_locally journal m f docs at0 at1 s same =
+    any_same (λ (p : List Act × Act). holds journal m f docs at1 s p.0 p.1) (λ (p : List Act × Act). holds journal m f docs at0 s p.0 p.1) (with_before f.acts)
+    (all_map (λ (p : List Act × Act). ReadsSame at0 at1 p.1) (λ (p : List Act × Act). holds journal m f docs at1 s p.0 p.1 ≡ holds journal m f docs at0 s p.0 p.1) (with_before f.acts)
+    (λ p here. holds_locally journal m f docs at0 at1 s p.0 p.1 here) same)
+
+rejected_locally : (journal : List Receipt) (m : ℕ) (f : Filing) (docs : List Doc) (at0 at1 : Key → List Entry) (s : Section) → AllByRecursion (λ (p : List Act × Act). ReadsSame at0 at1 p.1) (with_before f.acts)
+    → is_rejected_under journal m f docs at1 s ≡ is_rejected_under journal m f docs at0 s
+rejected_locally journal m f docs at0 at1 section.Gbo16 same = refl
+rejected_locally journal m f docs at0 at1 other same = ground_locally journal m f docs at0 at1 other same
+
+-- ---- curable defects
+
+lacks_owner_locally : (m : ℕ) (docs : List Doc) (at0 at1 : Key → List Entry) (before : List Act) (act : Act) → ReadsSame at0 at1 act → lacks_owner m docs at1 before act ≡ lacks_owner m docs at0 before act
+lacks_owner_locally m docs at0 at1 before (Cancel folio right) same =
+    ap (λ people. is_silent_among docs (number_behind before) people) (owner_side_locally m docs at0 at1 before (Cancel folio right) same)
+lacks_owner_locally m docs at0 at1 before other same = refl
+
+lacks_owner_of_exchange_locally : (m : ℕ) (docs : List Doc) (at0 at1 : Key → List Entry) (before : List Act) (act : Act) → ReadsSame at0 at1 act → lacks_owner_of_exchange m docs at1 before act ≡ lacks_owner_of_exchange m docs at0 before act
+lacks_owner_of_exchange_locally m docs at0 at1 before (Exchange folio recede rise) same =
+    ap (λ people. is_silent_among docs (number_behind before) people) (owner_side_locally m docs at0 at1 before (Exchange folio recede rise) same)
+lacks_owner_of_exchange_locally m docs at0 at1 before other same = refl
+
+defective_locally : (journal : List Receipt) (m : ℕ) (docs : List Doc) (at0 at1 : Key → List Entry) (s : Section) (before : List Act) (act : Act) → ReadsSame at0 at1 act → is_defective journal m docs at1 s before act ≡ is_defective journal m docs at0 s before act
+defective_locally journal m docs at0 at1 section.Gbo29 before act same =
+    ap (λ people. is_plain_among docs (number_behind before) people) (needed_locally journal m docs at0 at1 before act same)
+defective_locally journal m docs at0 at1 section.Gbo39 before act same =
+    λ j. is_silent_among docs (number_behind before) (affected_locally m docs at0 at1 before act same j)
+        && list_any (is_strangers_consent (number_behind before) (needed_locally journal m docs at0 at1 before act same j)) docs
+defective_locally journal m docs at0 at1 section.Gbo27 before act same = lacks_owner_locally m docs at0 at1 before act same
+defective_locally journal m docs at0 at1 section.Bgb876 before act same =
+    ap (λ people. is_silent_among docs (number_behind before) people) (others_locally journal m docs at0 at1 before act same)
+defective_locally journal m docs at0 at1 section.Bgb880 before act same = lacks_owner_of_exchange_locally m docs at0 at1 before act same
+defective_locally journal m docs at0 at1 section.Grest22 before act same = refl
+defective_locally journal m docs at0 at1 other before act same = refl
+
+defects_locally : (journal : List Receipt) (m : ℕ) (f : Filing) (docs : List Doc) (at0 at1 : Key → List Entry) (s : Section) → AllByRecursion (λ (p : List Act × Act). ReadsSame at0 at1 p.1) (with_before f.acts)
+    → defects_under journal m f docs at1 s ≡ defects_under journal m f docs at0 s
+defects_locally journal m f docs at0 at1 s same =
+    ap (λ found. map {B = Defect} (λ p. record { section = s; act = number_behind p.0 }) found)
+    (filter_same (λ (p : List Act × Act). is_defective journal m docs at1 s p.0 p.1) (λ (p : List Act × Act). is_defective journal m docs at0 s p.0 p.1) (with_before f.acts)
+    (all_map (λ (p : List Act × Act). ReadsSame at0 at1 p.1) (λ (p : List Act × Act). is_defective journal m docs at1 s p.0 p.1 ≡ is_defective journal m docs at0 s p.0 p.1) (with_before f.acts)
+    (λ p here. defective_locally journal m docs at0 at1 s p.0 p.1 here) same))
+
+-- ---- the judgement
+
+pub judged_locally : (journal : List Receipt) (m : ℕ) (f : Filing) (i : ℕ) (at0 at1 : Key → List Entry) → filing_at journal m ≡ Some f → KnowsExchanges journal m at0
+    → AgreesAt (keys_of_filing journal m) at0 at1 → judged_filing journal m f i at1 ≡ judged_filing journal m f i at0
+judged_locally journal m f i at0 at1 is known agrees =
+    let docs = documents journal m f i in
+    let same = paired (ReadsSame at0 at1) f.acts 0 f.acts (acts_read journal m f at0 at1 is known agrees) in
+    let rejected : is_rejected_under journal m f docs at1 ≡ is_rejected_under journal m f docs at0 = λ j s. rejected_locally journal m f docs at0 at1 s same j in
+    let defective : defects_under journal m f docs at1 ≡ defects_under journal m f docs at0 = λ j s. defects_locally journal m f docs at0 at1 s same j in
+    λ j. judgement_by (find (rejected j) grounds) (flat_map (defective j) curables)
