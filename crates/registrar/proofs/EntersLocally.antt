@@ -18,7 +18,7 @@ use Rattle.folio_sections.specs.Places.{create_in_division, creates_there, place
 use Rattle.folio_sections.specs.Waiting.{notice}
 use Rattle.folio_sections.specs.declared.entries.Entry.{Entry}
 use Rattle.folio_sections.specs.declared.entries.What.TheVariants as what
-use Rattle.registrar.proofs.Added.{all_contained}
+use Rattle.registrar.proofs.ContainedParts.{all_contained}
 use Rattle.registrar.proofs.Agreeing.{AgreesAt, added_agree, agrees_before, agrees_behind, flat_map_same}
 
 -- ---- official notices and places

@@ -44,6 +44,7 @@ pub mod RightReads
 pub mod RisingNumbers
 pub mod RoomSoFar
 pub mod Rooms
+pub mod StandingParts
 pub mod StepLemmas
 pub mod UnnoticedFew
 pub mod Unrejected

@@ -40,7 +40,7 @@ first_locally journal m at0 at1 [] all agrees = refl
 first_locally journal m at0 at1 (k ∷ ks) all agrees =
     ap (λ es. pending m es) (agrees k ((in_key_order_members (keys_of_filing journal m) k).0 (subst (λ ks. Contains ks k) all (0, omega arith, refl))))
 
-state_locally : (journal : List Receipt) (m i : ℕ) (at0 at1 : Key → List Entry) → AgreesAt (keys_of_named journal i m) at0 at1 → state_of journal m i at1 ≡ state_of journal m i at0
+pub state_locally : (journal : List Receipt) (m i : ℕ) (at0 at1 : Key → List Entry) → AgreesAt (keys_of_named journal i m) at0 at1 → state_of journal m i at1 ≡ state_of journal m i at0
 state_locally journal m i at0 at1 =
     elim (nat_lt m i) as (λ b. AgreesAt (cond b (keys_of_filing journal m) []) at0 at1 → state_by (cond b (waits_until journal m at1) None) ≡ state_by (cond b (waits_until journal m at0) None)) [
       | true ↦ λ agrees. ap state_by (first_locally journal m at0 at1 (keys_in_order journal m) refl agrees)

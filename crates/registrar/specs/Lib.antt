@@ -7,4 +7,5 @@ pub mod Rooms
 pub mod Schedules
 pub mod ScratchRoom
 pub mod Settling
+pub mod Standing
 pub mod inner

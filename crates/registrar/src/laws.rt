@@ -1,5 +1,5 @@
 //! What holds of the settling of all journals.
-ghost use Rattle.std.specs.Prelude.{◌+◌, ◌<◌, ℕ, List, All, Contains, length};
+ghost use Rattle.std.specs.Prelude.{◌≡◌, ◌+◌, ◌<◌, ◌≤◌, ◌++◌, ℕ, List, All, Contains, length};
 ghost use Rattle.gb_base.specs.declared.keys.Key.{Key};
 ghost use Rattle.act_model.specs.Receiving.{IsJournal};
 ghost use Rattle.act_model.specs.declared.receipts.Receipt.{Receipt};
@@ -33,3 +33,17 @@ pub fn registers_are_kept()
 {
     empty_register_is_kept();
 }
+
+/// An item looks at its own keys alone: registers that agree at them get the same of it, where one
+/// may come about and has entries of earlier items there.
+pub fn locality()
+    ensures { (journal : List Receipt) (i : ℕ) (register other : Key → List Entry) → Kept journal register
+        → ((k : Key) → Contains (keys_of_item journal i) k → All (λ e. e.receipt < i) (register k))
+        → ((k : Key) → Contains (keys_of_item journal i) k → other k ≡ register k)
+        → brings journal i other ≡ brings journal i register }
+{}
+
+/// An item's keys follow from the receipts up to it alone.
+pub fn item_keys_stay()
+    ensures { (journal more : List Receipt) (i : ℕ) → i ≤ length journal → keys_of_item (journal ++ more) i ≡ keys_of_item journal i }
+{}

@@ -1,12 +1,15 @@
 // One step of a registrar: an item settled on a register that may come about.
-ghost use Rattle.std.specs.Prelude.{◌≡◌, ◌≤◌, ◌<◌, Some, length, All, Contains, IsTrue};
+ghost use Rattle.std.specs.Prelude.{◌≡◌, List, ◌≤◌, ◌<◌, Some, length, All, Contains, IsTrue};
 ghost use Rattle.gb_base.specs.declared.keys.Key.{Key};
 ghost use Rattle.act_model.specs.Receiving.{IsJournal, receipt_at};
 ghost use Rattle.folio_sections.specs.Adding.{AddsList};
+ghost use Rattle.folio_sections.specs.Entries.{with_entries};
 ghost use Rattle.folio_sections.specs.Kept.{Kept};
+ghost use Rattle.folio_sections.specs.declared.entries.Entry.{Entry};
 ghost use Rattle.registrar.specs.Brings.{brings};
 ghost use Rattle.registrar.specs.ItemKeys.{keys_of_item};
 ghost use Rattle.registrar.specs.Rooms.{HasItsRoom};
+ghost use Rattle.registrar.specs.Standing.{StandsFor, StandsForKept};
 
 use crate::settling::settle;
 use crate::{Scratch, Verdict};
@@ -15,8 +18,8 @@ use folio_sections::Parts;
 use gb_base::ReceiptNo;
 
 /// Settles an item on parts that stand for a register that may come about, and on which no later
-/// item has brought anything at the item's keys (GBO § 17). It adds what the item brings, takes no
-/// memory and cannot fail, and leaves such a register.
+/// item has brought anything at the item's keys (GBO § 17). It adds what the item brings on each
+/// such register, and leaves it one; no other key changes. It takes no memory and cannot fail.
 pub fn step<P: Parts>(
     parts: &mut P,
     _scratch: &mut Scratch,
@@ -26,14 +29,16 @@ pub fn step<P: Parts>(
     requires received { item ≤ length journal.now.receipts }
     requires held { (k : Key) → Contains (keys_of_item journal.now.receipts item) k → IsTrue (P.holds parts.old k) }
     requires room { HasItsRoom journal.now.receipts item (P.at parts.old) (P.room parts.old) }
-    requires kept { Kept journal.now.receipts (P.at parts.old) }
+    requires kept { StandsForKept journal.now.receipts (P.holds parts.old) (P.at parts.old) }
     requires earlier { (k : Key) → Contains (keys_of_item journal.now.receipts item) k → All (λ e. e.receipt < item) (P.at parts.old k) }
-    ensures verdict { result ≡ (brings journal.now.receipts item (P.at parts.old)).verdict }
-    ensures added { AddsList (P.at parts.old) (P.at parts.new) (P.room parts.old) (P.room parts.new)
-        (brings journal.now.receipts item (P.at parts.old)).entries }
+    ensures verdict { (register : Key → List Entry) → StandsFor (P.holds parts.old) (P.at parts.old) register → Kept journal.now.receipts register
+        → result ≡ (brings journal.now.receipts item register).verdict }
+    ensures added { (register : Key → List Entry) → StandsFor (P.holds parts.old) (P.at parts.old) register → Kept journal.now.receipts register
+        → AddsList (P.at parts.old) (P.at parts.new) (P.room parts.old) (P.room parts.new) (brings journal.now.receipts item register).entries }
     ensures others { (k : Key) → (Contains (keys_of_item journal.now.receipts item) k → ⊥) → P.at parts.new k ≡ P.at parts.old k }
     ensures held { P.holds parts.new ≡ P.holds parts.old }
-    ensures kept { Kept journal.now.receipts (P.at parts.new) }
+    ensures kept { (register : Key → List Entry) → StandsFor (P.holds parts.old) (P.at parts.old) register → Kept journal.now.receipts register
+        → Kept journal.now.receipts (with_entries register (brings journal.now.receipts item register).entries) }
     ensures scratch { _scratch.new ≡ _scratch.old }
 {
     let receipt = receipt_of(journal, item);

@@ -1,0 +1,81 @@
+-- What an item needs and brings on parts that stand for a kept register.
+use Rattle.std.proofs.Common.{◌≡◌, ℕ, ◌+◌, ◌<◌, Bool, List, [], ◌∷◌, ◌++◌, All, Contains, IfSome, IsTrue, Option, Some, None, refl, sym, ap, subst, ◌∙◌, arith}
+use Rattle.std.specs.List.{AllByRecursion}
+use Rattle.std.specs.Option.{option_map_or}
+use Rattle.std.proofs.lemmas.List.Elements.{All-from_recursion, recursion_from_All}
+use Rattle.gb_base.specs.declared.keys.Key.{Key}
+use Rattle.gb_base.specs.declared.keys.Key.TheVariants.{Right}
+use Rattle.act_model.specs.Receiving.{IsJournal, receipt_at}
+use Rattle.act_model.specs.Touches.{acts_of, created_before, filing_at, keys_of_act, keys_of_acts, keys_of_filing}
+use Rattle.act_model.specs.declared.filing_acts.Act.{Act}
+use Rattle.act_model.specs.declared.filing_acts.Act.TheVariants.{Exchange}
+use Rattle.act_model.specs.declared.items.Item.{Item}
+use Rattle.act_model.specs.declared.items.Item.TheVariants as item
+use Rattle.act_model.specs.declared.receipts.Receipt.{Receipt}
+use Rattle.folio_sections.specs.Adding.{AddsList}
+use Rattle.folio_sections.specs.Judging.{IsKnownExchange, KnowsExchanges}
+use Rattle.folio_sections.specs.Kept.{Kept}
+use Rattle.folio_sections.specs.Rights.{live_right}
+use Rattle.folio_sections.specs.declared.entries.Entry.{Entry}
+use Rattle.interim_orders.specs.Orders.{state_of}
+use Rattle.interim_orders.specs.declared.states.FilingState.TheVariants.{Pending}
+use Rattle.registrar.proofs.Agreeing.{AgreesAt, agrees_before, agrees_behind}
+use Rattle.registrar.proofs.CuresKeep.{AreEarlier}
+use Rattle.registrar.proofs.ItemRooms.{named}
+use Rattle.registrar.proofs.Locality.{locality, state_locally}
+use Rattle.registrar.proofs.StepLemmas.{keys_are, step_knows}
+use Rattle.registrar.proofs.WaitingStates.{found_waiting}
+use Rattle.registrar.specs.Brings.{Brought, brings}
+use Rattle.registrar.specs.ItemKeys.{keys_by_item, keys_of_item, keys_of_named}
+use Rattle.registrar.specs.Standing.{StandsFor}
+use Rattle.registrar.specs.inner.Exchanges.{KnowsItsExchanges}
+
+-- ---- a judge knows the same of two registers that agree at a filing's keys
+
+act_agrees : (journal : List Receipt) (m a : ℕ) (act : Act) (at0 at1 : Key → List Entry) → AgreesAt (keys_of_act journal m a act) at0 at1 → IsKnownExchange journal m at0 act → IsKnownExchange journal m at1 act
+act_agrees journal m a (Exchange folio recede rise) at0 at1 agrees known =
+    subst (λ es. IfSome (live_right es) (λ made. created_before journal m folio recede ≡ Some made.spec)) (sym (agrees (Right folio recede) (0, omega arith, refl))) known
+act_agrees journal m a other at0 at1 agrees known = tt
+
+acts_agree : (journal : List Receipt) (m a : ℕ) (acts : List Act) (at0 at1 : Key → List Entry) → AgreesAt (keys_of_acts journal m a acts) at0 at1 → AllByRecursion (IsKnownExchange journal m at0) acts → AllByRecursion (IsKnownExchange journal m at1) acts
+acts_agree journal m a [] at0 at1 agrees known = tt
+acts_agree journal m a (act ∷ acts) at0 at1 agrees known =
+    (act_agrees journal m a act at0 at1 (agrees_before (keys_of_act journal m a act) (keys_of_acts journal m (a + 1) acts) at0 at1 agrees) known.0,
+    acts_agree journal m (a + 1) acts at0 at1 (agrees_behind (keys_of_act journal m a act) (keys_of_acts journal m (a + 1) acts) at0 at1 agrees) known.1)
+
+exchanges_agree : (journal : List Receipt) (m : ℕ) (at0 at1 : Key → List Entry) → AgreesAt (keys_of_filing journal m) at0 at1 → KnowsExchanges journal m at0 → KnowsExchanges journal m at1
+exchanges_agree journal m at0 at1 =
+    elim (filing_at journal m) as (λ o. AgreesAt (option_map_or (λ f. keys_of_acts journal m 1 f.acts) o []) at0 at1 → All (IsKnownExchange journal m at0) (option_map_or (λ f. f.acts) o []) → All (IsKnownExchange journal m at1) (option_map_or (λ f. f.acts) o [])) [
+      | Some f ↦ λ agrees known. All-from_recursion _ f.acts (acts_agree journal m 1 f.acts at0 at1 agrees (recursion_from_All _ f.acts known))
+      | None ↦ λ agrees known. λ n d within. absurd (omega arith)
+    ]
+
+item_agrees : (journal : List Receipt) (i : ℕ) (at0 at1 : Key → List Entry) (w : Item) → AgreesAt (keys_by_item journal i w) at0 at1 → KnowsItsExchanges journal i at0 w → KnowsItsExchanges journal i at1 w
+item_agrees journal i at0 at1 (item.Filing f) agrees known = exchanges_agree journal i at0 at1 agrees known
+item_agrees journal i at0 at1 (item.Cure m docs) agrees known = λ until is.
+    let earlier = (found_waiting journal m i at1 until is).earlier in
+    exchanges_agree journal m at0 at1 (λ k there. agrees k (named journal i m k earlier there))
+    (known until (sym (state_locally journal m i at0 at1 agrees) ∙ is))
+item_agrees journal i at0 at1 other agrees known = tt
+
+-- ---- parts that stand for a register
+
+-- they agree with it at the keys of the item, which are held
+pub stand_agree : (holds : Key → Bool) (stands register : Key → List Entry) (keys : List Key) → StandsFor holds stands register → ((k : Key) → Contains keys k → IsTrue (holds k)) → AgreesAt keys register stands
+stand_agree holds stands register keys same held k there = same k (held k there)
+
+pub stand_earlier : (i : ℕ) (stands register : Key → List Entry) (keys : List Key) → AgreesAt keys register stands → AreEarlier i stands keys → AreEarlier i register keys
+stand_earlier i stands register keys agrees before k there = subst (All (λ e. e.receipt < i)) (agrees k there) (before k there)
+
+pub parts_know : (journal : List Receipt) (i : ℕ) (stands register : Key → List Entry) (r : Receipt) → Kept journal register → receipt_at journal i ≡ Some r → AgreesAt (keys_of_item journal i) register stands
+    → AreEarlier i stands (keys_of_item journal i) → KnowsItsExchanges journal i stands r.item
+parts_know journal i stands register r kept is agrees before =
+    item_agrees journal i register stands r.item (subst (λ ks. AgreesAt ks register stands) (keys_are journal i r is) agrees)
+    (step_knows journal i register r kept is (stand_earlier i stands register (keys_of_item journal i) agrees before))
+
+-- the item brings on the parts what it brings on the register
+pub parts_bring : (journal : List Receipt) (i : ℕ) (holds : Key → Bool) (stands register : Key → List Entry) → StandsFor holds stands register → Kept journal register → ((k : Key) → Contains (keys_of_item journal i) k → IsTrue (holds k))
+    → AreEarlier i stands (keys_of_item journal i) → brings journal i stands ≡ brings journal i register
+parts_bring journal i holds stands register same kept held before =
+    let agrees = stand_agree holds stands register (keys_of_item journal i) same held in
+    locality journal i register stands kept (stand_earlier i stands register (keys_of_item journal i) agrees before) agrees

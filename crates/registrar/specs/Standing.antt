@@ -1,0 +1,16 @@
+-- The registers that parts stand for.
+use Rattle.std.specs.Prelude.{◌≡◌, Bool, List, IsTrue}
+use Rattle.gb_base.specs.declared.keys.Key.{Key}
+use Rattle.act_model.specs.declared.receipts.Receipt.{Receipt}
+use Rattle.folio_sections.specs.Kept.{Kept}
+use Rattle.folio_sections.specs.declared.entries.Entry.{Entry}
+
+-- at each key that is held the parts say what the register says
+abbrev pub StandsFor : (Key → Bool) → (Key → List Entry) → (Key → List Entry) → Type 0
+StandsFor holds at register = (k : Key) → IsTrue (holds k) → at k ≡ register k
+
+-- the parts stand for a register that may come about
+pub record StandsForKept (journal : List Receipt) (holds : Key → Bool) (at : Key → List Entry) : Type 0 where
+  pub register : Key → List Entry
+  pub stands : StandsFor holds at register
+  pub kept : Kept journal register
