@@ -1,16 +1,9 @@
 -- Lemmas.
 pub mod Acknowledged
-pub mod Ascending
-pub mod AtKeys
 pub mod Blocks
-pub mod Brought
-pub mod BuiltJournals
-pub mod CentPieces
 pub mod CsvSteps
 pub mod Durable
 pub mod EarlyEnds
-pub mod Grounds
-pub mod InOrder
 pub mod LineRequests
 pub mod OnDisk
 pub mod OneRequest
@@ -19,7 +12,6 @@ pub mod OpeningRows
 pub mod Replies
 pub mod RowsAnswered
 pub mod SessionInputs
-pub mod Settled
 pub mod Takings
 pub mod Whole
 pub mod Written

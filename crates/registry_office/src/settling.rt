@@ -13,8 +13,6 @@ ghost use Rattle.registry_office.specs.declared.lines.LineKind.TheVariants.{Stam
 
 use crate::faults::{OutputFault, SessionFault};
 use crate::lines::LineKind;
-use crate::registrar::alone;
-use crate::reports::report;
 use crate::session::answer_input;
 use crate::writing::write_all;
 use act_model::Journal;
@@ -69,12 +67,11 @@ pub(crate) fn write_report<K: Sink>(
     journal: &Journal,
     sink: &mut K,
 ) -> Result<(), OutputFault>
-    requires { IsTrue (list_all (λ r. is_built r.item) journal.now.receipts) }
     ensures whole { OnOk result (Appends (K.written sink.old) (K.written sink.new) (report_of journal.now.receipts)) }
     ensures part { OnErr result (AppendsFront (K.written sink.old) (K.written sink.new) (report_of journal.now.receipts)) }
     ensures cause { Counts (K.faults sink.old) (K.faults sink.new) (output_failed result) }
 {
     let register = alone(alloc, journal)?;
-    let text = report(alloc, &register)?;
+    let text = report(alloc, &register, journal)?;
     write_all(sink, text.as_slice())
 }
