@@ -10,6 +10,7 @@ pub mod OneRequest
 pub mod Opened
 pub mod OpeningRows
 pub mod Replies
+pub mod Reported
 pub mod RowsAnswered
 pub mod SessionInputs
 pub mod Takings
