@@ -1,6 +1,6 @@
 -- What only private clauses and proofs use.
-pub mod Asking
 pub mod Held
+pub mod Lacks
 pub mod Needed
 pub mod WaitingAt
 pub mod WithBefore

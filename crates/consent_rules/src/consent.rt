@@ -4,8 +4,8 @@ ghost use Rattle.folio_sections.specs.Judging.{has_stranger, is_plain_among, is_
 ghost use Rattle.folio_sections.specs.Persons.{needed, number_behind, others, owner_side};
 ghost use Rattle.consent_rules.specs.inner.Held.{HasParts};
 
-use crate::asking::Asked;
 use crate::consenters::Stranger;
+use crate::lacks::Lack;
 use crate::matters::Matter;
 use crate::needed::{needed, number_behind};
 use act_model::Act;
@@ -17,8 +17,8 @@ pub fn lacks_consent<P: Parts>(parts: &P, matter: &Matter, before: &[Act], act: 
     requires held { HasParts (P.holds parts.now) (P.at parts.now) act.now }
     ensures { result ≡ lacks_consent matter.now.number matter.now.docs (P.at parts.now) before.now act.now }
 {
-    let asked = Asked::Silent(&matter.docs, number_behind(before));
-    needed(parts, matter, before, act).some_affected(&asked)
+    let lack = Lack::Consent(&matter.docs, number_behind(before));
+    needed(parts, matter, before, act).some_affected(&lack)
 }
 
 /// Whether somebody whose consent the act does not need has consented to it.
@@ -40,8 +40,8 @@ pub fn wants_form<P: Parts>(parts: &P, matter: &Matter, before: &[Act], act: &Ac
     requires held { HasParts (P.holds parts.now) (P.at parts.now) act.now }
     ensures { result ≡ is_plain_among matter.now.docs (number_behind before.now) (needed matter.now.journal.now.receipts matter.now.number matter.now.docs (P.at parts.now) before.now act.now) }
 {
-    let asked = Asked::Plain(&matter.docs, number_behind(before));
-    needed(parts, matter, before, act).some(&asked)
+    let lack = Lack::Form(&matter.docs, number_behind(before));
+    needed(parts, matter, before, act).some(&lack)
 }
 
 /// Whether an owner's consent to a cancellation is missing (GBO § 27).
@@ -79,8 +79,8 @@ fn some_owner_is_silent<P: Parts>(parts: &P, matter: &Matter, before: &[Act], ac
     requires held { HasParts (P.holds parts.now) (P.at parts.now) act.now }
     ensures { result ≡ is_silent_among matter.now.docs (number_behind before.now) (owner_side matter.now.number matter.now.docs (P.at parts.now) before.now act.now) }
 {
-    let asked = Asked::Silent(&matter.docs, number_behind(before));
-    needed(parts, matter, before, act).some_owner(&asked)
+    let lack = Lack::Consent(&matter.docs, number_behind(before));
+    needed(parts, matter, before, act).some_owner(&lack)
 }
 
 /// Whether an applicant who waits at a right has given no consent to its cancellation (BGB § 876).
@@ -89,8 +89,8 @@ pub fn lacks_others<P: Parts>(parts: &P, matter: &Matter, before: &[Act], act: &
     requires held { HasParts (P.holds parts.now) (P.at parts.now) act.now }
     ensures { result ≡ is_silent_among matter.now.docs (number_behind before.now) (others matter.now.journal.now.receipts matter.now.number matter.now.docs (P.at parts.now) before.now act.now) }
 {
-    let asked = Asked::Silent(&matter.docs, number_behind(before));
-    needed(parts, matter, before, act).some_other(&asked)
+    let lack = Lack::Consent(&matter.docs, number_behind(before));
+    needed(parts, matter, before, act).some_other(&lack)
 }
 
 /// Whether the act is a transfer without agreement (GBO § 20).

@@ -2,14 +2,14 @@
 ghost use Rattle.std.specs.Prelude.{◌≡◌, ◌==◌};
 ghost use Rattle.std.specs.List.{list_any};
 ghost use Rattle.folio_sections.specs.Persons.{persons};
-ghost use Rattle.consent_rules.specs.inner.Asking.{is_answered};
+ghost use Rattle.consent_rules.specs.inner.Lacks.{is_lacking};
 ghost use Rattle.consent_rules.specs.inner.Needed.{everyone};
 
-use crate::asking::{Asked, is_answered_by_some};
+use crate::lacks::{Lack, some_are_lacking};
 use crate::waiting::Waiting;
 use act_model::Doc;
 use arrayvec::ArrayVec;
-use folio_sections::DocTest;
+use folio_sections::DocFilter;
 use gb_base::Person;
 
 /// All whose consent an act needs.
@@ -33,25 +33,25 @@ impl<'a> Consenters<'a> {
             || self.is_other(person)
     }
 
-    /// Whether it is so for one of them.
-    pub fn some(&self, asked: &Asked) -> bool
-        ensures { result ≡ list_any (is_answered asked.now) (everyone self.now) }
+    /// Whether this is lacking from one of them.
+    pub fn some(&self, lack: &Lack) -> bool
+        ensures { result ≡ list_any (is_lacking lack.now) (everyone self.now) }
     {
-        self.some_affected(asked) || self.some_owner(asked) || self.some_other(asked)
+        self.some_affected(lack) || self.some_owner(lack) || self.some_other(lack)
     }
 
-    /// Whether it is so for one whose right the act affects.
-    pub fn some_affected(&self, asked: &Asked) -> bool
-        ensures { result ≡ list_any (is_answered asked.now) self.now.affected.items }
+    /// Whether this is lacking from one whose right the act affects.
+    pub fn some_affected(&self, lack: &Lack) -> bool
+        ensures { result ≡ list_any (is_lacking lack.now) self.now.affected.items }
     {
-        is_answered_by_some(asked, self.affected.as_slice())
+        some_are_lacking(lack, self.affected.as_slice())
     }
 
-    /// Whether it is so for one of the owners who consent beside them.
-    pub fn some_owner(&self, asked: &Asked) -> bool
-        ensures { result ≡ list_any (is_answered asked.now) self.now.owner_side.items }
+    /// Whether this is lacking from one of the owners who consent beside them.
+    pub fn some_owner(&self, lack: &Lack) -> bool
+        ensures { result ≡ list_any (is_lacking lack.now) self.now.owner_side.items }
     {
-        is_answered_by_some(asked, self.owner_side.as_slice())
+        some_are_lacking(lack, self.owner_side.as_slice())
     }
 
     /// Whether the person is one of the applicants who wait.
@@ -64,12 +64,12 @@ impl<'a> Consenters<'a> {
         }
     }
 
-    /// Whether it is so for one of the applicants who wait.
-    pub fn some_other(&self, asked: &Asked) -> bool
-        ensures { result ≡ list_any (is_answered asked.now) (persons self.now.others) }
+    /// Whether this is lacking from one of the applicants who wait.
+    pub fn some_other(&self, lack: &Lack) -> bool
+        ensures { result ≡ list_any (is_lacking lack.now) (persons self.now.others) }
     {
         match &self.others {
-            Some(waiting) => waiting.some(asked),
+            Some(waiting) => waiting.some(lack),
             None => false,
         }
     }
@@ -82,7 +82,7 @@ pub struct Stranger<'a> {
     pub needed: &'a Consenters<'a>,
 }
 
-impl<'a> DocTest for Stranger<'a> {
+impl<'a> DocFilter for Stranger<'a> {
     ghost use Rattle.folio_sections.specs.Documents.{is_strangers_consent};
     ghost use Rattle.consent_rules.specs.inner.Needed.{everyone};
 

@@ -2,7 +2,7 @@
 use crate::Judgement;
 use crate::test_register::{
     TestRegister, certified, charge, create, defect, enters, filing, folio, judged, one, one_owner,
-    papers, person, put, receipt, receive, register, rejects, right, waits,
+    papers, person, put, receipt, receive, rejects, right, waits, with_filing,
 };
 use act_model::{Act, Doc, Item};
 use folio_sections::What;
@@ -12,23 +12,28 @@ use std::process::Abort;
 
 /// The register with a filing by owner 10 for a land charge as receipt 4, with these documents.
 fn charged(rt: &impl Abort, alloc: Global, docs: &[Doc]) -> TestRegister {
-    let mut register = register(rt, alloc);
     let acts = one(create(rt, 7, charge(rt, 10_000, 20, 1), None));
-    let item = Item::Filing(filing(rt, 10, acts, docs));
-    receive(rt, &mut register.journal, 4, &item);
-    register
+    with_filing(rt, alloc, filing(rt, 10, acts, docs))
 }
 
 /// The register with the cancellation of 2.1 as receipt 4, with these documents.
 fn cancelling(rt: &impl Abort, alloc: Global, docs: &[Doc]) -> TestRegister {
-    let mut register = register(rt, alloc);
     let cancel = Act::Cancel {
         folio: folio(rt, 7),
         right: right(rt, 2, 1),
     };
-    let item = Item::Filing(filing(rt, 10, one(cancel), docs));
-    receive(rt, &mut register.journal, 4, &item);
-    register
+    with_filing(rt, alloc, filing(rt, 10, one(cancel), docs))
+}
+
+/// The register with the assignment of 2.1 to 25 as receipt 4, to which 20 has consented.
+fn assigning(rt: &impl Abort, alloc: Global) -> TestRegister {
+    let assign = Act::Assign {
+        folio: folio(rt, 7),
+        right: right(rt, 2, 1),
+        holder: person(rt, 25),
+    };
+    let docs = [certified(rt, 1, 20)];
+    with_filing(rt, alloc, filing(rt, 25, one(assign), docs.as_slice()))
 }
 
 fn until(rt: &impl Abort) -> Day {
@@ -93,6 +98,21 @@ fn the_owners_of_the_notice_are_asked(rt: HostRuntime) {
     let buyer = person(&rt, 30);
     at_title(&rt, &mut register, What::AwardOwner { buyer });
     assert!(rt; rejects(&judgement(&rt, &register, 4), Section::Gbo13));
+}
+
+#[test]
+fn the_holder_of_the_notice_is_asked(rt: HostRuntime) {
+    let mut register = assigning(&rt, rt.alloc());
+    at_charge(&rt, &mut register, pending(&rt, 4));
+    let filing = receipt(&rt, 4);
+    at_charge(&rt, &mut register, What::Notice { filing });
+    let person = person(&rt, 26);
+    at_charge(&rt, &mut register, What::Holder { person });
+    assert!(rt; enters(&judgement(&rt, &register, 4)));
+    let mut register = assigning(&rt, rt.alloc());
+    at_charge(&rt, &mut register, What::Holder { person });
+    let wanted = [defect(Section::Gbo39, 1)];
+    assert!(rt; waits(&judgement(&rt, &register, 4), wanted.as_slice()));
 }
 
 #[test]

@@ -3,7 +3,8 @@
 #![tactic(auto)]
 
 mod applying;
-mod asking;
+#[cfg(test)]
+mod closed_folio_tests;
 mod consent;
 mod consenters;
 mod defects;
@@ -11,12 +12,19 @@ mod defects;
 mod document_tests;
 mod grounds;
 mod judging;
+mod lacks;
 mod matters;
 mod needed;
 mod obstacles;
+#[cfg(test)]
+mod order_tests;
+#[cfg(test)]
+mod owner_tests;
 mod parts_read;
 mod persons;
 mod premises;
+#[cfg(test)]
+mod rank_tests;
 #[cfg(test)]
 mod table_tests;
 #[cfg(test)]

@@ -7,7 +7,7 @@ ghost use Rattle.folio_sections.specs.Judging.{IsKnownExchange, KnowsExchanges};
 ghost use Rattle.consent_rules.specs.inner.Held.{HasParts};
 
 use crate::parts_read::live_right;
-use act_model::{Act, Journal, RightKind, RightSpec, act_at, filing_at, filing_keys};
+use act_model::{Act, Journal, RightSpec, created_before, filing_at, filing_keys};
 use folio_sections::Parts;
 use gb_base::{FolioId, Key, ReceiptNo, RightId};
 
@@ -94,54 +94,7 @@ fn was_created(
     ensures enough { created_before journal.now.receipts filing folio right ≡ Some spec → result ≡ true }
 {
     match created_before(journal, filing, folio, right) {
-        Some(created) => is_same(created, spec),
+        Some(created) => created == spec,
         None => false,
-    }
-}
-
-fn created_before(
-    journal: &Journal,
-    filing: ReceiptNo,
-    folio: FolioId,
-    right: RightId,
-) -> Option<RightSpec>
-    ensures { result ≡ created_before journal.now.receipts filing folio right }
-{
-    if right.receipt() >= filing {
-        return None;
-    }
-    let found = filing_at(journal, right.receipt())?;
-    let act = act_at(found, right.act())?;
-    if act.folio() == folio {
-        act.right_created()
-    } else {
-        None
-    }
-}
-
-fn is_same(one: RightSpec, other: RightSpec) -> bool
-    ensures same { result ≡ true → one ≡ other }
-    ensures enough { one ≡ other → result ≡ true }
-{
-    is_same_kind(one.kind, other.kind)
-        && one.capital == other.capital
-        && one.holder == other.holder
-        && one.group == other.group
-}
-
-fn is_same_kind(one: RightKind, other: RightKind) -> bool
-    ensures same { result ≡ true → one ≡ other }
-    ensures enough { one ≡ other → result ≡ true }
-{
-    match (one, other) {
-        (RightKind::PersonalEasement, RightKind::PersonalEasement) => true,
-        (RightKind::Usufruct, RightKind::Usufruct) => true,
-        (RightKind::Mortgage { rate_bp: rate }, RightKind::Mortgage { rate_bp: other }) => {
-            rate == other
-        }
-        (RightKind::LandCharge { rate_bp: rate }, RightKind::LandCharge { rate_bp: other }) => {
-            rate == other
-        }
-        _ => false,
     }
 }

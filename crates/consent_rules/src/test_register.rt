@@ -37,6 +37,13 @@ pub(crate) fn one_owner(rt: &impl Abort, n: u32) -> Owners {
     Owners::new(owners).expect(rt, "one owner")
 }
 
+pub(crate) fn two_owners(rt: &impl Abort, first: u32, second: u32) -> Owners {
+    let mut owners = ArrayVec::new();
+    owners.push(person(rt, first));
+    owners.push(person(rt, second));
+    Owners::new(owners).expect(rt, "two owners")
+}
+
 fn parcel() -> Inventory {
     Inventory {
         district: 12,
@@ -170,25 +177,22 @@ fn add(rt: &impl Abort, parts: &mut MapParts, entry: Entry) {
     parts.append(entry);
 }
 
-/// Right a of receipt n stands in folio 7.
-pub(crate) fn put_right(
-    rt: &impl Abort,
-    parts: &mut MapParts,
-    id: RightId,
-    spec: RightSpec,
-    form: RightForm,
-    reserve: Option<Cents>,
-) {
-    let n = id.receipt().get();
-    let made = Created {
+/// A right in its full form, without a reservation.
+pub(crate) fn made(rt: &impl Abort, spec: RightSpec) -> Created {
+    Created {
         spec,
-        form,
-        reserve,
+        form: RightForm::Full,
+        reserve: None,
         ahead_of: None,
         placed: day(rt),
         behind: None,
         equal: false,
-    };
+    }
+}
+
+/// Right a of receipt n stands in folio 7.
+pub(crate) fn put_right(rt: &impl Abort, parts: &mut MapParts, id: RightId, made: Created) {
+    let n = id.receipt().get();
     put(
         rt,
         parts,
@@ -198,7 +202,7 @@ pub(crate) fn put_right(
     );
 }
 
-fn keys(rt: &impl Abort) -> [Key; 12] {
+fn keys(rt: &impl Abort) -> [Key; 14] {
     [
         Key::Title(folio(rt, 7)),
         Key::Title(folio(rt, 8)),
@@ -208,6 +212,8 @@ fn keys(rt: &impl Abort) -> [Key; 12] {
         Key::Right(folio(rt, 7), right(rt, 3, 2)),
         Key::Right(folio(rt, 7), right(rt, 4, 1)),
         Key::Right(folio(rt, 7), right(rt, 4, 2)),
+        Key::Right(folio(rt, 8), right(rt, 2, 1)),
+        Key::Right(folio(rt, 8), right(rt, 2, 2)),
         Key::Right(folio(rt, 8), right(rt, 4, 1)),
         Key::Right(folio(rt, 8), right(rt, 4, 2)),
         Key::Right(folio(rt, 7), right(rt, 5, 1)),
@@ -270,39 +276,18 @@ fn put_all(rt: &impl Abort, parts: &mut MapParts) {
         owners: one_owner(rt, 10),
     };
     put(rt, parts, 1, Key::Title(folio(rt, 7)), opened);
-    let reserve = Cents::new(50_000);
-    put_right(
-        rt,
-        parts,
-        right(rt, 2, 1),
-        reserved(rt),
-        RightForm::Full,
-        reserve,
-    );
-    put_right(
-        rt,
-        parts,
-        right(rt, 2, 2),
-        unreserved(rt),
-        RightForm::Full,
-        None,
-    );
-    put_right(
-        rt,
-        parts,
-        right(rt, 3, 1),
-        usufruct(rt),
-        RightForm::Full,
-        None,
-    );
-    put_right(
-        rt,
-        parts,
-        right(rt, 3, 2),
-        noticed(rt),
-        RightForm::Notice,
-        None,
-    );
+    let with_reservation = Created {
+        reserve: Cents::new(50_000),
+        ..made(rt, reserved(rt))
+    };
+    put_right(rt, parts, right(rt, 2, 1), with_reservation);
+    put_right(rt, parts, right(rt, 2, 2), made(rt, unreserved(rt)));
+    put_right(rt, parts, right(rt, 3, 1), made(rt, usufruct(rt)));
+    let notice = Created {
+        form: RightForm::Notice,
+        ..made(rt, noticed(rt))
+    };
+    put_right(rt, parts, right(rt, 3, 2), notice);
 }
 
 /// What stands in folio 7: owner 10, and the rights
@@ -335,11 +320,21 @@ pub(crate) fn judged(
     judge(parts, journal, n, upto)
 }
 
-/// The judgement on a filing that becomes receipt 4 of the register.
-pub(crate) fn verdict_on(rt: &impl Abort, alloc: Global, filing: Filing) -> Judgement {
+/// The register with a filing as receipt 4.
+pub(crate) fn with_filing(rt: &impl Abort, alloc: Global, filing: Filing) -> TestRegister {
     let mut register = register(rt, alloc);
     receive(rt, &mut register.journal, 4, &Item::Filing(filing));
+    register
+}
+
+/// The judgement on receipt 4 with its own documents.
+pub(crate) fn judged_now(rt: &impl Abort, register: &TestRegister) -> Judgement {
     judged(rt, &register.parts, &register.journal, 4, 4)
+}
+
+/// The judgement on a filing that becomes receipt 4 of the register.
+pub(crate) fn verdict_on(rt: &impl Abort, alloc: Global, filing: Filing) -> Judgement {
+    judged_now(rt, &with_filing(rt, alloc, filing))
 }
 
 /// The judgement on a filing of one act with these documents.

@@ -2,10 +2,10 @@
 ghost use Rattle.std.specs.Prelude.{◌≡◌, ◌==◌};
 ghost use Rattle.std.specs.List.{list_any};
 ghost use Rattle.folio_sections.specs.Persons.{waiting_applicants};
-ghost use Rattle.consent_rules.specs.inner.Asking.{is_answered};
+ghost use Rattle.consent_rules.specs.inner.Lacks.{is_lacking};
 ghost use Rattle.consent_rules.specs.inner.WaitingAt.{applicant_at};
 
-use crate::asking::{Asked, is_answered};
+use crate::lacks::{Lack, is_lacking};
 use act_model::Journal;
 use folio_sections::{Entry, RightPart, What, applicant_of};
 use gb_base::{Person, ReceiptNo};
@@ -50,11 +50,11 @@ impl<'a> Waiting<'a> {
         waits(self.journal, self.before, self.part, person)
     }
 
-    /// Whether it is so for one of them.
-    pub fn some(&self, asked: &Asked) -> bool
-        ensures { result ≡ list_any (is_answered asked.now) self.now }
+    /// Whether this is lacking from one of them.
+    pub fn some(&self, lack: &Lack) -> bool
+        ensures { result ≡ list_any (is_lacking lack.now) self.now }
     {
-        some_waits(self.journal, self.before, self.part, asked)
+        some_waits(self.journal, self.before, self.part, lack)
     }
 }
 
@@ -71,14 +71,14 @@ fn waits(journal: &Journal, before: ReceiptNo, part: &RightPart, person: Person)
     false
 }
 
-/// Whether it is so for an applicant of an earlier filing that waits at the right.
+/// Whether this is lacking from an applicant of an earlier filing that waits at the right.
 #[tactic(auto, using(crate::proofs::WaitingLemmas::some_waiting))]
-fn some_waits(journal: &Journal, before: ReceiptNo, part: &RightPart, asked: &Asked) -> bool
-    ensures { result ≡ list_any (is_answered asked.now) (waiting_applicants journal.now.receipts before part.now.entries) }
+fn some_waits(journal: &Journal, before: ReceiptNo, part: &RightPart, lack: &Lack) -> bool
+    ensures { result ≡ list_any (is_lacking lack.now) (waiting_applicants journal.now.receipts before part.now.entries) }
 {
     for entry in part.entries() {
         match applicant_at(journal, before, part, entry) {
-            Some(applicant) if is_answered(asked, applicant) => return true,
+            Some(applicant) if is_lacking(lack, applicant) => return true,
             _ => {}
         }
     }

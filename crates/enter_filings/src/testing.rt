@@ -50,14 +50,6 @@ fn usufruct() -> RightSpec {
     }
 }
 
-/// The same filing under a condition.
-pub(crate) fn conditional(filing: Filing) -> Filing {
-    Filing {
-        conditional: true,
-        ..filing
-    }
-}
-
 /// A filing that opens folio 8 for owner 10 and creates a land charge of 20 in it.
 pub(crate) fn opening_and_charge(applicant: u32, docs: &[Doc]) -> Filing
     requires applicant { 0 < applicant }
@@ -74,9 +66,7 @@ pub(crate) fn opening_and_charge(applicant: u32, docs: &[Doc]) -> Filing
     }
 }
 
-// ---- acts in folio 7
-
-/// The cancellation of the right that this act of a receipt creates.
+/// The cancellation in folio 7 of the right that this act of a receipt creates.
 pub(crate) fn cancellation(receipt: u32, act: u8) -> Act
     requires receipt { 0 < receipt }
     requires from_one { 1 ≤ act }
@@ -85,27 +75,6 @@ pub(crate) fn cancellation(receipt: u32, act: u8) -> Act
     Act::Cancel {
         folio: folio_of(7),
         right: right(receipt, act),
-    }
-}
-
-/// 2.1 recedes behind 3.1.
-pub(crate) fn exchange() -> Act {
-    Act::Exchange {
-        folio: folio_of(7),
-        recede: right(2, 1),
-        rise: right(3, 1),
-    }
-}
-
-/// A land charge of 600.00 in the rank that the reservation of 2.1 keeps.
-pub(crate) fn exercise_of_600() -> Act {
-    Act::Exercise {
-        folio: folio_of(7),
-        behind: right(2, 1),
-        spec: RightSpec {
-            capital: Cents::new(60_000).unwrap(),
-            ..land_charge(23)
-        },
     }
 }
 
@@ -139,6 +108,15 @@ pub(crate) fn judged_on_rights(
 
 pub(crate) fn enters(judgement: &Judgement) -> bool {
     matches!(judgement, Judgement::Enter)
+}
+
+/// Whether so many filings are settled, and all of them entered.
+pub(crate) fn all_entered(settled: &Settled, count: usize) -> bool {
+    settled.verdicts.len() == count
+        && settled
+            .verdicts
+            .iter()
+            .all(|verdict| enters(&verdict.judgement))
 }
 
 pub(crate) fn rejects(judgement: &Judgement, wanted: Section) -> bool {

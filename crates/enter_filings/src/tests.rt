@@ -1,34 +1,17 @@
 // Filings that are judged and entered one behind the other, on a register that they make
 // themselves. The answers are written down by hand from the rules.
 use crate::filings::{
-    assignment, certified, creation, filed_by, folio_of, land_charge, opening, plain, receive,
-    right, transfer,
+    certified, creation, filed_by, folio_of, land_charge, plain, receive, transfer,
 };
 use crate::settling::settle;
 use crate::testing::{
-    at_right, at_title, cancellation, conditional, enters, exchange, exercise_of_600, followed_by,
-    is_charge, is_expiry, is_on, is_opening, is_place, judged_on_rights, last_judged, opened,
-    opening_and_charge, rejects, waits, with_two_rights,
+    all_entered, at_right, at_title, cancellation, enters, followed_by, is_charge, is_expiry,
+    is_on, is_opening, is_place, judged_on_rights, last_judged, opened, opening_and_charge,
+    rejects, waits, with_two_rights,
 };
 use act_model::{Doc, Item, Journal};
 use gb_base::Section;
 use std::test::Fail;
-
-/// A land charge without a consent, with one in plain form, and with one of a stranger alone.
-#[test]
-fn a_charge_wants_the_owners_certified_consent(rt: HostRuntime) -> Result<(), Fail> {
-    let alloc = rt.alloc();
-    let silent = filed_by(10, creation(7, land_charge(20)), &[]);
-    let judgement = last_judged(alloc, followed_by(opened(alloc)?, silent)?)?;
-    assert!(rt; rejects(&judgement, Section::Gbo19));
-    let in_plain_form = filed_by(10, creation(7, land_charge(20)), &[plain(1, 10)]);
-    let judgement = last_judged(alloc, followed_by(opened(alloc)?, in_plain_form)?)?;
-    assert!(rt; waits(&judgement, Section::Gbo29, 1));
-    let by_a_stranger = filed_by(10, creation(7, land_charge(20)), &[certified(1, 99)]);
-    let judgement = last_judged(alloc, followed_by(opened(alloc)?, by_a_stranger)?)?;
-    assert!(rt; waits(&judgement, Section::Gbo39, 1));
-    Ok(())
-}
 
 /// A place at the title, and the right; a filing that waits brings neither.
 #[test]
@@ -36,28 +19,13 @@ fn a_charge_that_is_entered(rt: HostRuntime) -> Result<(), Fail> {
     let alloc = rt.alloc();
     let charge = filed_by(10, creation(7, land_charge(20)), &[certified(1, 10)]);
     let settled = settle(alloc, &followed_by(opened(alloc)?, charge)?)?;
-    assert!(rt;
-        settled
-            .verdicts
-            .iter()
-            .all(|verdict| enters(&verdict.judgement))
-    );
+    assert!(rt; all_entered(&settled, 2));
     let title = at_title(&settled, 7);
     assert!(rt; matches!(title, [first, second] if is_opening(first) && is_place(second, 2)));
     assert!(rt; matches!(at_right(&settled, 7, 2, 1), [only] if is_charge(only)));
     let waiting = filed_by(10, creation(7, land_charge(20)), &[plain(1, 10)]);
     let settled = settle(alloc, &followed_by(opened(alloc)?, waiting)?)?;
     assert!(rt; at_title(&settled, 7).len() == 1 && at_right(&settled, 7, 2, 1).is_empty());
-    Ok(())
-}
-
-/// The condition is tested ahead of the agreement and of the form.
-#[test]
-fn a_conditional_transfer(rt: HostRuntime) -> Result<(), Fail> {
-    let alloc = rt.alloc();
-    let filing = conditional(filed_by(10, transfer(11), &[plain(1, 10)]));
-    let judgement = last_judged(alloc, followed_by(opened(alloc)?, filing)?)?;
-    assert!(rt; rejects(&judgement, Section::Gbo16));
     Ok(())
 }
 
@@ -83,26 +51,6 @@ fn an_opening_and_a_charge(rt: HostRuntime) -> Result<(), Fail> {
     Ok(())
 }
 
-/// What a reservation, a division, a missing right and an open folio forbid.
-#[test]
-fn acts_that_the_register_forbids(rt: HostRuntime) -> Result<(), Fail> {
-    let alloc = rt.alloc();
-    let docs = [certified(1, 10)];
-    let judgement = judged_on_rights(alloc, 10, exercise_of_600(), &docs)?;
-    assert!(rt; rejects(&judgement, Section::Bgb881));
-    let judgement = judged_on_rights(alloc, 10, exchange(), &docs)?;
-    assert!(rt; rejects(&judgement, Section::Bgb880));
-    let judgement = judged_on_rights(alloc, 10, assignment(right(3, 1), 25), &docs)?;
-    assert!(rt; rejects(&judgement, Section::Bgb1059));
-    let judgement = judged_on_rights(alloc, 10, cancellation(9, 1), &docs)?;
-    assert!(rt; rejects(&judgement, Section::Bgb873));
-    let judgement = judged_on_rights(alloc, 10, opening(7, 10), &docs)?;
-    assert!(rt; rejects(&judgement, Section::Gbo3));
-    let judgement = judged_on_rights(alloc, 98, creation(7, land_charge(20)), &docs)?;
-    assert!(rt; rejects(&judgement, Section::Gbo13));
-    Ok(())
-}
-
 /// A land charge is cancelled with the owner's consent too, a usufruct with a proof alone.
 #[test]
 fn two_cancellations(rt: HostRuntime) -> Result<(), Fail> {
@@ -111,12 +59,7 @@ fn two_cancellations(rt: HostRuntime) -> Result<(), Fail> {
     assert!(rt; waits(&judgement, Section::Gbo27, 1));
     let with_proof = filed_by(24, cancellation(3, 1), &[Doc::ExpiryProof { act: 1 }]);
     let settled = settle(alloc, &followed_by(with_two_rights(alloc)?, with_proof)?)?;
-    assert!(rt;
-        settled
-            .verdicts
-            .iter()
-            .all(|verdict| enters(&verdict.judgement))
-    );
+    assert!(rt; all_entered(&settled, 4));
     assert!(rt; matches!(at_right(&settled, 7, 3, 1), [_, last] if is_expiry(last)));
     Ok(())
 }

@@ -3,6 +3,8 @@
 #![tactic(auto)]
 
 mod adding;
+#[cfg(test)]
+mod content_tests;
 mod contents;
 mod creations;
 mod entering;

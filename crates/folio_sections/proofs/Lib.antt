@@ -1,6 +1,7 @@
 -- Lemmas.
 pub mod Additions
 pub mod Below
+pub mod Cures
 pub mod HeldParts
 pub mod Indexes
 pub mod KeptOrder

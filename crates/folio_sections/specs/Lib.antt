@@ -13,12 +13,12 @@ pub mod KeptEntries
 pub mod KeptPlaces
 pub mod KeptRights
 pub mod Limits
-pub mod Looking
 pub mod PartState
 pub mod Persons
 pub mod Places
 pub mod Ranks
 pub mod Rights
+pub mod Sought
 pub mod Titles
 pub mod Waiting
 pub mod inner

@@ -5,7 +5,7 @@ ghost use Rattle.std.specs.List.{list_any};
 ghost use Rattle.gb_base.specs.Limits.{is_between};
 ghost use Rattle.folio_sections.specs.Documents.{act_of_doc, docs_by_cure, docs_of_cure};
 
-use crate::doc_tests::{DocTest, Sought};
+use crate::sought::{DocFilter, Sought};
 use act_model::{Doc, Filing, Form, Item, Journal};
 use gb_base::{Person, ReceiptNo};
 use std::marker::Model;
@@ -51,7 +51,7 @@ impl<'a> Documents<'a> {
     }
 
     /// Whether such a document is among them.
-    pub fn has<T: DocTest>(&self, test: &T) -> bool
+    pub fn has<T: DocFilter>(&self, test: &T) -> bool
         ensures { result ≡ list_any (T.test test.now) self.now }
     {
         let (filing, upto) = (self.filing, self.upto);
@@ -84,7 +84,7 @@ impl<'a> Documents<'a> {
 
 /// Whether a cure of the filing, up to a receipt, brings such a document for one of so many acts.
 #[tactic(auto, using(crate::proofs::ListLemmas::any_brought))]
-fn cures_have<T: DocTest>(
+fn cures_have<T: DocFilter>(
     journal: &Journal,
     filing: ReceiptNo,
     upto: ReceiptNo,
@@ -93,29 +93,20 @@ fn cures_have<T: DocTest>(
 ) -> bool
     ensures { result ≡ list_any (T.test test.now) (filter (λ d. is_between 1 acts (act_of_doc d)) (flat_map (docs_by_cure journal.now.receipts) (filter (λ n. nat_le n upto) (cures_of journal.now.receipts filing)))) }
 {
+    // Cures ascend: none behind the receipt counts.
     for number in journal.cures_of(filing) {
-        if brings(journal, *number, upto, acts, test) {
+        if *number > upto {
+            return false;
+        }
+        if counts_among(docs_by_cure(journal, *number), acts, test) {
             return true;
         }
     }
     false
 }
 
-/// Whether the cure stands no further than the receipt, and brings such a document.
-fn brings<T: DocTest>(
-    journal: &Journal,
-    cure: ReceiptNo,
-    upto: ReceiptNo,
-    acts: usize,
-    test: &T,
-) -> bool
-    ensures { result ≡ (nat_le cure upto && list_any (T.test test.now) (filter (λ d. is_between 1 acts (act_of_doc d)) (docs_by_cure journal.now.receipts cure))) }
-{
-    cure <= upto && counts_among(docs_by_cure(journal, cure), acts, test)
-}
-
 /// Whether such a document is among these, for one of so many acts.
-fn counts_among<T: DocTest>(docs: &[Doc], acts: usize, test: &T) -> bool
+fn counts_among<T: DocFilter>(docs: &[Doc], acts: usize, test: &T) -> bool
     ensures { result ≡ list_any (T.test test.now) (filter (λ d. is_between 1 acts (act_of_doc d)) docs.now) }
 {
     for doc in docs {

@@ -8,7 +8,6 @@ mod any_part;
 mod case_part;
 #[cfg(test)]
 mod case_tests;
-mod doc_tests;
 mod documents;
 mod entries;
 mod entry_list;
@@ -23,6 +22,7 @@ mod parts;
 mod right_part;
 #[cfg(test)]
 mod right_tests;
+mod sought;
 #[cfg(test)]
 mod tests;
 mod title_part;
@@ -33,7 +33,6 @@ mod waiting;
 
 pub use adding::{add, day_of, entry_by};
 pub use case_part::CasePart;
-pub use doc_tests::{DocTest, Sought};
 pub use documents::Documents;
 pub use entries::{Created, Entry, RightForm, What};
 pub use filings::applicant_of;
@@ -42,5 +41,6 @@ pub use judgements::{Defect, Defects, Judgement};
 pub use map_parts::MapParts;
 pub use parts::Parts;
 pub use right_part::RightPart;
+pub use sought::{DocFilter, Sought};
 pub use title_part::TitlePart;
 pub use title_places::{TitlePlace, behind, creates_in_division, own_place};

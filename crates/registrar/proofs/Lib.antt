@@ -7,6 +7,7 @@ pub mod ContainedParts
 pub mod CreatedKept
 pub mod CuresKeep
 pub mod Dealing
+pub mod Elsewhere
 pub mod EnteredTitles
 pub mod EntriesKept
 pub mod ExchangedKept
@@ -29,6 +30,7 @@ pub mod PlaceReads
 pub mod PlaceStands
 pub mod PlacesKept
 pub mod RankedTitles
+pub mod ReceiptOrder
 pub mod Registering
 pub mod RightReads
 pub mod RisingNumbers

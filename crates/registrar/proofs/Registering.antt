@@ -1,10 +1,10 @@
 -- The one registrar goes on by one item.
-use Rattle.std.proofs.Common.{◌≡◌, ℕ, zero, suc, ◌+◌, ◌-◌, ◌<◌, ◌≤◌, true, false, cond, List, [], ◌∷◌, ◌++◌, length, All, Contains, IsTrue, find, fold, Option, Some, None, is_some, refl, sym, ap, subst, ◌∙◌, length-append, arith}
+use Rattle.std.proofs.Common.{◌≡◌, ℕ, zero, suc, ◌+◌, ◌-◌, ◌<◌, true, false, cond, List, [], ◌∷◌, ◌++◌, length, All, find, Some, None, is_some, refl, sym, ap, subst, ◌∙◌, length-append, arith}
 use Rattle.std.specs.List.{AllByRecursion, enumerate_from, range_with_len}
 use Rattle.std.specs.Option.{option_map_or}
 use Rattle.std.proofs.lemmas.Bool.{false≢true}
 use Rattle.std.proofs.lemmas.List.{append-nil}
-use Rattle.std.proofs.lemmas.List.Elements.{All-append, All-from_recursion, All-tail}
+use Rattle.std.proofs.lemmas.List.Elements.{All-append, All-from_recursion, All-nil, All-tail}
 use Rattle.std.proofs.lemmas.List.Sums.{fold-append}
 use Rattle.gb_base.specs.Keys.{same_key}
 use Rattle.gb_base.specs.declared.keys.Key.{Key}
@@ -21,13 +21,10 @@ use Rattle.folio_sections.specs.declared.entries.Entry.{Entry}
 use Rattle.folio_sections.proofs.Additions.{at-append}
 use Rattle.folio_sections.proofs.Unchanged.{all_at}
 use Rattle.interim_orders.proofs.Noticing.{all_map}
-use Rattle.registrar.proofs.CuresKeep.{AreEarlier}
 use Rattle.registrar.proofs.StepLemmas.{brings_is, brings_leaves}
 use Rattle.registrar.specs.Brings.{Brought, brings, brought_by_item, nothing_pending}
-use Rattle.registrar.specs.ItemKeys.{keys_of_item}
 use Rattle.registrar.specs.Settling.{Settled, nothing_settled, registrar, settled_in_order, settled_next}
 use Rattle.registrar.specs.declared.verdicts.Verdict.{Verdict}
-use Rattle.registrar.specs.declared.verdicts.Verdict.TheVariants as verdict
 use Rattle.registrar.specs.inner.Named.{filing_named}
 use Rattle.registrar.specs.inner.SettledTo.{SettledTo}
 
@@ -135,3 +132,28 @@ pub registrar_is : (journal : List Receipt) → settled_in_order journal (range_
 registrar_is journal =
     let count : length journal ≡ (length journal + 1) - 1 = omega arith in
     ap (λ n. settled_in_order journal (range_with_len 1 n)) count
+
+-- so the first n items always leave a register that may come about
+record Leaving (journal : List Receipt) (n : ℕ) : Type 0 where
+  verdicts : List Verdict
+  settled : SettledTo journal n (at (settled_in_order journal (range_with_len 1 n)).entries) verdicts
+
+left_by : (journal : List Receipt) (n : ℕ) → IsJournal journal → Kept journal (λ k. []) → Leaving journal n
+left_by journal zero stands empty = record { verdicts = []; settled = none_settled journal [] (All-nil (λ p. p.entries ≡ [])) empty }
+left_by journal (suc n) stands empty =
+    let before = left_by journal n stands empty in
+    let at0 = at (settled_in_order journal (range_with_len 1 n)).entries in
+    let brought = brings journal (n + 1) at0 in
+    let leaves = brings_leaves journal (n + 1) at0 stands before.settled.kept (λ k there. before.settled.earlier k) in
+    let more = one_settled journal n at0 (with_entries at0 brought.entries) before.verdicts brought.verdict stands before.settled refl refl leaves.kept in
+    let end : n + 1 ≡ suc n = omega arith in
+    record {
+      verdicts = before.verdicts ++ brought.verdict ∷ [];
+      settled = subst (λ m. SettledTo journal m (at (settled_in_order journal (range_with_len 1 m)).entries) (before.verdicts ++ brought.verdict ∷ [])) end
+          (subst (λ stands_now. SettledTo journal (n + 1) stands_now (before.verdicts ++ brought.verdict ∷ [])) more.entries more);
+    }
+
+-- the register of each journal
+pub registrar_kept : (journal : List Receipt) → IsJournal journal → Kept journal (λ k. []) → Kept journal (at (registrar journal).entries)
+registrar_kept journal stands empty =
+    subst (λ (s : Settled). Kept journal (at s.entries)) (registrar_is journal) (left_by journal (length journal) stands empty).settled.kept

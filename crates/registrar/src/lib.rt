@@ -2,6 +2,7 @@
 #![tactic(auto)]
 
 mod folios;
+pub mod laws;
 mod making_room;
 mod one_registrar;
 mod register;

@@ -30,3 +30,11 @@ impl Scratch {
         Ok(Scratch { rights, swaps })
     }
 }
+
+/// Takes any type whose values threads may hand on and share.
+fn is_shared<T: Send + Sync>() {}
+
+/// Each desk works in a scratch of its own, in a thread.
+fn scratches_are_shared() {
+    is_shared::<Scratch>();
+}

@@ -31,8 +31,10 @@ pub fn step<P: Parts>(
     ensures verdict { result ≡ (brings journal.now.receipts item (P.at parts.old)).verdict }
     ensures added { AddsList (P.at parts.old) (P.at parts.new) (P.room parts.old) (P.room parts.new)
         (brings journal.now.receipts item (P.at parts.old)).entries }
+    ensures others { (k : Key) → (Contains (keys_of_item journal.now.receipts item) k → ⊥) → P.at parts.new k ≡ P.at parts.old k }
     ensures held { P.holds parts.new ≡ P.holds parts.old }
     ensures kept { Kept journal.now.receipts (P.at parts.new) }
+    ensures scratch { _scratch.new ≡ _scratch.old }
 {
     let receipt = receipt_of(journal, item);
     settle(parts, journal, item, &receipt.item)

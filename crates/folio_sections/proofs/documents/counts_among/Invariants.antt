@@ -6,5 +6,5 @@ use Rattle.folio_sections.proofs.documents.counts_among.Given as goal
 
 abbrev pub invariant-loop-doc : goal.invariant-loop-doc
 invariant-loop-doc g l =
-    list_any (g.T.DocTest.test l.test) (filter (λ d. is_between 1 l.acts (act_of_doc d)) (drop l.doc-index l.docs))
-    ≡ list_any (g.T.DocTest.test l.test) (filter (λ d. is_between 1 l.acts (act_of_doc d)) l.docs)
+    list_any (g.T.DocFilter.test l.test) (filter (λ d. is_between 1 l.acts (act_of_doc d)) (drop l.doc-index l.docs))
+    ≡ list_any (g.T.DocFilter.test l.test) (filter (λ d. is_between 1 l.acts (act_of_doc d)) l.docs)

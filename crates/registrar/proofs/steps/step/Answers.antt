@@ -1,5 +1,6 @@
 use Rattle.std.proofs.Common.{sym, ap, subst, ◌∙◌}
 use Rattle.folio_sections.specs.Adding.{AddsList}
+use Rattle.registrar.proofs.Elsewhere.{stays_elsewhere}
 use Rattle.registrar.proofs.StepLemmas.{brings_is, step_fits, step_knows, step_leaves}
 use Rattle.registrar.specs.Brings.{Brought}
 use Rattle.registrar.proofs.steps.step.Goals as goal
@@ -25,3 +26,8 @@ pub returns-clause-kept : goal.returns-clause-kept
 returns-clause-kept g c =
     step_leaves c.args.journal.now.receipts c.args.item (g.P.Parts.at c.args.parts.now) (g.P.Parts.at c.settle.new.parts) c.receipt_of-receipt.ensures.journal c.requires.kept c.requires.earlier
     (returns-clause-added g c).there
+
+pub returns-clause-others : goal.returns-clause-others
+returns-clause-others g c = λ k off.
+    stays_elsewhere c.args.journal.now.receipts c.args.item (g.P.Parts.at c.args.parts.now) (g.P.Parts.at c.settle.new.parts) c.receipt_of-receipt.result.now k
+    c.receipt_of-receipt.ensures.journal c.receipt_of-receipt.ensures.value off (returns-clause-added g c).there

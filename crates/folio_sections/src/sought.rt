@@ -6,7 +6,7 @@ use act_model::{Doc, Form};
 use gb_base::Person;
 
 /// A test of a document.
-pub trait DocTest {
+pub trait DocFilter {
     ghost use Rattle.std.specs.Prelude.{Bool};
     ghost use Rattle.act_model.specs.declared.documents.Doc.{Doc};
 
@@ -33,8 +33,8 @@ pub enum Sought {
     Proof { act: u8 },
 }
 
-impl DocTest for Sought {
-    ghost use Rattle.folio_sections.specs.Looking.{is_sought};
+impl DocFilter for Sought {
+    ghost use Rattle.folio_sections.specs.Sought.{is_sought};
 
     ghost test = { is_sought };
 

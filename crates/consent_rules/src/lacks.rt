@@ -1,0 +1,35 @@
+// What the consents of several persons to an act may lack.
+ghost use Rattle.std.specs.Prelude.{◌≡◌};
+ghost use Rattle.std.specs.List.{list_any};
+ghost use Rattle.consent_rules.specs.inner.Lacks.{is_lacking};
+
+use act_model::Form;
+use folio_sections::Documents;
+use gb_base::Person;
+
+/// What somebody's consent to an act may lack.
+#[derive(Drop)]
+pub enum Lack<'a> {
+    /// The consent itself: there is none of the person for this act.
+    Consent(&'a Documents<'a>, u8),
+    /// The form: there is a consent of the person for this act, but none that is certified
+    /// (GBO § 29).
+    Form(&'a Documents<'a>, u8),
+}
+
+/// Whether this is lacking from the person.
+pub fn is_lacking(lack: &Lack, person: Person) -> bool
+    ensures { result ≡ is_lacking lack.now person }
+{
+    match lack {
+        Lack::Consent(docs, act) => docs.given(*act, person).is_none(),
+        Lack::Form(docs, act) => docs.given(*act, person) == Some(Form::Plain),
+    }
+}
+
+/// Whether this is lacking from one of these.
+pub fn some_are_lacking(lack: &Lack, people: &[Person]) -> bool
+    ensures { result ≡ list_any (is_lacking lack.now) people.now }
+{
+    people.iter().any(|person| is_lacking(lack, *person))
+}
