@@ -1,1 +1,5 @@
 -- Lemmas.
+pub mod FiledRights
+pub mod FilingRuns
+pub mod GroupedRights
+pub mod NotHeld
