@@ -51,7 +51,7 @@ created_here journal at folio id (Some made) kept is some =
     let entries = at (Right folio id) in
     let all = recursion_from_All (λ (e : Entry). EntersAsFiled journal at folio id e.receipt e.what) entries (kept.created_as_filed.filed folio id) in
     let creates = all_weaker (λ (e : Entry). EntersAsFiled journal at folio id e.receipt e.what) (λ e. IfCreates (AsItsAct journal folio id) e.what) entries
-        (λ e enters. enters_by_act journal at folio id e.receipt e.what enters) all in
+    (λ e enters. enters_by_act journal at folio id e.receipt e.what enters) all in
     creates_here folio made (act_of_right journal id) (subst (λ p. IfSome p (AsItsAct journal folio id)) is (created_has (AsItsAct journal folio id) entries creates))
 
 live_here : (journal : List Receipt) (at : Key → List Entry) (folio : ℕ) (id : RightNo) → Kept journal at → is_some (live_at at folio id) ≡ true → CreatesHere folio (act_of_right journal id)
@@ -145,9 +145,9 @@ receipts_live live folio n (r ∷ rs) well by =
     let here = creations_of_item folio n r.item in
     let behind = flat_map (λ p. creations_of_item folio p.0 p.1.item) (enumerate_from (n + 1) rs) in
     let first : filter_map live here ≡ filter_map live (map (new_right n) (one_to most_acts)) =
-        item_live live folio n r.item (All-head (λ (q : Receipt). IsTrue (well_formed q.item)) r rs well) (subst (λ k. LiveByFiling live folio k (filing_in r.item)) (omega arith) (by 0)) in
+    item_live live folio n r.item (All-head (λ (q : Receipt). IsTrue (well_formed q.item)) r rs well) (subst (λ k. LiveByFiling live folio k (filing_in r.item)) (omega arith) (by 0)) in
     let others = receipts_live live folio (n + 1) rs (All-tail (λ (q : Receipt). IsTrue (well_formed q.item)) r rs well)
-        (λ j. subst (λ k. LiveByFiling live folio k (option_and_then (λ (q : Receipt). filing_in q.item) (slice_get rs j))) (omega arith) (by (suc j))) in
+    (λ j. subst (λ k. LiveByFiling live folio k (option_and_then (λ (q : Receipt). filing_in q.item) (slice_get rs j))) (omega arith) (by (suc j))) in
     filter_map-append live here behind ∙ (λ i. first i ++ others i)
 
 -- ---- together

@@ -83,7 +83,7 @@ goes_on f done rest all first own is left = by left.from left.many left.ahead le
         let same : x ≡ first = cc (sym (ap (λ ys. slice_get ys 0) ahead) ∙ is) in
         let filing : first.id.receipt ≡ from = ap (λ (y : LiveRight). y.id.receipt) (sym same) ∙ grind (arith, nat_tests, all_own.0) in
         let count : run_of first rest ≡ length (x ∷ xs) =
-            (λ i. prefix_len (is_of_filing (filing i)) (ahead i)) ∙ run_ahead (is_of_filing from) (x ∷ xs) behind all_own (later_filings f own from (from + 1) many (omega arith)) in
+        (λ i. prefix_len (is_of_filing (filing i)) (ahead i)) ∙ run_ahead (is_of_filing from) (x ∷ xs) behind all_own (later_filings f own from (from + 1) many (omega arith)) in
         let taken : take (run_of first rest) rest ≡ x ∷ xs = (λ i. take (count i) (ahead i)) ∙ take-append_seam (x ∷ xs) behind in
         let dropped : drop (run_of first rest) rest ≡ behind = (λ i. drop (count i) (ahead i)) ∙ drop-append_seam (x ∷ xs) behind in
         record {

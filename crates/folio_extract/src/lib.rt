@@ -2,4 +2,7 @@
 #![tactic(auto)]
 
 mod live_rights;
+mod verdict_lines;
 mod waiting;
+
+pub use verdict_lines::verdict_line;
