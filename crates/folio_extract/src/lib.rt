@@ -3,6 +3,8 @@
 
 mod live_rights;
 mod verdict_lines;
+#[cfg(test)]
+mod verdict_tests;
 mod waiting;
 
 pub use verdict_lines::verdict_line;
