@@ -1,1 +1,4 @@
 -- Lemmas.
+pub mod ListLemmas
+pub mod RankWalks
+pub mod RightOrder

@@ -2,4 +2,5 @@
 #![tactic(auto)]
 
 mod live_rights;
+mod rank_lines;
 mod waiting;
