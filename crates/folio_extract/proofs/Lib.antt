@@ -1,4 +1,7 @@
 -- Lemmas.
+pub mod CentPieces
 pub mod ListLemmas
+pub mod NotHeld
+pub mod PlaceLines
 pub mod RankWalks
 pub mod RightOrder

@@ -32,3 +32,7 @@ before_later x y up other = grind (arith, nat_tests)
 -- and before all that do not stand before that one
 pub before_on : (x y z : LiveRight) → is_filed_before x y ≡ true → is_filed_before z y ≡ false → is_filed_before x z ≡ true
 before_on x y z before up = grind (arith, nat_tests)
+
+-- a right of another place has that of no right of the first one's
+pub same_apart : (x y z : LiveRight) → has_same_place x y ≡ true → has_same_place x z ≡ false → has_same_place z y ≡ false
+same_apart x y z same other = grind (arith, nat_tests)

@@ -1,2 +1,3 @@
 -- What private clauses and proofs alone use.
+pub mod PlacePieces
 pub mod RankWalk
