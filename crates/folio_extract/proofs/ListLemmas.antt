@@ -1,6 +1,6 @@
 -- Lemmas on filters, tests and what elements bring.
 use Rattle.std.proofs.Common.{◌≡◌, ◌⊎◌, ℕ, Bool, true, false, cond, List, [], ◌∷◌, ◌++◌, filter, filter_map, flat_map, Option, Some, None, inl, inr, refl, sym, ap, ◌∙◌, subst, ⊎_elim}
-use Rattle.std.specs.List.{AllByRecursion, list_any}
+use Rattle.std.specs.List.{AllByRecursion, cons_option, list_any}
 use Rattle.std.proofs.lemmas.Bool.{cases_Bool, cond-false, cond-true}
 use Rattle.gb_base.proofs.Members.{In}
 
@@ -51,3 +51,25 @@ all_in P (x ∷ xs) each = (each x (inl refl), all_in P xs (λ y there. each y (
 pub in_all : {X : Type 0} (P : X → Type 0) (xs : List X) (x : X) → AllByRecursion P xs → In x xs → P x
 in_all P [] x all there = absurd there
 in_all P (y ∷ xs) x all there = ⊎_elim (λ e. subst P e all.0) (λ more. in_all P xs x all.1 more) there
+
+pub all_append : {X : Type 0} (P : X → Type 0) (xs ys : List X) → AllByRecursion P xs → AllByRecursion P ys → AllByRecursion P (xs ++ ys)
+all_append P [] ys all more = more
+all_append P (x ∷ xs) ys all more = (all.0, all_append P xs ys all.1 more)
+
+-- an element of what a filter leaves
+pub of_filter : {X : Type 0} (p : X → Bool) (xs : List X) (y : X) → In y (filter p xs) → In y xs × (p y ≡ true)
+of_filter p [] y there = absurd there
+of_filter p (x ∷ xs) y there =
+    ⊎_elim
+    (λ is. ⊎_elim (λ e. (inl e, ap p (sym e) ∙ is)) (λ more. let rest = of_filter p xs y more in (inr rest.0, rest.1)) (subst (In y) (filter_takes p x xs is) there))
+    (λ fails. let rest = of_filter p xs y (subst (In y) (filter_skips p x xs fails) there) in (inr rest.0, rest.1))
+    (cases_Bool (p x))
+
+-- an element of what the elements give
+pub of_filter_map : {X Y : Type 0} (h : X → Option Y) (xs : List X) (y : Y) → In y (filter_map h xs) → (x : X) × In x xs × (h x ≡ Some y)
+of_filter_map h [] y there = absurd there
+of_filter_map {X} {Y} h (x ∷ xs) y there =
+    elim (h x) as (λ o. h x ≡ o → In y (cons_option o (filter_map h xs)) → (z : X) × In z (x ∷ xs) × (h z ≡ Some y)) [
+      | None ↦ λ _ more. (let rest = of_filter_map h xs y more in (rest.0, inr rest.1, rest.2))
+      | Some z ↦ λ is here. ⊎_elim (λ e. (x, inl refl, is ∙ ap Some e)) (λ more. let rest = of_filter_map h xs y more in (rest.0, inr rest.1, rest.2)) here
+    ] refl there

@@ -10,7 +10,7 @@ use Rattle.folio_extract.specs.RankTables.{Claim, cent_line, cent_lines, has_sam
 use Rattle.folio_extract.specs.inner.PlacePieces.{cents_of, piece_line}
 use Rattle.folio_extract.specs.inner.RankWalk.{Ascends, is_filed_before}
 use Rattle.folio_extract.specs.declared.live_rights.LiveRight.{LiveRight}
-use Rattle.folio_extract.proofs.CentPieces.{Apart, one_more, piece, piece_among}
+use Rattle.folio_extract.proofs.CentPieces.{Apart, OneMore, one_more, piece, piece_among}
 use Rattle.folio_extract.proofs.ListLemmas.{all_have, all_in, filter_all, filter_none, in_all}
 use Rattle.folio_extract.proofs.RightOrder.{before_later, before_not_same, before_on, before_self, same_apart, same_like, same_self}
 
@@ -86,6 +86,25 @@ first_piece rights group others from n w qs here some rest =
     ∙ sym (joined (codes "cents ") (decimal from) (codes "-") (decimal (from + n - 1)) (codes " ") (place_text group) (codes "\n") (cent_lines others (from + n) qs))
     ∙ ap (λ line. line ++ cent_lines others (from + n) qs) (sym (cond-false (n == 0) _ _ (ne_eqb n 0 (λ e. omega (arith, some)))))
 
+-- the line of the group at the front, where it has a piece
+group_lines : (rights group others : List LiveRight) (from n : ℕ) (x : LiveRight) (ps qs : List Claim) → rights ≡ group ++ others
+    → AllByRecursion (λ y. has_same_place x y ≡ true) group → AllByRecursion (λ y. has_same_place x y ≡ false) others
+    → AllByRecursion (λ p. filter (has_same_place p.right) rights ≡ filter (has_same_place p.right) others) qs → OneMore x n ps qs
+    → cent_lines rights from ps ≡ piece_line from n group ++ cent_lines others (from + n) qs
+group_lines rights group others from n x ps qs are same apart alike more =
+    ⊎_elim
+    (λ none.
+    let stays : from ≡ from + n = omega (arith, none.0) in
+    ap (cent_lines rights from) none.1 ∙ other_rights rights others from qs alike ∙ (λ i. piece_line from (sym none.0 i) group ++ cent_lines others (stays i) qs))
+    (λ one.
+    let test = has_same_place one.first in
+    let like : (y : LiveRight) → test y ≡ has_same_place x y = λ y. sym (same_like x one.first y one.same) in
+    let all = filter_all test group (all_have (λ y. has_same_place x y ≡ true) (λ y. test y ≡ true) group (λ y is. like y ∙ is) same) in
+    let none = filter_none test others (all_have (λ y. has_same_place x y ≡ false) (λ y. test y ≡ false) others (λ y is. like y ∙ is) apart) in
+    let here : filter test rights ≡ group = ap (filter test) are ∙ filter-append test group others ∙ (λ i. all i ++ none i) ∙ append-nil group in
+    ap (cent_lines rights from) one.are ∙ first_piece rights group others from n one.first qs here one.some (other_rights rights others (from + n) qs alike))
+    more
+
 -- the group of the first right, and the rest
 place_lines : (claim : LiveRight → Claim) → ((x : LiveRight) → (claim x).right ≡ x) → (x : LiveRight) (group others : List LiveRight) (from : ℕ)
     → AllByRecursion (λ y. has_same_place x y ≡ true) group → AllByRecursion (λ y. has_same_place x y ≡ false) others
@@ -93,7 +112,6 @@ place_lines : (claim : LiveRight → Claim) → ((x : LiveRight) → (claim x).r
     ≡ piece_line from (cents_of claim group) group ++ cent_lines others (from + cents_of claim group) (pieces_of (cent_line (map claim others)))
 place_lines claim own x group others from same apart =
     let rights = group ++ others in
-    let n = cents_of claim group in
     let qs = pieces_of (cent_line (map claim others)) in
     let whole : cent_line (map claim rights) ≡ cent_line (map claim group) ++ cent_line (map claim others) =
         ap cent_line (map-append claim group others) ∙ flat_map-append _ (map claim group) (map claim others) in
@@ -103,19 +121,9 @@ place_lines claim own x group others from same apart =
         (λ p other. filter-append (has_same_place p.right) group others
         ∙ ap (λ ys. ys ++ filter (has_same_place p.right) others)
         (filter_none (has_same_place p.right) group (all_have (λ y. has_same_place x y ≡ true) (λ y. has_same_place p.right y ≡ false) group (λ y is. same_apart x y p.right is other) same))) away in
-    ap (λ (line : List LiveRight). cent_lines rights from (pieces_of line)) whole
-    ∙ ⊎_elim
-    (λ none.
-    let stays : from ≡ from + n = omega (arith, none.0) in
-    ap (cent_lines rights from) none.1 ∙ other_rights rights others from qs alike ∙ (λ i. piece_line from (sym none.0 i) group ++ cent_lines others (stays i) qs))
-    (λ one.
-    let here : filter (has_same_place one.first) rights ≡ group =
-        filter-append (has_same_place one.first) group others
-        ∙ (λ i. filter_all (has_same_place one.first) group (all_have (λ y. has_same_place x y ≡ true) (λ y. has_same_place one.first y ≡ true) group (λ y is. sym (same_like x one.first y one.same) ∙ is) same) i
-        ++ filter_none (has_same_place one.first) others (all_have (λ y. has_same_place x y ≡ false) (λ y. has_same_place one.first y ≡ false) others (λ y is. sym (same_like x one.first y one.same) ∙ is) apart) i)
-        ∙ append-nil group in
-    ap (cent_lines rights from) one.are ∙ first_piece rights group others from n one.first qs here one.some (other_rights rights others (from + n) qs alike))
-    (one_more claim own x group (cent_line (map claim others)) same away)
+    let more = one_more claim own x group (cent_line (map claim others)) same away in
+    group_lines rights group others from (cents_of claim group) x (pieces_of (cent_line (map claim rights))) qs refl same apart alike
+    (subst (λ (line : List LiveRight). OneMore x (cents_of claim group) (pieces_of line) qs) (sym whole) more)
 
 -- What a step leaves: the group's line, and the rest in order.
 pub record OnePlace (claim : LiveRight → Claim) (from : ℕ) (rights group others : List LiveRight) : Type 0 where

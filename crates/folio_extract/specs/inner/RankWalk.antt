@@ -1,10 +1,10 @@
 -- The ranks of rights that stand in order of filing and group, in one walk.
-use Rattle.std.specs.Prelude.{◌≡◌, ℕ, ◌+◌, Bool, false, if◌then◌else◌, List, [], ◌∷◌, ◌++◌, codes, Option, Some, None}
+use Rattle.std.specs.Prelude.{◌≡◌, ℕ, ◌+◌, Bool, false, if◌then◌else◌, List, [], ◌∷◌, ◌++◌, codes, map, Option, Some, None}
 use Rattle.std.specs.List.{AllByRecursion}
 use Rattle.std.specs.Fmt.{decimal}
 use Rattle.gb_base.specs.Texts.{right_text}
 use Rattle.folio_sections.specs.Ranks.{is_filed_ahead, ranked}
-use Rattle.folio_extract.specs.RankTables.{has_same_place}
+use Rattle.folio_extract.specs.RankTables.{Claim, cent_line, cent_lines, has_same_place, pieces_of}
 use Rattle.folio_extract.specs.declared.live_rights.LiveRight.{LiveRight}
 
 -- right x stands before right y, by filing and group
@@ -29,3 +29,8 @@ ranked_line rank x = codes "rank " ++ (decimal rank ++ (codes " " ++ (right_text
 abbrev pub ranked_lines : ℕ → Option LiveRight → List LiveRight → List ℕ
 ranked_lines rank before [] = []
 ranked_lines rank before (x ∷ xs) = ranked_line (rank_behind rank before x) x ++ ranked_lines (rank_behind rank before x) (Some x) xs
+
+-- the table of rights that stand in order, with these claims
+abbrev pub walked_table : (LiveRight → Claim) → ℕ → List LiveRight → List ℕ
+walked_table claim folio rights =
+    codes "ranks " ++ (decimal folio ++ (codes "\n" ++ (ranked_lines 0 None rights ++ cent_lines rights 1 (pieces_of (cent_line (map claim rights))))))
