@@ -1,5 +1,8 @@
 -- Lemmas.
 pub mod CentPieces
+pub mod FiledRights
+pub mod FilingRuns
+pub mod GroupedRights
 pub mod ListLemmas
 pub mod LiveOrder
 pub mod NotHeld

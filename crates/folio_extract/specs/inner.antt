@@ -1,3 +1,4 @@
 -- What private clauses and proofs alone use.
+pub mod FilingRuns
 pub mod PlacePieces
 pub mod RankWalk
