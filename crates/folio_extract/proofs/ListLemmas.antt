@@ -29,11 +29,6 @@ pub flat_map_alike : {X Y : Type 0} (f g : X → List Y) (xs : List X) → AllBy
 flat_map_alike f g [] all = refl
 flat_map_alike f g (x ∷ xs) all = λ i. all.0 i ++ flat_map_alike f g xs all.1 i
 
--- what each has that has another thing
-pub all_have : {X : Type 0} (P Q : X → Type 0) (xs : List X) → ((x : X) → P x → Q x) → AllByRecursion P xs → AllByRecursion Q xs
-all_have P Q [] so all = tt
-all_have P Q (x ∷ xs) so all = (so x all.0, all_have P Q xs so all.1)
-
 -- where each fails a test or is left out, none of those left passes it
 pub none_left : {X : Type 0} (p q : X → Bool) (xs : List X) → AllByRecursion (λ x. q x ≡ false) xs → list_any q (filter p xs) ≡ false
 none_left p q [] all = refl
@@ -51,10 +46,6 @@ all_in P (x ∷ xs) each = (each x (inl refl), all_in P xs (λ y there. each y (
 pub in_all : {X : Type 0} (P : X → Type 0) (xs : List X) (x : X) → AllByRecursion P xs → In x xs → P x
 in_all P [] x all there = absurd there
 in_all P (y ∷ xs) x all there = ⊎_elim (λ e. subst P e all.0) (λ more. in_all P xs x all.1 more) there
-
-pub all_append : {X : Type 0} (P : X → Type 0) (xs ys : List X) → AllByRecursion P xs → AllByRecursion P ys → AllByRecursion P (xs ++ ys)
-all_append P [] ys all more = more
-all_append P (x ∷ xs) ys all more = (all.0, all_append P xs ys all.1 more)
 
 -- an element of what a filter leaves
 pub of_filter : {X : Type 0} (p : X → Bool) (xs : List X) (y : X) → In y (filter p xs) → In y xs × (p y ≡ true)

@@ -14,10 +14,11 @@ use Rattle.act_model.specs.declared.receipts.Receipt.{Receipt}
 use Rattle.folio_sections.specs.Rights.{created, is_live, live_right}
 use Rattle.folio_sections.specs.declared.entries.Created.{Created}
 use Rattle.folio_sections.specs.declared.entries.Entry.{Entry}
+use Rattle.folio_sections.proofs.Unchanged.{all_both}
 use Rattle.folio_extract.specs.LiveRights.{by_group, is_of_group, live_at, live_of, live_rights, one_to}
 use Rattle.folio_extract.specs.inner.RankWalk.{Ascends, is_filed_before}
 use Rattle.folio_extract.specs.declared.live_rights.LiveRight.{LiveRight}
-use Rattle.folio_extract.proofs.ListLemmas.{all_append, all_in, of_filter, of_filter_map}
+use Rattle.folio_extract.proofs.ListLemmas.{all_in, of_filter, of_filter_map}
 
 -- ---- each as it was created
 
@@ -65,7 +66,7 @@ ascends_level (x ∷ xs) level =
 ascends_append : (xs ys : List LiveRight) → Ascends xs → Ascends ys → ((x y : LiveRight) → In x xs → In y ys → is_filed_before y x ≡ false) → Ascends (xs ++ ys)
 ascends_append [] ys up on later = on
 ascends_append (x ∷ xs) ys up on later = (
-  all_append (λ y. is_filed_before y x ≡ false) xs ys up.0 (all_in (λ y. is_filed_before y x ≡ false) ys (λ y there. later x y (inl refl) there)),
+  all_both (λ y. is_filed_before y x ≡ false) xs ys up.0 (all_in (λ y. is_filed_before y x ≡ false) ys (λ y there. later x y (inl refl) there)),
   ascends_append xs ys up.1 on (λ a b here there. later a b (inr here) there),
 )
 

@@ -6,12 +6,13 @@ use Rattle.std.proofs.lemmas.Bool.{cases_Bool, cond-false, cond-true, ne_eqb}
 use Rattle.std.proofs.lemmas.Grind.{flat_map-append}
 use Rattle.std.proofs.lemmas.List.{map-append, take-append-drop}
 use Rattle.std.proofs.lemmas.List.Elements.{filter-append}
+use Rattle.registrar.proofs.ContainedParts.{all_weaker}
 use Rattle.folio_extract.specs.RankTables.{Claim, cent_line, cent_lines, has_same_place, pieces_of, place_text}
 use Rattle.folio_extract.specs.inner.PlacePieces.{cents_of, piece_line}
 use Rattle.folio_extract.specs.inner.RankWalk.{Ascends, is_filed_before}
 use Rattle.folio_extract.specs.declared.live_rights.LiveRight.{LiveRight}
 use Rattle.folio_extract.proofs.CentPieces.{Apart, OneMore, one_more, piece, piece_among}
-use Rattle.folio_extract.proofs.ListLemmas.{all_have, all_in, filter_all, filter_none, in_all}
+use Rattle.folio_extract.proofs.ListLemmas.{all_in, filter_all, filter_none, in_all}
 use Rattle.folio_extract.proofs.RightOrder.{before_later, before_not_same, before_on, before_self, same_apart, same_like, same_self}
 
 -- ---- the rights of one place at the front
@@ -62,7 +63,7 @@ back_apart x (y ∷ ys) from up =
     ⊎_elim
     (λ same. subst (AllByRecursion (λ z. has_same_place x z ≡ false)) (sym (cond-true (has_same_place x y) (back (has_same_place x) ys) (y ∷ ys) same)) (back_apart x ys from.1 up.1))
     (λ other. subst (AllByRecursion (λ z. has_same_place x z ≡ false)) (sym (cond-false (has_same_place x y) (back (has_same_place x) ys) (y ∷ ys) other))
-    (other, all_have (λ z. is_filed_before z y ≡ false) (λ z. has_same_place x z ≡ false) ys (λ z later. before_not_same x z (before_on x y z (before_later x y from.0 other) later)) up.0))
+    (other, all_weaker (λ z. is_filed_before z y ≡ false) (λ z. has_same_place x z ≡ false) ys (λ z later. before_not_same x z (before_on x y z (before_later x y from.0 other) later)) up.0))
     (cases_Bool (has_same_place x y))
 
 -- ---- lines
@@ -99,8 +100,8 @@ group_lines rights group others from n x ps qs are same apart alike more =
     (λ one.
     let test = has_same_place one.first in
     let like : (y : LiveRight) → test y ≡ has_same_place x y = λ y. sym (same_like x one.first y one.same) in
-    let all = filter_all test group (all_have (λ y. has_same_place x y ≡ true) (λ y. test y ≡ true) group (λ y is. like y ∙ is) same) in
-    let none = filter_none test others (all_have (λ y. has_same_place x y ≡ false) (λ y. test y ≡ false) others (λ y is. like y ∙ is) apart) in
+    let all = filter_all test group (all_weaker (λ y. has_same_place x y ≡ true) (λ y. test y ≡ true) group (λ y is. like y ∙ is) same) in
+    let none = filter_none test others (all_weaker (λ y. has_same_place x y ≡ false) (λ y. test y ≡ false) others (λ y is. like y ∙ is) apart) in
     let here : filter test rights ≡ group = ap (filter test) are ∙ filter-append test group others ∙ (λ i. all i ++ none i) ∙ append-nil group in
     ap (cent_lines rights from) one.are ∙ first_piece rights group others from n one.first qs here one.some (other_rights rights others (from + n) qs alike))
     more
@@ -117,10 +118,10 @@ place_lines claim own x group others from same apart =
         ap cent_line (map-append claim group others) ∙ flat_map-append _ (map claim group) (map claim others) in
     let away : Apart x qs = all_in (λ p. has_same_place x p.right ≡ false) qs (λ p there. in_all (λ y. has_same_place x y ≡ false) others p.right apart (piece_among claim own others p there)) in
     let alike : AllByRecursion (λ p. filter (has_same_place p.right) rights ≡ filter (has_same_place p.right) others) qs =
-        all_have (λ p. has_same_place x p.right ≡ false) (λ p. filter (has_same_place p.right) rights ≡ filter (has_same_place p.right) others) qs
+        all_weaker (λ p. has_same_place x p.right ≡ false) (λ p. filter (has_same_place p.right) rights ≡ filter (has_same_place p.right) others) qs
         (λ p other. filter-append (has_same_place p.right) group others
         ∙ ap (λ ys. ys ++ filter (has_same_place p.right) others)
-        (filter_none (has_same_place p.right) group (all_have (λ y. has_same_place x y ≡ true) (λ y. has_same_place p.right y ≡ false) group (λ y is. same_apart x y p.right is other) same))) away in
+        (filter_none (has_same_place p.right) group (all_weaker (λ y. has_same_place x y ≡ true) (λ y. has_same_place p.right y ≡ false) group (λ y is. same_apart x y p.right is other) same))) away in
     let more = one_more claim own x group (cent_line (map claim others)) same away in
     group_lines rights group others from (cents_of claim group) x (pieces_of (cent_line (map claim rights))) qs refl same apart alike
     (subst (λ (line : List LiveRight). OneMore x (cents_of claim group) (pieces_of line) qs) (sym whole) more)

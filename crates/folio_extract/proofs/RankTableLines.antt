@@ -1,5 +1,5 @@
 -- The rank table of a register that may come about.
-use Rattle.std.proofs.Common.{◌≡◌, ℕ, None, List, ◌++◌, codes, flat_map, map, refl, sym, ap, ◌∙◌}
+use Rattle.std.proofs.Common.{◌≡◌, ℕ, None, List, ◌++◌, OnOk, Result, codes, flat_map, map, refl, sym, subst, ap, ◌∙◌}
 use Rattle.std.specs.Fmt.{decimal}
 use Rattle.std.specs.List.{AllByRecursion}
 use Rattle.gb_base.specs.declared.keys.Key.{Key}
@@ -31,8 +31,14 @@ kept_ranks journal at folio stands kept =
 -- the table as it is walked
 pub table_walked : (journal : List Receipt) (at : Key → List Entry) (folio : ℕ) (rights : List LiveRight) → IsJournal journal → Kept journal at → rights ≡ live_rights journal at folio
     → walked_table (claim_of at folio) folio rights ≡ rank_table_text journal at folio
-  unfolding rank_table_text
+unfolding rank_table_text
 table_walked journal at folio rights stands kept are =
     ap (walked_table (claim_of at folio) folio) are
     ∙ ap (λ lines. codes "ranks " ++ (decimal folio ++ (codes "\n" ++ (lines ++ cent_lines (live_rights journal at folio) 1 (pieces_of (cent_line (map (claim_of at folio) (live_rights journal at folio))))))))
     (kept_ranks journal at folio stands kept)
+
+-- a text to which it was added
+pub table_added : (journal : List Receipt) (at : Key → List Entry) (folio : ℕ) (rights : List LiveRight) → IsJournal journal → Kept journal at → rights ≡ live_rights journal at folio
+    → {E : Type 0} (old new : List ℕ) (r : Result (Unit {0}) E) → OnOk r (new ≡ old ++ walked_table (claim_of at folio) folio rights) → OnOk r (new ≡ old ++ rank_table_text journal at folio)
+table_added journal at folio rights stands kept are old new r added =
+    subst (λ table. OnOk r (new ≡ old ++ table)) (table_walked journal at folio rights stands kept are) added

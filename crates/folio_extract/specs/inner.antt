@@ -1,4 +1,4 @@
--- What private clauses and proofs alone use.
+-- What only private clauses and proofs use.
 pub mod FilingRuns
 pub mod PlacePieces
 pub mod RankWalk

@@ -4,4 +4,5 @@
 mod cent_lines;
 mod live_rights;
 mod rank_lines;
+mod rank_tables;
 mod waiting;
