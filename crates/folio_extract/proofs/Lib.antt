@@ -1,1 +1,3 @@
 -- Lemmas.
+pub mod MapInOrder
+pub mod WaitingInOrder

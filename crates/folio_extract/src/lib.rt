@@ -2,4 +2,6 @@
 #![tactic(auto)]
 
 mod live_rights;
+mod right_lines;
 mod waiting;
+mod waiting_lines;

@@ -1,0 +1,3 @@
+-- What private clauses and proofs alone use.
+pub mod WaitingPlaces
+pub mod Waits
