@@ -1,3 +1,4 @@
 -- Lemmas.
+pub mod HeldEntries
 pub mod MapInOrder
 pub mod WaitingInOrder
