@@ -9,6 +9,7 @@ use gb_base::{Day, NoMemory, RightId};
 use std::fmt;
 
 /// Where a filing waits.
+#[derive(Clone, Copy, Debug)]
 pub(crate) enum Place {
     Title,
     Right(RightId),
