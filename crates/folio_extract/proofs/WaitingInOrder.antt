@@ -1,5 +1,5 @@
 -- The filings that wait, as two maps over their numbers have them.
-use Rattle.std.proofs.Common.{◌≡◌, ℕ, ◌+◌, ◌-◌, ◌≤◌, ◌<◌, Bool, true, false, cond, eqb, ◌&&◌, List, [], ◌∷◌, length, map, slice_get, All, Option, Some, None, find, fold, is_none, is_some, option_map, option_and_then, refl, sym, ap, subst, ◌∙◌, arith}
+use Rattle.std.proofs.Common.{◌≡◌, ℕ, ◌-◌, ◌≤◌, ◌<◌, true, false, cond, eqb, List, [], ◌∷◌, length, map, slice_get, All, Option, Some, None, find, fold, is_some, option_map, refl, sym, ap, ◌∙◌, arith}
 use Rattle.std.specs.List.{AllByRecursion}
 use Rattle.std.specs.BTreeMap.{BTreeMap, get, IsOrdered}
 use Rattle.std.specs.Ordering.{nat_cmp}
@@ -17,9 +17,8 @@ use Rattle.folio_sections.specs.declared.entries.Entry.{Entry}
 use Rattle.folio_sections.specs.declared.entries.What.{What}
 use Rattle.folio_sections.specs.declared.entries.What.TheVariants as what
 use Rattle.folio_extract.specs.WaitingFilings.{waiting_at, waiting_filings}
-use Rattle.folio_extract.specs.declared.waiting.WaitingFiling.{WaitingFiling}
 use Rattle.folio_extract.specs.inner.Waits.{WaitsInJournal, first_notice, notice_by, with_notice}
-use Rattle.folio_extract.proofs.MapInOrder.{found, in_order, none_left, rises_from_one}
+use Rattle.folio_extract.proofs.MapInOrder.{in_order, none_left, rises_from_one}
 
 -- ---- the first notice
 

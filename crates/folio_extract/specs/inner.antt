@@ -1,3 +1,4 @@
--- What private clauses and proofs alone use.
+-- What only private clauses and proofs use.
+pub mod FilingRuns
 pub mod WaitingPlaces
 pub mod Waits

@@ -1,16 +1,16 @@
 // The extract of a folio: its parcel, its owners, the filings that wait, and its rights.
-ghost use Rattle.std.specs.Prelude.{◌≡◌, ◌++◌, All, IsTrue, OnOk, codes, flat_map};
+ghost use Rattle.std.specs.Prelude.{◌≡◌, ◌++◌, All, IfOk, IsTrue, OnOk, codes, flat_map, option_map};
 ghost use Rattle.std.specs.Fmt.{decimal};
 ghost use Rattle.std.specs.String.{string_bytes};
 ghost use Rattle.gb_base.specs.declared.keys.Key.TheVariants.{Case, Right, Title};
 ghost use Rattle.folio_sections.specs.Held.{entries_at, is_held};
 ghost use Rattle.folio_sections.specs.Kept.{Kept};
 ghost use Rattle.folio_sections.specs.Titles.{inventory, owners};
-ghost use Rattle.folio_extract.specs.Extracts.{folio_line, inventory_line, owners_line, right_lines, sale_line, waiting_lines};
+ghost use Rattle.folio_extract.specs.Extracts.{extract, extract_text, folio_line, inventory_line, owners_line, right_lines, sale_line, waiting_lines};
 ghost use Rattle.folio_extract.specs.inner.Waits.{WaitsInJournal};
 
-use crate::folio_reads::{inventory_of, is_for_sale, owners_of, title_entries};
-use crate::live_rights::LiveRight;
+use crate::folio_reads::{inventory_of, is_for_sale, is_open, owners_of, title_entries};
+use crate::live_rights::{LiveRight, live_rights};
 use crate::right_lines::add_right_line;
 use crate::waiting::waiting_filings;
 use crate::waiting_lines::{Place, add_waiting_lines};
@@ -19,6 +19,41 @@ use folio_sections::{Parts, RightPart};
 use gb_base::{FolioId, NoMemory, Person};
 use registrar::Register;
 use std::alloc::Global;
+
+/// The extract of a folio; None where it is not open.
+pub fn extract(
+    alloc: Global,
+    register: &Register,
+    journal: &Journal,
+    folio: FolioId,
+) -> Result<Option<Vec<u8>>, NoMemory>
+    requires { Kept journal.now.receipts (entries_at register.now.parts) }
+    ensures { IfOk result (λ text. option_map (λ t. t.items) text ≡ extract journal.now.receipts (entries_at register.now.parts) folio) }
+{
+    if !is_open(register, folio) {
+        return Ok(None);
+    }
+    let mut text = String::new(alloc);
+    add_extract(alloc, &mut text, register, journal, folio)?;
+    Ok(Some(text.into_bytes()))
+}
+
+/// Adds the extract of an open folio.
+pub(crate) fn add_extract(
+    alloc: Global,
+    text: &mut String,
+    register: &Register,
+    journal: &Journal,
+    folio: FolioId,
+) -> Result<(), NoMemory>
+    requires { Kept journal.now.receipts (entries_at register.now.parts) }
+    ensures { OnOk result (string_bytes text.new ≡ string_bytes text.old ++ extract_text journal.now.receipts (entries_at register.now.parts) folio) }
+{
+    add_folio(text, register, folio)?;
+    add_title_filings(alloc, text, register, journal, folio)?;
+    let rights = live_rights(alloc, register, journal, folio)?;
+    add_rights(alloc, text, register, journal, folio, &rights)
+}
 
 /// Adds what the extract says of the folio itself.
 fn add_folio(text: &mut String, register: &Register, folio: FolioId) -> Result<(), NoMemory>

@@ -11,7 +11,7 @@ use gb_base::FolioId;
 use registrar::Register;
 
 /// Whether the folio is open (GBO § 3).
-#[tactic(auto, using(crate::proofs::HeldEntries::none_at))]
+#[tactic(auto, using(crate::proofs::NotHeld::not_held))]
 pub(crate) fn is_open(register: &Register, folio: FolioId) -> bool
     ensures { result ≡ is_open (entries_at register.now.parts (Title folio)) }
 {
@@ -22,7 +22,7 @@ pub(crate) fn is_open(register: &Register, folio: FolioId) -> bool
 }
 
 /// The parcel of the folio.
-#[tactic(auto, using(crate::proofs::HeldEntries::none_at))]
+#[tactic(auto, using(crate::proofs::NotHeld::not_held))]
 pub(crate) fn inventory_of(register: &Register, folio: FolioId) -> Option<Inventory>
     ensures { result ≡ inventory (entries_at register.now.parts (Title folio)) }
 {
@@ -33,7 +33,7 @@ pub(crate) fn inventory_of(register: &Register, folio: FolioId) -> Option<Invent
 }
 
 /// The owners of the folio.
-#[tactic(auto, using(crate::proofs::HeldEntries::none_at))]
+#[tactic(auto, using(crate::proofs::NotHeld::not_held))]
 pub(crate) fn owners_of(register: &Register, folio: FolioId) -> Option<Owners>
     ensures { result ≡ owners (entries_at register.now.parts (Title folio)) }
 {
@@ -44,7 +44,7 @@ pub(crate) fn owners_of(register: &Register, folio: FolioId) -> Option<Owners>
 }
 
 /// The entries at the title of the folio.
-#[tactic(auto, using(crate::proofs::HeldEntries::none_at))]
+#[tactic(auto, using(crate::proofs::NotHeld::not_held))]
 pub(crate) fn title_entries(register: &Register, folio: FolioId) -> &[Entry]
     ensures { result.now ≡ entries_at register.now.parts (Title folio) }
 {
@@ -55,7 +55,7 @@ pub(crate) fn title_entries(register: &Register, folio: FolioId) -> &[Entry]
 }
 
 /// Whether a forced sale of the folio runs in which no award stands (ZVG § 19).
-#[tactic(auto, using(crate::proofs::HeldEntries::none_at))]
+#[tactic(auto, using(crate::proofs::NotHeld::not_held))]
 pub(crate) fn is_for_sale(register: &Register, folio: FolioId) -> bool
     ensures { result ≡ is_running (entries_at register.now.parts (Case folio)) && is_none (award (entries_at register.now.parts (Case folio))) }
 {

@@ -5,5 +5,11 @@ mod extracts;
 mod folio_reads;
 mod live_rights;
 mod right_lines;
+mod verdict_lines;
+#[cfg(test)]
+mod verdict_tests;
 mod waiting;
 mod waiting_lines;
+
+pub use extracts::extract;
+pub use verdict_lines::verdict_line;

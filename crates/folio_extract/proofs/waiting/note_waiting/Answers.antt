@@ -1,4 +1,4 @@
-use Rattle.std.proofs.Common.{◌≡◌, ◌∙◌}
+use Rattle.std.proofs.Common.{◌∙◌}
 use Rattle.folio_extract.proofs.MapInOrder.{behind, none_left}
 use Rattle.folio_extract.proofs.waiting.note_waiting.Goals as goal
 

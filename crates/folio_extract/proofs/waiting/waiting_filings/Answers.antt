@@ -1,5 +1,4 @@
 use Rattle.std.proofs.Common.{rules}
-use Rattle.std.specs.Result.{IfOk}
 use Rattle.folio_extract.proofs.WaitingInOrder.{waiting_in_order}
 use Rattle.folio_extract.proofs.waiting.waiting_filings.Goals as goal
 

@@ -1,10 +1,8 @@
--- Where no part is held nothing stands, so the rights that are live are held.
-use Rattle.std.proofs.Common.{◌≡◌, ℕ, Bool, true, false, cond, List, [], ◌∷◌, ◌++◌, filter, filter_map, flat_map, length, map, All, IsTrue, Option, Some, None, find, is_some, option_map, refl, sym, ap, subst, ◌∙◌}
-use Rattle.std.specs.Option.{option_map_or}
+-- The rights that are live are held.
+use Rattle.std.proofs.Common.{◌≡◌, ℕ, Bool, true, false, cond, List, [], ◌∷◌, ◌++◌, filter, filter_map, flat_map, length, map, All, IsTrue, Some, None, is_some, option_map, refl, sym, ap, ◌∙◌}
 use Rattle.std.specs.List.{AllByRecursion, cons_option}
 use Rattle.std.proofs.lemmas.Bool.{false≢true}
 use Rattle.std.proofs.lemmas.List.Elements.{All-from_recursion}
-use Rattle.gb_base.specs.Keys.{same_key}
 use Rattle.gb_base.specs.Limits.{most_acts}
 use Rattle.gb_base.specs.RightNo.{RightNo}
 use Rattle.gb_base.specs.declared.keys.Key.{Key}
@@ -16,25 +14,15 @@ use Rattle.folio_sections.specs.Held.{entries_at, is_held}
 use Rattle.folio_sections.specs.PartState.{PartState}
 use Rattle.folio_sections.specs.Rights.{live_right}
 use Rattle.folio_sections.specs.declared.entries.Created.{Created}
-use Rattle.folio_sections.specs.declared.entries.Entry.{Entry}
-use Rattle.folio_sections.proofs.HeldParts.{held_found, is_at}
 use Rattle.folio_extract.specs.LiveRights.{by_group, is_of_group, live_at, live_of, live_rights, one_to}
 use Rattle.folio_extract.specs.declared.live_rights.LiveRight.{LiveRight}
-
-pub none_at : (parts : List PartState) (k : Key) → is_held parts k ≡ false → entries_at parts k ≡ []
-none_at parts k apart =
-    elim (find (is_at k) parts) as (λ o. find (is_at k) parts ≡ o → option_map_or (λ (p : PartState). p.entries) o [] ≡ []) [
-      | None ↦ λ _. refl
-      | Some p ↦ λ found. absurd (false≢true (sym apart ∙ held_found parts k p found))
-    ] refl
-
--- ---- rights that are live
+use Rattle.folio_extract.proofs.NotHeld.{not_held}
 
 live_is_held : (parts : List PartState) (k : Key) (made : Created) → live_right (entries_at parts k) ≡ Some made → is_held parts k ≡ true
 live_is_held parts k made live =
     elim (is_held parts k) as (λ b. is_held parts k ≡ b → b ≡ true) [
       | true ↦ λ _. refl
-      | false ↦ λ apart. absurd (false≢true (ap is_some (sym (ap live_right (none_at parts k apart)) ∙ live)))
+      | false ↦ λ apart. absurd (false≢true (ap is_some (sym (ap live_right (not_held parts k apart)) ∙ live)))
     ] refl
 
 -- the right is held
