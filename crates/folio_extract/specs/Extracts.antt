@@ -1,6 +1,7 @@
 -- The extract of a folio: its parcel, its owners, the filings that wait, and its rights.
-use Rattle.std.specs.Prelude.{ℕ, Bool, true, false, ◌&&◌, if◌then◌else◌, List, [], ◌++◌, codes, flat_map, Option, Some, None, is_none}
+use Rattle.std.specs.Prelude.{ℕ, Bool, true, false, not, ◌&&◌, if◌then◌else◌, List, [], ◌++◌, codes, flat_map, Option, Some, None, is_none}
 use Rattle.std.specs.Fmt.{decimal}
+use Rattle.gb_base.specs.RightNo.{RightNo}
 use Rattle.gb_base.specs.Texts.{date_text, euro, right_text}
 use Rattle.gb_base.specs.declared.keys.Key.{Key}
 use Rattle.gb_base.specs.declared.keys.Key.TheVariants.{Case, Right, Title}
