@@ -25,7 +25,7 @@ use Rattle.folio_sections.specs.declared.entries.Created.{Created}
 use Rattle.folio_sections.specs.declared.entries.Entry.{Entry}
 use Rattle.folio_sections.specs.declared.entries.What.{What}
 use Rattle.folio_sections.specs.declared.entries.What.TheVariants as what
-use Rattle.registrar.proofs.ContainedParts.{all_weaker}
+use Rattle.interim_orders.proofs.Noticing.{all_map as all_weaker}
 use Rattle.registrar.proofs.RightReads.{AsItsAct, IfCreates, created_has}
 use Rattle.folio_extract.specs.LiveRights.{live_at, live_of, one_to}
 use Rattle.folio_extract.specs.declared.live_rights.LiveRight.{LiveRight}

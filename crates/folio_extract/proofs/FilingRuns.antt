@@ -12,7 +12,7 @@ use Rattle.folio_sections.specs.Rights.{live_right}
 use Rattle.folio_sections.specs.declared.entries.Created.{Created}
 use Rattle.folio_sections.specs.declared.entries.Entry.{Entry}
 use Rattle.folio_sections.proofs.Unchanged.{all_both}
-use Rattle.registrar.proofs.ContainedParts.{all_weaker}
+use Rattle.interim_orders.proofs.Noticing.{all_map as all_weaker}
 use Rattle.folio_extract.specs.LiveRights.{by_group, live_at, live_of, one_to}
 use Rattle.folio_extract.specs.declared.live_rights.LiveRight.{LiveRight}
 use Rattle.folio_extract.specs.inner.FilingRuns.{is_of_filing}

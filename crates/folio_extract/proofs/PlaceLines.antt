@@ -6,7 +6,7 @@ use Rattle.std.proofs.lemmas.Bool.{cases_Bool, cond-false, cond-true, ne_eqb}
 use Rattle.std.proofs.lemmas.Grind.{flat_map-append}
 use Rattle.std.proofs.lemmas.List.{map-append, take-append-drop}
 use Rattle.std.proofs.lemmas.List.Elements.{filter-append}
-use Rattle.registrar.proofs.ContainedParts.{all_weaker}
+use Rattle.interim_orders.proofs.Noticing.{all_map as all_weaker}
 use Rattle.folio_extract.specs.RankTables.{Claim, cent_line, cent_lines, has_same_place, pieces_of, place_text}
 use Rattle.folio_extract.specs.inner.PlacePieces.{cents_of, piece_line}
 use Rattle.folio_extract.specs.inner.RankWalk.{Ascends, is_filed_before}

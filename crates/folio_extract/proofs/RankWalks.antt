@@ -3,7 +3,7 @@ use Rattle.std.proofs.Common.{◌≡◌, ℕ, ◌+◌, Bool, true, false, cond, 
 use Rattle.std.specs.List.{AllByRecursion, list_any}
 use Rattle.std.proofs.lemmas.Bool.{cases_Bool, cond-false, cond-true}
 use Rattle.folio_sections.specs.declared.title_places.TitlePlace.{TitlePlace}
-use Rattle.registrar.proofs.ContainedParts.{all_weaker}
+use Rattle.interim_orders.proofs.Noticing.{all_map as all_weaker}
 use Rattle.folio_extract.specs.RankTables.{different_places, has_same_place, rank_line, stands_ahead}
 use Rattle.folio_extract.specs.inner.RankWalk.{Ascends, is_filed_before, rank_behind, ranked_line, ranked_lines}
 use Rattle.folio_extract.specs.declared.live_rights.LiveRight.{LiveRight}
