@@ -5,3 +5,4 @@ pub mod RankTables
 pub mod Reports
 pub mod VerdictLines
 pub mod WaitingFilings
+pub mod inner

@@ -1,5 +1,21 @@
 //! The texts of a register: verdict lines, extracts, rank tables, and the report.
 #![tactic(auto)]
 
+mod cent_lines;
+mod extracts;
+mod folio_reads;
 mod live_rights;
+mod rank_lines;
+mod rank_tables;
+mod reports;
+mod right_lines;
+mod verdict_lines;
+#[cfg(test)]
+mod verdict_tests;
 mod waiting;
+mod waiting_lines;
+
+pub use extracts::extract;
+pub use rank_tables::rank_table;
+pub use reports::report;
+pub use verdict_lines::verdict_line;

@@ -1,25 +1,18 @@
 -- Lemmas.
 pub mod Acknowledged
-pub mod Ascending
-pub mod AtKeys
 pub mod Blocks
-pub mod Brought
-pub mod BuiltJournals
-pub mod CentPieces
 pub mod CsvSteps
 pub mod Durable
 pub mod EarlyEnds
-pub mod Grounds
-pub mod InOrder
 pub mod LineRequests
 pub mod OnDisk
 pub mod OneRequest
 pub mod Opened
 pub mod OpeningRows
 pub mod Replies
+pub mod Reported
 pub mod RowsAnswered
 pub mod SessionInputs
-pub mod Settled
 pub mod Takings
 pub mod Whole
 pub mod Written

@@ -13,7 +13,6 @@ use Rattle.registry_office.specs.declared.requests.Request.{Request}
 use Rattle.registry_office.specs.inner.Inputs.{AllAnswered, PartAnswered}
 use Rattle.registry_office.specs.EarlyEnds.{AreOf, EndsEarly}
 use Rattle.registry_office.specs.inner.Sessions.{Knows, Answered}
-use Rattle.registry_office.proofs.BuiltJournals.{all_built, all_built-lines}
 use Rattle.registry_office.proofs.EarlyEnds.{part_of_early}
 use Rattle.registry_office.proofs.Replies.{replies-append, front_of_more, front_of_longer}
 use Rattle.registry_office.proofs.Takings.{read_part_of_early}
@@ -22,11 +21,6 @@ use Rattle.registry_office.proofs.SessionInputs.{FirstOf, lines_begin, of_whole,
 -- lines with their stamps ask no clock, and a journal in memory no disk
 pub nothing_to_know : (tells : Bool) (known : Option (List DayMinute)) → Knows false InMemory tells known []
 nothing_to_know tells known = record { clock = λ asked. let never : false ≡ true = asked in absurd cc; disk = λ on_disk. let never : InMemory ≡ OnDisk = on_disk in absurd cc }
-
--- the journal of such a session has items alone that the office takes
-pub session_built : (journal : List Receipt) (known : Option (List DayMinute)) (w0 w1 : Option (List ℕ)) (read : List ℕ)
-    → Answered false InMemory (holding [] []) journal known w0 w1 (line_requests Stamped read) → all_built journal ≡ true
-session_built journal known w0 w1 read answered = ap all_built answered.receipts ∙ all_built-lines InMemory (holding [] []) Stamped (lines_of read) refl
 
 -- a front of the replies is a front of the whole output
 pub front_of_replies : (known : Option (List DayMinute)) (w0 w1 : Option (List ℕ)) (images : List ℕ → Type 0) (input : List ℕ) (requests others : List Request)
@@ -84,9 +78,6 @@ module _ (tells : Bool) (known0 known1 : Option (List DayMinute)) (journal0 jour
       if_some left0 (λ input. AllAnswered false InMemory tells known0 journal0 journal1 known1 w0 w1 (line_requests Stamped input)) (λ input. Answered false InMemory (holding [] []) journal1 known1 w0 w1 (line_requests Stamped input))
       (λ input all. from_empty (line_requests Stamped input) all)
       (of_whole (line_requests Stamped) left0 left1 (λ requests. AllAnswered false InMemory tells known0 journal0 journal1 known1 w0 w1 requests) took)
-
-  pub built_of_input : AllTaken → all_built journal1 ≡ true
-  built_of_input took = session_built journal1 known1 w0 w1 took.read (from_empty (line_requests Stamped took.read) took.did.2)
 
   pub end_of_input : AllTaken → IfSome left0 (λ input. left1 ≡ Some [])
   end_of_input took = ends_some left0 left1 took.read took.consumed took.did.0

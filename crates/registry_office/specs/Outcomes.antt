@@ -4,12 +4,12 @@ use Rattle.std.specs.List.{list_all}
 use Rattle.gb_base.specs.DayMinute.{DayMinute}
 use Rattle.act_model.specs.declared.receipts.Receipt.{Receipt}
 use Rattle.receipt_journal.specs.Standing.{StandsForJournal}
+use Rattle.registrar.specs.Settling.{registrar}
+use Rattle.folio_extract.specs.Reports.{report}
 use Rattle.registry_office.specs.Built.{is_built}
 use Rattle.registry_office.specs.Intakes.{whole_of, cut_of}
-use Rattle.registry_office.specs.Reports.{report}
 use Rattle.registry_office.specs.Requests.{InMemory, OnDisk, Held, holding, replies, held_after}
 use Rattle.registry_office.specs.Sessions.{line_requests, ended_requests}
-use Rattle.registry_office.specs.Settling.{registrar}
 use Rattle.registry_office.specs.declared.lines.LineKind.TheVariants.{Stamped}
 use Rattle.registry_office.specs.declared.requests.Request.{Request}
 use Rattle.registry_office.specs.declared.words.Command.{Command}
@@ -17,7 +17,7 @@ use Rattle.registry_office.specs.declared.words.Command.TheVariants.{Settle, Set
 
 -- the report of the journal that one registrar takes in the order of receipt
 unfoldable pub report_of : List Receipt → List ℕ
-report_of journal = report (registrar journal)
+report_of journal = report journal (registrar journal)
 
 -- the report of a journal; where an item of it is not built, one line that says so
 abbrev pub settle_output : List Receipt → List ℕ

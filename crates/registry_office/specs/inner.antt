@@ -3,6 +3,5 @@ pub mod Asking
 pub mod CsvRecords
 pub mod Ends
 pub mod Inputs
-pub mod LiveRights
 pub mod OpeningLists
 pub mod Sessions

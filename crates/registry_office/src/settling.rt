@@ -1,5 +1,5 @@
 // The command that settles stamped lines in memory.
-ghost use Rattle.std.specs.Prelude.{◌≡◌, ◌⊎◌, ◌≤◌, ◌<◌, ◌+◌, ◌^◌, [], Some, Err, OnOk, OnErr, IfSome, length, take, false, IsTrue};
+ghost use Rattle.std.specs.Prelude.{◌≡◌, ◌⊎◌, ◌≤◌, ◌<◌, ◌+◌, ◌^◌, [], Some, Err, IfOk, OnOk, OnErr, IfSome, length, take, false, IsTrue};
 ghost use Rattle.std.specs.List.{list_all};
 ghost use Rattle.std.specs.Io.KnownBytes.{Appends, IsAtEnd};
 ghost use Rattle.gb_outside.specs.Bytes.{AppendsFront};
@@ -13,12 +13,13 @@ ghost use Rattle.registry_office.specs.declared.lines.LineKind.TheVariants.{Stam
 
 use crate::faults::{OutputFault, SessionFault};
 use crate::lines::LineKind;
-use crate::registrar::alone;
-use crate::reports::report;
 use crate::session::answer_input;
 use crate::writing::write_all;
 use act_model::Journal;
+use folio_extract::report;
+use gb_base::NoMemory;
 use gb_outside::{Clock, Disk, Sink, Source};
+use registrar::alone;
 use std::alloc::Global;
 
 /// Receives the stamped lines of the input into a journal in memory, with a reply line for each,
@@ -63,18 +64,23 @@ pub(crate) fn settle_lines<D: Disk, C: Clock, S: Source, K: Sink>(
 }
 
 /// Settles the journal and writes the report.
-#[tactic(auto, unfolding(crate::specs::Outcomes::report_of))]
 pub(crate) fn write_report<K: Sink>(
     alloc: Global,
     journal: &Journal,
     sink: &mut K,
 ) -> Result<(), OutputFault>
-    requires { IsTrue (list_all (λ r. is_built r.item) journal.now.receipts) }
     ensures whole { OnOk result (Appends (K.written sink.old) (K.written sink.new) (report_of journal.now.receipts)) }
     ensures part { OnErr result (AppendsFront (K.written sink.old) (K.written sink.new) (report_of journal.now.receipts)) }
     ensures cause { Counts (K.faults sink.old) (K.faults sink.new) (output_failed result) }
 {
-    let register = alone(alloc, journal)?;
-    let text = report(alloc, &register)?;
+    let text = report_text(alloc, journal)?;
     write_all(sink, text.as_slice())
+}
+
+/// The report of the journal, as one registrar leaves its register.
+fn report_text(alloc: Global, journal: &Journal) -> Result<Vec<u8>, NoMemory>
+    ensures { IfOk result (λ text. text.items ≡ report_of journal.now.receipts) }
+{
+    let register = alone(alloc, journal)?;
+    report(alloc, &register, journal)
 }

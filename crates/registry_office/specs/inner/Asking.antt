@@ -4,7 +4,6 @@ use Rattle.gb_base.specs.DayMinute.{DayMinute}
 use Rattle.act_model.specs.WellFormed.{well_formed}
 use Rattle.receipt_journal.specs.declared.received.Received.{Received}
 use Rattle.receipt_journal.specs.declared.received.Received.TheVariants as answer
-use Rattle.registry_office.specs.Built.{is_built}
 use Rattle.registry_office.specs.declared.lines.LineKind.{LineKind}
 use Rattle.registry_office.specs.declared.lines.LineKind.TheVariants.{Stamped, Unstamped}
 use Rattle.registry_office.specs.declared.requests.Request.{Request}
@@ -15,12 +14,6 @@ abbrev pub asks_well : Request → Bool
 asks_well Nothing = true
 asks_well (Refused text) = true
 asks_well (Receive stamp sender reference item) = well_formed item
-
--- an item that is to be received is one that the office takes
-abbrev pub asks_built : Request → Bool
-asks_built Nothing = true
-asks_built (Refused text) = true
-asks_built (Receive stamp sender reference item) = is_built item
 
 -- the clock is to stamp it
 abbrev pub has_no_stamp : Option DayMinute → Bool

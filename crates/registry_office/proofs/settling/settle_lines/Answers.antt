@@ -1,6 +1,6 @@
 use Rattle.std.proofs.Common.{inl, inr, ⊎_elim, refl, sym, ◌∙◌, Err}
 use Rattle.std.proofs.lemmas.Result.{MatchResult-from_err}
-use Rattle.registry_office.proofs.Whole.{front_of_report, whole_output, handed_on, all_of_input, built_of_input, end_of_input, cut_of_input, part_of_input, read_part_of_input}
+use Rattle.registry_office.proofs.Whole.{front_of_report, whole_output, handed_on, all_of_input, end_of_input, cut_of_input, part_of_input, read_part_of_input}
 use Rattle.registry_office.proofs.settling.settle_lines.Goals as goal
 
 pub returns-in_err-answer_input-clause-part : goal.returns-in_err-answer_input-clause-part
@@ -23,10 +23,6 @@ returns-in_err-answer_input-clause-cut g c = λ which.
     let same = handed_on c.from_residual.result (Err c.in_err-answer_input.field-0.0) c.in_err-answer_input.field-0.0 c.from_residual.ensures.1 refl in
     cut_of_input _ _ _ c.new-journal.result.receipts c.answer_input.new.receiver.receipts _ _ _ _ c.new-journal.ensures
     (c.in_err-answer_input.ensures.cut (⊎_elim (λ is. inl (sym same ∙ is)) (λ is. inr (sym same ∙ is)) which))
-
-pub write_report-requires : goal.write_report-requires
-write_report-requires g c =
-    built_of_input _ _ _ c.new-journal.result.receipts c.answer_input.new.receiver.receipts _ _ _ _ c.new-journal.ensures c.in_ok-answer_input.ensures.all
 
 pub returns-in_err-write_report-clause-part : goal.returns-in_err-write_report-clause-part
 returns-in_err-write_report-clause-part g c =

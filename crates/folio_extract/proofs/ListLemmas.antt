@@ -1,0 +1,66 @@
+-- Lemmas on filters, tests and what elements bring.
+use Rattle.std.proofs.Common.{◌≡◌, ◌⊎◌, ℕ, Bool, true, false, cond, List, [], ◌∷◌, ◌++◌, filter, filter_map, flat_map, Option, Some, None, inl, inr, refl, sym, ap, ◌∙◌, subst, ⊎_elim}
+use Rattle.std.specs.List.{AllByRecursion, cons_option, list_any}
+use Rattle.std.proofs.lemmas.Bool.{cases_Bool, cond-false, cond-true}
+use Rattle.gb_base.proofs.Members.{In}
+
+pub filter_takes : {X : Type 0} (p : X → Bool) (x : X) (xs : List X) → p x ≡ true → filter p (x ∷ xs) ≡ x ∷ filter p xs
+filter_takes p x xs is = cond-true (p x) _ _ is
+
+pub filter_skips : {X : Type 0} (p : X → Bool) (x : X) (xs : List X) → p x ≡ false → filter p (x ∷ xs) ≡ filter p xs
+filter_skips p x xs fails = cond-false (p x) _ _ fails
+
+-- where none passes nothing is left
+pub filter_none : {X : Type 0} (p : X → Bool) (xs : List X) → AllByRecursion (λ x. p x ≡ false) xs → filter p xs ≡ []
+filter_none p [] all = refl
+filter_none p (x ∷ xs) all = filter_skips p x xs all.0 ∙ filter_none p xs all.1
+
+-- where all pass all are left
+pub filter_all : {X : Type 0} (p : X → Bool) (xs : List X) → AllByRecursion (λ x. p x ≡ true) xs → filter p xs ≡ xs
+filter_all p [] all = refl
+filter_all p (x ∷ xs) all = filter_takes p x xs all.0 ∙ ap (λ ys. x ∷ ys) (filter_all p xs all.1)
+
+-- tests that agree on the elements
+pub filter_alike : {X : Type 0} (p q : X → Bool) (xs : List X) → AllByRecursion (λ x. p x ≡ q x) xs → filter p xs ≡ filter q xs
+filter_alike p q [] all = refl
+filter_alike p q (x ∷ xs) all = λ i. cond (all.0 i) (x ∷ filter_alike p q xs all.1 i) (filter_alike p q xs all.1 i)
+
+pub flat_map_alike : {X Y : Type 0} (f g : X → List Y) (xs : List X) → AllByRecursion (λ x. f x ≡ g x) xs → flat_map f xs ≡ flat_map g xs
+flat_map_alike f g [] all = refl
+flat_map_alike f g (x ∷ xs) all = λ i. all.0 i ++ flat_map_alike f g xs all.1 i
+
+-- where each fails a test or is left out, none of those left passes it
+pub none_left : {X : Type 0} (p q : X → Bool) (xs : List X) → AllByRecursion (λ x. q x ≡ false) xs → list_any q (filter p xs) ≡ false
+none_left p q [] all = refl
+none_left p q (x ∷ xs) all =
+    ⊎_elim
+    (λ is. ap (list_any q) (filter_takes p x xs is) ∙ (rw all.0 (none_left p q xs all.1)))
+    (λ fails. ap (list_any q) (filter_skips p x xs fails) ∙ none_left p q xs all.1)
+    (cases_Bool (p x))
+
+-- what each element has, by membership
+pub all_in : {X : Type 0} (P : X → Type 0) (xs : List X) → ((x : X) → In x xs → P x) → AllByRecursion P xs
+all_in P [] each = tt
+all_in P (x ∷ xs) each = (each x (inl refl), all_in P xs (λ y there. each y (inr there)))
+
+pub in_all : {X : Type 0} (P : X → Type 0) (xs : List X) (x : X) → AllByRecursion P xs → In x xs → P x
+in_all P [] x all there = absurd there
+in_all P (y ∷ xs) x all there = ⊎_elim (λ e. subst P e all.0) (λ more. in_all P xs x all.1 more) there
+
+-- an element of what a filter leaves
+pub of_filter : {X : Type 0} (p : X → Bool) (xs : List X) (y : X) → In y (filter p xs) → In y xs × (p y ≡ true)
+of_filter p [] y there = absurd there
+of_filter p (x ∷ xs) y there =
+    ⊎_elim
+    (λ is. ⊎_elim (λ e. (inl e, ap p (sym e) ∙ is)) (λ more. let rest = of_filter p xs y more in (inr rest.0, rest.1)) (subst (In y) (filter_takes p x xs is) there))
+    (λ fails. let rest = of_filter p xs y (subst (In y) (filter_skips p x xs fails) there) in (inr rest.0, rest.1))
+    (cases_Bool (p x))
+
+-- an element of what the elements give
+pub of_filter_map : {X Y : Type 0} (h : X → Option Y) (xs : List X) (y : Y) → In y (filter_map h xs) → (x : X) × In x xs × (h x ≡ Some y)
+of_filter_map h [] y there = absurd there
+of_filter_map {X} {Y} h (x ∷ xs) y there =
+    elim (h x) as (λ o. h x ≡ o → In y (cons_option o (filter_map h xs)) → (z : X) × In z (x ∷ xs) × (h z ≡ Some y)) [
+      | None ↦ λ _ more. (let rest = of_filter_map h xs y more in (rest.0, inr rest.1, rest.2))
+      | Some z ↦ λ is here. ⊎_elim (λ e. (x, inl refl, is ∙ ap Some e)) (λ more. let rest = of_filter_map h xs y more in (rest.0, inr rest.1, rest.2)) here
+    ] refl there
