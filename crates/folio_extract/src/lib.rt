@@ -4,5 +4,9 @@
 mod cent_lines;
 mod live_rights;
 mod rank_lines;
+#[cfg(test)]
+mod rank_table_tests;
 mod rank_tables;
 mod waiting;
+
+pub use rank_tables::rank_table;
