@@ -6,6 +6,8 @@ mod extracts;
 mod folio_reads;
 mod live_rights;
 mod rank_lines;
+#[cfg(test)]
+mod rank_table_tests;
 mod rank_tables;
 mod reports;
 mod right_lines;
