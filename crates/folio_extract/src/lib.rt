@@ -2,6 +2,8 @@
 #![tactic(auto)]
 
 mod cent_lines;
+#[cfg(test)]
+mod extract_tests;
 mod extracts;
 mod folio_reads;
 mod live_rights;
@@ -11,6 +13,8 @@ mod rank_table_tests;
 mod rank_tables;
 mod reports;
 mod right_lines;
+#[cfg(test)]
+mod testing;
 mod verdict_lines;
 #[cfg(test)]
 mod verdict_tests;
