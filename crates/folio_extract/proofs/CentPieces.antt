@@ -1,5 +1,5 @@
 -- The pieces of a cent line whose first cents are of one place.
-use Rattle.std.proofs.Common.{◌≡◌, ◌⊎◌, ℕ, zero, suc, ◌+◌, ◌<◌, Bool, true, false, cond, List, [], ◌∷◌, ◌++◌, flat_map, map, replicate, sum_by, inl, inr, refl, sym, ap, ◌∙◌, subst, ⊎_elim, arith, add-one, add_comm, append_assoc}
+use Rattle.std.proofs.Common.{◌≡◌, ◌⊎◌, ℕ, zero, suc, ◌+◌, ◌<◌, true, false, cond, List, [], ◌∷◌, ◌++◌, map, replicate, inl, inr, refl, sym, ap, ◌∙◌, subst, ⊎_elim, arith, add-one, add_comm, append_assoc}
 use Rattle.std.specs.List.{AllByRecursion}
 use Rattle.std.proofs.lemmas.Bool.{cases_Bool, cond-false, cond-true}
 use Rattle.std.proofs.lemmas.List.Sums.{sum_by-cons}

@@ -1,7 +1,6 @@
 -- The rights that are live in a folio: each as it was created, and in order of filing and group.
-use Rattle.std.proofs.Common.{◌≡◌, ◌⊎◌, ℕ, zero, suc, ◌+◌, ◌<◌, ◌≤◌, Bool, true, false, cond, List, [], ◌∷◌, ◌++◌, filter, filter_map, flat_map, length, map, IfSome, Option, Some, None, option_map, inl, inr, refl, sym, ap, ◌∙◌, subst, ⊎_elim, arith}
-use Rattle.std.specs.List.{AllByRecursion, range_with_len}
-use Rattle.std.proofs.lemmas.Bool.{cases_Bool, cond-false, cond-true}
+use Rattle.std.proofs.Common.{◌≡◌, ℕ, zero, suc, ◌+◌, ◌<◌, ◌≤◌, Bool, true, false, cond, List, [], ◌∷◌, ◌++◌, filter, flat_map, length, map, IfSome, Option, Some, None, option_map, inl, inr, refl, sym, ap, subst, arith}
+use Rattle.std.specs.List.{range_with_len}
 use Rattle.std.proofs.lemmas.Bool.Decides.{nat_tests}
 use Rattle.gb_base.specs.Limits.{most_acts}
 use Rattle.gb_base.specs.RightNo.{RightNo}
@@ -36,7 +35,7 @@ live_at_is : (at : Key → List Entry) (folio : ℕ) (id : RightNo) (x : LiveRig
 live_at_is at folio id x None live is = absurd (grind arith)
 live_at_is at folio id x (Some made) live is =
     let here : IsLiveOf at folio id.receipt (record { id = id; made = made }) =
-        record { filing = refl; made = where_live (is_live (at (Right folio id))) (created (at (Right folio id))) made live } in
+    record { filing = refl; made = where_live (is_live (at (Right folio id))) (created (at (Right folio id))) made live } in
     subst (λ o. IfSome o (IsLiveOf at folio id.receipt)) is here
 
 of_live : (at : Key → List Entry) (folio m : ℕ) (x : LiveRight) → In x (live_of at folio m) → IsLiveOf at folio m x
@@ -92,9 +91,9 @@ groups_ascend : (m : ℕ) (rights : List LiveRight) → ((x : LiveRight) → In 
 groups_ascend m rights filing =
     let f : ℕ → List LiveRight = λ group. filter (is_of_group group) rights in
     let on : (k l : ℕ) (x y : LiveRight) → k ≤ l → In x (f k) → In y (f l) → is_filed_before y x ≡ false = λ k l x y le here there.
-        let first = of_filter (is_of_group k) rights x here in
-        let second = of_filter (is_of_group l) rights y there in
-        not_before x y m k l (filing x first.0) (filing y second.0) first.1 second.1 le in
+    let first = of_filter (is_of_group k) rights x here in
+    let second = of_filter (is_of_group l) rights y there in
+    not_before x y m k l (filing x first.0) (filing y second.0) first.1 second.1 le in
     ascends_flat f (λ k. ascends_level (f k) (λ x y here there. on k k x y (omega arith) here there)) (λ k l x y less here there. on k l x y (omega (arith, less)) here there) 1 most_groups
 
 pub live_rights_ascend : (journal : List Receipt) (at : Key → List Entry) (folio : ℕ) → Ascends (live_rights journal at folio)

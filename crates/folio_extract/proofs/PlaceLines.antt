@@ -1,5 +1,5 @@
 -- The lines of the cents of rights that stand in order, place by place.
-use Rattle.std.proofs.Common.{◌≡◌, ℕ, zero, suc, ◌+◌, ◌-◌, ◌==◌, ◌<◌, Bool, true, false, cond, List, [], ◌∷◌, ◌++◌, codes, drop, filter, get_or, length, map, take, refl, sym, ap, ◌∙◌, subst, ⊎_elim, arith, append-nil, append_assoc}
+use Rattle.std.proofs.Common.{◌≡◌, ℕ, suc, ◌+◌, ◌-◌, ◌==◌, ◌<◌, Bool, true, false, cond, List, [], ◌∷◌, ◌++◌, codes, drop, filter, get_or, length, map, take, refl, sym, ap, ◌∙◌, subst, ⊎_elim, arith, append-nil, append_assoc}
 use Rattle.std.specs.List.{AllByRecursion, prefix_len}
 use Rattle.std.specs.Fmt.{decimal}
 use Rattle.std.proofs.lemmas.Bool.{cases_Bool, cond-false, cond-true, ne_eqb}
@@ -13,7 +13,7 @@ use Rattle.folio_extract.specs.inner.RankWalk.{Ascends, is_filed_before}
 use Rattle.folio_extract.specs.declared.live_rights.LiveRight.{LiveRight}
 use Rattle.folio_extract.proofs.CentPieces.{Apart, OneMore, one_more, piece, piece_among}
 use Rattle.folio_extract.proofs.ListLemmas.{all_in, filter_all, filter_none, in_all}
-use Rattle.folio_extract.proofs.RightOrder.{before_later, before_not_same, before_on, before_self, same_apart, same_like, same_self}
+use Rattle.folio_extract.proofs.RightOrder.{before_later, before_not_same, before_on, before_self, same_apart, same_like}
 
 -- ---- the rights of one place at the front
 
@@ -115,13 +115,13 @@ place_lines claim own x group others from same apart =
     let rights = group ++ others in
     let qs = pieces_of (cent_line (map claim others)) in
     let whole : cent_line (map claim rights) ≡ cent_line (map claim group) ++ cent_line (map claim others) =
-        ap cent_line (map-append claim group others) ∙ flat_map-append _ (map claim group) (map claim others) in
+    ap cent_line (map-append claim group others) ∙ flat_map-append _ (map claim group) (map claim others) in
     let away : Apart x qs = all_in (λ p. has_same_place x p.right ≡ false) qs (λ p there. in_all (λ y. has_same_place x y ≡ false) others p.right apart (piece_among claim own others p there)) in
     let alike : AllByRecursion (λ p. filter (has_same_place p.right) rights ≡ filter (has_same_place p.right) others) qs =
-        all_weaker (λ p. has_same_place x p.right ≡ false) (λ p. filter (has_same_place p.right) rights ≡ filter (has_same_place p.right) others) qs
-        (λ p other. filter-append (has_same_place p.right) group others
-        ∙ ap (λ ys. ys ++ filter (has_same_place p.right) others)
-        (filter_none (has_same_place p.right) group (all_weaker (λ y. has_same_place x y ≡ true) (λ y. has_same_place p.right y ≡ false) group (λ y is. same_apart x y p.right is other) same))) away in
+    all_weaker (λ p. has_same_place x p.right ≡ false) (λ p. filter (has_same_place p.right) rights ≡ filter (has_same_place p.right) others) qs
+    (λ p other. filter-append (has_same_place p.right) group others
+    ∙ ap (λ ys. ys ++ filter (has_same_place p.right) others)
+    (filter_none (has_same_place p.right) group (all_weaker (λ y. has_same_place x y ≡ true) (λ y. has_same_place p.right y ≡ false) group (λ y is. same_apart x y p.right is other) same))) away in
     let more = one_more claim own x group (cent_line (map claim others)) same away in
     group_lines rights group others from (cents_of claim group) x (pieces_of (cent_line (map claim rights))) qs refl same apart alike
     (subst (λ (line : List LiveRight). OneMore x (cents_of claim group) (pieces_of line) qs) (sym whole) more)
@@ -161,12 +161,11 @@ pub next_place : (claim : LiveRight → Claim) → ((x : LiveRight) → (claim x
 next_place claim own text new whole from cents n x rights group others some first up is group_is others_are cents_are wrote before =
     let step = one_place claim own from n x rights some first up is in
     let rest : ℕ → List LiveRight → List ℕ = λ k ys. cent_lines ys (from + k) (pieces_of (cent_line (map claim ys))) in
-    let counted : cents ≡ cents_of claim (take n rights) = cents_are ∙ ap (cents_of claim) group_is in
-    (
+    let counted : cents ≡ cents_of claim (take n rights) = cents_are ∙ ap (cents_of claim) group_is in (
       ap (λ t. t ++ rest cents others) wrote
-      ∙ append_assoc text (piece_line from cents group) (rest cents others)
-      ∙ (λ i. text ++ (piece_line from (counted i) (group_is i) ++ rest (counted i) (others_are i)))
-      ∙ ap (λ t. text ++ t) (sym step.written)
-      ∙ before,
+          ∙ append_assoc text (piece_line from cents group) (rest cents others)
+          ∙ (λ i. text ++ (piece_line from (counted i) (group_is i) ++ rest (counted i) (others_are i)))
+          ∙ ap (λ t. text ++ t) (sym step.written)
+          ∙ before,
       subst Ascends (sym others_are) step.order,
     )

@@ -1,5 +1,5 @@
 -- The rank table of a register that may come about.
-use Rattle.std.proofs.Common.{◌≡◌, ℕ, None, List, ◌++◌, OnOk, Result, codes, flat_map, map, refl, sym, subst, ap, ◌∙◌}
+use Rattle.std.proofs.Common.{◌≡◌, ℕ, None, List, ◌++◌, OnOk, Result, codes, flat_map, map, sym, subst, ap, ◌∙◌}
 use Rattle.std.specs.Fmt.{decimal}
 use Rattle.std.specs.List.{AllByRecursion}
 use Rattle.gb_base.specs.declared.keys.Key.{Key}

@@ -1,5 +1,5 @@
 -- Where rights stand in order of filing and group, the walk finds the rank of each.
-use Rattle.std.proofs.Common.{◌≡◌, ℕ, ◌+◌, Bool, true, false, cond, ◌||◌, List, [], ◌∷◌, ◌++◌, filter, flat_map, Some, None, refl, sym, ap, ◌∙◌, ⊎_elim, arith}
+use Rattle.std.proofs.Common.{◌≡◌, ℕ, ◌+◌, Bool, true, false, ◌||◌, List, [], ◌∷◌, ◌++◌, filter, flat_map, Some, None, refl, sym, ap, ◌∙◌, ⊎_elim, arith}
 use Rattle.std.specs.List.{AllByRecursion, list_any}
 use Rattle.std.proofs.lemmas.Bool.{cases_Bool, cond-false, cond-true}
 use Rattle.folio_sections.specs.declared.title_places.TitlePlace.{TitlePlace}
@@ -8,7 +8,7 @@ use Rattle.folio_extract.specs.RankTables.{different_places, has_same_place, ran
 use Rattle.folio_extract.specs.inner.RankWalk.{Ascends, is_filed_before, rank_behind, ranked_line, ranked_lines}
 use Rattle.folio_extract.specs.declared.live_rights.LiveRight.{LiveRight}
 use Rattle.folio_extract.proofs.ListLemmas.{filter_alike, filter_none, filter_skips, filter_takes, flat_map_alike, none_left}
-use Rattle.folio_extract.proofs.RightOrder.{before_later, before_like, before_not_same, before_on, before_self, same_not_before}
+use Rattle.folio_extract.proofs.RightOrder.{before_later, before_like, before_not_same, before_on, before_self}
 
 -- how many different places stand before the right
 abbrev places_before : List LiveRight → LiveRight → ℕ
@@ -44,7 +44,7 @@ place_more : (b x y : LiveRight) (xs : List LiveRight) → is_filed_before b x �
 place_more b x y xs before up later =
     let p : LiveRight → Bool = λ z. is_filed_before z y in
     let others : AllByRecursion (λ z. has_same_place b z ≡ false) xs =
-        all_weaker (λ z. is_filed_before z x ≡ false) (λ z. has_same_place b z ≡ false) xs (λ z not_before. before_not_same b z (before_on b x z before not_before)) up in
+    all_weaker (λ z. is_filed_before z x ≡ false) (λ z. has_same_place b z ≡ false) xs (λ z not_before. before_not_same b z (before_on b x z before not_before)) up in
     ap different_places (filter_takes p b (x ∷ xs) (before_on b x y before later))
     ∙ one_more_place b (filter p (x ∷ xs)) (none_left p (has_same_place b) (x ∷ xs) (before_not_same b x before, others))
 
@@ -65,11 +65,11 @@ walked rank b [] up = refl
 walked rank b (x ∷ xs) up =
     let next = rank_behind rank (Some b) x in
     let here : next ≡ rank + places_before (b ∷ x ∷ xs) x =
-        omega (arith, none_before x xs up.1.0, rank_on rank b x x xs up.0.0 up.1.0 (before_self x)) in
+    omega (arith, none_before x xs up.1.0, rank_on rank b x x xs up.0.0 up.1.0 (before_self x)) in
     let same : flat_map (λ y. ranked_line (next + places_before (x ∷ xs) y) y) xs ≡ flat_map (λ y. ranked_line (rank + places_before (b ∷ x ∷ xs) y) y) xs =
-        flat_map_alike (λ y. ranked_line (next + places_before (x ∷ xs) y) y) (λ y. ranked_line (rank + places_before (b ∷ x ∷ xs) y) y) xs
-        (all_weaker (λ y. is_filed_before y x ≡ false) (λ y. ranked_line (next + places_before (x ∷ xs) y) y ≡ ranked_line (rank + places_before (b ∷ x ∷ xs) y) y) xs
-        (λ y later. ap (λ n. ranked_line n y) (rank_on rank b x y xs up.0.0 up.1.0 later)) up.1.0) in
+    flat_map_alike (λ y. ranked_line (next + places_before (x ∷ xs) y) y) (λ y. ranked_line (rank + places_before (b ∷ x ∷ xs) y) y) xs
+    (all_weaker (λ y. is_filed_before y x ≡ false) (λ y. ranked_line (next + places_before (x ∷ xs) y) y ≡ ranked_line (rank + places_before (b ∷ x ∷ xs) y) y) xs
+    (λ y later. ap (λ n. ranked_line n y) (rank_on rank b x y xs up.0.0 up.1.0 later)) up.1.0) in
     let rest = walked next x xs up.1 ∙ same in
     λ i. ranked_line (here i) x ++ rest i
 

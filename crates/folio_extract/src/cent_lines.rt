@@ -82,12 +82,7 @@ fn capital(register: &Register, folio: FolioId, id: RightId) -> u64
 }
 
 /// Adds the cents that the rights of one place take from this cent on, where they take some.
-fn add_piece(
-    text: &mut String,
-    from: u64,
-    cents: u64,
-    group: &[LiveRight],
-) -> Result<(), NoMemory>
+fn add_piece(text: &mut String, from: u64, cents: u64, group: &[LiveRight]) -> Result<(), NoMemory>
     requires { from + cents < 2 ^ 64 }
     ensures { OnOk result (string_bytes text.new ≡ string_bytes text.old ++ piece_line from cents group.now) }
 {

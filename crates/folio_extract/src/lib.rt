@@ -4,6 +4,8 @@
 mod cent_lines;
 mod live_rights;
 mod rank_lines;
+#[cfg(test)]
+mod rank_table_tests;
 mod rank_tables;
 mod verdict_lines;
 #[cfg(test)]

@@ -1,6 +1,5 @@
-use Rattle.std.proofs.Common.{◌≡◌, ◌∙◌, sym, subst}
+use Rattle.std.proofs.Common.{◌∙◌, sym, subst}
 use Rattle.folio_sections.specs.Held.{entries_at}
-use Rattle.folio_extract.specs.LiveRights.{live_rights}
 use Rattle.folio_extract.specs.inner.RankWalk.{Ascends}
 use Rattle.folio_extract.proofs.LiveOrder.{live_rights_ascend}
 use Rattle.folio_extract.proofs.RankTableLines.{table_added}
