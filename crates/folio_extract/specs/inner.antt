@@ -2,3 +2,5 @@
 pub mod FilingRuns
 pub mod PlacePieces
 pub mod RankWalk
+pub mod WaitingPlaces
+pub mod Waits

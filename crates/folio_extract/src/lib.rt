@@ -2,15 +2,24 @@
 #![tactic(auto)]
 
 mod cent_lines;
+mod extracts;
+mod folio_reads;
 mod live_rights;
 mod rank_lines;
 #[cfg(test)]
 mod rank_table_tests;
 mod rank_tables;
+#[cfg(test)]
+mod report_tests;
+mod reports;
+mod right_lines;
 mod verdict_lines;
 #[cfg(test)]
 mod verdict_tests;
 mod waiting;
+mod waiting_lines;
 
+pub use extracts::extract;
 pub use rank_tables::rank_table;
+pub use reports::report;
 pub use verdict_lines::verdict_line;

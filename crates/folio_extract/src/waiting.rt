@@ -1,5 +1,16 @@
 // The filings that wait at a key.
-use gb_base::{Day, ReceiptNo};
+ghost use Rattle.std.specs.Prelude.{◌≡◌, ◌<◌, ℕ, All, IfOk, OnOk, None, map};
+ghost use Rattle.std.specs.BTreeMap.{get, IsOrdered};
+ghost use Rattle.std.specs.Ordering.{nat_cmp};
+ghost use Rattle.folio_sections.specs.Waiting.{pending, until_by};
+ghost use Rattle.folio_extract.specs.WaitingFilings.{waiting_filings};
+ghost use Rattle.folio_extract.specs.inner.Waits.{WaitsInJournal, notice_by, first_notice, with_notice};
+
+use act_model::Journal;
+use folio_sections::{Entry, What};
+use gb_base::{Day, NoMemory, ReceiptNo};
+use std::alloc::Global;
+use std::collections::BTreeMap;
 
 /// A filing that waits at a key (GBO § 18).
 #[derive(Clone, Copy, Debug)]
@@ -9,4 +20,97 @@ pub struct WaitingFiling {
     pub until: Day,
     /// The day of its official notice there, if it has one.
     pub notice: Option<Day>,
+}
+
+/// The filings that wait at a key with these entries, ascending. It looks at each entry once.
+pub(crate) fn waiting_filings(
+    alloc: Global,
+    journal: &Journal,
+    entries: &[Entry],
+) -> Result<Vec<WaitingFiling>, NoMemory>
+    requires { All (λ e. WaitsInJournal journal.now.receipts e.what) entries.now }
+    ensures { IfOk result (λ filings. filings.items ≡ waiting_filings journal.now.receipts entries.now) }
+{
+    let waiting = days_of_cure(alloc, entries)?;
+    let notices = days_of_notice(alloc, entries)?;
+    with_notices(alloc, &waiting, &notices)
+}
+
+/// The last day for a cure of each filing that waits.
+fn days_of_cure(alloc: Global, entries: &[Entry]) -> Result<BTreeMap<ReceiptNo, Day>, NoMemory>
+    ensures value { IfOk result (λ days. (n : ℕ) → get nat_cmp days n ≡ pending n entries.now) }
+    ensures from_one { IfOk result (λ days. get nat_cmp days 0 ≡ None) }
+{
+    let mut days = BTreeMap::new(alloc);
+    for entry in entries {
+        note_waiting(&mut days, &entry.what)?;
+    }
+    Ok(days)
+}
+
+/// Notes what a content says of a filing that waits.
+fn note_waiting(days: &mut BTreeMap<ReceiptNo, Day>, what: &What) -> Result<(), NoMemory>
+    ensures value { OnOk result ((n : ℕ) → get nat_cmp days.new n ≡ until_by n (get nat_cmp days.old n) what.now) }
+    ensures from_one { get nat_cmp days.old 0 ≡ None → OnOk result (get nat_cmp days.new 0 ≡ None) }
+{
+    match what {
+        What::Pending { filing, until } => {
+            prove!(filing.get() > 0);
+            days.insert(*filing, *until)?;
+        }
+        What::Settled { filing } => {
+            days.remove(filing);
+        }
+        _ => {}
+    }
+    Ok(())
+}
+
+/// The day of the first official notice of each filing that has one.
+fn days_of_notice(alloc: Global, entries: &[Entry]) -> Result<BTreeMap<ReceiptNo, Day>, NoMemory>
+    ensures { IfOk result (λ days. (n : ℕ) → get nat_cmp days n ≡ first_notice n entries.now) }
+{
+    let mut days = BTreeMap::new(alloc);
+    for entry in entries {
+        note_notice(&mut days, entry)?;
+    }
+    Ok(days)
+}
+
+/// Notes the official notice that an entry is, where none of its filing stands yet.
+fn note_notice(days: &mut BTreeMap<ReceiptNo, Day>, entry: &Entry) -> Result<(), NoMemory>
+    ensures { OnOk result ((n : ℕ) → get nat_cmp days.new n ≡ notice_by n (get nat_cmp days.old n) entry.now) }
+{
+    if let What::Notice { filing } = &entry.what {
+        if !days.contains_key(filing) {
+            days.insert(*filing, entry.day)?;
+        }
+    }
+    Ok(())
+}
+
+/// These filings that wait, each with its official notice.
+fn with_notices(
+    alloc: Global,
+    waiting: &BTreeMap<ReceiptNo, Day>,
+    notices: &BTreeMap<ReceiptNo, Day>,
+) -> Result<Vec<WaitingFiling>, NoMemory>
+    ensures items { IfOk result (λ filings. filings.items ≡ map (with_notice (get nat_cmp notices.now)) waiting.now.entries) }
+    ensures ordered { IsOrdered nat_cmp waiting.now }
+{
+    waiting
+        .iter()
+        .map(|(filing, until)| with_notice(notices, filing, until))
+        .collect(alloc)
+}
+
+/// A filing that waits until this day, with its official notice.
+fn with_notice(notices: &BTreeMap<ReceiptNo, Day>, filing: &ReceiptNo, until: &Day) -> WaitingFiling
+    ensures { result ≡ with_notice (get nat_cmp notices.now) (filing.now, until.now) }
+{
+    WaitingFiling {
+        filing: *filing,
+        until: *until,
+        notice: notices.get(filing).copied(),
+    }
 }

@@ -1,0 +1,66 @@
+// What stands in a folio of a register; nothing where the register does not hold the part.
+ghost use Rattle.std.specs.Prelude.{◌≡◌, ◌&&◌, is_none};
+ghost use Rattle.gb_base.specs.declared.keys.Key.TheVariants.{Case, Title};
+ghost use Rattle.folio_sections.specs.Cases.{award, is_running};
+ghost use Rattle.folio_sections.specs.Held.{entries_at};
+ghost use Rattle.folio_sections.specs.Titles.{inventory, is_open, owners};
+
+use act_model::{Inventory, Owners};
+use folio_sections::{Entry, Parts};
+use gb_base::FolioId;
+use registrar::Register;
+
+/// Whether the folio is open (GBO § 3).
+#[tactic(auto, using(crate::proofs::NotHeld::not_held))]
+pub(crate) fn is_open(register: &Register, folio: FolioId) -> bool
+    ensures { result ≡ is_open (entries_at register.now.parts (Title folio)) }
+{
+    match register.title(folio) {
+        Some(title) => title.is_open(),
+        None => false,
+    }
+}
+
+/// The parcel of the folio.
+#[tactic(auto, using(crate::proofs::NotHeld::not_held))]
+pub(crate) fn inventory_of(register: &Register, folio: FolioId) -> Option<Inventory>
+    ensures { result ≡ inventory (entries_at register.now.parts (Title folio)) }
+{
+    match register.title(folio) {
+        Some(title) => title.inventory(),
+        None => None,
+    }
+}
+
+/// The owners of the folio.
+#[tactic(auto, using(crate::proofs::NotHeld::not_held))]
+pub(crate) fn owners_of(register: &Register, folio: FolioId) -> Option<Owners>
+    ensures { result ≡ owners (entries_at register.now.parts (Title folio)) }
+{
+    match register.title(folio) {
+        Some(title) => title.owners(),
+        None => None,
+    }
+}
+
+/// The entries at the title of the folio.
+#[tactic(auto, using(crate::proofs::NotHeld::not_held))]
+pub(crate) fn title_entries(register: &Register, folio: FolioId) -> &[Entry]
+    ensures { result.now ≡ entries_at register.now.parts (Title folio) }
+{
+    match register.title(folio) {
+        Some(title) => title.entries(),
+        None => &[],
+    }
+}
+
+/// Whether a forced sale of the folio runs in which no award stands (ZVG § 19).
+#[tactic(auto, using(crate::proofs::NotHeld::not_held))]
+pub(crate) fn is_for_sale(register: &Register, folio: FolioId) -> bool
+    ensures { result ≡ is_running (entries_at register.now.parts (Case folio)) && is_none (award (entries_at register.now.parts (Case folio))) }
+{
+    match register.case(folio) {
+        Some(case) => case.running() && case.award().is_none(),
+        None => false,
+    }
+}

@@ -1,0 +1,54 @@
+// The report: what becomes of each receipt, the texts of each open folio, and a line that ends it.
+ghost use Rattle.std.specs.Prelude.{◌≡◌, ◌++◌, IfOk, OnOk, length};
+ghost use Rattle.std.specs.String.{string_bytes};
+ghost use Rattle.folio_sections.specs.Held.{entries_at};
+ghost use Rattle.folio_sections.specs.Kept.{Kept};
+ghost use Rattle.folio_extract.specs.Reports.{end_line, folio_texts, report_of};
+
+use crate::extracts::add_extract;
+use crate::rank_tables::add_rank_table;
+use crate::verdict_lines::add_verdict_lines;
+use act_model::Journal;
+use gb_base::NoMemory;
+use registrar::Register;
+use std::alloc::Global;
+
+/// The report of a register: what became of each receipt, the extract and the rank table of each
+/// open folio, ascending, and a line that ends it.
+pub fn report(alloc: Global, register: &Register, journal: &Journal) -> Result<Vec<u8>, NoMemory>
+    requires { Kept journal.now.receipts (entries_at register.now.parts) }
+    ensures { IfOk result (λ text. text.items ≡ report_of journal.now.receipts register.now.verdicts (entries_at register.now.parts) register.now.folios) }
+{
+    let mut text = String::new(alloc);
+    add_verdict_lines(&mut text, register)?;
+    add_folios(alloc, &mut text, register, journal)?;
+    add_end_line(&mut text, register)?;
+    Ok(text.into_bytes())
+}
+
+/// Adds the extract and the rank table of each open folio.
+fn add_folios(
+    alloc: Global,
+    text: &mut String,
+    register: &Register,
+    journal: &Journal,
+) -> Result<(), NoMemory>
+    requires { Kept journal.now.receipts (entries_at register.now.parts) }
+    ensures { OnOk result (string_bytes text.new ≡ string_bytes text.old ++ folio_texts journal.now.receipts (entries_at register.now.parts) register.now.folios) }
+{
+    for folio in register.folios() {
+        add_extract(alloc, text, register, journal, *folio)?;
+        add_rank_table(alloc, text, register, journal, *folio)?;
+    }
+    Ok(())
+}
+
+/// Adds the line that ends the report.
+fn add_end_line(text: &mut String, register: &Register) -> Result<(), NoMemory>
+    ensures { OnOk result (string_bytes text.new ≡ string_bytes text.old ++ end_line (length register.now.verdicts) (length register.now.folios)) }
+{
+    let receipts = register.verdicts().len();
+    let folios = register.folios().len();
+    writeln!(text, "end receipts {receipts} folios {folios}")?;
+    Ok(())
+}
