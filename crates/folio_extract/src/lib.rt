@@ -11,6 +11,8 @@ mod rank_lines;
 #[cfg(test)]
 mod rank_table_tests;
 mod rank_tables;
+#[cfg(test)]
+mod report_tests;
 mod reports;
 mod right_lines;
 #[cfg(test)]

@@ -1,19 +1,17 @@
 // The rank table of a folio: the ranks of its rights, and the cents that they take in turn.
 ghost use Rattle.std.specs.Prelude.{◌≡◌, ◌*◌, ◌≤◌, ◌++◌, IfOk, OnOk, length, option_map};
 ghost use Rattle.std.specs.String.{string_bytes};
-ghost use Rattle.gb_base.specs.declared.keys.Key.TheVariants.{Title};
 ghost use Rattle.act_model.specs.Limits.{most_receipts};
 ghost use Rattle.folio_sections.specs.Held.{entries_at};
 ghost use Rattle.folio_sections.specs.Kept.{Kept};
-ghost use Rattle.folio_sections.specs.Titles.{is_open};
 ghost use Rattle.folio_extract.specs.RankTables.{claim_of, rank_table, rank_table_text};
 ghost use Rattle.folio_extract.specs.inner.RankWalk.{Ascends, walked_table};
 
 use crate::cent_lines::add_cent_lines;
+use crate::folio_reads::is_open;
 use crate::live_rights::{LiveRight, live_rights};
 use crate::rank_lines::add_rank_lines;
 use act_model::Journal;
-use folio_sections::Parts;
 use gb_base::{FolioId, NoMemory};
 use registrar::Register;
 use std::alloc::Global;
@@ -34,16 +32,6 @@ pub fn rank_table(
     let mut text = String::new(alloc);
     add_rank_table(alloc, &mut text, register, journal, folio)?;
     Ok(Some(text.into_bytes()))
-}
-
-/// Whether the folio is open (GBO § 3).
-fn is_open(register: &Register, folio: FolioId) -> bool
-    ensures { result ≡ is_open (entries_at register.now.parts (Title folio)) }
-{
-    match register.title(folio) {
-        Some(part) => part.is_open(),
-        None => false,
-    }
 }
 
 /// Adds the rank table of an open folio.

@@ -14,7 +14,10 @@ fn each_verdict_has_its_line(rt: HostRuntime) -> Result<(), Fail> {
     let until = Day::from_civil(2024, 2, 29).ok_or("no date")?;
     for (verdict, line) in [
         (Verdict::Entered, "receipt 12 entered\n"),
-        (Verdict::Rejected(Section::Limit), "receipt 12 rejected limit\n"),
+        (
+            Verdict::Rejected(Section::Limit),
+            "receipt 12 rejected limit\n",
+        ),
         (Verdict::Cured, "receipt 12 cured\n"),
         (
             Verdict::CureRejected(Section::Gbo18),
