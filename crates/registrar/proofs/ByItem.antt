@@ -30,7 +30,7 @@ use Rattle.folio_sections.proofs.Unnoticed.{unnoticed_is}
 use Rattle.entry_rules.proofs.Entered.{keys_are}
 use Rattle.interim_orders.proofs.Noticing.{all_map as all_weaker}
 use Rattle.interim_orders.specs.Orders.{deadline_of, end_brought, order_brought}
-use Rattle.registrar.proofs.Added.{all_contained, all_filtered, all_flat_mapped, all_in_range, all_mapped}
+use Rattle.registrar.proofs.ContainedParts.{all_contained, all_filtered, all_flat_mapped, all_in_range, all_mapped}
 use Rattle.registrar.proofs.Dealing.{Deals, IsBrought, Turn, is_it, finds}
 
 -- ---- one entry

@@ -19,7 +19,8 @@ use Rattle.folio_sections.specs.Limits.{most_registrations, most_seizures}
 use Rattle.folio_sections.specs.Titles.{is_opening}
 use Rattle.folio_sections.specs.declared.entries.Entry.{Entry}
 use Rattle.folio_sections.proofs.Unchanged.{all_both}
-use Rattle.registrar.proofs.Added.{any_longer, unchanged_elsewhere}
+use Rattle.registrar.proofs.Added.{unchanged_elsewhere}
+use Rattle.registrar.proofs.ContainedParts.{any_in_first}
 use Rattle.registrar.proofs.Dealing.{Deals, IsBrought}
 use Rattle.registrar.proofs.EntriesKept.{all_there, kept_here}
 
@@ -82,7 +83,7 @@ opened_stays : (journal : List Receipt) (folio : ℕ) (before : Key → List Ent
 opened_stays journal folio before es case opened =
     All-weaker (λ e. IsTrue (is_seizure e.what) → IsOpenedBefore e.receipt (before (Title folio)))
     (λ e. IsTrue (is_seizure e.what) → IsOpenedBefore e.receipt (with_entries before es (Title folio)))
-    (λ e was seizes. any_longer (λ o. IsTrue (is_opening o.what) × (o.receipt < e.receipt)) (before (Title folio)) (at es (Title folio)) (was seizes)) case opened
+    (λ e was seizes. any_in_first (λ o. IsTrue (is_opening o.what) × (o.receipt < e.receipt)) (before (Title folio)) (at es (Title folio)) (was seizes)) case opened
 
 pub case_in_order : (journal : List Receipt) (m : ℕ) (f : Filing) (i : ℕ) (at : Key → List Entry) (es : List Entry) → Deals journal m f i at → AllByRecursion (IsBrought journal m i) es → CaseInOrder journal (with_entries at es)
 case_in_order journal m f i at es deals all =

@@ -28,7 +28,8 @@ use Rattle.folio_sections.specs.declared.entries.What.TheVariants as what
 use Rattle.folio_sections.specs.declared.title_places.TitlePlace.{TitlePlace}
 use Rattle.folio_sections.proofs.Unchanged.{all_at}
 use Rattle.interim_orders.specs.Orders.{end_brought}
-use Rattle.registrar.proofs.ContainedParts.{all_weaker, any_in_first}
+use Rattle.interim_orders.proofs.Noticing.{all_map as all_weaker}
+use Rattle.registrar.proofs.ContainedParts.{any_in_first}
 use Rattle.registrar.proofs.Dealing.{Deals, IsFit}
 use Rattle.registrar.proofs.LeavingRights.{LeavesRights, end_leaves_rights}
 use Rattle.registrar.proofs.NewContents.{IsActOf, act_of_new_right, all_at_key, all_brought, all_contents, contents_last, key_touched, standing, with_both}

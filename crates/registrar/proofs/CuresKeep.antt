@@ -1,8 +1,7 @@
 -- What a cure or a lapse brings leaves a kept register.
-use Rattle.std.proofs.Common.{◌≡◌, ℕ, ◌<◌, true, false, cond, nat_lt, List, [], ◌++◌, All, Contains, IsSome, IsTrue, Option, Some, None, is_some, option_and_then, option_map, refl, sym, ap, subst, ◌∙◌, arith}
+use Rattle.std.proofs.Common.{◌≡◌, ℕ, ◌<◌, true, false, cond, nat_lt, List, [], All, Contains, IsSome, Option, Some, None, is_some, option_and_then, option_map, refl, sym, ap, subst, ◌∙◌}
 use Rattle.std.specs.Option.{option_map_or}
 use Rattle.std.proofs.lemmas.Bool.{false≢true}
-use Rattle.std.proofs.lemmas.Bool.Decides.{nat_tests}
 use Rattle.gb_base.specs.declared.keys.Key.{Key}
 use Rattle.act_model.specs.Receiving.{IsJournal, day_of, receipt_at}
 use Rattle.act_model.specs.Touches.{filing_at, filing_in, keys_of_filing}
@@ -12,7 +11,6 @@ use Rattle.act_model.specs.declared.items.Item.TheVariants as item
 use Rattle.act_model.specs.declared.receipts.Receipt.{Receipt}
 use Rattle.folio_sections.specs.Judging.{judged, judged_filing}
 use Rattle.folio_sections.specs.Kept.{Kept}
-use Rattle.folio_sections.specs.Waiting.{is_pending, pending}
 use Rattle.folio_sections.specs.declared.entries.Entry.{Entry}
 use Rattle.folio_sections.specs.declared.judgements.Judgement.{Judgement}
 use Rattle.folio_sections.specs.declared.judgements.Judgement.TheVariants.{Enter, Interim, Reject}
@@ -21,7 +19,7 @@ use Rattle.interim_orders.specs.Orders.{end_brought, state_of}
 use Rattle.interim_orders.specs.declared.answers.Lapse.TheVariants as answer
 use Rattle.interim_orders.specs.declared.states.FilingState.{FilingState}
 use Rattle.interim_orders.specs.declared.states.FilingState.TheVariants.{NotPending, Pending}
-use Rattle.registrar.proofs.Dealing.{Deals, Turn}
+use Rattle.registrar.proofs.Dealing.{Deals}
 use Rattle.registrar.proofs.Dealing.Turn.{finds, is_it}
 use Rattle.registrar.proofs.ItemRooms.{lapse_names, named}
 use Rattle.registrar.proofs.ItemsKeep.{filing_leaves, fit_as_judged, well_filed}

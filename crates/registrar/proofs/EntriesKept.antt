@@ -1,5 +1,5 @@
 -- Where an item deals with a filing, receipts never fall, and entries name nothing later.
-use Rattle.std.proofs.Common.{◌≡◌, ℕ, ◌<◌, ◌≤◌, true, false, List, ◌++◌, All, AllPairs, Contains, IsSome, get_or, Option, Some, None, is_some, option_map, refl, sym, ap, subst, ◌∙◌, arith}
+use Rattle.std.proofs.Common.{◌≡◌, ℕ, ◌<◌, ◌≤◌, true, false, List, ◌++◌, All, AllPairs, Contains, IsSome, get_or, Option, Some, None, option_map, refl, sym, ap, subst, ◌∙◌, arith}
 use Rattle.std.specs.Option.{option_map_or}
 use Rattle.std.proofs.lemmas.Bool.{false≢true}
 use Rattle.std.specs.List.{AllByRecursion}
@@ -14,7 +14,8 @@ use Rattle.folio_sections.specs.Entries.{at, with_entries}
 use Rattle.folio_sections.specs.KeptEntries.{IsCreatedInTime, IsPlacedInTime, IsStamped, ReceiptsRise, WaitsInTime}
 use Rattle.folio_sections.specs.declared.entries.Entry.{Entry}
 use Rattle.interim_orders.proofs.Noticing.{all_map as all_weaker}
-use Rattle.registrar.proofs.Added.{all_here, pairs_append, unchanged_elsewhere}
+use Rattle.registrar.proofs.Added.{all_here, unchanged_elsewhere}
+use Rattle.registrar.proofs.ContainedParts.{pairs_append}
 use Rattle.registrar.proofs.Dealing.{Deals, IsBrought}
 
 -- all that is brought stands at keys of the filing

@@ -1,11 +1,10 @@
 -- Where each key of an item has the room that it wants, there is room for what the item brings.
-use Rattle.std.proofs.Common.{◌≡◌, ℕ, ◌<◌, ◌≤◌, true, false, cond, nat_lt, List, [], length, Contains, Option, Some, None, option_and_then, option_map, refl, sym, ap, subst, ◌∙◌, arith}
+use Rattle.std.proofs.Common.{◌≡◌, ℕ, ◌<◌, ◌≤◌, true, cond, nat_lt, List, [], Contains, Option, Some, None, option_and_then, option_map, refl, sym, ap, subst, ◌∙◌, arith}
 use Rattle.std.specs.Option.{option_map_or}
 use Rattle.std.proofs.lemmas.Bool.Decides.{nat_tests}
 use Rattle.gb_base.specs.declared.keys.Key.{Key}
 use Rattle.act_model.specs.Receiving.{IsJournal, receipt_at}
 use Rattle.act_model.specs.Touches.{keys_of_filing}
-use Rattle.act_model.specs.declared.documents.Doc.{Doc}
 use Rattle.act_model.specs.declared.items.Item.{Item}
 use Rattle.act_model.specs.declared.items.Item.TheVariants as item
 use Rattle.act_model.specs.declared.receipts.Receipt.{Receipt}

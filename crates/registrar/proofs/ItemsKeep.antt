@@ -1,30 +1,26 @@
 -- What an item brings leaves a kept register.
-use Rattle.std.proofs.Common.{◌≡◌, ℕ, ◌-◌, ◌<◌, eqb, Bool, true, false, cond, ◌==◌, nat_lt, List, [], ◌∷◌, ◌++◌, All, Contains, IsSome, IsTrue, zero, suc, Option, Some, None, option_and_then, option_map, is_some, refl, sym, ap, subst, ◌∙◌, arith}
+use Rattle.std.proofs.Common.{◌≡◌, ℕ, ◌-◌, eqb, Bool, true, false, cond, List, [], ◌∷◌, All, IsTrue, zero, suc, Option, Some, None, option_and_then, is_some, refl, sym, ap, subst, ◌∙◌}
 use Rattle.std.specs.List.{slice_get}
 use Rattle.std.specs.Option.{option_map_or}
 use Rattle.std.proofs.lemmas.Bool.{false≢true}
-use Rattle.std.proofs.lemmas.Bool.Decides.{nat_tests}
 use Rattle.std.proofs.lemmas.List.Elements.{All-head, All-tail}
 use Rattle.gb_base.specs.declared.keys.Key.{Key}
-use Rattle.act_model.specs.Receiving.{IsJournal, day_of, receipt_at}
-use Rattle.act_model.specs.Touches.{filing_at, filing_in, keys_of_filing}
+use Rattle.act_model.specs.Receiving.{IsJournal}
+use Rattle.act_model.specs.Touches.{filing_at, filing_in}
 use Rattle.act_model.specs.WellFormed.{is_filing, well_formed}
 use Rattle.act_model.specs.declared.items.Filing.{Filing}
 use Rattle.act_model.specs.declared.items.Item.{Item}
 use Rattle.act_model.specs.declared.items.Item.TheVariants as item
 use Rattle.act_model.specs.declared.receipts.Receipt.{Receipt}
 use Rattle.folio_sections.specs.Documents.{documents}
-use Rattle.folio_sections.specs.Judging.{defects, interim_or_enter, judged, judged_filing, judgement_by, rejection}
-use Rattle.folio_sections.specs.Kept.{Kept}
-use Rattle.folio_sections.specs.Waiting.{is_pending, pending}
+use Rattle.folio_sections.specs.Judging.{defects, judged_filing, judgement_by, rejection}
 use Rattle.folio_sections.specs.declared.entries.Entry.{Entry}
 use Rattle.folio_sections.specs.declared.judgements.Defect.{Defect}
 use Rattle.folio_sections.specs.declared.judgements.Judgement.{Judgement}
 use Rattle.folio_sections.specs.declared.judgements.Judgement.TheVariants.{Enter, Interim, Reject}
 use Rattle.gb_base.specs.declared.sections.Section.{Section}
-use Rattle.registrar.proofs.Dealing.{Deals, IsFit, Turn}
-use Rattle.registrar.proofs.Dealing.Turn.{finds, is_it}
-use Rattle.registrar.proofs.Keeping.{Leaves, cure_leaves, end_leaves, entry_leaves, none_leave, order_leaves}
+use Rattle.registrar.proofs.Dealing.{Deals, IsFit}
+use Rattle.registrar.proofs.Keeping.{Leaves, entry_leaves, none_leave, order_leaves}
 use Rattle.registrar.proofs.Unrejected.{is_fit}
 use Rattle.registrar.specs.Brings.{brought_by_filing}
 

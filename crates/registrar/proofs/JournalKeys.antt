@@ -1,5 +1,5 @@
 -- The keys of the filings of a journal, and those of an item that is about one.
-use Rattle.std.proofs.Common.{◌≡◌, ℕ, zero, suc, ◌+◌, ◌-◌, ◌<◌, ◌≤◌, eqb, true, false, cond, nat_le, nat_lt, List, [], ◌∷◌, ◌++◌, length, Contains, IsSome, IsTrue, Option, Some, None, option_and_then, is_some, slice_get, refl, sym, ap, subst, ◌∙◌, arith}
+use Rattle.std.proofs.Common.{◌≡◌, ℕ, zero, suc, ◌+◌, ◌-◌, ◌<◌, ◌≤◌, eqb, true, false, cond, nat_le, nat_lt, List, [], ◌∷◌, ◌++◌, length, Contains, IsSome, IsTrue, Option, Some, None, option_and_then, is_some, slice_get, refl, sym, ap, subst, arith}
 use Rattle.std.specs.Option.{option_map_or}
 use Rattle.std.proofs.lemmas.Bool.{false≢true}
 use Rattle.std.proofs.lemmas.Bool.Decides.{nat_tests}

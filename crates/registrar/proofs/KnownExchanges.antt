@@ -1,5 +1,5 @@
 -- On a kept register a judge knows the rights whose ranks a filing exchanges.
-use Rattle.std.proofs.Common.{◌≡◌, ℕ, ◌+◌, ◌<◌, ◌≤◌, eqb, true, false, cond, ◌==◌, nat_lt, List, [], ◌∷◌, ◌++◌, All, Contains, IsSomeAnd, IfSome, IsTrue, Option, Some, None, fold, option_and_then, refl, sym, ap, subst, ◌∙◌, arith}
+use Rattle.std.proofs.Common.{◌≡◌, ℕ, ◌+◌, ◌<◌, eqb, true, false, cond, nat_lt, List, [], ◌∷◌, All, Contains, IsSomeAnd, IfSome, IsTrue, Some, None, option_and_then, refl, sym, subst, arith}
 use Rattle.std.specs.List.{AllByRecursion}
 use Rattle.std.specs.Option.{option_map_or}
 use Rattle.std.proofs.lemmas.Bool.Decides.{nat_tests}
@@ -11,38 +11,24 @@ use Rattle.act_model.specs.Acts.{folio_of, right_created}
 use Rattle.act_model.specs.Touches.{acts_of, created_before, created_in, filing_at, keys_of_act, keys_of_acts, keys_of_filing}
 use Rattle.act_model.specs.declared.filing_acts.Act.{Act}
 use Rattle.act_model.specs.declared.filing_acts.Act.TheVariants.{Exchange}
-use Rattle.act_model.specs.declared.items.Filing.{Filing}
 use Rattle.act_model.specs.declared.receipts.Receipt.{Receipt}
 use Rattle.folio_sections.specs.Judging.{IsKnownExchange, KnowsExchanges}
 use Rattle.folio_sections.specs.Kept.{Kept}
 use Rattle.folio_sections.specs.KeptEntries.{IsCreatedInTime}
 use Rattle.folio_sections.specs.KeptPlaces.{NamesEarlier}
 use Rattle.folio_sections.specs.KeptRights.{EntersAsFiled, IsAsFiled, act_of_right}
-use Rattle.folio_sections.specs.Rights.{created, created_by, is_live, live_right}
+use Rattle.folio_sections.specs.Rights.{created, is_live, live_right}
 use Rattle.folio_sections.specs.Waiting.{is_pending}
 use Rattle.folio_sections.specs.declared.entries.Created.{Created}
 use Rattle.folio_sections.specs.declared.entries.Entry.{Entry}
 use Rattle.folio_sections.specs.declared.entries.What.{What}
 use Rattle.folio_sections.specs.declared.entries.What.TheVariants as what
+use Rattle.registrar.proofs.RightReads.{IfCreates, created_has}
 
--- a content that creates a right creates one of which this holds
-abbrev Creates : (Created → Type 0) → What → Type 0
-Creates F (what.Created made) = F made
-Creates F other = Unit {0}
-
-one_created : (F : Created → Type 0) (before : Option Created) (w : What) → IfSome before F → Creates F w → IfSome (created_by before w) F
-one_created F before (what.Created made) earlier here = here
-one_created F before other earlier here = earlier
-
--- what holds of all that are created holds of the one that stands
-created_from : (F : Created → Type 0) (before : Option Created) (es : List Entry) → IfSome before F → AllByRecursion (λ e. Creates F e.what) es → IfSome (fold (λ o e. created_by o e.what) before es) F
-created_from F before [] earlier all = earlier
-created_from F before (e ∷ es) earlier all = created_from F (created_by before e.what) es (one_created F before e.what earlier all.0) all.1
-
-live_created : (F : Created → Type 0) (es : List Entry) → AllByRecursion (λ e. Creates F e.what) es → IfSome (live_right es) F
+live_created : (F : Created → Type 0) (es : List Entry) → AllByRecursion (λ e. IfCreates F e.what) es → IfSome (live_right es) F
 live_created F es all =
     elim (is_live es) as (λ b. IfSome (cond b (created es) None) F) [
-      | true ↦ created_from F None es tt all
+      | true ↦ created_has F es all
       | false ↦ tt
     ]
 
@@ -59,22 +45,22 @@ known_by_act : (journal : List Receipt) (m folio : ℕ) (right : RightNo) (made 
 known_by_act journal m folio right made earlier filed =
     let less : nat_lt right.receipt m ≡ true = grind (arith, nat_tests, earlier) in
     let there : option_and_then (created_in folio) (act_of_right journal right) ≡ Some made.spec =
-        elim (act_of_right journal right) as (λ o. IsSomeAnd o (IsAsFiled folio made) → option_and_then (created_in folio) o ≡ Some made.spec) [
-          | Some act ↦ λ filed. created_there folio made act filed
-          | None ↦ λ none. absurd none
-        ] filed in
+    elim (act_of_right journal right) as (λ o. IsSomeAnd o (IsAsFiled folio made) → option_and_then (created_in folio) o ≡ Some made.spec) [
+      | Some act ↦ λ filed. created_there folio made act filed
+      | None ↦ λ none. absurd none
+    ] filed in
     subst (λ b. cond b (option_and_then (created_in folio) (act_of_right journal right)) None ≡ Some made.spec) (sym less) there
 
 -- each Created at a right is of an earlier filing than m
 abbrev AreEarlier : ℕ → RightNo → List Entry → Type 0
-AreEarlier m right es = AllByRecursion (λ e. Creates (λ made. right.receipt < m) e.what) es
+AreEarlier m right es = AllByRecursion (λ e. IfCreates (λ made. right.receipt < m) e.what) es
 
-known_here : (journal : List Receipt) (at : Key → List Entry) (m folio : ℕ) (right : RightNo) (w : What) (receipt : ℕ) → EntersAsFiled journal at folio right receipt w → Creates (λ made. right.receipt < m) w → Creates (IsKnown journal m folio right) w
+known_here : (journal : List Receipt) (at : Key → List Entry) (m folio : ℕ) (right : RightNo) (w : What) (receipt : ℕ) → EntersAsFiled journal at folio right receipt w → IfCreates (λ made. right.receipt < m) w → IfCreates (IsKnown journal m folio right) w
 known_here journal at m folio right (what.Created made) receipt filed earlier = known_by_act journal m folio right made earlier filed.filed
 known_here journal at m folio right other receipt filed earlier = tt
 
 all_known : (journal : List Receipt) (at : Key → List Entry) (m folio : ℕ) (right : RightNo) (es : List Entry) → AllByRecursion (λ e. EntersAsFiled journal at folio right e.receipt e.what) es
-    → AreEarlier m right es → AllByRecursion (λ e. Creates (IsKnown journal m folio right) e.what) es
+    → AreEarlier m right es → AllByRecursion (λ e. IfCreates (IsKnown journal m folio right) e.what) es
 all_known journal at m folio right [] filed earlier = tt
 all_known journal at m folio right (e ∷ es) filed earlier =
     (known_here journal at m folio right e.what e.receipt filed.0 earlier.0, all_known journal at m folio right es filed.1 earlier.1)
@@ -87,7 +73,7 @@ known_at journal at m folio right kept earlier =
 
 -- ---- all Created are of earlier filings
 
-by_number : (m : ℕ) (right : RightNo) (w : What) → right.receipt < m → Creates (λ made. right.receipt < m) w
+by_number : (m : ℕ) (right : RightNo) (w : What) → right.receipt < m → IfCreates (λ made. right.receipt < m) w
 by_number m right (what.Created made) earlier = earlier
 by_number m right other earlier = tt
 
@@ -95,7 +81,7 @@ all_by_number : (m : ℕ) (right : RightNo) (es : List Entry) → right.receipt 
 all_by_number m right [] earlier = tt
 all_by_number m right (e ∷ es) earlier = (by_number m right e.what earlier, all_by_number m right es earlier)
 
-by_receipt : (m folio receipt : ℕ) (right : RightNo) (w : What) → receipt < m → IsCreatedInTime receipt (Right folio right) w → Creates (λ made. right.receipt < m) w
+by_receipt : (m folio receipt : ℕ) (right : RightNo) (w : What) → receipt < m → IsCreatedInTime receipt (Right folio right) w → IfCreates (λ made. right.receipt < m) w
 by_receipt m folio receipt right (what.Created made) earlier created = omega arith
 by_receipt m folio receipt right other earlier created = tt
 
@@ -143,9 +129,10 @@ earlier_act journal at m a other kept earlier = tt
 
 earlier_acts : (journal : List Receipt) (at : Key → List Entry) (m a : ℕ) (acts : List Act) → Kept journal at → ((k : Key) → Contains (keys_of_acts journal m a acts) k → All (λ e. e.receipt < m) (at k)) → AllByRecursion (RecedesEarlier m at) acts
 earlier_acts journal at m a [] kept earlier = tt
-earlier_acts journal at m a (act ∷ acts) kept earlier =
-    (earlier_act journal at m a act kept (λ k there. earlier k (Contains-append_left (keys_of_act journal m a act) (keys_of_acts journal m (a + 1) acts) k there)),
-    earlier_acts journal at m (a + 1) acts kept (λ k there. earlier k (Contains-append_right (keys_of_act journal m a act) (keys_of_acts journal m (a + 1) acts) k there)))
+earlier_acts journal at m a (act ∷ acts) kept earlier = (
+  earlier_act journal at m a act kept (λ k there. earlier k (Contains-append_left (keys_of_act journal m a act) (keys_of_acts journal m (a + 1) acts) k there)),
+  earlier_acts journal at m (a + 1) acts kept (λ k there. earlier k (Contains-append_right (keys_of_act journal m a act) (keys_of_acts journal m (a + 1) acts) k there)),
+)
 
 pub known_when_filed : (journal : List Receipt) (at : Key → List Entry) (m : ℕ) → Kept journal at → ((k : Key) → Contains (keys_of_filing journal m) k → All (λ e. e.receipt < m) (at k)) → KnowsExchanges journal m at
 known_when_filed journal at m kept =

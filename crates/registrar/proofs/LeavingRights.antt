@@ -12,7 +12,7 @@ use Rattle.folio_sections.specs.declared.entries.Entry.{Entry}
 use Rattle.folio_sections.specs.declared.entries.What.{What}
 use Rattle.folio_sections.specs.declared.entries.What.TheVariants as what
 use Rattle.interim_orders.specs.Orders.{deadline_of, end_brought, order_brought}
-use Rattle.registrar.proofs.ContainedParts.{all_mapped, all_parts}
+use Rattle.registrar.proofs.ContainedParts.{each_mapped, all_parts}
 
 -- the content neither creates a right nor exchanges or exercises one
 abbrev pub LeavesRights : What → Type 0
@@ -23,15 +23,15 @@ LeavesRights other = Unit {0}
 
 pub order_leaves_rights : (journal : List Receipt) (m : ℕ) → AllByRecursion (λ e. LeavesRights e.what) (order_brought journal m)
 order_leaves_rights journal m =
-    all_mapped (λ (e : Entry). LeavesRights e.what) (λ k. entry_by journal m k (what.Pending m (deadline_of journal m))) (keys_in_order journal m) (λ k. tt)
+    each_mapped (λ (e : Entry). LeavesRights e.what) (λ k. entry_by journal m k (what.Pending m (deadline_of journal m))) (keys_in_order journal m) (λ k. tt)
 
 pub end_leaves_rights : (journal : List Receipt) (m i : ℕ) → AllByRecursion (λ e. LeavesRights e.what) (end_brought journal m i)
 end_leaves_rights journal m i =
-    all_mapped (λ (e : Entry). LeavesRights e.what) (λ k. entry_by journal i k (what.Settled m)) (keys_in_order journal m) (λ k. tt)
+    each_mapped (λ (e : Entry). LeavesRights e.what) (λ k. entry_by journal i k (what.Settled m)) (keys_in_order journal m) (λ k. tt)
 
 notices_leave : (journal : List Receipt) (m i : ℕ) (at0 : Key → List Entry) (key : Key) → AllByRecursion (λ e. LeavesRights e.what) (notices_at journal m i at0 key)
 notices_leave journal m i at0 key =
-    all_mapped (λ (e : Entry). LeavesRights e.what) (λ n. entry_by journal i key (what.Notice n)) (waiting_unnoticed m (at0 key)) (λ n. tt)
+    each_mapped (λ (e : Entry). LeavesRights e.what) (λ n. entry_by journal i key (what.Notice n)) (waiting_unnoticed m (at0 key)) (λ n. tt)
 
 pub notices_leave_rights : (journal : List Receipt) (m i : ℕ) (at0 : Key → List Entry) → AllByRecursion (λ e. LeavesRights e.what) (notices_brought journal m i at0)
 notices_leave_rights journal m i at0 =

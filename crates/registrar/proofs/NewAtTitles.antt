@@ -24,7 +24,8 @@ use Rattle.folio_sections.specs.declared.entries.Entry.{Entry}
 use Rattle.folio_sections.specs.declared.entries.What.{What}
 use Rattle.folio_sections.specs.declared.entries.What.TheVariants as what
 use Rattle.folio_sections.proofs.Additions.{at-append, none_at}
-use Rattle.folio_sections.proofs.Unchanged.{all_at, all_both}
+use Rattle.folio_sections.proofs.Unchanged.{all_at}
+use Rattle.registrar.proofs.ContainedParts.{all_parts}
 use Rattle.registrar.proofs.EnteredTitles.{IsQuiet, place_list, with_entry}
 use Rattle.registrar.proofs.NoticedPlaces.{notice_entry}
 
@@ -109,10 +110,6 @@ content_quiet journal m acts docs i at0 a (Cancel folio right) = (tt, tt)
 content_quiet journal m acts docs i at0 a (Exchange folio recede rise) = (tt, (tt, tt))
 content_quiet journal m acts docs i at0 a (Exercise folio behind_right spec) = (tt, (tt, tt))
 
-all_parts : {X : Type 0} (P : Entry → Type 0) (f : X → List Entry) → ((x : X) → AllByRecursion P (f x)) → (xs : List X) → AllByRecursion P (flat_map f xs)
-all_parts P f each [] = tt
-all_parts P f each (x ∷ xs) = subst (AllByRecursion P) (sym (flat_map-cons f x xs)) (all_both P (f x) (flat_map f xs) (each x) (all_parts P f each xs))
-
 -- what the acts of filing m bring at a key
 abbrev pub contents_at : List Receipt → ℕ → ℕ → (Key → List Entry) → Filing → Key → List Entry
 contents_at journal m i at0 f k = at (contents_brought journal m i (with_places journal m i (with_notices journal m i at0)) f) k
@@ -122,8 +119,8 @@ contents_quiet journal m i at0 f k =
     let standing = with_places journal m i (with_notices journal m i at0) in
     let docs = documents journal m f i in
     all_at (λ e. IsQuiet e.what) (contents_brought journal m i standing f) k
-    (all_parts (λ e. IsQuiet e.what) (λ (numbered : ℕ × Act). content journal m f.acts docs i standing numbered.0 numbered.1)
-    (λ numbered. content_quiet journal m f.acts docs i standing numbered.0 numbered.1) (enumerate_from 1 f.acts))
+    (all_parts (λ e. IsQuiet e.what) (λ (numbered : ℕ × Act). content journal m f.acts docs i standing numbered.0 numbered.1) (enumerate_from 1 f.acts)
+    (λ numbered. content_quiet journal m f.acts docs i standing numbered.0 numbered.1))
 
 -- the entries at a title once the notices stand there
 abbrev pub noticed_title : List Receipt → ℕ → ℕ → (Key → List Entry) → ℕ → List Entry

@@ -29,7 +29,8 @@ use Rattle.folio_sections.specs.declared.entries.Created.{Created}
 use Rattle.folio_sections.specs.declared.entries.Entry.{Entry}
 use Rattle.folio_sections.specs.declared.entries.What.{What}
 use Rattle.folio_sections.specs.declared.entries.What.TheVariants as what
-use Rattle.registrar.proofs.ContainedParts.{all_numbered, all_paired, all_weaker, contains_kept, contains_part}
+use Rattle.interim_orders.proofs.Noticing.{all_map as all_weaker}
+use Rattle.registrar.proofs.ContainedParts.{all_numbered, all_paired, contains_kept, contains_part}
 use Rattle.registrar.proofs.Dealing.{Deals, IsFit}
 use Rattle.registrar.proofs.ExchangesStand.{ActsAt, ReadOn, leaves_acts, plain_stays, reserved_by}
 use Rattle.registrar.proofs.NewContents.{IsActOf, act_of_new_right, all_brought, all_contents, brought_is, standing}

@@ -27,19 +27,19 @@ abbrev pub Rises : List ℕ → Type 0
 Rises [] = Unit {0}
 Rises (x ∷ xs) = AllByRecursion (λ y. x < y) xs × Rises xs
 
-all_filtered : (P : ℕ → Type 0) (q : ℕ → Bool) (xs : List ℕ) → AllByRecursion P xs → AllByRecursion (λ x. P x × (q x ≡ true)) (filter q xs)
-all_filtered P q [] all = tt
-all_filtered P q (x ∷ xs) all =
+all_that_pass : (P : ℕ → Type 0) (q : ℕ → Bool) (xs : List ℕ) → AllByRecursion P xs → AllByRecursion (λ x. P x × (q x ≡ true)) (filter q xs)
+all_that_pass P q [] all = tt
+all_that_pass P q (x ∷ xs) all =
     elim (q x) as (λ b. q x ≡ b → AllByRecursion (λ y. P y × (q y ≡ true)) (cond b (x ∷ filter q xs) (filter q xs))) [
-      | true ↦ λ passes. ((all.0, passes), all_filtered P q xs all.1)
-      | false ↦ λ fails. all_filtered P q xs all.1
+      | true ↦ λ passes. ((all.0, passes), all_that_pass P q xs all.1)
+      | false ↦ λ fails. all_that_pass P q xs all.1
     ] refl
 
 rises_filtered : (q : ℕ → Bool) (xs : List ℕ) → Rises xs → Rises (filter q xs)
 rises_filtered q [] up = tt
 rises_filtered q (x ∷ xs) up =
     elim (q x) as (λ b. Rises (cond b (x ∷ filter q xs) (filter q xs))) [
-      | true ↦ (all_map (λ y. (x < y) × (q y ≡ true)) (λ y. x < y) (filter q xs) (λ y both. both.0) (all_filtered (λ y. x < y) q xs up.0), rises_filtered q xs up.1)
+      | true ↦ (all_map (λ y. (x < y) × (q y ≡ true)) (λ y. x < y) (filter q xs) (λ y both. both.0) (all_that_pass (λ y. x < y) q xs up.0), rises_filtered q xs up.1)
       | false ↦ rises_filtered q xs up.1
     ]
 
@@ -90,8 +90,8 @@ pub unnoticed_lack : (m : ℕ) (entries : List Entry) → AllByRecursion (λ n. 
 unnoticed_lack m entries =
     all_map (λ n. ((n < m) × (is_pending n entries ≡ true)) × (is_none (notice n entries) ≡ true)) (λ n. (n < m) × LacksNotice entries n) (waiting_unnoticed m entries)
     (λ n all. (all.0.0, (all.0.1, not_false (is_noticed n entries) (sym (lacks_is n entries all.0.1) ∙ all.1))))
-    (all_filtered (λ n. (n < m) × (is_pending n entries ≡ true)) (λ n. is_none (notice n entries)) (waiting_before m entries)
-    (all_filtered (λ n. n < m) (λ n. is_pending n entries) (below m) (below_less m)))
+    (all_that_pass (λ n. (n < m) × (is_pending n entries ≡ true)) (λ n. is_none (notice n entries)) (waiting_before m entries)
+    (all_that_pass (λ n. n < m) (λ n. is_pending n entries) (below m) (below_less m)))
 
 -- where a filing creates a right it is no receipt 0
 is_receipt : (journal : List Receipt) (folio n : ℕ) → creates_there journal folio n ≡ true → 0 < n

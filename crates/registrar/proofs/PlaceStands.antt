@@ -23,7 +23,8 @@ use Rattle.folio_sections.specs.declared.entries.Entry.{Entry}
 use Rattle.folio_sections.specs.declared.entries.What.{What}
 use Rattle.folio_sections.specs.declared.entries.What.TheVariants as what
 use Rattle.folio_sections.proofs.Unchanged.{all_at, all_both}
-use Rattle.registrar.proofs.ContainedParts.{all_mapped, all_parts, all_weaker, any_in_first, any_in_second, any_of, contains_first, contains_kept, contains_part, list_any_of}
+use Rattle.interim_orders.proofs.Noticing.{all_map as all_weaker}
+use Rattle.registrar.proofs.ContainedParts.{each_mapped, all_parts, any_in_first, any_in_second, any_of, contains_first, contains_kept, contains_part, list_any_of}
 use Rattle.registrar.proofs.NewContents.{IsActOf, standing}
 
 -- ---- a filing with a creating act creates in the act's folio
@@ -83,7 +84,7 @@ title_in_time journal m i at0 k earlier =
     (all_weaker (λ (e : Entry). e.receipt < i) (λ (e : Entry). e.receipt ≤ i) (at0 k) (λ e less. omega arith) (recursion_from_All (λ (e : Entry). e.receipt < i) (at0 k) earlier))
     (all_at (λ e. e.receipt ≤ i) (notices_brought journal m i at0) k
     (all_parts (λ (e : Entry). e.receipt ≤ i) (notices_at journal m i at0) (keys_in_order journal m)
-    (λ key. all_mapped (λ (e : Entry). e.receipt ≤ i) (λ n. entry_by journal i key (what.Notice n)) (waiting_unnoticed m (at0 key)) (λ n. omega arith))))
+    (λ key. each_mapped (λ (e : Entry). e.receipt ≤ i) (λ n. entry_by journal i key (what.Notice n)) (waiting_unnoticed m (at0 key)) (λ n. omega arith))))
 
 by_notice : (journal : List Receipt) (folio m i : ℕ) (es : List Entry) → creates_there journal folio m ≡ true → AllByRecursion (λ e. e.receipt ≤ i) es → is_none (notice m es) ≡ false → Any (SetsPlace journal folio m i) es
 by_notice journal folio m i es creates in_time h =

@@ -1,5 +1,5 @@
 -- The one registrar goes on by one item.
-use Rattle.std.proofs.Common.{◌≡◌, ℕ, zero, suc, ◌+◌, ◌-◌, ◌<◌, ◌≤◌, true, false, cond, List, [], ◌∷◌, ◌++◌, length, All, Contains, IsTrue, find, fold, Option, Some, None, is_some, refl, sym, ap, subst, ◌∙◌, length-append, arith}
+use Rattle.std.proofs.Common.{◌≡◌, ℕ, zero, suc, ◌+◌, ◌-◌, ◌<◌, true, false, cond, List, [], ◌∷◌, ◌++◌, length, All, find, Some, None, is_some, refl, sym, ap, subst, ◌∙◌, length-append, arith}
 use Rattle.std.specs.List.{AllByRecursion, enumerate_from, range_with_len}
 use Rattle.std.specs.Option.{option_map_or}
 use Rattle.std.proofs.lemmas.Bool.{false≢true}
@@ -21,13 +21,10 @@ use Rattle.folio_sections.specs.declared.entries.Entry.{Entry}
 use Rattle.folio_sections.proofs.Additions.{at-append}
 use Rattle.folio_sections.proofs.Unchanged.{all_at}
 use Rattle.interim_orders.proofs.Noticing.{all_map}
-use Rattle.registrar.proofs.CuresKeep.{AreEarlier}
 use Rattle.registrar.proofs.StepLemmas.{brings_is, brings_leaves}
 use Rattle.registrar.specs.Brings.{Brought, brings, brought_by_item, nothing_pending}
-use Rattle.registrar.specs.ItemKeys.{keys_of_item}
 use Rattle.registrar.specs.Settling.{Settled, nothing_settled, registrar, settled_in_order, settled_next}
 use Rattle.registrar.specs.declared.verdicts.Verdict.{Verdict}
-use Rattle.registrar.specs.declared.verdicts.Verdict.TheVariants as verdict
 use Rattle.registrar.specs.inner.Named.{filing_named}
 use Rattle.registrar.specs.inner.SettledTo.{SettledTo}
 

@@ -1,8 +1,5 @@
 -- Where each key of an item has the room that the item wants, there is room for what it brings.
-use Rattle.std.proofs.Common.{◌≡◌, ℕ, ◌+◌, ◌<◌, ◌≤◌, Bool, true, false, cond, nat_lt, List, [], ◌++◌, length, Contains, IsTrue, Option, Some, None, refl, sym, ap, subst, ◌∙◌, arith}
-use Rattle.std.specs.Option.{option_map_or}
-use Rattle.std.proofs.lemmas.Bool.{cases_Bool}
-use Rattle.std.proofs.lemmas.Bool.Decides.{nat_tests}
+use Rattle.std.proofs.Common.{◌≡◌, ℕ, ◌+◌, ◌≤◌, Bool, true, false, cond, List, ◌++◌, length, Contains, Option, None, refl, sym, subst, arith}
 use Rattle.gb_base.specs.declared.keys.Key.{Key}
 use Rattle.act_model.proofs.KeyOrder.{has, has_decides}
 use Rattle.act_model.specs.Receiving.{IsJournal}
@@ -56,7 +53,7 @@ cure_fits journal m i at room stands roomy k =
     let outer = length-at (notices ++ contents) ended k in
     let inner = length-at notices contents k in
     let all = within (length (waiting_unnoticed m (at k))) (room k) (has k (keys_of_filing journal m)) (length (at_key notices k)) (length (at_key contents k)) (length (at_key ended k))
-        (counts.notices k) (counts.entered k) (counts.ended k) (λ there. roomy k ((has_decides k (keys_of_filing journal m)).0 there)) in
+    (counts.notices k) (counts.entered k) (counts.ended k) (λ there. roomy k ((has_decides k (keys_of_filing journal m)).0 there)) in
     omega arith
 
 -- the entry alone

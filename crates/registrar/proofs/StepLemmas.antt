@@ -1,12 +1,12 @@
 -- What a step needs and leaves, by what receipt i says.
-use Rattle.std.proofs.Common.{◌≡◌, ℕ, ◌≤◌, List, [], Contains, Option, Some, None, option_map, is_some, refl, sym, ap, subst, ◌∙◌}
+use Rattle.std.proofs.Common.{◌≡◌, ℕ, ◌≤◌, List, [], Contains, Some, None, option_map, is_some, refl, sym, ap, subst}
 use Rattle.std.specs.Option.{option_map_or}
 use Rattle.gb_base.specs.declared.keys.Key.{Key}
 use Rattle.act_model.specs.Receiving.{IsJournal, receipt_at}
 use Rattle.act_model.specs.declared.items.Item.{Item}
 use Rattle.act_model.specs.declared.items.Item.TheVariants as item
 use Rattle.act_model.specs.declared.receipts.Receipt.{Receipt}
-use Rattle.folio_sections.specs.Adding.{AddsAll, AddsList, HasRoom}
+use Rattle.folio_sections.specs.Adding.{AddsAll, HasRoom}
 use Rattle.folio_sections.specs.Entries.{with_entries}
 use Rattle.folio_sections.specs.Kept.{Kept}
 use Rattle.folio_sections.specs.declared.entries.Entry.{Entry}

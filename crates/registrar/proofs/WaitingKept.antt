@@ -20,7 +20,7 @@ use Rattle.folio_sections.specs.declared.entries.What.TheVariants as what
 use Rattle.folio_sections.proofs.Additions.{at-append}
 use Rattle.folio_sections.proofs.Unchanged.{all_at}
 use Rattle.interim_orders.specs.Orders.{deadline_of, end_brought, order_brought}
-use Rattle.registrar.proofs.Added.{cond_same}
+use Rattle.registrar.proofs.ContainedParts.{cond_same}
 use Rattle.registrar.proofs.Dealing.{Deals, KeepsWaiting}
 use Rattle.registrar.proofs.WaitingReads.{enters_keep_waiting, pending_kept, pending_marked}
 

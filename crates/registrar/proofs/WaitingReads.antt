@@ -22,7 +22,7 @@ use Rattle.folio_sections.specs.declared.entries.Entry.{Entry}
 use Rattle.folio_sections.specs.declared.entries.What.{What}
 use Rattle.folio_sections.specs.declared.entries.What.TheVariants as what
 use Rattle.folio_sections.proofs.Unchanged.{all_both}
-use Rattle.registrar.proofs.Added.{all_flat_mapped, all_mapped, cond_same, each_so}
+use Rattle.registrar.proofs.ContainedParts.{all_flat_mapped, all_mapped, cond_same, each_so}
 use Rattle.registrar.proofs.Dealing.{KeepsWaiting}
 
 -- ---- contents that leave it

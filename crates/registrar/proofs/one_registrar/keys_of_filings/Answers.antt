@@ -1,7 +1,5 @@
-use Rattle.std.proofs.Common.{◌≡◌, ◌+◌, ◌≤◌, IfSome, IsTrue, nat_le, true, false, sym, subst, ◌∙◌, ⊎_elim, arith}
-use Rattle.folio_sections.specs.Held.{is_given}
-use Rattle.act_model.specs.Touches.{keys_in_order}
-use Rattle.registrar.proofs.JournalKeys.{given_before, given_now, given_next, keys_within}
+use Rattle.std.proofs.Common.{◌≡◌, ◌+◌, IfSome, subst, ◌∙◌, arith}
+use Rattle.registrar.proofs.JournalKeys.{given_next, keys_within}
 use Rattle.registrar.proofs.one_registrar.keys_of_filings.Goals as goal
 
 pub loop-index-preserved : goal.loop-index-preserved

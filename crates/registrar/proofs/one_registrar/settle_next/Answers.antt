@@ -1,5 +1,5 @@
-use Rattle.std.proofs.Common.{◌<◌, All, Some, sym, subst, ◌∙◌}
-use Rattle.folio_sections.specs.Held.{entries_at, is_held}
+use Rattle.std.proofs.Common.{◌<◌, All, sym, subst, ◌∙◌}
+use Rattle.folio_sections.specs.Held.{entries_at}
 use Rattle.std.proofs.Common.{IsTrue}
 use Rattle.registrar.proofs.JournalKeys.{item_keys}
 use Rattle.registrar.proofs.Registering.{added_to}
