@@ -1,0 +1,179 @@
+// Whole journals: filings in two folios, cures that are rejected, items that name nothing that
+// waits, and what a register answers.
+use crate::testing::Seen::{Cancelled, Created, Notice, Opened, Pending, Placed, Settled};
+use crate::testing::{
+    are, are_want_of_form, assignment, at_right, at_title, cancellation, certified,
+    certified_charge, charge, cure, cure_by, day, filed_by, filing, folio, is_cure_rejected,
+    is_cured, is_entered, is_not_pending, is_rejected, is_still_open, lapse, opened, placed, plain,
+    receipt, receive, receive_opening, right, verdict, waits,
+};
+use crate::{Verdict, alone};
+use act_model::{Item, Journal};
+use arrayvec::ArrayVec;
+use gb_base::{Day, Section};
+use std::test::Fail;
+
+/// A filing waits in two folios and is noticed in one of them alone. Its cure places it there by
+/// the notice, and in the other by a place of its own.
+#[test]
+fn a_filing_in_two_folios(rt: HostRuntime) -> Result<(), Fail> {
+    let mut journal = opened(&rt, rt.alloc());
+    receive_opening(&rt, &mut journal, 8);
+    let mut acts = ArrayVec::new();
+    acts.push(charge(&rt, 7, 100_000, 20));
+    acts.push(charge(&rt, 8, 100_000, 20));
+    let both = filing(&rt, 10, acts, &[plain(&rt, 1, 10), plain(&rt, 2, 10)]);
+    receive(&rt, &mut journal, day(&rt, 3, 1), &Item::Filing(both));
+    receive(
+        &rt,
+        &mut journal,
+        day(&rt, 3, 4),
+        &certified_charge(&rt, 200_000, 21),
+    );
+    receive(&rt, &mut journal, day(&rt, 3, 5), &cure(&rt, 3));
+    receive(
+        &rt,
+        &mut journal,
+        day(&rt, 3, 6),
+        &cure_by(&rt, 3, &[certified(&rt, 2, 10)]),
+    );
+    let register = alone(rt.alloc(), &journal)?;
+    assert!(rt; waits_for_two_consents(verdict(&rt, &register, 3), day(&rt, 4, 1)));
+    assert!(rt; is_entered(verdict(&rt, &register, 4)));
+    assert!(rt; is_still_open(verdict(&rt, &register, 5), 2));
+    assert!(rt; is_cured(verdict(&rt, &register, 6)));
+    let noticed = [
+        (1, Opened),
+        (3, Pending(3)),
+        (4, Notice(3)),
+        (4, Placed(4)),
+        (6, Settled(3)),
+    ];
+    assert!(rt; are(at_title(&rt, &register, 7), &noticed));
+    let unnoticed = [
+        (2, Opened),
+        (3, Pending(3)),
+        (6, Placed(3)),
+        (6, Settled(3)),
+    ];
+    assert!(rt; are(at_title(&rt, &register, 8), &unnoticed));
+    let made = [(3, Pending(3)), (6, Created), (6, Settled(3))];
+    assert!(rt; are(at_right(&rt, &register, 7, 3, 1), &made));
+    assert!(rt; are(at_right(&rt, &register, 8, 3, 2), &made));
+    assert!(rt; placed(&rt, &register, 7, 3, 1) == day(&rt, 3, 4));
+    assert!(rt; placed(&rt, &register, 8, 3, 2) == day(&rt, 3, 6));
+    Ok(())
+}
+
+fn waits_for_two_consents(verdict: &Verdict, last: Day) -> bool {
+    match verdict {
+        Verdict::Interim { until, defects } => *until == last && are_want_of_form(defects, &[1, 2]),
+        _ => false,
+    }
+}
+
+/// A right is cancelled while its assignment waits: with a cure the assignment is rejected, and
+/// waits no longer.
+#[test]
+fn a_cure_that_is_rejected(rt: HostRuntime) -> Result<(), Fail> {
+    let mut journal = opened(&rt, rt.alloc());
+    receive(
+        &rt,
+        &mut journal,
+        day(&rt, 3, 1),
+        &certified_charge(&rt, 100_000, 20),
+    );
+    let made = right(&rt, 2, 1);
+    let assigned = filed_by(&rt, 20, assignment(&rt, made, 21), &[plain(&rt, 1, 20)]);
+    receive(&rt, &mut journal, day(&rt, 3, 4), &Item::Filing(assigned));
+    let consents = [certified(&rt, 1, 20), certified(&rt, 1, 10)];
+    let cancelled = filed_by(&rt, 20, cancellation(&rt, made), &consents);
+    receive(&rt, &mut journal, day(&rt, 3, 5), &Item::Filing(cancelled));
+    let consent = [certified(&rt, 1, 20)];
+    receive(
+        &rt,
+        &mut journal,
+        day(&rt, 3, 6),
+        &cure_by(&rt, 3, &consent),
+    );
+    receive(
+        &rt,
+        &mut journal,
+        day(&rt, 3, 7),
+        &cure_by(&rt, 3, &consent),
+    );
+    let register = alone(rt.alloc(), &journal)?;
+    assert!(rt; is_entered(verdict(&rt, &register, 2)));
+    assert!(rt; waits(verdict(&rt, &register, 3), day(&rt, 4, 3)));
+    assert!(rt; is_entered(verdict(&rt, &register, 4)));
+    assert!(rt; is_cure_rejected(verdict(&rt, &register, 5), Section::Bgb873));
+    assert!(rt; is_not_pending(verdict(&rt, &register, 6)));
+    let wanted = [
+        (2, Created),
+        (3, Pending(3)),
+        (4, Notice(3)),
+        (4, Cancelled),
+        (5, Settled(3)),
+    ];
+    assert!(rt; are(at_right(&rt, &register, 7, 2, 1), &wanted));
+    Ok(())
+}
+
+/// Cures and lapses of a later number, of themselves and of what is no filing find nothing that
+/// waits, nor does an item of a forced sale. They bring nothing.
+#[test]
+fn items_that_name_nothing_that_waits(rt: HostRuntime) -> Result<(), Fail> {
+    let mut journal = opened(&rt, rt.alloc());
+    receive(&rt, &mut journal, day(&rt, 3, 1), &lapse(&rt, 9));
+    receive(&rt, &mut journal, day(&rt, 5, 2), &lapse(&rt, 3));
+    receive(&rt, &mut journal, day(&rt, 5, 2), &lapse(&rt, 2));
+    receive(&rt, &mut journal, day(&rt, 5, 2), &lapse(&rt, 1));
+    receive(&rt, &mut journal, day(&rt, 5, 2), &cure(&rt, 9));
+    receive(&rt, &mut journal, day(&rt, 5, 2), &cure(&rt, 7));
+    receive(&rt, &mut journal, day(&rt, 5, 2), &cure(&rt, 2));
+    receive(&rt, &mut journal, day(&rt, 5, 2), &cure(&rt, 1));
+    let sale = Item::Distribute {
+        folio: folio(&rt, 7),
+    };
+    receive(&rt, &mut journal, day(&rt, 5, 2), &sale);
+    let register = alone(rt.alloc(), &journal)?;
+    for n in 2..11 {
+        assert!(rt; is_not_pending(verdict(&rt, &register, n)));
+    }
+    assert!(rt; are(at_title(&rt, &register, 7), &[(1, Opened)]));
+    Ok(())
+}
+
+/// Open folios are told ascending, each once, in whatever order they were opened; verdicts by their
+/// numbers, and none beyond the journal.
+#[test]
+fn what_a_register_answers(rt: HostRuntime) -> Result<(), Fail> {
+    let mut journal = Journal::new(rt.alloc());
+    receive_opening(&rt, &mut journal, 9);
+    receive_opening(&rt, &mut journal, 7);
+    receive_opening(&rt, &mut journal, 8);
+    receive_opening(&rt, &mut journal, 7);
+    receive(
+        &rt,
+        &mut journal,
+        day(&rt, 3, 1),
+        &certified_charge(&rt, 100_000, 20),
+    );
+    let register = alone(rt.alloc(), &journal)?;
+    let ascending = [folio(&rt, 7), folio(&rt, 8), folio(&rt, 9)];
+    assert!(rt; register.folios() == ascending.as_slice());
+    assert!(rt; register.verdicts().len() == 5);
+    assert!(rt; is_rejected(verdict(&rt, &register, 4), Section::Gbo3));
+    assert!(rt; is_entered(verdict(&rt, &register, 5)));
+    assert!(rt; register.verdict(receipt(&rt, 6)).is_none());
+    Ok(())
+}
+
+/// A register of no receipts has no folio and no verdict.
+#[test]
+fn an_empty_journal(rt: HostRuntime) -> Result<(), Fail> {
+    let register = alone(rt.alloc(), &Journal::new(rt.alloc()))?;
+    assert!(rt; register.folios().is_empty() && register.verdicts().is_empty());
+    assert!(rt; register.verdict(receipt(&rt, 1)).is_none());
+    Ok(())
+}
