@@ -20,11 +20,16 @@ pub(crate) fn journal_of(alloc: Global, count: u32) -> Result<Journal> {
     Ok(journal)
 }
 
-/// The item becomes the next receipt, of 29 February 2024, 9 o'clock.
+/// The item becomes the next receipt, of 29 February 2024.
 pub(crate) fn receive(journal: &mut Journal, item: &Item) -> Result<()> {
-    ensure!(well_formed(item), "an item is not well formed");
     let day = Day::from_civil(2024, 2, 29).context("no such day")?;
-    let stamp = Stamp::new(day, 540).context("no such minute")?;
+    receive_on(journal, day, item)
+}
+
+/// The item becomes the next receipt, of this day, 9 o'clock.
+pub(crate) fn receive_on(journal: &mut Journal, day: Day, item: &Item) -> Result<()> {
+    ensure!(well_formed(item), "an item is not well formed");
+    let stamp = Stamp::new(day, 540).context("no such stamp day")?;
     let reference = u64::from(journal.len());
     match journal.add(stamp, 1, reference, item) {
         Added::Accepted(_) => Ok(()),

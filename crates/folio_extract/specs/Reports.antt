@@ -21,10 +21,10 @@ abbrev pub end_line : ℕ → ℕ → List ℕ
 end_line receipts folios = codes "end receipts " ++ (decimal receipts ++ (codes " folios " ++ (decimal folios ++ codes "\n")))
 
 -- the report of these verdicts, and of these folios
-abbrev pub report_of : List Receipt → List (ℕ × Verdict) → (Key → List Entry) → List ℕ → List ℕ
-report_of journal verdicts at folios =
+abbrev pub report_text : List Receipt → List (ℕ × Verdict) → (Key → List Entry) → List ℕ → List ℕ
+report_text journal verdicts at folios =
     verdict_lines verdicts ++ (folio_texts journal at folios ++ end_line (length verdicts) (length folios))
 
 -- the report of a register
 abbrev pub report : List Receipt → Settled → List ℕ
-report journal settled = report_of journal settled.verdicts (at_key settled.entries) (open_folios settled.entries)
+report journal settled = report_text journal settled.verdicts (at_key settled.entries) (open_folios settled.entries)

@@ -3,7 +3,7 @@ ghost use Rattle.std.specs.Prelude.{◌≡◌, ◌++◌, IfOk, OnOk, length};
 ghost use Rattle.std.specs.String.{string_bytes};
 ghost use Rattle.folio_sections.specs.Held.{entries_at};
 ghost use Rattle.folio_sections.specs.Kept.{Kept};
-ghost use Rattle.folio_extract.specs.Reports.{end_line, folio_texts, report_of};
+ghost use Rattle.folio_extract.specs.Reports.{end_line, folio_texts, report_text};
 
 use crate::extracts::add_extract;
 use crate::rank_tables::add_rank_table;
@@ -17,7 +17,7 @@ use std::alloc::Global;
 /// open folio, ascending, and a line that ends it.
 pub fn report(alloc: Global, register: &Register, journal: &Journal) -> Result<Vec<u8>, NoMemory>
     requires { Kept journal.now.receipts (entries_at register.now.parts) }
-    ensures { IfOk result (λ text. text.items ≡ report_of journal.now.receipts register.now.verdicts (entries_at register.now.parts) register.now.folios) }
+    ensures { IfOk result (λ text. text.items ≡ report_text journal.now.receipts register.now.verdicts (entries_at register.now.parts) register.now.folios) }
 {
     let mut text = String::new(alloc);
     add_verdict_lines(&mut text, register)?;
