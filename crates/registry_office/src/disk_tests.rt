@@ -21,10 +21,15 @@ const CHARGE: &[u8] =
 const REPORT: &[u8] =
     b"receipt 1 entered\nreceipt 2 entered\nfolio 7\ninventory district 12 parcel 345/6 area 800\nowners 10\nright 2.1 III right land-charge 100000.00 rate 500 holder 20 placed 2024-03-01\nranks 7\nrank 1 2.1\ncents 1-10000000 2.1\nend receipts 2 folios 1\n";
 
-/// A journal of one lapse, and the same with a kind of item that there is not.
+/// The file of a journal with one lapse, of filing 2.
 const LAPSE: &[u8] =
     b"\x47GBJOURN1\x01\x00\x00\x00\x17\x00\x00\x4d\x46\x02\x1c\x00\x00\x00\x01\x00\x00\x00\x00\x00\x00\x00\x05\x03\x00\x00\x00\x02\x00";
 
+/// The file of a journal with one distribution, of folio 2.
+const DISTRIBUTION: &[u8] =
+    b"\x47GBJOURN1\x01\x00\x00\x00\x17\x00\x00\x4d\x46\x02\x1c\x00\x00\x00\x01\x00\x00\x00\x00\x00\x00\x00\x05\x08\x00\x00\x00\x02\x00";
+
+/// The same with a kind of item that there is not.
 const OF_KIND_9: &[u8] =
     b"\x47GBJOURN1\x01\x00\x00\x00\x17\x00\x00\x4d\x46\x02\x1c\x00\x00\x00\x01\x00\x00\x00\x00\x00\x00\x00\x05\x09\x00\x00\x00\x02\x00";
 
@@ -93,10 +98,21 @@ fn an_unmade_file_is_made_and_holds_nothing(rt: HostRuntime) -> Result<(), Fail>
 
 #[test]
 fn an_item_that_is_not_built_is_said_to_be_none(rt: HostRuntime) -> Result<(), Fail> {
-    let mut disk = disk_of(rt.alloc(), LAPSE, &[])?;
+    let mut disk = disk_of(rt.alloc(), DISTRIBUTION, &[])?;
     let (status, text) = settled(&rt, &mut disk)?;
     assert_eq!(rt; status, Status::Ok);
     assert_eq!(rt; text.as_slice(), b"not built\n".as_slice());
+    assert_eq!(rt; disk.bytes(), DISTRIBUTION);
+    Ok(())
+}
+
+#[test]
+fn a_lapse_that_names_nothing_is_settled(rt: HostRuntime) -> Result<(), Fail> {
+    let mut disk = disk_of(rt.alloc(), LAPSE, &[])?;
+    let (status, text) = settled(&rt, &mut disk)?;
+    assert_eq!(rt; status, Status::Ok);
+    let wanted = b"receipt 1 not pending\nend receipts 1 folios 0\n";
+    assert_eq!(rt; text.as_slice(), wanted.as_slice());
     assert_eq!(rt; disk.bytes(), LAPSE);
     Ok(())
 }
