@@ -125,7 +125,7 @@ affected_locally m docs at0 at1 before (Exercise folio behind spec) same = owner
 pub owner_side_locally : (m : ℕ) (docs : List Doc) (at0 at1 : Key → List Entry) (before : List Act) (act : Act) → ReadsSame at0 at1 act → owner_side m docs at1 before act ≡ owner_side m docs at0 before act
 owner_side_locally m docs at0 at1 before (Cancel folio right) same =
     λ j. cond (not (has_proof docs (number_behind before)) && option_map_or (λ made. is_in_division_three made.spec.kind) (live_right (same.right j)) false)
-        (owners_same m at0 at1 before folio same.title j) []
+    (owners_same m at0 at1 before folio same.title j) []
 owner_side_locally m docs at0 at1 before (Exchange folio recede rise) same = owners_if m at0 at1 before folio recede rise same
 owner_side_locally m docs at0 at1 before other same = refl
 
@@ -149,4 +149,4 @@ others_locally journal m docs at0 at1 before other same = refl
 pub needed_locally : (journal : List Receipt) (m : ℕ) (docs : List Doc) (at0 at1 : Key → List Entry) (before : List Act) (act : Act) → ReadsSame at0 at1 act → needed journal m docs at1 before act ≡ needed journal m docs at0 before act
 needed_locally journal m docs at0 at1 before act same =
     λ j. affected_locally m docs at0 at1 before act same j
-        ++ (owner_side_locally m docs at0 at1 before act same j ++ others_locally journal m docs at0 at1 before act same j)
+    ++ (owner_side_locally m docs at0 at1 before act same j ++ others_locally journal m docs at0 at1 before act same j)

@@ -26,7 +26,7 @@ nothing_elsewhere journal i stands r k is_one is lacks =
     let keys = keys_by_item journal i r.item in
     let room : Key → ℕ = λ j. cond (has j keys) (room_by_item i r.item (stands j)) 0 in
     let fits = item_fits journal i stands room r.item is_one (ap (option_map (λ x. x.item)) is)
-        (λ j there. subst (λ b. room_by_item i r.item (stands j) ≤ cond b (room_by_item i r.item (stands j)) 0) (sym ((has_decides j keys).1 there)) (omega arith)) k in
+    (λ j there. subst (λ b. room_by_item i r.item (stands j) ≤ cond b (room_by_item i r.item (stands j)) 0) (sym ((has_decides j keys).1 there)) (omega arith)) k in
     none_of_length (at_key (brought_by_item journal i stands r.item).entries k)
     (subst (λ b. length (at_key (brought_by_item journal i stands r.item).entries k) ≤ cond b (room_by_item i r.item (stands k)) 0) lacks fits)
 
@@ -34,7 +34,7 @@ pub stays_elsewhere : (journal : List Receipt) (i : ℕ) (at0 at1 : Key → List
     → (Contains (keys_of_item journal i) k → ⊥) → AddsAll at0 at1 (brings journal i at0).entries → at1 k ≡ at0 k
 stays_elsewhere journal i at0 at1 r k is_one is off added =
     let lacks : has k (keys_by_item journal i r.item) ≡ false =
-        ⊎_elim (λ there. absurd (off (subst (λ ks. Contains ks k) (sym (keys_are journal i r is)) ((has_decides k (keys_by_item journal i r.item)).0 there)))) (λ no. no)
-        (cases_Bool (has k (keys_by_item journal i r.item))) in
+    ⊎_elim (λ there. absurd (off (subst (λ ks. Contains ks k) (sym (keys_are journal i r is)) ((has_decides k (keys_by_item journal i r.item)).0 there)))) (λ no. no)
+    (cases_Bool (has k (keys_by_item journal i r.item))) in
     added k ∙ ap (λ (b : Brought). at0 k ++ at_key b.entries k) (brings_is journal i at0 r is)
     ∙ ap (λ es. at0 k ++ es) (nothing_elsewhere journal i at0 r k is_one is lacks) ∙ append-nil (at0 k)

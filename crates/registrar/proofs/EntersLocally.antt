@@ -82,8 +82,8 @@ entered_locally : (journal : List Receipt) (m i : ℕ) (at0 at1 : Key → List E
 entered_locally journal m i at0 at1 agrees =
     let placed = places_locally journal m i at0 at1 agrees in
     elim (filing_at journal m) as (λ o. AgreesAt (option_map_or (λ f. keys_of_acts journal m 1 f.acts) o []) (with_places journal m i at0) (with_places journal m i at1)
-      → option_map_or (λ f. places_brought journal m i at1 ++ contents_brought journal m i (with_places journal m i at1) f) o []
-      ≡ option_map_or (λ f. places_brought journal m i at0 ++ contents_brought journal m i (with_places journal m i at0) f) o []) [
+    → option_map_or (λ f. places_brought journal m i at1 ++ contents_brought journal m i (with_places journal m i at1) f) o []
+    ≡ option_map_or (λ f. places_brought journal m i at0 ++ contents_brought journal m i (with_places journal m i at0) f) o []) [
       | Some f ↦ λ stands.
           let brought = contents_locally journal m f.acts (documents journal m f i) i (with_places journal m i at0) (with_places journal m i at1) 1 f.acts stands in
           λ j. placed j ++ brought j
@@ -94,5 +94,5 @@ pub enters_locally : (journal : List Receipt) (m i : ℕ) (at0 at1 : Key → Lis
 enters_locally journal m i at0 at1 agrees =
     let noticed = notices_locally journal m i at0 at1 agrees in
     let rest = entered_locally journal m i (with_notices journal m i at0) (with_notices journal m i at1)
-        (added_agree (keys_of_filing journal m) at0 at1 (notices_brought journal m i at0) (notices_brought journal m i at1) noticed agrees) in
+    (added_agree (keys_of_filing journal m) at0 at1 (notices_brought journal m i at0) (notices_brought journal m i at1) noticed agrees) in
     λ j. noticed j ++ rest j

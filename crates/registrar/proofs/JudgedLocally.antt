@@ -80,7 +80,7 @@ holds_locally journal m f docs at0 at1 section.Gbo13 before act same = ap (λ pe
 holds_locally journal m f docs at0 at1 section.Gbo20 before act same = refl
 holds_locally journal m f docs at0 at1 section.Gbo19 before act same =
     λ j. is_silent_among docs (number_behind before) (affected_locally m docs at0 at1 before act same j)
-        && not (list_any (is_strangers_consent (number_behind before) (needed_locally journal m docs at0 at1 before act same j)) docs)
+    && not (list_any (is_strangers_consent (number_behind before) (needed_locally journal m docs at0 at1 before act same j)) docs)
 holds_locally journal m f docs at0 at1 other before act same = refl
 
 ground_locally : (journal : List Receipt) (m : ℕ) (f : Filing) (docs : List Doc) (at0 at1 : Key → List Entry) (s : Section) → AllByRecursion (λ (p : List Act × Act). ReadsSame at0 at1 p.1) (with_before f.acts)
@@ -112,7 +112,7 @@ defective_locally journal m docs at0 at1 section.Gbo29 before act same =
     ap (λ people. is_plain_among docs (number_behind before) people) (needed_locally journal m docs at0 at1 before act same)
 defective_locally journal m docs at0 at1 section.Gbo39 before act same =
     λ j. is_silent_among docs (number_behind before) (affected_locally m docs at0 at1 before act same j)
-        && list_any (is_strangers_consent (number_behind before) (needed_locally journal m docs at0 at1 before act same j)) docs
+    && list_any (is_strangers_consent (number_behind before) (needed_locally journal m docs at0 at1 before act same j)) docs
 defective_locally journal m docs at0 at1 section.Gbo27 before act same = lacks_owner_locally m docs at0 at1 before act same
 defective_locally journal m docs at0 at1 section.Bgb876 before act same =
     ap (λ people. is_silent_among docs (number_behind before) people) (others_locally journal m docs at0 at1 before act same)

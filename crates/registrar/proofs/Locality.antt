@@ -70,7 +70,7 @@ cure_known : (journal : List Receipt) (m i : ℕ) (at0 at1 : Key → List Entry)
     → option_map_or (brought_by_cure journal m i at1) (judged journal m i at1) nothing_pending ≡ option_map_or (brought_by_cure journal m i at0) (judged journal m i at0) nothing_pending
 cure_known journal m i at0 at1 known agrees =
     elim (filing_at journal m) as (λ o. filing_at journal m ≡ o → option_map_or (brought_by_cure journal m i at1) (option_map (λ f. judged_filing journal m f i at1) o) nothing_pending
-      ≡ option_map_or (brought_by_cure journal m i at0) (option_map (λ f. judged_filing journal m f i at0) o) nothing_pending) [
+    ≡ option_map_or (brought_by_cure journal m i at0) (option_map (λ f. judged_filing journal m f i at0) o) nothing_pending) [
       | Some f ↦ λ is.
           ap (λ judgement. brought_by_cure journal m i at1 judgement) (judged_locally journal m f i at0 at1 is known agrees)
           ∙ cure_judged journal m i at0 at1 (judged_filing journal m f i at0) agrees
@@ -118,7 +118,7 @@ item_locally journal i at0 at1 other kept is before agrees = refl
 pub locality : (journal : List Receipt) (i : ℕ) (at0 at1 : Key → List Entry) → Kept journal at0 → AreEarlier i at0 (keys_of_item journal i) → AgreesAt (keys_of_item journal i) at0 at1 → brings journal i at1 ≡ brings journal i at0
 locality journal i at0 at1 kept =
     elim (receipt_at journal i) as (λ o. receipt_at journal i ≡ o → AreEarlier i at0 (option_map_or (λ r. keys_by_item journal i r.item) o []) → AgreesAt (option_map_or (λ r. keys_by_item journal i r.item) o []) at0 at1
-      → option_map_or (λ r. brought_by_item journal i at1 r.item) o nothing_pending ≡ option_map_or (λ r. brought_by_item journal i at0 r.item) o nothing_pending) [
+    → option_map_or (λ r. brought_by_item journal i at1 r.item) o nothing_pending ≡ option_map_or (λ r. brought_by_item journal i at0 r.item) o nothing_pending) [
       | Some r ↦ λ is before agrees. item_locally journal i at0 at1 r.item kept (ap (option_map (λ x. x.item)) is) before agrees
       | None ↦ λ is before agrees. refl
     ] refl

@@ -16,19 +16,21 @@ rising n i j d less within =
 
 -- which numbers stand in a row from 1
 in_row : (n m : ℕ) → Contains (range_with_len 1 n) m ↔ (1 ≤ m) × (m ≤ n)
-in_row n m = (λ there.
-    let count = length-range_with_len 1 n in
-    let within = there.1 in
-    let here : get_or (range_with_len 1 n) there.0 m ≡ 1 + there.0 = get_or-range_with_len 1 n there.0 m (omega arith) in
-    let same : get_or (range_with_len 1 n) there.0 m ≡ m = there.2 in
-    (omega arith, omega arith),
-    λ within.
-    let low = within.0 in
-    let high = within.1 in
-    let count = length-range_with_len 1 n in
-    let here : get_or (range_with_len 1 n) (m - 1) m ≡ 1 + (m - 1) = get_or-range_with_len 1 n (m - 1) m (omega arith) in
-    let same : 1 + (m - 1) ≡ m = omega arith in
-    (m - 1, omega arith, here ∙ same))
+in_row n m = (
+  λ there.
+      let count = length-range_with_len 1 n in
+      let within = there.1 in
+      let here : get_or (range_with_len 1 n) there.0 m ≡ 1 + there.0 = get_or-range_with_len 1 n there.0 m (omega arith) in
+      let same : get_or (range_with_len 1 n) there.0 m ≡ m = there.2 in
+      (omega arith, omega arith),
+  λ within.
+      let low = within.0 in
+      let high = within.1 in
+      let count = length-range_with_len 1 n in
+      let here : get_or (range_with_len 1 n) (m - 1) m ≡ 1 + (m - 1) = get_or-range_with_len 1 n (m - 1) m (omega arith) in
+      let same : 1 + (m - 1) ≡ m = omega arith in
+      (m - 1, omega arith, here ∙ same),
+)
 
 in_turn_to : (journal : List Receipt) (n : ℕ) → n ≡ length journal → IsPermitted journal (range_with_len 1 n)
 in_turn_to journal n is = record {

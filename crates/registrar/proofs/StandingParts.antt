@@ -39,9 +39,10 @@ act_agrees journal m a other at0 at1 agrees known = tt
 
 acts_agree : (journal : List Receipt) (m a : ℕ) (acts : List Act) (at0 at1 : Key → List Entry) → AgreesAt (keys_of_acts journal m a acts) at0 at1 → AllByRecursion (IsKnownExchange journal m at0) acts → AllByRecursion (IsKnownExchange journal m at1) acts
 acts_agree journal m a [] at0 at1 agrees known = tt
-acts_agree journal m a (act ∷ acts) at0 at1 agrees known =
-    (act_agrees journal m a act at0 at1 (agrees_before (keys_of_act journal m a act) (keys_of_acts journal m (a + 1) acts) at0 at1 agrees) known.0,
-    acts_agree journal m (a + 1) acts at0 at1 (agrees_behind (keys_of_act journal m a act) (keys_of_acts journal m (a + 1) acts) at0 at1 agrees) known.1)
+acts_agree journal m a (act ∷ acts) at0 at1 agrees known = (
+  act_agrees journal m a act at0 at1 (agrees_before (keys_of_act journal m a act) (keys_of_acts journal m (a + 1) acts) at0 at1 agrees) known.0,
+  acts_agree journal m (a + 1) acts at0 at1 (agrees_behind (keys_of_act journal m a act) (keys_of_acts journal m (a + 1) acts) at0 at1 agrees) known.1,
+)
 
 exchanges_agree : (journal : List Receipt) (m : ℕ) (at0 at1 : Key → List Entry) → AgreesAt (keys_of_filing journal m) at0 at1 → KnowsExchanges journal m at0 → KnowsExchanges journal m at1
 exchanges_agree journal m at0 at1 =
