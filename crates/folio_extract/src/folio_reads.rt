@@ -6,7 +6,7 @@ ghost use Rattle.folio_sections.specs.Held.{entries_at};
 ghost use Rattle.folio_sections.specs.Titles.{inventory, is_open, owners};
 
 use act_model::{Inventory, Owners};
-use folio_sections::{Entry, Parts};
+use folio_sections::{CasePart, Entry, Parts};
 use gb_base::FolioId;
 use registrar::Register;
 
@@ -60,7 +60,14 @@ pub(crate) fn is_for_sale(register: &Register, folio: FolioId) -> bool
     ensures { result ≡ is_running (entries_at register.now.parts (Case folio)) && is_none (award (entries_at register.now.parts (Case folio))) }
 {
     match register.case(folio) {
-        Some(case) => case.running() && case.award().is_none(),
+        Some(case) => awaits_award(case),
         None => false,
     }
+}
+
+/// Whether a case runs in which no award stands.
+pub(crate) fn awaits_award(case: &CasePart) -> bool
+    ensures { result ≡ is_running case.now.entries && is_none (award case.now.entries) }
+{
+    case.running() && case.award().is_none()
 }

@@ -2,6 +2,8 @@
 #![tactic(auto)]
 
 mod cent_lines;
+#[cfg(test)]
+mod extract_tests;
 mod extracts;
 mod folio_reads;
 mod live_rights;
@@ -13,6 +15,8 @@ mod rank_tables;
 mod report_tests;
 mod reports;
 mod right_lines;
+#[cfg(test)]
+mod testing;
 mod verdict_lines;
 #[cfg(test)]
 mod verdict_tests;
