@@ -1,6 +1,4 @@
 // Extracts, each part of each line present and absent.
-ghost use Rattle.std.specs.Prelude.{◌≡◌};
-
 use crate::extract;
 use crate::folio_reads::awaits_award;
 use crate::live_rights::LiveRight;
@@ -173,38 +171,28 @@ fn a_right_at_which_nothing_stands(rt: HostRuntime) -> Result<(), Fail> {
     Ok(())
 }
 
-/// Whether a sale note stands behind each of these contents in turn.
-#[test]
-fn a_sale_note_stands_until_an_award(rt: HostRuntime) -> Result<(), Fail> {
-    let alloc = rt.alloc();
-    let key = Key::Case(folio(&rt, 7));
-    let mut case = CasePart::new(alloc, key);
-    case.reserve(3)?;
-    assert!(&rt; !awaits_award(&case));
-    case.append(entry(&rt, key, What::Seized));
-    assert!(&rt; awaits_award(&case));
-    case.append(entry(&rt, key, awarded(&rt)));
-    assert!(&rt; !awaits_award(&case));
-    case.append(entry(&rt, key, What::Distributed));
-    assert!(&rt; !awaits_award(&case));
-    Ok(())
-}
-
-fn awarded(rt: &impl Abort) -> What {
-    What::Awarded {
-        buyer: person(rt, 30),
-        bid: cents(rt, 100),
-    }
-}
-
-/// An entry of receipt 9 on 9 March.
-fn entry(rt: &impl Abort, key: Key, what: What) -> Entry
-    ensures { result.key ≡ key }
-{
-    Entry {
+/// Adds an entry of receipt 9 on 9 March.
+fn add(rt: &impl Abort, case: &mut CasePart, what: What) -> Result<(), NoMemory> {
+    let key = case.key();
+    case.reserve(1)?;
+    case.append(Entry {
         receipt: receipt(rt, 9),
         day: day(rt, 9),
         key,
         what,
-    }
+    });
+    Ok(())
+}
+
+#[test]
+fn a_sale_note_stands_until_an_award(rt: HostRuntime) -> Result<(), Fail> {
+    let mut case = CasePart::new(rt.alloc(), Key::Case(folio(&rt, 7)));
+    assert!(&rt; !awaits_award(&case));
+    add(&rt, &mut case, What::Seized)?;
+    assert!(&rt; awaits_award(&case));
+    let buyer = person(&rt, 30);
+    let bid = cents(&rt, 100);
+    add(&rt, &mut case, What::Awarded { buyer, bid })?;
+    assert!(&rt; !awaits_award(&case));
+    Ok(())
 }

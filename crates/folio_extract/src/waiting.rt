@@ -22,7 +22,8 @@ pub struct WaitingFiling {
     pub notice: Option<Day>,
 }
 
-/// The filings that wait at a key with these entries, ascending. It looks at each entry once.
+/// The filings that wait at a key with these entries, ascending. It looks at each entry twice,
+/// however many wait.
 pub(crate) fn waiting_filings(
     alloc: Global,
     journal: &Journal,
