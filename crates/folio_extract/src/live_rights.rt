@@ -34,6 +34,7 @@ pub(crate) fn live_rights(
     requires { Kept journal.now.receipts (entries_at register.now.parts) }
     ensures value { IfOk result (λ rights. rights.items ≡ live_rights journal.now.receipts (entries_at register.now.parts) folio) }
     ensures few { IfOk result (λ rights. length rights.items ≤ 8 * most_receipts) }
+    ensures journal { IsJournal journal.now.receipts }
 {
     let live = live_by_act(alloc, register, journal, folio)?;
     let mut rights = Vec::new(alloc);
@@ -57,6 +58,7 @@ fn live_by_act(
     ensures few { length (creations_in journal.now.receipts folio) ≤ 8 * most_receipts }
     ensures journal { IsJournal journal.now.receipts }
 {
+    // Its length says that it is a journal, whose filings have at most eight acts.
     let receipts = journal.len() as usize;
     prove!(receipts <= Journal::MAX);
     journal

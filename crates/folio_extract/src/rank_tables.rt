@@ -46,8 +46,6 @@ pub(crate) fn add_rank_table(
     ensures { OnOk result (string_bytes text.new ≡ string_bytes text.old ++ rank_table_text journal.now.receipts (entries_at register.now.parts) folio) }
 {
     let rights = live_rights(alloc, register, journal, folio)?;
-    let receipts = journal.len() as usize;
-    prove!(receipts <= Journal::MAX);
     add_table(text, register, folio, &rights)
 }
 

@@ -1,4 +1,4 @@
-// A journal of folio 7 for the tests.
+// Journals for the tests.
 ghost use Rattle.std.specs.Prelude.{◌≤◌, length};
 
 use act_model::{
@@ -42,15 +42,26 @@ pub fn opening(rt: &impl Abort) -> Act {
     let mut owners = ArrayVec::new();
     owners.push(person(rt, 11));
     owners.push(person(rt, 10));
+    opening_for(rt, 7, Owners::new(owners).expect(rt, "owners"))
+}
+
+/// The opening of a folio for one owner.
+pub fn opening_by(rt: &impl Abort, n: u32, owner: u32) -> Act {
+    let mut owners = ArrayVec::new();
+    owners.push(person(rt, owner));
+    opening_for(rt, n, Owners::new(owners).expect(rt, "one owner"))
+}
+
+fn opening_for(rt: &impl Abort, n: u32, owners: Owners) -> Act {
     Act::Open {
-        folio: folio(rt, 7),
+        folio: folio(rt, n),
         inventory: Inventory {
             district: 12,
             parcel: 345,
             sub: 6,
             area: 800,
         },
-        owners: Owners::new(owners).expect(rt, "owners"),
+        owners,
     }
 }
 
@@ -124,6 +135,12 @@ pub fn filing(rt: &impl Abort, applicant: u32, act: Act, docs: Docs) -> Item {
 pub fn by_owners(rt: &impl Abort, act: Act) -> Item {
     let list = [consent(rt, 1, 10), consent(rt, 1, 11)];
     filing(rt, 10, act, docs(list.as_slice()))
+}
+
+/// A filing of the one owner of a folio, with that owner's consent.
+pub fn by_owner(rt: &impl Abort, owner: u32, act: Act) -> Item {
+    let list = [consent(rt, 1, owner)];
+    filing(rt, owner, act, docs(list.as_slice()))
 }
 
 /// The item becomes the next receipt of the journal, on this day.

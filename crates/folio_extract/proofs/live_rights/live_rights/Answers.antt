@@ -44,4 +44,4 @@ returns c =
     let filed = ap length (live_creations journal at c.args.folio c.requires c.live_by_act.ensures.journal) in
     let created = filter_map_few (live_at at c.args.folio) (creations_in journal c.args.folio) in
     let few = c.live_by_act.ensures.few in
-    record { value = value; few = subst (λ rights. length rights ≤ 1600000) (sym value) (omega (arith, grouped, filed, created, few)) }
+    record { value = value; few = subst (λ rights. length rights ≤ 1600000) (sym value) (omega (arith, grouped, filed, created, few)); journal = c.live_by_act.ensures.journal }

@@ -11,5 +11,5 @@ add_table-requires-clause-order c =
 
 pub returns : goal.returns
 returns c =
-    table_added c.args.journal.now.receipts (entries_at c.args.register.now.parts) c.args.folio c.deref.result.now c.len-receipts.ensures.journal c.requires
+    table_added c.args.journal.now.receipts (entries_at c.args.register.now.parts) c.args.folio c.deref.result.now c.live_rights.ensures.journal c.requires
     (c.deref.ensures.value ∙ c.in_ok-rights.ensures.value) _ _ c.add_table.result c.add_table.ensures
