@@ -1,5 +1,6 @@
 // Which items the office takes today.
 ghost use Rattle.std.specs.Prelude.{◌≡◌};
+ghost use Rattle.std.specs.List.{list_all};
 ghost use Rattle.registry_office.specs.Built.{is_built, is_built_act};
 
 use act_model::{Act, Item};
@@ -10,11 +11,18 @@ pub fn is_built(item: &Item) -> bool
     ensures { result ≡ is_built item.now }
 {
     match item {
-        Item::Filing(filing) => filing.acts.list().iter().all(is_built_act),
+        Item::Filing(filing) => are_built_acts(filing.acts.list()),
         Item::Cure { .. } => true,
         Item::Lapse { .. } => true,
         _ => false,
     }
+}
+
+/// None of the acts exchanges ranks or takes up a reservation.
+fn are_built_acts(acts: &[Act]) -> bool
+    ensures { result ≡ list_all is_built_act acts.now }
+{
+    acts.iter().all(|act| is_built_act(act))
 }
 
 /// The act neither exchanges ranks nor takes up a reservation.

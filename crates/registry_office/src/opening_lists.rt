@@ -2,7 +2,7 @@
 ghost use Rattle.std.specs.Prelude.{◌≡◌, IfOk, IsTrue};
 ghost use Rattle.csv.specs.Records.{fields_of};
 ghost use Rattle.registry_office.specs.OpeningLists.{row_request};
-ghost use Rattle.registry_office.specs.inner.Asking.{asks_built, asks_well};
+ghost use Rattle.registry_office.specs.inner.Asking.{asks_well};
 
 use crate::csv_records::Records;
 use crate::openings::{filing_for, is_header, read_opening};
@@ -46,7 +46,7 @@ impl<'a> Model for OpeningList<'a> {
 impl<'a> OpeningList<'a> {
     ghost use Rattle.std.specs.Prelude.{◌≡◌, ◌∷◌, [], IfOk, IfSome, IfNone, IsErr, IsTrue};
     ghost use Rattle.registry_office.specs.OpeningLists.{row_requests};
-    ghost use Rattle.registry_office.specs.inner.Asking.{asks_built, asks_well};
+    ghost use Rattle.registry_office.specs.inner.Asking.{asks_well};
 
     /// The list of these bytes, from this sender.
     #[tactic(auto, unfolding(crate::specs::OpeningLists::row_requests))]
@@ -76,7 +76,6 @@ impl<'a> OpeningList<'a> {
         ensures end { IfOk result (λ next. IfNone next ((self.old ≡ []) × (self.new ≡ []))) }
         ensures failed { IsErr result → self.new ≡ [] }
         ensures well_formed { IfOk result (λ next. IfSome next (λ request. IsTrue (asks_well request))) }
-        ensures built { IfOk result (λ next. IfSome next (λ request. IsTrue (asks_built request))) }
     {
         let stage = self.stage;
         self.stage = Stage::End;
@@ -99,7 +98,6 @@ impl<'a> OpeningList<'a> {
 fn request_of_row(alloc: Global, sender: u32, row: &ByteRecord) -> Result<Request, NoMemory>
     ensures value { IfOk result (λ request. request ≡ row_request sender (fields_of row.now)) }
     ensures well_formed { IfOk result (λ request. IsTrue (asks_well request)) }
-    ensures built { IfOk result (λ request. IsTrue (asks_built request)) }
 {
     match read_opening(row) {
         Some(opening) => Ok(Request::Receive {

@@ -1,10 +1,8 @@
 // The command that settles stamped lines in memory.
 ghost use Rattle.std.specs.Prelude.{◌≡◌, ◌⊎◌, ◌≤◌, ◌<◌, ◌+◌, ◌^◌, [], Some, Err, IfOk, OnOk, OnErr, IfSome, length, take, false, IsTrue};
-ghost use Rattle.std.specs.List.{list_all};
 ghost use Rattle.std.specs.Io.KnownBytes.{Appends, IsAtEnd};
 ghost use Rattle.gb_outside.specs.Bytes.{AppendsFront};
 ghost use Rattle.gb_outside.specs.Faults.{Counts};
-ghost use Rattle.registry_office.specs.Built.{is_built};
 ghost use Rattle.registry_office.specs.Faults.{output_failed, session_input_failed, session_output_failed, session_disk_failed};
 ghost use Rattle.registry_office.specs.Outcomes.{report_of, settle_lines_output};
 ghost use Rattle.registry_office.specs.Requests.{InMemory, holding, replies};
