@@ -37,6 +37,7 @@ pub mod OpenTitles
 pub mod PlaceReads
 pub mod PlaceStands
 pub mod PlacesKept
+pub mod RankedRights
 pub mod RankedTitles
 pub mod ReceiptOrder
 pub mod Registering

@@ -1,11 +1,17 @@
 //! What holds of the settling of all journals.
-ghost use Rattle.std.specs.Prelude.{◌≡◌, ◌+◌, ◌<◌, ◌≤◌, ◌++◌, ℕ, List, All, Contains, length};
+ghost use Rattle.std.specs.Prelude.{◌≡◌, ◌+◌, ◌<◌, ◌≤◌, ◌++◌, ℕ, List, Some, All, Contains, length};
+ghost use Rattle.gb_base.specs.RightNo.{RightNo};
 ghost use Rattle.gb_base.specs.declared.keys.Key.{Key};
+ghost use Rattle.gb_base.specs.declared.keys.Key.TheVariants.{Right};
 ghost use Rattle.act_model.specs.Receiving.{IsJournal};
 ghost use Rattle.act_model.specs.declared.receipts.Receipt.{Receipt};
 ghost use Rattle.folio_sections.specs.Entries.{at, with_entries};
 ghost use Rattle.folio_sections.specs.Kept.{Kept};
+ghost use Rattle.folio_sections.specs.Places.{places};
+ghost use Rattle.folio_sections.specs.Ranks.{is_ahead, is_filed_ahead, ranked};
+ghost use Rattle.folio_sections.specs.Rights.{live_right};
 ghost use Rattle.folio_sections.specs.Waiting.{below};
+ghost use Rattle.folio_sections.specs.declared.entries.Created.{Created};
 ghost use Rattle.folio_sections.specs.declared.entries.Entry.{Entry};
 ghost use Rattle.registrar.specs.Brings.{brings};
 ghost use Rattle.registrar.specs.ItemKeys.{keys_of_item};
@@ -47,3 +53,13 @@ pub fn locality()
 pub fn item_keys_stay()
     ensures { (journal more : List Receipt) (i : ℕ) → i ≤ length journal → keys_of_item (journal ++ more) i ≡ keys_of_item journal i }
 {}
+
+/// In the register of each journal the live rights of a folio stand in the order of their filings
+/// and groups, by their places and days (BGB § 879, GBO § 45).
+pub fn rank_order()
+    ensures { (journal : List Receipt) (folio : ℕ) (x y : RightNo) (a b : Created) → IsJournal journal
+        → live_right (at (registrar journal).entries (Right folio x)) ≡ Some a → live_right (at (registrar journal).entries (Right folio y)) ≡ Some b
+        → is_ahead (places journal (at (registrar journal).entries) folio) (ranked x a) (ranked y b) ≡ is_filed_ahead (ranked x a) (ranked y b) }
+{
+    empty_register_is_kept();
+}
