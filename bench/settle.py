@@ -1,7 +1,7 @@
 #!/usr/bin/env python3
 """Measures `settle --lines` of the built program: lines a second and peak memory.
 
-settle.py [N]     runs both shapes of generate.py with N lines each (2,000)
+settle.py [N]     runs each shape of generate.py with N lines (2,000)
 """
 import resource
 import subprocess
@@ -28,7 +28,7 @@ def measure(shape, count):
 def main():
     count = int(sys.argv[1]) if len(sys.argv) > 1 else 2_000
     subprocess.run([PROGRAM], capture_output=True)
-    for shape in ("one-folio", "many-folios"):
+    for shape in ("one-folio", "many-folios", "waiting"):
         measure(shape, count)
 
 
