@@ -4,4 +4,5 @@ pub mod CivilDays
 pub mod CountedOff
 pub mod DateTexts
 pub mod Members
+pub mod Sharing
 pub mod Weekdays

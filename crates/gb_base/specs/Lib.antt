@@ -6,4 +6,5 @@ pub mod Deadlines
 pub mod Keys
 pub mod Calendar
 pub mod Texts
+pub mod Shares
 pub mod inner

@@ -9,6 +9,14 @@ is_between low high n = nat_le low n && nat_le n high
 abbrev pub most_cents : ℕ
 most_cents = 10000000000000
 
+-- sums of cents stay below this
+abbrev pub most_sum : ℕ
+most_sum = 1000000000000000000
+
+-- the most claims that share money
+abbrev pub most_sharing : ℕ
+most_sharing = 256
+
 -- the greatest number of an act in its filing
 abbrev pub most_acts : ℕ
 most_acts = 8

@@ -11,6 +11,9 @@ mod keys;
 pub mod laws;
 mod memory;
 mod sections;
+mod shares;
+#[cfg(test)]
+mod shares_tests;
 mod stamps;
 #[cfg(test)]
 mod tests;
@@ -23,4 +26,5 @@ pub use ids::{FolioId, Person, ReceiptNo, RightId};
 pub use keys::Key;
 pub use memory::NoMemory;
 pub use sections::Section;
+pub use shares::share;
 pub use stamps::Stamp;
