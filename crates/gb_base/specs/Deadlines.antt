@@ -1,4 +1,4 @@
--- The last day for a cure (GBO § 18).
+-- Deadlines: the days behind which a lapse ends the waiting of a filing (GBO § 18).
 use Rattle.std.specs.Prelude.{ℕ, ◌+◌, ◌%◌, ◌==◌, if◌then◌else◌}
 
 -- how many days a day is behind a Monday: day 0, 1970-01-01, was a Thursday
@@ -9,6 +9,6 @@ weekday day = (day + 3) % 7
 abbrev pub working_day : ℕ → ℕ
 working_day day = if weekday day == 5 then day + 2 else (if weekday day == 6 then day + 1 else day)
 
--- the last day for a cure: 30 days behind this one, or the next Monday
+-- the deadline of a filing of this day: 30 days behind it, or the next Monday
 abbrev pub deadline : ℕ → ℕ
 deadline day = working_day (day + 30)

@@ -1,4 +1,4 @@
--- Lapses: where no cure has come by the deadline, the filing is rejected (GBO § 18(1)).
+-- Lapses: a filing that still waits behind its deadline is rejected by a lapse, and not by the deadline alone (GBO § 18(1)).
 use Rattle.std.specs.Prelude.{ℕ, nat_lt, if◌then◌else◌, List, [], Option, Some, None, option_and_then}
 use Rattle.std.specs.Option.{option_map_or}
 use Rattle.gb_base.specs.declared.keys.Key.{Key}
@@ -13,7 +13,7 @@ use Rattle.interim_orders.specs.declared.states.FilingState.TheVariants as state
 use Rattle.interim_orders.specs.declared.answers.Lapse.{Lapse}
 use Rattle.interim_orders.specs.declared.answers.Lapse.TheVariants as answer
 
--- the filing whose lapse an item states
+-- the filing whose lapse the item states
 abbrev pub lapse_in : Item → Option ℕ
 lapse_in (item.Lapse m) = Some m
 lapse_in other = None

@@ -12,7 +12,7 @@ use Rattle.folio_sections.specs.declared.entries.What.TheVariants as what
 use Rattle.interim_orders.specs.declared.states.FilingState.{FilingState}
 use Rattle.interim_orders.specs.declared.states.FilingState.TheVariants as state
 
--- the last day for a cure of filing m
+-- the deadline of filing m: behind it a lapse ends the waiting
 abbrev pub deadline_of : List Receipt → ℕ → ℕ
 deadline_of journal m = deadline (day_of journal m)
 
@@ -24,7 +24,7 @@ order_brought journal m = map (λ k. entry_by journal m k (what.Pending m (deadl
 abbrev pub end_brought : List Receipt → ℕ → ℕ → List Entry
 end_brought journal m i = map (λ k. entry_by journal i k (what.Settled m)) (keys_in_order journal m)
 
--- the day until which filing m waits at its first key, and so at each, since it waits at all of them with one day or at none
+-- the day until which filing m waits at its first key, and so at each, in a kept register
 abbrev pub waits_until : List Receipt → ℕ → (Key → List Entry) → Option ℕ
 waits_until journal m at = option_and_then (λ k. pending m (at k)) (slice_get (keys_in_order journal m) 0)
 

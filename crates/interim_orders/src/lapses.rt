@@ -1,4 +1,4 @@
-// The lapse of a filing whose defects were not cured in time (GBO § 18(1)).
+// The lapse of a filing that still waits behind its deadline (GBO § 18(1)).
 ghost use Rattle.std.specs.Prelude.{◌≡◌, ◌≤◌, ◌<◌, ℕ, length, Contains, IsTrue, Some};
 ghost use Rattle.gb_base.specs.declared.keys.Key.{Key};
 ghost use Rattle.act_model.specs.Receiving.{day_of};
@@ -42,7 +42,7 @@ pub(crate) fn lapse_at(journal: &Journal, item: ReceiptNo) -> Option<ReceiptNo>
     }
 }
 
-/// The filing whose lapse the item is.
+/// The filing whose lapse the item states.
 fn lapse_in(item: &Item) -> Option<ReceiptNo>
     ensures { result ≡ lapse_in item.now }
 {

@@ -26,8 +26,8 @@ pub fn room_for_lapse()
         → HasRoom room (lapse_brought journal i at) }
 {}
 
-/// Where each key of a filing has room for as many entries as filings wait there without a notice,
-/// there is room for the official notices that its entry brings.
+/// Where each key of a filing has room for as many entries as earlier filings wait there without a
+/// notice, there is room for the official notices that its entry brings.
 pub fn room_for_notices()
     ensures { (journal : List Receipt) (m i : ℕ) (at : Key → List Entry) (room : Key → ℕ)
         → ((k : Key) → Contains (keys_of_filing journal m) k → length (waiting_unnoticed m (at k)) ≤ room k)

@@ -133,7 +133,7 @@ registrar_is journal =
     let count : length journal ≡ (length journal + 1) - 1 = omega arith in
     ap (λ n. settled_in_order journal (range_with_len 1 n)) count
 
--- so the first n items always leave a register that may come about
+-- so the first n items always leave a kept register
 record Leaving (journal : List Receipt) (n : ℕ) : Type 0 where
   verdicts : List Verdict
   settled : SettledTo journal n (at (settled_in_order journal (range_with_len 1 n)).entries) verdicts

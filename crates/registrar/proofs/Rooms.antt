@@ -1,4 +1,4 @@
--- Where each key of an item has the room that the item wants, there is room for what it brings.
+-- Where the keys of a filing have room for its entry, there is room for that, for the end of its waiting, and for its order.
 use Rattle.std.proofs.Common.{◌≡◌, ℕ, ◌+◌, ◌≤◌, Bool, true, false, cond, List, ◌++◌, length, Contains, Option, None, refl, sym, subst, arith}
 use Rattle.gb_base.specs.declared.keys.Key.{Key}
 use Rattle.act_model.proofs.KeyOrder.{has, has_decides}

@@ -25,7 +25,7 @@ pub record Brought : Type 0 where
   pub entries : List Entry
   pub verdict : Verdict
 
--- nothing, since no filing waits that the item names
+-- nothing: the item names no filing that waits, is of a forced sale, or is not there
 abbrev pub nothing_pending : Brought
 nothing_pending = record { entries = []; verdict = verdict.NotPending }
 

@@ -11,11 +11,13 @@ use Rattle.folio_sections.specs.Entering.{waiting_unnoticed}
 use Rattle.folio_sections.specs.declared.entries.Entry.{Entry}
 use Rattle.registrar.specs.ItemKeys.{keys_of_item}
 
--- the most entries that an item brings at one key, official notices apart
+-- The most entries that an item brings at one key, official notices apart: two by the entry of a filing (`most_entered` of
+-- entry_rules), and the end of its waiting.
 abbrev pub most_brought : ℕ
 most_brought = 3
 
--- where filing m may be entered at a key: an official notice for each earlier one that waits there without one, besides
+-- the room at a key where filing m may be entered: these, and an official notice for each earlier filing that waits there
+-- without one
 abbrev pub room_to_enter : ℕ → List Entry → ℕ
 room_to_enter m entries = most_brought + length (waiting_unnoticed m entries)
 
@@ -23,7 +25,7 @@ room_to_enter m entries = most_brought + length (waiting_unnoticed m entries)
 abbrev pub HasRoomToEnter : List Receipt → ℕ → (Key → List Entry) → (Key → ℕ) → Type 0
 HasRoomToEnter journal m at room = (k : Key) → Contains (keys_of_filing journal m) k → room_to_enter m (at k) ≤ room k
 
--- what item i wants at one of its keys
+-- What item i wants at one of its keys. An item of a forced sale brings nothing yet, and one entry is asked for all the same.
 abbrev pub room_by_item : ℕ → Item → List Entry → ℕ
 room_by_item i (item.Filing f) entries = room_to_enter i entries
 room_by_item i (item.Cure m docs) entries = room_to_enter m entries

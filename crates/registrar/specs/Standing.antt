@@ -9,7 +9,7 @@ use Rattle.folio_sections.specs.declared.entries.Entry.{Entry}
 abbrev pub StandsFor : (Key → Bool) → (Key → List Entry) → (Key → List Entry) → Type 0
 StandsFor holds at register = (k : Key) → IsTrue (holds k) → at k ≡ register k
 
--- the parts stand for a register that may come about
+-- the parts stand for a kept register
 pub record StandsForKept (journal : List Receipt) (holds : Key → Bool) (at : Key → List Entry) : Type 0 where
   pub register : Key → List Entry
   pub stands : StandsFor holds at register

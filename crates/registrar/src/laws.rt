@@ -25,23 +25,23 @@ pub fn receipts_in_turn()
     ensures { (journal : List Receipt) → IsPermitted journal (below (length journal + 1)) }
 {}
 
-/// What an item brings leaves a register one that may come about, where no later item has brought
-/// anything at its keys.
+/// What an item brings leaves a kept register kept, where all that stands at the item's keys is by
+/// earlier items.
 pub fn items_keep()
     ensures { (journal : List Receipt) (i : ℕ) (register : Key → List Entry) → IsJournal journal → Kept journal register
         → ((k : Key) → Contains (keys_of_item journal i) k → All (λ e. e.receipt < i) (register k))
         → Kept journal (with_entries register (brings journal i register).entries) }
 {}
 
-/// So the one registrar leaves such a register of every journal.
+/// So the one registrar leaves a kept register of every journal.
 pub fn registers_are_kept()
     ensures { (journal : List Receipt) → IsJournal journal → Kept journal (at (registrar journal).entries) }
 {
     empty_register_is_kept();
 }
 
-/// An item looks at its own keys alone: registers that agree at them get the same of it, where one
-/// may come about and has entries of earlier items there.
+/// An item looks at its own keys alone: it brings the same on registers that agree at them, where
+/// one of these is kept and has entries of earlier items alone there.
 pub fn locality()
     ensures { (journal : List Receipt) (i : ℕ) (register other : Key → List Entry) → Kept journal register
         → ((k : Key) → Contains (keys_of_item journal i) k → All (λ e. e.receipt < i) (register k))

@@ -12,8 +12,9 @@ use gb_base::{NoMemory, ReceiptNo};
 /// The most entries that an item brings at one key, official notices apart.
 const MOST_BROUGHT: usize = 3;
 
-/// Keeps at each key of a filing the room that its entry may want: for a multiple of what stands
-/// there, so that a key that grows is moved seldom.
+/// Keeps room at each key of a filing for what its entry may bring: three entries, and an official
+/// notice for each filing that waits there. Room for as many as stand there serves these notices,
+/// since each such filing has an entry there; and so a key that grows is moved seldom.
 pub(crate) fn make_room(
     parts: &mut MapParts,
     journal: &Journal,

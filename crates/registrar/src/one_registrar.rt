@@ -94,6 +94,8 @@ fn settle_next(
             make_room(parts, journal, filing)?;
             Ok(step(parts, scratch, journal, item))
         }
+        // An item of a forced sale brings nothing yet, and its keys need not be held, so it takes
+        // no step.
         None => Ok(Verdict::NotPending),
     }
 }

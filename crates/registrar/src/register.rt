@@ -10,7 +10,7 @@ use gb_base::{FolioId, ReceiptNo, RightId};
 use std::marker::Model;
 
 /// The register of a journal: its parts at the keys of all filings, what became of each item, and
-/// the open folios. What is appended to it changes neither of these two.
+/// the open folios.
 #[derive(Drop)]
 pub struct Register {
     parts: MapParts,

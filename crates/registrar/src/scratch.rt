@@ -22,7 +22,7 @@ impl Model for Scratch {
 }
 
 impl Scratch {
-    /// Room for so many rights of a folio, and for so many exchanges of ranks among them.
+    /// A scratch for so many rights of a folio, and for so many exchanges of ranks among them.
     pub fn with_room(_alloc: Global, rights: usize, swaps: usize) -> Result<Scratch, NoMemory>
         ensures rights { IfOk result (λ scratch. rights ≤ scratch.rights) }
         ensures swaps { IfOk result (λ scratch. swaps ≤ scratch.swaps) }
@@ -34,7 +34,7 @@ impl Scratch {
 /// Takes any type whose values threads may hand on and share.
 fn is_shared<T: Send + Sync>() {}
 
-/// Each desk works in a scratch of its own, in a thread.
+/// Threads may hand a scratch on and share it.
 fn scratches_are_shared() {
     is_shared::<Scratch>();
 }

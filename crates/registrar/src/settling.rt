@@ -95,6 +95,7 @@ fn settle_cure<P: Parts>(
 {
     match state(parts, journal, item, filing) {
         FilingState::Pending { .. } => {
+            // `judge` takes the filing first, and then up to which receipt documents count.
             let judgement = judge(parts, journal, filing, item);
             settle_waiting(parts, journal, item, filing, judgement)
         }

@@ -1,4 +1,4 @@
-// One step of a registrar: an item settled on a register that may come about.
+// One step of a registrar: an item settled on parts that stand for a kept register.
 ghost use Rattle.std.specs.Prelude.{◌≡◌, List, ◌≤◌, ◌<◌, Some, length, All, Contains, IsTrue};
 ghost use Rattle.gb_base.specs.declared.keys.Key.{Key};
 ghost use Rattle.act_model.specs.Receiving.{IsJournal, receipt_at};
@@ -17,9 +17,10 @@ use act_model::{Journal, Receipt};
 use folio_sections::Parts;
 use gb_base::ReceiptNo;
 
-/// Settles an item on parts that stand for a register that may come about, and on which no later
-/// item has brought anything at the item's keys (GBO § 17). It adds what the item brings on each
-/// such register, and leaves it one; no other key changes. It takes no memory and cannot fail.
+/// Settles an item on parts that stand for a kept register, where all that stands at the item's
+/// keys is by earlier items (GBO § 17). It adds what the item brings, which is the same on each
+/// kept register that the parts stand for, and leaves each of them kept; no other key changes. It
+/// takes no memory and cannot fail.
 pub fn step<P: Parts>(
     parts: &mut P,
     _scratch: &mut Scratch,
@@ -45,7 +46,7 @@ pub fn step<P: Parts>(
     settle(parts, journal, item, &receipt.item)
 }
 
-/// The receipt of this number.
+/// The receipt of this number; and the list is a journal.
 pub(crate) fn receipt_of(journal: &Journal, item: ReceiptNo) -> &Receipt
     requires { item ≤ length journal.now.receipts }
     ensures value { receipt_at journal.now.receipts item ≡ Some result.now }

@@ -9,7 +9,8 @@ pub enum Verdict {
     Entered,
     /// The filing is rejected under this section (GBO § 18).
     Rejected(Section),
-    /// The filing waits for cures of these defects, in time until this day (GBO § 18).
+    /// The filing waits for cures of these defects; behind this day a lapse ends its waiting (GBO
+    /// § 18).
     Interim { until: Day, defects: Defects },
     /// By this cure the filing that it names is entered.
     Cured,
@@ -21,6 +22,7 @@ pub enum Verdict {
     Lapsed,
     /// The deadline of the filing that the lapse names is not over: this day is the last of it.
     TooEarly(Day),
-    /// The filing that the item names does not wait.
+    /// The item names no earlier filing that waits. Items of a forced sale, which are not settled
+    /// yet, are answered so too.
     NotPending,
 }
