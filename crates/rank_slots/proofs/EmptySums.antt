@@ -1,0 +1,119 @@
+-- The greatest sum up to which a right gets nothing.
+use Rattle.std.proofs.Common.{◌≡◌, ℕ, ◌+◌, ◌-◌, ◌<◌, ◌≤◌, ◌==◌, ◌||◌, true, false, cond, eqb, not, Some, None, get_or, length, take, refl, sym, ap, ◌∙◌, subst, arith}
+use Rattle.std.specs.List.{position_or_len, prefix_len, range_with_len}
+use Rattle.std.proofs.lemmas.Bool.{eq-eqb, eqb-true, ne_eqb}
+use Rattle.std.proofs.lemmas.List.FromFn.{get_or-range_with_len, length-range_with_len}
+use Rattle.std.proofs.lemmas.List.Sums.{prefix_len-le-length, prefix_len_is}
+use Rattle.gb_base.specs.RightNo.{RightNo, same_right}
+use Rattle.rank_slots.specs.CanFill.{CanFill, CanKnot, StandsAlone}
+use Rattle.rank_slots.specs.Filled.{Filled, line}
+use Rattle.rank_slots.specs.Groups.{group_of}
+use Rattle.rank_slots.specs.Payments.{cents_ahead, claim_of, empty_up_to, pay, threshold}
+use Rattle.rank_slots.specs.declared.places.Knot.{Knot}
+use Rattle.rank_slots.specs.inner.Knots.{knot_of}
+use Rattle.rank_slots.proofs.GroupMembers.{IsAlone, alone_group}
+use Rattle.rank_slots.proofs.KnotPay.{found_all, found_exercised, found_reserved, found_ties, unfound}
+use Rattle.rank_slots.proofs.KnotTies.{AreTied, are_tied}
+use Rattle.rank_slots.proofs.LineCounts.{counted, first_within, none_ahead, one_with_first}
+use Rattle.rank_slots.proofs.LonePay.{lone_group, lone_pay}
+use Rattle.rank_slots.proofs.Precedence.{first_ahead, room_behind}
+use Rattle.rank_slots.proofs.SameRights.{right_is, right_self}
+
+-- nothing up to m, and something from the next on, if there is one
+last_empty : (f : ℕ → ℕ) (n m : ℕ) → m ≤ n → ((t : ℕ) → t ≤ m → f t ≡ 0) → (m < n → 1 ≤ f (m + 1)) → prefix_len (λ t. f t == 0) (range_with_len 1 n) ≡ m
+last_empty f n m within none some =
+    let long = length-range_with_len 1 n in
+    prefix_len_is (λ t. f t == 0) (range_with_len 1 n) m 0 (omega arith)
+    (λ k less. eq-eqb (f (get_or (range_with_len 1 n) k 0)) 0 (none (get_or (range_with_len 1 n) k 0) (omega (arith, get_or-range_with_len 1 n k 0 (omega arith)))))
+    (λ less. ne_eqb (f (get_or (range_with_len 1 n) m 0)) 0
+    (λ e.
+    let here = some (omega arith) in
+    let at : get_or (range_with_len 1 n) m 0 ≡ m + 1 = get_or-range_with_len 1 n m 0 (omega arith) ∙ omega arith in
+    let same = ap f at in absurd (omega arith)))
+
+-- the cents ahead of a right that stands alone
+lone_ahead : (filled : Filled) (r : RightNo) → IsAlone (group_of filled.places r) r → cents_ahead (group_of filled.places r) (line filled) ≡ position_or_len (same_right r) (line filled)
+lone_ahead filled r alone = λ i. position_or_len (λ c. lone_group (group_of filled.places r) r alone c i) (line filled)
+
+-- a right that stands alone has the greatest such sum for its threshold
+alone_threshold : (filled : Filled) (r : RightNo) → StandsAlone filled.places r → threshold filled r ≡ empty_up_to filled r
+alone_threshold filled r alone = ap (λ b. cond b (empty_up_to filled r) (cents_ahead (group_of filled.places r) (line filled))) (eq-eqb (length (group_of filled.places r)) 1 alone)
+
+-- ---- a right that no knot ties
+
+untied_empty : (filled : Filled) (r : RightNo) → knot_of filled.knots r ≡ None → StandsAlone filled.places r → empty_up_to filled r ≡ cents_ahead (group_of filled.places r) (line filled)
+untied_empty filled r none alone =
+    let own = alone_group filled.places r alone in
+    let first = position_or_len (same_right r) (line filled) in
+    let gets : (t : ℕ) → pay filled r t ≡ counted (same_right r) (take t (line filled)) = λ t. unfound filled r t none ∙ lone_pay filled r own t in
+    last_empty (λ t. pay filled r t) (length (line filled)) first (prefix_len-le-length (λ c. not (same_right r c)) (line filled))
+    (λ t few. gets t ∙ none_ahead (same_right r) t (line filled) few)
+    (λ room. omega (arith, gets (first + 1), one_with_first (same_right r) (line filled) room))
+    ∙ sym (lone_ahead filled r own)
+
+pub untied_threshold : (filled : Filled) (r : RightNo) → knot_of filled.knots r ≡ None → threshold filled r ≡ cents_ahead (group_of filled.places r) (line filled)
+untied_threshold filled r none =
+    let ahead = cents_ahead (group_of filled.places r) (line filled) in
+    elim (eqb (length (group_of filled.places r)) 1) as (λ b. eqb (length (group_of filled.places r)) 1 ≡ b → cond b (empty_up_to filled r) ahead ≡ ahead) [
+      | true ↦ λ alone. untied_empty filled r none (eqb-true (length (group_of filled.places r)) 1 alone)
+      | false ↦ λ more. refl
+    ] refl
+
+-- ---- the two rights of a knot
+
+reserved_empty : (filled : Filled) (k : Knot) → CanKnot filled.places filled.swaps k → AreTied filled k → knot_of filled.knots k.reserved ≡ Some k
+    → empty_up_to filled k.reserved ≡ cents_ahead (group_of filled.places k.reserved) (line filled) + claim_of filled.places k.exercised
+reserved_empty filled k knot tied found =
+    let own = alone_group filled.places k.reserved knot.reserved.alone in
+    let claim = claim_of filled.places k.exercised in
+    let first = position_or_len (same_right k.reserved) (line filled) in
+    let gets : (t : ℕ) → pay filled k.reserved t ≡ counted (same_right k.reserved) (take (t - claim) (line filled)) =
+    λ t. found_reserved filled k.reserved t k found (right_self k.reserved) ∙ tied.reserved (t - claim) in
+    let room = room_behind (same_right k.reserved) (same_right k.exercised) tied.apart (line filled) tied.ahead tied.first in
+    let cents = tied.claim in
+    let less : (first + claim + 1) - claim ≡ first + 1 = omega arith in
+    last_empty (λ t. pay filled k.reserved t) (length (line filled)) (first + claim) (omega arith)
+    (λ t few. gets t ∙ none_ahead (same_right k.reserved) (t - claim) (line filled) (omega arith))
+    (λ more.
+    subst (λ n. 1 ≤ n) (sym (gets (first + claim + 1)))
+    (subst (λ t. 1 ≤ counted (same_right k.reserved) (take t (line filled))) (sym less) (one_with_first (same_right k.reserved) (line filled) (omega arith))))
+    ∙ ap (λ n. n + claim) (sym (lone_ahead filled k.reserved own))
+
+exercised_empty : (filled : Filled) (k : Knot) → CanKnot filled.places filled.swaps k → AreTied filled k → knot_of filled.knots k.exercised ≡ Some k
+    → empty_up_to filled k.exercised ≡ cents_ahead (group_of filled.places k.reserved) (line filled)
+exercised_empty filled k knot tied found =
+    let own = alone_group filled.places k.reserved knot.reserved.alone in
+    let claim = claim_of filled.places k.exercised in
+    let first = position_or_len (same_right k.reserved) (line filled) in
+    let room = first_within (same_right k.reserved) (line filled) tied.first in
+    let some = tied.least in
+    last_empty (λ t. pay filled k.exercised t) (length (line filled)) first (omega arith)
+    (λ t few.
+    let gets = found_exercised filled k.exercised t k found tied.two in
+    let one = tied.reserved t ∙ none_ahead (same_right k.reserved) t (line filled) few in
+    let other = tied.exercised t ∙ first_ahead (same_right k.reserved) (same_right k.exercised) tied.apart t (line filled) tied.ahead tied.first (omega arith) in
+    omega arith)
+    (λ more.
+    let gets = found_exercised filled k.exercised (first + 1) k found tied.two in
+    let one = tied.reserved (first + 1) in
+    let there = one_with_first (same_right k.reserved) (line filled) more in
+    let without = tied.reserved (first + 1 - claim) ∙ none_ahead (same_right k.reserved) (first + 1 - claim) (line filled) (omega arith) in
+    omega arith)
+    ∙ sym (lone_ahead filled k.reserved own)
+
+pub reserved_threshold : (filled : Filled) (r : RightNo) (k : Knot) → CanFill filled → knot_of filled.knots r ≡ Some k → same_right k.reserved r ≡ true
+    → threshold filled r ≡ cents_ahead (group_of filled.places r) (line filled) + claim_of filled.places k.exercised
+reserved_threshold filled r k fits found own =
+    let knot = found_all (CanKnot filled.places filled.swaps) filled.knots r k fits.knots found in
+    let same = right_is k.reserved r own in
+    subst (λ z. knot_of filled.knots z ≡ Some k → threshold filled z ≡ cents_ahead (group_of filled.places z) (line filled) + claim_of filled.places k.exercised) same
+    (λ is. alone_threshold filled k.reserved knot.reserved.alone ∙ reserved_empty filled k knot (are_tied filled k fits.places knot) is) found
+
+pub exercised_threshold : (filled : Filled) (r : RightNo) (k : Knot) → CanFill filled → knot_of filled.knots r ≡ Some k → same_right k.reserved r ≡ false
+    → threshold filled r ≡ cents_ahead (group_of filled.places k.reserved) (line filled)
+exercised_threshold filled r k fits found other =
+    let knot = found_all (CanKnot filled.places filled.swaps) filled.knots r k fits.knots found in
+    let own : same_right k.exercised r ≡ true = ap (λ b. b || same_right k.exercised r) (sym other) ∙ found_ties filled.knots r k found in
+    let same = right_is k.exercised r own in
+    subst (λ z. knot_of filled.knots z ≡ Some k → threshold filled z ≡ cents_ahead (group_of filled.places k.reserved) (line filled)) same
+    (λ is. alone_threshold filled k.exercised knot.exercised.alone ∙ exercised_empty filled k knot (are_tied filled k fits.places knot) is) found

@@ -1,0 +1,39 @@
+-- What fills the slots of a line.
+use Rattle.std.proofs.Common.{◌≡◌, ◌≤◌, List, [], filter, not, refl, true, arith, ap, ◌∙◌}
+use Rattle.std.specs.List.{IsDistinct}
+use Rattle.std.proofs.lemmas.List.Elements.{All-nil}
+use Rattle.gb_base.specs.RightNo.{RightNo}
+use Rattle.rank_slots.specs.CanFill.{CanFill, CanKnot, CanSwap, StandsAlone}
+use Rattle.rank_slots.specs.CentLine.{cent_line, exchange_all, is_dropped, written}
+use Rattle.rank_slots.specs.Filled.{empty, line}
+use Rattle.rank_slots.specs.declared.places.Place.{Place}
+use Rattle.rank_slots.specs.declared.places.Swap.{Swap}
+use Rattle.rank_slots.specs.inner.Pieces.{line_of}
+
+-- a line that was written, exchanged and taken out in turn
+pub made_in_turn : (places : List Place) (swaps : List Swap) (first second third : List RightNo) → first ≡ written places → second ≡ exchange_all first swaps → third ≡ filter (λ c. not (is_dropped places c)) second → third ≡ cent_line places swaps
+unfolding cent_line
+made_in_turn places swaps first second third one two three =
+    three ∙ ap (filter (λ c. not (is_dropped places c))) (two ∙ ap (λ cs. exchange_all cs swaps) one)
+
+-- nothing has no cents
+pub no_cents : line_of [] ≡ line empty
+unfolding cent_line
+no_cents = refl
+
+-- nothing fits
+pub nothing_fits : CanFill empty
+unfolding IsDistinct
+nothing_fits = record {
+  places = record {
+    few = omega arith;
+    distinct = tt;
+    first = refl;
+    dropped = All-nil (λ p. p.dropped ≡ true → StandsAlone [] p.right);
+    claims = All-nil (λ p. 1 ≤ p.claim);
+    sum = omega arith;
+  };
+  swaps = All-nil (CanSwap []);
+  knots = All-nil (CanKnot [] []);
+  once = tt;
+}

@@ -1,0 +1,86 @@
+-- The two rights of a knot on the line: the reserved one's cents stand ahead of the exercised one's.
+use Rattle.std.proofs.Common.{◌≡◌, ℕ, ◌+◌, ◌-◌, ◌≤◌, true, false, not, List, take, sym, ◌∙◌, subst, arith}
+use Rattle.std.proofs.lemmas.Bool.{both_ways, false_from_ne_true, not_from_false}
+use Rattle.gb_base.specs.RightNo.{RightNo, same_right}
+use Rattle.rank_slots.specs.CanFill.{ArePlaces, CanKnot, CanTie}
+use Rattle.rank_slots.specs.CentLine.{cent_line, exchange_all, is_dropped, written}
+use Rattle.rank_slots.specs.Filled.{Filled, line}
+use Rattle.rank_slots.specs.Payments.{claim_of, plain_pay}
+use Rattle.rank_slots.specs.declared.places.Knot.{Knot}
+use Rattle.rank_slots.specs.declared.places.Place.{Place}
+use Rattle.rank_slots.specs.declared.places.Swap.{Swap}
+use Rattle.rank_slots.proofs.GroupMembers.{alone_group}
+use Rattle.rank_slots.proofs.LineCounts.{counted, counted_kept, counted_longer}
+use Rattle.rank_slots.proofs.LineSwaps.{counted_exchange_all, precedes_exchange_all}
+use Rattle.rank_slots.proofs.LonePay.{lone_pay}
+use Rattle.rank_slots.proofs.PlaceLines.{AreDifferent, ahead_differ, claim_least, claim_written, kept_listed, kept_undropped, precedes_written}
+use Rattle.rank_slots.proofs.Precedence.{AreApart, Precedes, precedes_filter, window_below}
+use Rattle.rank_slots.proofs.SameRights.{right_is}
+
+-- ---- a right that may be tied has all cents of its claim in the line
+
+tied_cents : (places : List Place) (swaps : List Swap) (r : RightNo) → AreDifferent places → CanTie places swaps r → counted (same_right r) (cent_line places swaps) ≡ claim_of places r
+unfolding cent_line
+tied_cents places swaps r differ tie =
+    counted_kept (λ c. not (is_dropped places c)) (same_right r)
+    (λ c own. subst (λ z. not (is_dropped places z) ≡ true) (right_is r c own) (not_from_false (is_dropped places r) (kept_undropped r places differ tie.kept)))
+    (exchange_all (written places) swaps)
+    ∙ (counted_exchange_all r swaps (written places) tie.unswapped ∙ claim_written r places differ)
+
+tied_order : (places : List Place) (swaps : List Swap) (k : Knot) → AreDifferent places → CanKnot places swaps k → Precedes (same_right k.reserved) (same_right k.exercised) (cent_line places swaps)
+unfolding cent_line
+tied_order places swaps k differ knot =
+    precedes_filter (λ c. not (is_dropped places c)) (same_right k.reserved) (same_right k.exercised) (exchange_all (written places) swaps)
+    (precedes_exchange_all k.reserved k.exercised swaps (written places) knot.reserved.unswapped knot.exercised.unswapped
+    (precedes_written k.reserved k.exercised places differ knot.ahead))
+
+-- ---- both rights together
+
+-- how the two rights stand to each other
+pub record AreTied (filled : Filled) (k : Knot) : Type 0 where
+  pub reserved : (t : ℕ) → plain_pay filled k.reserved t ≡ counted (same_right k.reserved) (take t (line filled))
+  pub exercised : (t : ℕ) → plain_pay filled k.exercised t ≡ counted (same_right k.exercised) (take t (line filled))
+  pub two : same_right k.reserved k.exercised ≡ false
+  pub apart : AreApart (same_right k.reserved) (same_right k.exercised)
+  pub ahead : Precedes (same_right k.reserved) (same_right k.exercised) (line filled)
+  pub first : 1 ≤ counted (same_right k.reserved) (line filled)
+  pub claim : counted (same_right k.exercised) (line filled) ≡ claim_of filled.places k.exercised
+  pub least : 1 ≤ claim_of filled.places k.exercised
+
+apart_rights : (a c : RightNo) → same_right a c ≡ false → AreApart (same_right a) (same_right c)
+apart_rights a c two x last =
+    false_from_ne_true (same_right a x) (λ own. both_ways (same_right a c) two (subst (λ z. same_right a z ≡ true) (sym (right_is c x last)) own))
+
+pub are_tied : (filled : Filled) (k : Knot) → ArePlaces filled.places → CanKnot filled.places filled.swaps k → AreTied filled k
+are_tied filled k places knot =
+    let two = ahead_differ filled.places k.reserved k.exercised knot.ahead in
+    let own = tied_cents filled.places filled.swaps k.reserved places.distinct knot.reserved in
+    record {
+      reserved = lone_pay filled k.reserved (alone_group filled.places k.reserved knot.reserved.alone);
+      exercised = lone_pay filled k.exercised (alone_group filled.places k.exercised knot.exercised.alone);
+      two = two;
+      apart = apart_rights k.reserved k.exercised two;
+      ahead = tied_order filled.places filled.swaps k places.distinct knot;
+      first = subst (λ n. 1 ≤ n) (sym own) (claim_least k.reserved filled.places places.claims (kept_listed k.reserved filled.places knot.reserved.kept));
+      claim = tied_cents filled.places filled.swaps k.exercised places.distinct knot.exercised;
+      least = claim_least k.exercised filled.places places.claims (kept_listed k.exercised filled.places knot.exercised.kept);
+    }
+
+-- ---- what the two get
+
+-- the reserved right gets no less of a greater sum
+pub reserved_grows : (filled : Filled) (k : Knot) → AreTied filled k → (t u : ℕ) → t ≤ u → plain_pay filled k.reserved t ≤ plain_pay filled k.reserved u
+reserved_grows filled k tied t u more =
+    let here = tied.reserved t in let there = tied.reserved u in
+    let longer = counted_longer (same_right k.reserved) t u (line filled) more in omega arith
+
+-- the exercised right gets no more than its claim
+pub exercised_within : (filled : Filled) (k : Knot) → AreTied filled k → (t : ℕ)
+    → plain_pay filled k.reserved t + plain_pay filled k.exercised t - plain_pay filled k.reserved (t - claim_of filled.places k.exercised) ≤ claim_of filled.places k.exercised
+exercised_within filled k tied t =
+    let claim = claim_of filled.places k.exercised in
+    let all = tied.claim in
+    let below = window_below (same_right k.reserved) (same_right k.exercised) tied.apart t claim (line filled) tied.ahead (omega arith) in
+    let first = tied.reserved t in
+    let last = tied.exercised t in
+    let without = tied.reserved (t - claim) in omega arith

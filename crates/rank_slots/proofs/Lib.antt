@@ -1,0 +1,22 @@
+-- Lemmas.
+pub mod Ahead
+pub mod EmptySums
+pub mod Exchanges
+pub mod Filling
+pub mod GroupMembers
+pub mod GroupShares
+pub mod GroupSteps
+pub mod HandedOut
+pub mod Joined
+pub mod KnotPay
+pub mod KnotRoom
+pub mod KnotTies
+pub mod LineCounts
+pub mod LineSwaps
+pub mod Lines
+pub mod LonePay
+pub mod PlaceLines
+pub mod Precedence
+pub mod SameRights
+pub mod TakenOut
+pub mod ThirdRights

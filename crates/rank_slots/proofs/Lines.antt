@@ -1,0 +1,75 @@
+-- Pieces stand for their line.
+use Rattle.std.proofs.Common.{◌≡◌, ℕ, ◌+◌, ◌-◌, ◌*◌, ◌<◌, ◌≤◌, Bool, true, false, cond, List, [], ◌∷◌, ◌++◌, count_by, drop, get_or, length, min, refl, replicate, subst, sum_by, sym, take, ap, arith, inl, inr, ◌∙◌}
+use Rattle.std.proofs.lemmas.Bool.{cases_lt}
+use Rattle.std.proofs.lemmas.List.{append-nil, drop_more, length-append, length-replicate, take-append-le, take-replicate, take_more}
+use Rattle.std.proofs.lemmas.List.Concat.{flat_map-append}
+use Rattle.std.proofs.lemmas.List.Sums.{sum_by-append, sum_by-cons, sum_by_more, sum_by_more_le}
+use Rattle.std.proofs.lemmas.List.Folds.{sum_by-replicate}
+use Rattle.std.proofs.Math.Seq.{take-append-add}
+use Rattle.gb_base.specs.RightNo.{RightNo}
+use Rattle.rank_slots.specs.declared.places.Piece.{Piece}
+use Rattle.rank_slots.specs.inner.Pieces.{line_of}
+
+-- with one piece more
+pub line_push : (ps : List Piece) (p : Piece) → line_of (ps ++ p ∷ []) ≡ line_of ps ++ replicate p.cents p.right
+line_push ps p = flat_map-append (λ q. replicate q.cents q.right) ps (p ∷ []) ∙ ap (λ t. line_of ps ++ t) (append-nil (replicate p.cents p.right))
+
+pub line_more : (ps : List Piece) (i : ℕ) (d : Piece) → i < length ps → line_of (take (i + 1) ps) ≡ line_of (take i ps) ++ replicate (get_or ps i d).cents (get_or ps i d).right
+line_more ps i d h = ap line_of (take_more ps i d h) ∙ line_push (take i ps) (get_or ps i d)
+
+pub line_drop : (ps : List Piece) (i : ℕ) (d : Piece) → i < length ps → line_of (drop i ps) ≡ replicate (get_or ps i d).cents (get_or ps i d).right ++ line_of (drop (i + 1) ps)
+line_drop ps i d h = ap line_of (drop_more ps i d h)
+
+-- as many cents as the pieces have
+pub length_line : (ps : List Piece) → length (line_of ps) ≡ sum_by (λ p. p.cents) ps
+length_line [] = refl
+length_line (p ∷ ps) =
+    length-append (replicate p.cents p.right) (line_of ps)
+    ∙ (λ i. length-replicate p.cents p.right i + length_line ps i)
+    ∙ sym (sum_by-cons (λ q. q.cents) p ps)
+
+-- the first cents of a line that begins with n of one right
+take_fewer : (left n : ℕ) (c : RightNo) (cs : List RightNo) → left ≤ n → take left (replicate n c ++ cs) ≡ replicate left c
+take_fewer left n c cs few = take-append-le left (replicate n c) cs (subst (λ k. left ≤ k) (sym (length-replicate n c)) few) ∙ take-replicate left n c few
+
+take_others : (n m : ℕ) (c : RightNo) (cs : List RightNo) → take (n + m) (replicate n c ++ cs) ≡ replicate n c ++ take m cs
+take_others n m c cs = ap (λ k. take (k + m) (replicate n c ++ cs)) (sym (length-replicate n c)) ∙ take-append-add (replicate n c) cs m
+
+count_replicate : (test : RightNo → Bool) (n : ℕ) (c : RightNo) → count_by test (replicate n c) ≡ n * cond (test c) 1 0
+count_replicate test n c = sum_by-replicate (λ x. cond (test x) 1 0) n c
+
+times_tally : (n : ℕ) (b : Bool) → n * cond b 1 0 ≡ cond b n 0
+times_tally n true = omega arith
+times_tally n false = omega arith
+
+-- how many of the first `left` cents pass a test, where n of one right come first
+pub counted_front : (test : RightNo → Bool) (left n : ℕ) (c : RightNo) (cs : List RightNo) → count_by test (take left (replicate n c ++ cs)) ≡ cond (test c) (min left n) 0 + count_by test (take (left - min left n) cs)
+counted_front test left n c cs = elim (cases_lt left n) [
+  | inl less ↦
+      let all : min left n ≡ left = omega arith in
+      let none : left - min left n ≡ 0 = omega arith in
+      let front = ap (count_by test) (take_fewer left n c cs (omega arith)) ∙ count_replicate test left c ∙ times_tally left (test c) in
+      rw (none, all) (front ∙ omega arith)
+  | inr more ↦
+      let all : min left n ≡ n = omega arith in
+      let whole : n + (left - n) ≡ left = omega arith in
+      let front = ap (λ k. count_by test (take k (replicate n c ++ cs))) (sym whole)
+      ∙ ap (count_by test) (take_others n (left - n) c cs)
+      ∙ sum_by-append (λ x. cond (test x) 1 0) (replicate n c) (take (left - n) cs)
+      ∙ (λ i. (count_replicate test n c ∙ times_tally n (test c)) i + count_by test (take (left - n) cs)) in
+      rw all front
+]
+
+-- ---- at the piece that a loop reads
+
+pub line_at : (ps : List Piece) (i : ℕ) (p : Piece) → i < length ps → p ≡ get_or ps i p → line_of (drop i ps) ≡ replicate p.cents p.right ++ line_of (drop (i + 1) ps)
+line_at ps i p here is = line_drop ps i p here ∙ ap (λ q. replicate q.cents q.right ++ line_of (drop (i + 1) ps)) (sym is)
+
+pub line_so_far : (ps : List Piece) (i : ℕ) (p : Piece) → i < length ps → p ≡ get_or ps i p → line_of (take (i + 1) ps) ≡ line_of (take i ps) ++ replicate p.cents p.right
+line_so_far ps i p here is = line_more ps i p here ∙ ap (λ q. line_of (take i ps) ++ replicate q.cents q.right) (sym is)
+
+pub sum_so_far : (ps : List Piece) (i : ℕ) (p : Piece) → i < length ps → p ≡ get_or ps i p → sum_by (λ q. q.cents) (take (i + 1) ps) ≡ sum_by (λ q. q.cents) (take i ps) + p.cents
+sum_so_far ps i p here is = sum_by_more (λ q. q.cents) ps i p here ∙ ap (λ q. sum_by (λ r. r.cents) (take i ps) + q.cents) (sym is)
+
+pub sum_within : (ps : List Piece) (i : ℕ) (p : Piece) → i < length ps → p ≡ get_or ps i p → sum_by (λ q. q.cents) (take i ps) + p.cents ≤ sum_by (λ q. q.cents) ps
+sum_within ps i p here is = omega (arith, sum_by_more_le (λ q. q.cents) ps i p here, ap (λ q. q.cents) is)

@@ -1,0 +1,6 @@
+-- The cents of the pieces so far.
+use Rattle.std.proofs.Common.{◌≡◌, sum_by, take}
+use Rattle.rank_slots.proofs.pieces.total.Given as goal
+
+abbrev pub invariant-loop-piece : goal.invariant-loop-piece
+invariant-loop-piece l = l.cents ≡ sum_by (λ p. p.cents) (take l.piece-index l.pieces)

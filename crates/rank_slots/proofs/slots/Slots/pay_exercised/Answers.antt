@@ -1,0 +1,18 @@
+use Rattle.std.proofs.Common.{◌≤◌, arith}
+use Rattle.rank_slots.proofs.KnotTies.{are_tied, reserved_grows}
+use Rattle.rank_slots.proofs.slots.Slots.pay_exercised.Goals as goal
+
+pub overflow_add-result : goal.overflow_add-result
+overflow_add-result c =
+    let first = c.plain_pay.ensures.bound c.requires.knot.reserved.alone in
+    let last = c.plain_pay-2.ensures.bound c.requires.knot.exercised.alone in
+    omega arith
+
+pub overflow_sub-result : goal.overflow_sub-result
+overflow_sub-result c =
+    let tied = are_tied c.args.self.now.filled c.args.knot c.requires.fits.places c.requires.knot in
+    let less : c.saturating_sub-without.result ≤ c.args.t = omega (arith, c.saturating_sub-without.ensures) in
+    let grows = reserved_grows c.args.self.now.filled c.args.knot tied c.saturating_sub-without.result c.args.t less in
+    let first = c.plain_pay.ensures.value in
+    let without = c.plain_pay-3.ensures.value in
+    omega arith

@@ -1,0 +1,35 @@
+-- What a line was filled with.
+use Rattle.std.specs.Prelude.{ℕ, List, [], ◌∷◌, ◌++◌}
+use Rattle.gb_base.specs.RightNo.{RightNo}
+use Rattle.rank_slots.specs.CentLine.{cent_line}
+use Rattle.rank_slots.specs.declared.places.Knot.{Knot}
+use Rattle.rank_slots.specs.declared.places.Place.{Place}
+use Rattle.rank_slots.specs.declared.places.Swap.{Swap}
+
+-- the places in order, the exchanges in turn, and the knots
+pub record Filled : Type 0 where
+  pub places : List Place
+  pub swaps : List Swap
+  pub knots : List Knot
+
+-- the cent line of these places
+abbrev pub line : Filled → List RightNo
+line filled = cent_line filled.places filled.swaps
+
+-- the same with one exchange more, behind the others
+abbrev pub with_swap : Filled → Swap → Filled
+with_swap filled s = record { places = filled.places; swaps = filled.swaps ++ s ∷ []; knots = filled.knots }
+
+-- the same without knots
+abbrev pub without_knots : Filled → Filled
+without_knots filled = record { places = filled.places; swaps = filled.swaps; knots = [] }
+
+-- nothing
+abbrev pub empty : Filled
+empty = record { places = []; swaps = []; knots = [] }
+
+-- the slots of a line: how many places and exchanges they have room for, and what they were filled with
+pub record SlotsState : Type 0 where
+  pub place_room : ℕ
+  pub swap_room : ℕ
+  pub filled : Filled

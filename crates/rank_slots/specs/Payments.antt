@@ -1,0 +1,60 @@
+-- What each right gets of a sum that is paid along the cent line (BGB §§ 879, 881).
+use Rattle.std.specs.Prelude.{ℕ, ◌+◌, ◌-◌, Bool, ◌==◌, not, if◌then◌else◌, List, [], ◌∷◌, count_by, filter, find, length, map, sum_by, take}
+use Rattle.std.specs.List.{list_any, position_or_len, prefix_len, range_with_len}
+use Rattle.std.specs.Option.{option_map_or}
+use Rattle.gb_base.specs.RightNo.{RightNo, same_right}
+use Rattle.gb_base.specs.Shares.{share}
+use Rattle.rank_slots.specs.Filled.{Filled, line}
+use Rattle.rank_slots.specs.Groups.{group_of, is_of}
+use Rattle.rank_slots.specs.declared.places.Knot.{Knot}
+use Rattle.rank_slots.specs.declared.places.Place.{Place}
+
+-- the cent is one of this group's
+abbrev pub is_of_group : List Place → RightNo → Bool
+is_of_group group c = list_any (is_of c) group
+
+-- what a right gets of the cents of its group: all where it stands alone, else its share
+abbrev pub part_of : List Place → RightNo → ℕ → ℕ
+part_of (p ∷ []) right cents = cents
+part_of group right cents = share cents (map (λ p. p.claim) group) (position_or_len (is_of right) group)
+
+-- what a right gets of the first t cents of the line, knots apart
+abbrev pub plain_pay : Filled → RightNo → ℕ → ℕ
+plain_pay filled right t =
+    part_of (group_of filled.places right) right (count_by (is_of_group (group_of filled.places right)) (take t (line filled)))
+
+-- the claim of a right
+abbrev pub claim_of : List Place → RightNo → ℕ
+claim_of places right = option_map_or (λ p. p.claim) (find (is_of right) places) 0
+
+-- What a right gets of the first t cents. The reserved right of a knot gets what it would without the claim of the exercised
+-- one; the exercised one gets what is left of both (BGB § 881).
+abbrev pub pay_in : List Knot → Filled → RightNo → ℕ → ℕ
+pay_in [] filled right t = plain_pay filled right t
+pay_in (k ∷ ks) filled right t =
+    if same_right k.reserved right then plain_pay filled right (t - claim_of filled.places k.exercised)
+    else (if same_right k.exercised right
+    then plain_pay filled k.reserved t + plain_pay filled right t - plain_pay filled k.reserved (t - claim_of filled.places right)
+    else pay_in ks filled right t)
+
+-- the same with all its knots
+abbrev pub pay : Filled → RightNo → ℕ → ℕ
+pay filled right t = pay_in filled.knots filled right t
+
+-- what all rights get together of the first t cents
+abbrev pub paid_out : Filled → ℕ → ℕ
+paid_out filled t = sum_by (λ p. pay filled p.right t) (filter (λ p. not p.dropped) filled.places)
+
+-- how many cents of the line stand ahead of a group
+abbrev pub cents_ahead : List Place → List RightNo → ℕ
+cents_ahead group line = position_or_len (is_of_group group) line
+
+-- the greatest sum up to which a right gets nothing
+abbrev pub empty_up_to : Filled → RightNo → ℕ
+empty_up_to filled right = prefix_len (λ t. pay filled right t == 0) (range_with_len 1 (length (line filled)))
+
+-- The threshold of a right: the greatest sum up to which it gets nothing, and for one of a group the cents ahead of the group.
+abbrev pub threshold : Filled → RightNo → ℕ
+threshold filled right =
+    if length (group_of filled.places right) == 1 then empty_up_to filled right
+    else cents_ahead (group_of filled.places right) (line filled)

@@ -1,0 +1,4 @@
+-- What private clauses alone say.
+pub mod Knots
+pub mod Pieces
+pub mod Slots

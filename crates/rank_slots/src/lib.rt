@@ -1,0 +1,17 @@
+//! What each right of a line of places gets of a sum that is paid along it, cent by cent: with
+//! groups of equal rank, exchanges of rank (BGB § 880) and exercised reservations (BGB § 881).
+#![tactic(auto)]
+
+mod exchanging;
+mod groups;
+pub mod laws;
+mod paying;
+mod pieces;
+mod places;
+mod relations;
+mod slots;
+mod thresholds;
+
+pub use places::{Knot, Piece, Place, Swap};
+pub use relations::Relation;
+pub use slots::Slots;

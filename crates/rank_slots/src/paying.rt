@@ -1,0 +1,107 @@
+// What a right gets of a sum that is paid along the line.
+ghost use Rattle.std.specs.Prelude.{◌≡◌, ◌+◌, ◌<◌, ◌≤◌, true, All, find, length, map, sum_by};
+ghost use Rattle.std.specs.List.{list_any, position_or_len};
+ghost use Rattle.std.specs.Option.{option_copied};
+ghost use Rattle.rank_slots.specs.CanFill.{CanFill, CanKnot, StandsAlone};
+ghost use Rattle.rank_slots.specs.Groups.{is_of, keeps_place};
+ghost use Rattle.gb_base.specs.Limits.{most_sum};
+ghost use Rattle.rank_slots.specs.Limits.{most_places};
+ghost use Rattle.rank_slots.specs.Payments.{claim_of, part_of, pay, plain_pay};
+ghost use Rattle.rank_slots.specs.inner.Knots.{knot_of, left_of_both};
+
+use crate::groups::{group_of, places_ahead};
+use crate::pieces::cents_within;
+use crate::{Knot, Place, Slots};
+use arrayvec::ArrayVec;
+use gb_base::{RightId, share};
+
+/// The most places of a line.
+const MOST_PLACES: usize = 256;
+
+impl Slots {
+    /// How many of the first t cents the right gets. One of a group gets its share of the group's
+    /// cents; the reserved right of a knot gets what it would without the claim of the exercised
+    /// one, and the exercised one what is left of both (BGB § 881).
+    pub fn pay(&self, right: RightId, t: u64) -> u64
+        requires { keeps_place self.now.filled.places right ≡ true }
+        ensures { result ≡ pay self.now.filled right t }
+    {
+        match self.knot_of(right) {
+            None => self.plain_pay(right, t),
+            Some(knot) if knot.reserved == right => {
+                self.plain_pay(right, t.saturating_sub(self.claim_of(knot.exercised)))
+            }
+            Some(knot) => self.pay_exercised(knot, t),
+        }
+    }
+
+    /// What the exercised right of a knot gets.
+    fn pay_exercised(&self, knot: Knot, t: u64) -> u64
+        requires fits { CanFill self.now.filled }
+        requires knot { CanKnot self.now.filled.places self.now.filled.swaps knot }
+        ensures { result ≡ left_of_both self.now.filled knot t }
+    {
+        let reserved = knot.reserved;
+        let without = t.saturating_sub(self.claim_of(knot.exercised));
+        self.plain_pay(reserved, t) + self.plain_pay(knot.exercised, t)
+            - self.plain_pay(reserved, without)
+    }
+
+    /// The knot of this right.
+    pub(crate) fn knot_of(&self, right: RightId) -> Option<Knot>
+        ensures value { result ≡ knot_of self.now.filled.knots right }
+        ensures fits { CanFill self.now.filled }
+    {
+        self.knots
+            .iter()
+            .find(|knot| knot.reserved == right || knot.exercised == right)
+            .copied()
+    }
+
+    /// The claim of this right; 0 where it has no place.
+    pub(crate) fn claim_of(&self, right: RightId) -> u64
+        ensures value { result ≡ claim_of self.now.filled.places right }
+        ensures bound { result < most_sum }
+    {
+        match self.places.iter().find(|place| place.right == right) {
+            Some(place) => place.claim,
+            None => 0,
+        }
+    }
+
+    /// How many of the first t cents the right gets, knots apart.
+    fn plain_pay(&self, right: RightId, t: u64) -> u64
+        requires { keeps_place self.now.filled.places right ≡ true }
+        ensures value { result ≡ plain_pay self.now.filled right t }
+        ensures bound { StandsAlone self.now.filled.places right → result < most_sum }
+    {
+        let group = group_of(&self.places, right);
+        part_of(group, right, cents_within(&self.pieces, group, t))
+    }
+}
+
+/// What a right gets of the cents of its group.
+fn part_of(group: &[Place], right: RightId, cents: u64) -> u64
+    requires there { list_any (is_of right) group.now ≡ true }
+    requires few { length group.now ≤ most_places }
+    requires claims { All (λ p. 1 ≤ p.claim) group.now }
+    requires sum { sum_by (λ p. p.claim) group.now < most_sum }
+    ensures { result ≡ part_of group.now right cents }
+{
+    match group {
+        [_] => cents,
+        _ => share(cents, &claims_of(group), places_ahead(group, right)),
+    }
+}
+
+/// The claims of these places.
+fn claims_of(group: &[Place]) -> ArrayVec<u64, MOST_PLACES>
+    requires { length group.now ≤ most_places }
+    ensures { result.items ≡ map (λ p. p.claim) group.now }
+{
+    let mut claims = ArrayVec::new();
+    for place in group {
+        claims.push(place.claim);
+    }
+    claims
+}

@@ -1,0 +1,41 @@
+// What a line is filled with, and what it is made of.
+
+use gb_base::RightId;
+
+/// The place of a right in a line, with its claim.
+#[derive(Clone, Copy, Debug, PartialEq, Eq)]
+pub struct Place {
+    pub right: RightId,
+    /// In cents, from 1.
+    pub claim: u64,
+    /// Whether it joins the place before it in one group of equal rank (GBO § 45(3)).
+    pub with_previous: bool,
+    /// Whether its cents are taken out once all exchanges are made.
+    pub dropped: bool,
+}
+
+/// An exchange of rank (BGB § 880).
+#[derive(Clone, Copy, Debug, PartialEq, Eq)]
+pub struct Swap {
+    /// The right that steps back.
+    pub recede: RightId,
+    /// The right that takes its rank.
+    pub rise: RightId,
+}
+
+/// Two rights that a reservation ties (BGB § 881).
+#[derive(Clone, Copy, Debug, PartialEq, Eq)]
+pub struct Knot {
+    /// The right whose reservation is spent.
+    pub reserved: RightId,
+    /// The right that was entered in its rank.
+    pub exercised: RightId,
+}
+
+/// Neighbouring cents of a line that are one right's.
+#[derive(Clone, Copy, Debug, PartialEq, Eq)]
+pub struct Piece {
+    pub right: RightId,
+    /// How many, from 1.
+    pub cents: u64,
+}

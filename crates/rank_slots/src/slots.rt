@@ -1,0 +1,123 @@
+// The slots of a line.
+ghost use Rattle.std.specs.Prelude.{◌≡◌, ◌<◌, ◌≤◌, All, IfOk, length, sum_by, vec_capacity};
+ghost use Rattle.rank_slots.specs.CanFill.{CanFill};
+ghost use Rattle.rank_slots.specs.CentLine.{pieces_of};
+ghost use Rattle.rank_slots.specs.Filled.{empty, line};
+ghost use Rattle.rank_slots.specs.Groups.{group_of};
+ghost use Rattle.gb_base.specs.Limits.{most_sum};
+
+use crate::exchanging::{exchange_all, take_out_dropped, write_places};
+use crate::groups::group_of;
+use crate::pieces::total;
+use crate::{Knot, Piece, Place, Swap};
+use gb_base::{NoMemory, RightId};
+use std::alloc::{AllocError, Global};
+use std::marker::Model;
+use std::mem;
+
+/// The cent line of a list of places, in pieces: the claims stand one behind the other, so that a
+/// sum is paid along it. In contracts it is what it was filled with, and how much it has room for.
+#[derive(Debug, Drop)]
+pub struct Slots {
+    place_room: usize,
+    swap_room: usize,
+    pub(crate) places: Vec<Place>,
+    pub(crate) swaps: Vec<Swap>,
+    pub(crate) knots: Vec<Knot>,
+    /// The pieces of the line.
+    pub(crate) pieces: Vec<Piece>,
+    /// Where the pieces are written anew.
+    spare: Vec<Piece>,
+}
+
+impl Model for Slots {
+    ghost use Rattle.std.specs.Prelude.{vec_capacity};
+    ghost use Rattle.rank_slots.specs.Filled.{SlotsState};
+    ghost use Rattle.rank_slots.specs.inner.Slots.{HasRoom, IsFilled};
+
+    ghost Value = { SlotsState };
+
+    ghost view = { λ a. record { place_room = a.place_room; swap_room = a.swap_room; filled = record { places = a.places.items; swaps = a.swaps.items; knots = a.knots.items } } };
+
+    ghost invariant = { λ a.
+        IsFilled (record { place_room = a.place_room; swap_room = a.swap_room; filled = record { places = a.places.items; swaps = a.swaps.items; knots = a.knots.items } }) a.pieces.items
+        × HasRoom (record { place_room = a.place_room; swap_room = a.swap_room; filled = record { places = a.places.items; swaps = a.swaps.items; knots = a.knots.items } })
+        (vec_capacity a.places) (vec_capacity a.swaps) (vec_capacity a.knots) (vec_capacity a.pieces) (vec_capacity a.spare) };
+}
+
+impl Slots {
+    /// An empty line, with room for so many places and so many exchanges among them.
+    pub fn with_room(alloc: Global, places: usize, swaps: usize) -> Result<Slots, NoMemory>
+        ensures places { IfOk result (λ slots. places ≤ slots.place_room) }
+        ensures swaps { IfOk result (λ slots. swaps ≤ slots.swap_room) }
+        ensures filled { IfOk result (λ slots. slots.filled ≡ empty) }
+    {
+        let pieces = places.checked_add(swaps).ok_or(AllocError)?;
+        Ok(Slots {
+            place_room: places,
+            swap_room: swaps,
+            places: Vec::with_capacity(alloc, places)?,
+            swaps: Vec::with_capacity(alloc, swaps)?,
+            knots: Vec::with_capacity(alloc, places)?,
+            pieces: Vec::with_capacity(alloc, pieces)?,
+            spare: Vec::with_capacity(alloc, pieces)?,
+        })
+    }
+
+    /// Fills the line anew: the claims of the places in order, with these exchanges in turn and
+    /// these exercised reservations.
+    pub fn fill(&mut self, places: &[Place], swaps: &[Swap], knots: &[Knot])
+        requires places { length places.now ≤ self.old.place_room }
+        requires swaps { length swaps.now ≤ self.old.swap_room }
+        requires fits { CanFill (record { places = places.now; swaps = swaps.now; knots = knots.now }) }
+        ensures filled { self.new.filled ≡ record { places = places.now; swaps = swaps.now; knots = knots.now } }
+        ensures place_room { self.new.place_room ≡ self.old.place_room }
+        ensures swap_room { self.new.swap_room ≡ self.old.swap_room }
+    {
+        copy_into(&mut self.places, places);
+        copy_into(&mut self.swaps, swaps);
+        copy_into(&mut self.knots, knots);
+        write_places(&mut self.pieces, places);
+        exchange_all(&mut self.pieces, &mut self.spare, swaps);
+        take_out_dropped(&self.pieces, &mut self.spare, places);
+        mem::swap(&mut self.pieces, &mut self.spare);
+    }
+
+    /// How many cents the line has.
+    pub fn length(&self) -> u64
+        ensures value { result ≡ length (line self.now.filled) }
+        ensures bound { result < most_sum }
+    {
+        total(&self.pieces)
+    }
+
+    /// The places of equal rank with this right's, itself among them, in order; none where it has
+    /// no place here.
+    pub fn group(&self, right: RightId) -> &[Place]
+        ensures { result.now ≡ group_of self.now.filled.places right }
+    {
+        group_of(&self.places, right)
+    }
+
+    /// The pieces of the line, in order. The cents of a group stand as the whole claims of its
+    /// members, in their order.
+    pub fn pieces(&self) -> &[Piece]
+        ensures value { result.now ≡ pieces_of (line self.now.filled) }
+        ensures some { All (λ p. 1 ≤ p.cents) result.now }
+        ensures sum { sum_by (λ p. p.cents) result.now < most_sum }
+    {
+        &self.pieces
+    }
+}
+
+/// Fills a list that has room for it anew.
+fn copy_into<T: Copy>(list: &mut Vec<T>, from: &[T])
+    requires { length from.now ≤ vec_capacity list.old }
+    ensures items { list.new.items ≡ from.now }
+    ensures capacity { vec_capacity list.new ≡ vec_capacity list.old }
+{
+    list.clear();
+    for item in from {
+        list.push_reserved(*item);
+    }
+}

@@ -1,0 +1,36 @@
+// From which sum on a right gets something.
+ghost use Rattle.std.specs.Prelude.{◌≡◌, ◌<◌, true};
+ghost use Rattle.rank_slots.specs.Filled.{line};
+ghost use Rattle.rank_slots.specs.Groups.{group_of, keeps_place};
+ghost use Rattle.gb_base.specs.Limits.{most_sum};
+ghost use Rattle.rank_slots.specs.Payments.{cents_ahead, threshold};
+
+use crate::Slots;
+use crate::groups::group_of;
+use crate::pieces::cents_ahead;
+use gb_base::RightId;
+
+impl Slots {
+    /// The greatest sum, in cents, up to which the right gets nothing; for one of a group how many
+    /// cents stand ahead of the group.
+    pub fn threshold(&self, right: RightId) -> u64
+        requires { keeps_place self.now.filled.places right ≡ true }
+        ensures { result ≡ threshold self.now.filled right }
+    {
+        match self.knot_of(right) {
+            None => self.cents_ahead(right),
+            Some(knot) if knot.reserved == right => {
+                self.cents_ahead(right) + self.claim_of(knot.exercised)
+            }
+            Some(knot) => self.cents_ahead(knot.reserved),
+        }
+    }
+
+    /// How many cents stand ahead of the right's group.
+    fn cents_ahead(&self, right: RightId) -> u64
+        ensures value { result ≡ cents_ahead (group_of self.now.filled.places right) (line self.now.filled) }
+        ensures bound { result < most_sum }
+    {
+        cents_ahead(&self.pieces, group_of(&self.places, right))
+    }
+}
