@@ -6,8 +6,8 @@ use Rattle.act_model.specs.declared.receipts.Receipt.{Receipt}
 use Rattle.folio_sections.specs.Titles.{inventory, owners}
 use Rattle.folio_sections.specs.declared.entries.Entry.{Entry}
 use Rattle.folio_extract.specs.Extracts.{extract_text, folio_line, inventory_line, owners_line, right_lines, sale_line, waiting_lines}
-use Rattle.folio_extract.specs.LiveRights.{live_rights}
-use Rattle.folio_extract.specs.declared.live_rights.LiveRight.{LiveRight}
+use Rattle.folio_extract.specs.PlacedRights.{live_rights}
+use Rattle.folio_extract.specs.declared.placed_rights.CreatedRight.{CreatedRight}
 
 in_a_row : (t a b c d e f : List ℕ) → ((t ++ (a ++ (b ++ (c ++ d)))) ++ e) ++ f ≡ t ++ (a ++ (b ++ (c ++ (d ++ (e ++ f)))))
 in_a_row t a b c d e f =
@@ -17,7 +17,7 @@ in_a_row t a b c d e f =
     ∙ ap (λ xs. t ++ (a ++ xs)) (append_assoc b (c ++ d) (e ++ f))
     ∙ ap (λ xs. t ++ (a ++ (b ++ xs))) (append_assoc c d (e ++ f))
 
-pub extract_is : (journal : List Receipt) (at : Key → List Entry) (folio : ℕ) (t0 t1 t2 t3 : List ℕ) (rights : List LiveRight) → rights ≡ live_rights journal at folio
+pub extract_is : (journal : List Receipt) (at : Key → List Entry) (folio : ℕ) (t0 t1 t2 t3 : List ℕ) (rights : List CreatedRight) → rights ≡ live_rights journal at folio
     → t1 ≡ t0 ++ (folio_line folio ++ (inventory_line (inventory (at (Title folio))) ++ (owners_line (owners (at (Title folio))) ++ sale_line (at (Case folio)))))
     → t2 ≡ t1 ++ waiting_lines journal (codes "title") (at (Title folio))
     → t3 ≡ t2 ++ flat_map (λ x. right_lines journal (at (Right folio x.id)) x) rights
@@ -25,8 +25,8 @@ pub extract_is : (journal : List Receipt) (at : Key → List Entry) (folio : ℕ
 unfolding extract_text
 extract_is journal at folio t0 t1 t2 t3 rights live first second third =
     third
-    ∙ ap (λ xs. t2 ++ flat_map (λ (x : LiveRight). right_lines journal (at (Right folio x.id)) x) xs) live
-    ∙ ap (λ xs. xs ++ flat_map (λ (x : LiveRight). right_lines journal (at (Right folio x.id)) x) (live_rights journal at folio))
+    ∙ ap (λ xs. t2 ++ flat_map (λ (x : CreatedRight). right_lines journal (at (Right folio x.id)) x) xs) live
+    ∙ ap (λ xs. xs ++ flat_map (λ (x : CreatedRight). right_lines journal (at (Right folio x.id)) x) (live_rights journal at folio))
     (second ∙ ap (λ xs. xs ++ waiting_lines journal (codes "title") (at (Title folio))) first)
     ∙ in_a_row t0 (folio_line folio) (inventory_line (inventory (at (Title folio)))) (owners_line (owners (at (Title folio)))) (sale_line (at (Case folio)))
-    (waiting_lines journal (codes "title") (at (Title folio))) (flat_map (λ (x : LiveRight). right_lines journal (at (Right folio x.id)) x) (live_rights journal at folio))
+    (waiting_lines journal (codes "title") (at (Title folio))) (flat_map (λ (x : CreatedRight). right_lines journal (at (Right folio x.id)) x) (live_rights journal at folio))

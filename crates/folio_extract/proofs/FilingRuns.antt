@@ -8,37 +8,37 @@ use Rattle.std.proofs.lemmas.Bool.Decides.{nat_tests}
 use Rattle.gb_base.specs.declared.keys.Key.{Key}
 use Rattle.gb_base.specs.declared.keys.Key.TheVariants.{Right}
 use Rattle.act_model.specs.Touches.{new_right}
-use Rattle.folio_sections.specs.Rights.{live_right}
 use Rattle.folio_sections.specs.declared.entries.Created.{Created}
 use Rattle.folio_sections.specs.declared.entries.Entry.{Entry}
 use Rattle.folio_sections.proofs.Unchanged.{all_both}
 use Rattle.interim_orders.proofs.Noticing.{all_map as all_weaker}
-use Rattle.folio_extract.specs.LiveRights.{by_group, live_at, live_of, one_to}
-use Rattle.folio_extract.specs.declared.live_rights.LiveRight.{LiveRight}
+use Rattle.folio_extract.specs.PlacedRights.{by_group, one_to, placed_at, placed_of, placed_right}
+use Rattle.folio_extract.specs.declared.exchanges.Exchange.{Exchange}
+use Rattle.folio_extract.specs.declared.placed_rights.CreatedRight.{CreatedRight}
 use Rattle.folio_extract.specs.inner.FilingRuns.{is_of_filing}
 
 -- ---- runs
 
 -- the rights at each number are of the filing of that number
-abbrev pub AreOfFilings : (ℕ → List LiveRight) → Type 0
+abbrev pub AreOfFilings : (ℕ → List CreatedRight) → Type 0
 AreOfFilings f = (m : ℕ) → AllByRecursion (λ x. is_of_filing m x ≡ true) (f m)
 
-pub live_of_filings : (at : Key → List Entry) (folio : ℕ) → AreOfFilings (live_of at folio)
-live_of_filings at folio m = by (one_to 8)
+pub placed_of_filings : (exchanges : List Exchange) (at : Key → List Entry) (folio : ℕ) → AreOfFilings (placed_of exchanges at folio)
+placed_of_filings exchanges at folio m = by (one_to 8)
   where
-    by : (acts : List ℕ) → AllByRecursion (λ x. is_of_filing m x ≡ true) (filter_map (live_at at folio) (map (new_right m) acts))
+    by : (acts : List ℕ) → AllByRecursion (λ x. is_of_filing m x ≡ true) (filter_map (placed_at exchanges at folio) (map (new_right m) acts))
     by [] = tt
     by (a ∷ acts) =
-        elim (live_right (at (Right folio (new_right m a)))) as (λ o. AllByRecursion (λ x. is_of_filing m x ≡ true) (cons_option (option_map (λ made. right_of a made) o) (filter_map (live_at at folio) (map (new_right m) acts)))) [
+        elim (placed_right exchanges (new_right m a) (at (Right folio (new_right m a)))) as (λ o. AllByRecursion (λ x. is_of_filing m x ≡ true) (cons_option (option_map (λ made. right_of a made) o) (filter_map (placed_at exchanges at folio) (map (new_right m) acts)))) [
           | None ↦ by acts
           | Some made ↦ (eq-eqb m m refl, by acts)
         ]
       where
-        right_of : ℕ → Created → LiveRight
+        right_of : ℕ → Created → CreatedRight
         right_of act made = record { id = new_right m act; made = made }
 
 -- those of later filings are of none before
-later_filings : (f : ℕ → List LiveRight) → AreOfFilings f → (m from many : ℕ) → m < from → AllByRecursion (λ x. is_of_filing m x ≡ false) (flat_map f (range_with_len from many))
+later_filings : (f : ℕ → List CreatedRight) → AreOfFilings f → (m from many : ℕ) → m < from → AllByRecursion (λ x. is_of_filing m x ≡ false) (flat_map f (range_with_len from many))
 later_filings f own m from zero above = tt
 later_filings f own m from (suc many) above =
     all_both (λ x. is_of_filing m x ≡ false) (f from) (flat_map f (range_with_len (from + 1) many))
@@ -58,21 +58,21 @@ run_ahead p (x ∷ xs) ys pass fail =
 -- ---- what is left of them
 
 -- What is left of all rights begins with those of a filing, and what is done is by group.
-pub record Left (f : ℕ → List LiveRight) (done rest all : List LiveRight) : Type 0 where
+pub record Left (f : ℕ → List CreatedRight) (done rest all : List CreatedRight) : Type 0 where
   pub from : ℕ
   pub many : ℕ
   pub ahead : rest ≡ flat_map f (range_with_len from many)
   pub whole : done ++ flat_map (λ m. by_group (f m)) (range_with_len from many) ≡ all
 
 -- how many rights are of the filing of the first
-abbrev pub run_of : LiveRight → List LiveRight → ℕ
+abbrev pub run_of : CreatedRight → List CreatedRight → ℕ
 run_of first rest = prefix_len (is_of_filing first.id.receipt) rest
 
-pub goes_on : (f : ℕ → List LiveRight) (done rest all : List LiveRight) (first : LiveRight) → AreOfFilings f → slice_get rest 0 ≡ Some first → Left f done rest all
+pub goes_on : (f : ℕ → List CreatedRight) (done rest all : List CreatedRight) (first : CreatedRight) → AreOfFilings f → slice_get rest 0 ≡ Some first → Left f done rest all
     → Left f (done ++ by_group (take (run_of first rest) rest)) (drop (run_of first rest) rest) all
 goes_on f done rest all first own is left = by left.from left.many left.ahead left.whole
   where
-    run : (from many : ℕ) (xs : List LiveRight) → f from ≡ xs → rest ≡ xs ++ flat_map f (range_with_len (from + 1) many)
+    run : (from many : ℕ) (xs : List CreatedRight) → f from ≡ xs → rest ≡ xs ++ flat_map f (range_with_len (from + 1) many)
         → (done ++ (by_group xs ++ flat_map (λ m. by_group (f m)) (range_with_len (from + 1) many)) ≡ all)
         → (xs ≡ [] → Left f (done ++ by_group (take (run_of first rest) rest)) (drop (run_of first rest) rest) all)
         → Left f (done ++ by_group (take (run_of first rest) rest)) (drop (run_of first rest) rest) all
@@ -81,7 +81,7 @@ goes_on f done rest all first own is left = by left.from left.many left.ahead le
         let behind = flat_map f (range_with_len (from + 1) many) in
         let all_own : AllByRecursion (λ y. is_of_filing from y ≡ true) (x ∷ xs) = subst (AllByRecursion (λ y. is_of_filing from y ≡ true)) here (own from) in
         let same : x ≡ first = cc (sym (ap (λ ys. slice_get ys 0) ahead) ∙ is) in
-        let filing : first.id.receipt ≡ from = ap (λ (y : LiveRight). y.id.receipt) (sym same) ∙ grind (arith, nat_tests, all_own.0) in
+        let filing : first.id.receipt ≡ from = ap (λ (y : CreatedRight). y.id.receipt) (sym same) ∙ grind (arith, nat_tests, all_own.0) in
         let count : run_of first rest ≡ length (x ∷ xs) =
         (λ i. prefix_len (is_of_filing (filing i)) (ahead i)) ∙ run_ahead (is_of_filing from) (x ∷ xs) behind all_own (later_filings f own from (from + 1) many (omega arith)) in
         let taken : take (run_of first rest) rest ≡ x ∷ xs = (λ i. take (count i) (ahead i)) ∙ take-append_seam (x ∷ xs) behind in
@@ -104,26 +104,26 @@ goes_on f done rest all first own is left = by left.from left.many left.ahead le
         (ap (λ xs. done ++ (by_group xs ++ flat_map (λ m. by_group (f m)) (range_with_len (from + 1) many))) (sym none) ∙ whole))
 
 -- the run is not empty
-pub run_is_some : (rest : List LiveRight) (first : LiveRight) → slice_get rest 0 ≡ Some first → 0 < run_of first rest
+pub run_is_some : (rest : List CreatedRight) (first : CreatedRight) → slice_get rest 0 ≡ Some first → 0 < run_of first rest
 run_is_some [] first is = absurd (cc is)
 run_is_some (x ∷ rest) first is =
     let same : x ≡ first = cc is in
-    let own : is_of_filing first.id.receipt x ≡ true = eq-eqb x.id.receipt first.id.receipt (ap (λ (y : LiveRight). y.id.receipt) same) in
+    let own : is_of_filing first.id.receipt x ≡ true = eq-eqb x.id.receipt first.id.receipt (ap (λ (y : CreatedRight). y.id.receipt) same) in
     subst (λ b. 0 < cond b (1 + prefix_len (is_of_filing first.id.receipt) rest) 0) (sym own) (omega arith)
 
 -- ---- all of them
 
-pub begins : (f : ℕ → List LiveRight) (n : ℕ) (rest : List LiveRight) → rest ≡ flat_map f (one_to n) → Left f [] rest (flat_map (λ m. by_group (f m)) (one_to n))
+pub begins : (f : ℕ → List CreatedRight) (n : ℕ) (rest : List CreatedRight) → rest ≡ flat_map f (one_to n) → Left f [] rest (flat_map (λ m. by_group (f m)) (one_to n))
 begins f n rest ahead = record { from = 1; many = n; ahead = ahead; whole = refl }
 
-none_left : (f : ℕ → List LiveRight) (from many : ℕ) → [] ≡ flat_map f (range_with_len from many) → flat_map (λ m. by_group (f m)) (range_with_len from many) ≡ []
+none_left : (f : ℕ → List CreatedRight) (from many : ℕ) → [] ≡ flat_map f (range_with_len from many) → flat_map (λ m. by_group (f m)) (range_with_len from many) ≡ []
 none_left f from zero none = refl
 none_left f from (suc many) none = by (f from) (λ left. none_left f (from + 1) many left) none
   where
-    by : (xs : List LiveRight) → ([] ≡ flat_map f (range_with_len (from + 1) many) → flat_map (λ m. by_group (f m)) (range_with_len (from + 1) many) ≡ []) → [] ≡ xs ++ flat_map f (range_with_len (from + 1) many) → by_group xs ++ flat_map (λ m. by_group (f m)) (range_with_len (from + 1) many) ≡ []
+    by : (xs : List CreatedRight) → ([] ≡ flat_map f (range_with_len (from + 1) many) → flat_map (λ m. by_group (f m)) (range_with_len (from + 1) many) ≡ []) → [] ≡ xs ++ flat_map f (range_with_len (from + 1) many) → by_group xs ++ flat_map (λ m. by_group (f m)) (range_with_len (from + 1) many) ≡ []
     by [] behind left = behind left
     by (x ∷ xs) behind left = absurd (cc left)
 
-pub ends : (f : ℕ → List LiveRight) (done rest all : List LiveRight) → slice_get rest 0 ≡ None → Left f done rest all → done ≡ all
+pub ends : (f : ℕ → List CreatedRight) (done rest all : List CreatedRight) → slice_get rest 0 ≡ None → Left f done rest all → done ≡ all
 ends f done [] all none left = sym (append-nil done) ∙ ap (λ xs. done ++ xs) (sym (none_left f left.from left.many left.ahead)) ∙ left.whole
 ends f done (x ∷ rest) all none left = absurd (cc none)

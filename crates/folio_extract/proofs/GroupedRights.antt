@@ -3,22 +3,22 @@ use Rattle.std.proofs.Common.{◌≡◌, ℕ, zero, suc, ◌+◌, ◌<◌, ◌�
 use Rattle.std.specs.List.{cons_option, range_with_len}
 use Rattle.std.proofs.lemmas.List.{length-append}
 use Rattle.std.proofs.lemmas.Bool.Decides.{nat_tests}
-use Rattle.folio_extract.specs.LiveRights.{by_group, is_of_group}
-use Rattle.folio_extract.specs.declared.live_rights.LiveRight.{LiveRight}
+use Rattle.folio_extract.specs.PlacedRights.{by_group, is_of_group}
+use Rattle.folio_extract.specs.declared.placed_rights.CreatedRight.{CreatedRight}
 
 -- these rights by the groups from one on
-abbrev grouped : List LiveRight → ℕ → ℕ → List LiveRight
+abbrev grouped : List CreatedRight → ℕ → ℕ → List CreatedRight
 grouped xs from many = flat_map (λ group. filter (is_of_group group) xs) (range_with_len from many)
 
 -- a right of an earlier group adds nothing
-passed_group : (x : LiveRight) (xs : List LiveRight) (from many : ℕ) → x.made.spec.group < from → grouped (x ∷ xs) from many ≡ grouped xs from many
+passed_group : (x : CreatedRight) (xs : List CreatedRight) (from many : ℕ) → x.made.spec.group < from → grouped (x ∷ xs) from many ≡ grouped xs from many
 passed_group x xs from zero below = refl
 passed_group x xs from (suc many) below =
     let other : is_of_group from x ≡ false = grind (arith, nat_tests, below) in
     λ i. cond (other i) (x ∷ filter (is_of_group from) xs) (filter (is_of_group from) xs) ++ passed_group x xs (from + 1) many (omega (arith, below)) i
 
 -- a right adds at most one
-one_more : (x : LiveRight) (xs : List LiveRight) (from many : ℕ) → length (grouped (x ∷ xs) from many) ≤ 1 + length (grouped xs from many)
+one_more : (x : CreatedRight) (xs : List CreatedRight) (from many : ℕ) → length (grouped (x ∷ xs) from many) ≤ 1 + length (grouped xs from many)
 one_more x xs from zero = omega arith
 one_more x xs from (suc many) =
     let here = filter (is_of_group from) xs in
@@ -33,14 +33,14 @@ one_more x xs from (suc many) =
           rw (length-append here next, length-append here rest) (omega (arith, more))
     ] refl
 
-pub by_group_few : (xs : List LiveRight) → length (by_group xs) ≤ length xs
+pub by_group_few : (xs : List CreatedRight) → length (by_group xs) ≤ length xs
 by_group_few [] = omega arith
 by_group_few (x ∷ xs) =
     let more = one_more x xs 1 8 in
     let few = by_group_few xs in
     omega (arith, more, few)
 
-pub all_by_group_few : (f : ℕ → List LiveRight) (ms : List ℕ) → length (flat_map (λ m. by_group (f m)) ms) ≤ length (flat_map f ms)
+pub all_by_group_few : (f : ℕ → List CreatedRight) (ms : List ℕ) → length (flat_map (λ m. by_group (f m)) ms) ≤ length (flat_map f ms)
 all_by_group_few f [] = omega arith
 all_by_group_few f (m ∷ ms) =
     let here = by_group_few (f m) in

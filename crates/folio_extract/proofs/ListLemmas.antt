@@ -1,7 +1,7 @@
 -- Lemmas on filters, tests and what elements bring.
-use Rattle.std.proofs.Common.{◌≡◌, Bool, true, false, cond, List, [], ◌∷◌, ◌++◌, filter, filter_map, flat_map, Option, Some, None, inl, inr, refl, sym, ap, ◌∙◌, subst, ⊎_elim}
+use Rattle.std.proofs.Common.{◌≡◌, Bool, true, false, cond, ◌||◌, List, [], ◌∷◌, ◌++◌, filter, filter_map, flat_map, Option, Some, None, inl, inr, refl, sym, ap, ◌∙◌, subst, ⊎_elim}
 use Rattle.std.specs.List.{AllByRecursion, cons_option, list_any}
-use Rattle.std.proofs.lemmas.Bool.{cases_Bool, cond-false, cond-true}
+use Rattle.std.proofs.lemmas.Bool.{cases_Bool, cond-false, cond-true, false≢true, or_left, or_right}
 use Rattle.gb_base.proofs.Members.{In}
 
 pub filter_takes : {X : Type 0} (p : X → Bool) (x : X) (xs : List X) → p x ≡ true → filter p (x ∷ xs) ≡ x ∷ filter p xs
@@ -64,3 +64,40 @@ of_filter_map {X} {Y} h (x ∷ xs) y there =
       | None ↦ λ _ more. (let rest = of_filter_map h xs y more in (rest.0, inr rest.1, rest.2))
       | Some z ↦ λ is here. ⊎_elim (λ e. (x, inl refl, is ∙ ap Some e)) (λ more. let rest = of_filter_map h xs y more in (rest.0, inr rest.1, rest.2)) here
     ] refl there
+
+-- what passes is left, and what an element gives is there
+pub in_filter : {X : Type 0} (p : X → Bool) (xs : List X) (y : X) → In y xs → p y ≡ true → In y (filter p xs)
+in_filter p [] y there passes = absurd there
+in_filter p (x ∷ xs) y there passes =
+    ⊎_elim
+    (λ e. subst (In y) (sym (filter_takes p x xs (ap p e ∙ passes))) (inl e))
+    (λ more. ⊎_elim
+    (λ is. subst (In y) (sym (filter_takes p x xs is)) (inr (in_filter p xs y more passes)))
+    (λ fails. subst (In y) (sym (filter_skips p x xs fails)) (in_filter p xs y more passes))
+    (cases_Bool (p x)))
+    there
+
+pub in_filter_map : {X Y : Type 0} (h : X → Option Y) (xs : List X) (x : X) (y : Y) → In x xs → h x ≡ Some y → In y (filter_map h xs)
+in_filter_map h [] x y there is = absurd there
+in_filter_map h (z ∷ xs) x y there is =
+    ⊎_elim
+    (λ e. subst (λ o. In y (cons_option o (filter_map h xs))) (sym (ap h e ∙ is)) (inl refl))
+    (λ more. elim (h z) as (λ o. In y (cons_option o (filter_map h xs))) [ None ↦ in_filter_map h xs x y more is | Some w ↦ inr (in_filter_map h xs x y more is) ])
+    there
+
+-- a test holds of some element where it holds of this one, and the other way round
+pub any_in : {X : Type 0} (p : X → Bool) (xs : List X) (y : X) → In y xs → p y ≡ true → list_any p xs ≡ true
+any_in p [] y there passes = absurd there
+any_in p (x ∷ xs) y there passes =
+    ⊎_elim
+    (λ e. or_left (p x) (list_any p xs) (ap p e ∙ passes))
+    (λ more. or_right (p x) (list_any p xs) (any_in p xs y more passes))
+    there
+
+pub of_any : {X : Type 0} (p : X → Bool) (xs : List X) → list_any p xs ≡ true → (x : X) × In x xs × (p x ≡ true)
+of_any p [] is = absurd (false≢true is)
+of_any p (x ∷ xs) is =
+    ⊎_elim
+    (λ passes. (x, inl refl, passes))
+    (λ fails. let rest = of_any p xs (sym (ap (λ b. b || list_any p xs) fails) ∙ is) in (rest.0, inr rest.1, rest.2))
+    (cases_Bool (p x))

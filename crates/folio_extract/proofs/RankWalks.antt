@@ -4,30 +4,31 @@ use Rattle.std.specs.List.{AllByRecursion, list_any}
 use Rattle.std.proofs.lemmas.Bool.{cases_Bool, cond-false, cond-true}
 use Rattle.folio_sections.specs.declared.title_places.TitlePlace.{TitlePlace}
 use Rattle.interim_orders.proofs.Noticing.{all_map as all_weaker}
-use Rattle.folio_extract.specs.RankTables.{different_places, has_same_place, rank_line, stands_ahead}
-use Rattle.folio_extract.specs.inner.RankWalk.{Ascends, is_filed_before, rank_behind, ranked_line, ranked_lines}
-use Rattle.folio_extract.specs.declared.live_rights.LiveRight.{LiveRight}
+use Rattle.folio_extract.specs.PlacedRights.{has_same_place}
+use Rattle.folio_extract.specs.RankTables.{different_places, rank_line, rank_lines, rank_of, stands_ahead}
+use Rattle.folio_extract.specs.inner.RankWalk.{Ascends, is_filed_before, rank_behind, ranked_lines}
+use Rattle.folio_extract.specs.declared.placed_rights.CreatedRight.{CreatedRight}
 use Rattle.folio_extract.proofs.ListLemmas.{filter_alike, filter_none, filter_skips, filter_takes, flat_map_alike, none_left}
 use Rattle.folio_extract.proofs.RightOrder.{before_later, before_like, before_not_same, before_on, before_self}
 
 -- how many different places stand before the right
-abbrev places_before : List LiveRight → LiveRight → ℕ
+abbrev places_before : List CreatedRight → CreatedRight → ℕ
 places_before xs y = different_places (filter (λ x. is_filed_before x y) xs)
 
-one_more_place : (b : LiveRight) (xs : List LiveRight) → list_any (has_same_place b) xs ≡ false → different_places (b ∷ xs) ≡ different_places xs + 1
+one_more_place : (b : CreatedRight) (xs : List CreatedRight) → list_any (has_same_place b) xs ≡ false → different_places (b ∷ xs) ≡ different_places xs + 1
 one_more_place b xs fails = cond-false (list_any (has_same_place b) xs) _ _ fails
 
-no_more_place : (b : LiveRight) (xs : List LiveRight) → list_any (has_same_place b) xs ≡ true → different_places (b ∷ xs) ≡ different_places xs
+no_more_place : (b : CreatedRight) (xs : List CreatedRight) → list_any (has_same_place b) xs ≡ true → different_places (b ∷ xs) ≡ different_places xs
 no_more_place b xs is = cond-true (list_any (has_same_place b) xs) _ _ is
 
 -- none of these stands before the first
-none_before : (x : LiveRight) (xs : List LiveRight) → AllByRecursion (λ y. is_filed_before y x ≡ false) xs → places_before (x ∷ xs) x ≡ 0
+none_before : (x : CreatedRight) (xs : List CreatedRight) → AllByRecursion (λ y. is_filed_before y x ≡ false) xs → places_before (x ∷ xs) x ≡ 0
 none_before x xs up = ap different_places (filter_none (λ y. is_filed_before y x) (x ∷ xs) (before_self x, up))
 
 -- a right of the same place ahead changes nothing
-place_again : (b x y : LiveRight) (xs : List LiveRight) → has_same_place b x ≡ true → places_before (b ∷ x ∷ xs) y ≡ places_before (x ∷ xs) y
+place_again : (b x y : CreatedRight) (xs : List CreatedRight) → has_same_place b x ≡ true → places_before (b ∷ x ∷ xs) y ≡ places_before (x ∷ xs) y
 place_again b x y xs same =
-    let p : LiveRight → Bool = λ z. is_filed_before z y in
+    let p : CreatedRight → Bool = λ z. is_filed_before z y in
     ⊎_elim
     (λ is.
     let there : is_filed_before x y ≡ true = sym (before_like b x y same) ∙ is in
@@ -39,17 +40,17 @@ place_again b x y xs same =
     (cases_Bool (is_filed_before b y))
 
 -- one of another place counts for all behind it
-place_more : (b x y : LiveRight) (xs : List LiveRight) → is_filed_before b x ≡ true → AllByRecursion (λ z. is_filed_before z x ≡ false) xs → is_filed_before y x ≡ false
+place_more : (b x y : CreatedRight) (xs : List CreatedRight) → is_filed_before b x ≡ true → AllByRecursion (λ z. is_filed_before z x ≡ false) xs → is_filed_before y x ≡ false
     → places_before (b ∷ x ∷ xs) y ≡ places_before (x ∷ xs) y + 1
 place_more b x y xs before up later =
-    let p : LiveRight → Bool = λ z. is_filed_before z y in
+    let p : CreatedRight → Bool = λ z. is_filed_before z y in
     let others : AllByRecursion (λ z. has_same_place b z ≡ false) xs =
     all_weaker (λ z. is_filed_before z x ≡ false) (λ z. has_same_place b z ≡ false) xs (λ z not_before. before_not_same b z (before_on b x z before not_before)) up in
     ap different_places (filter_takes p b (x ∷ xs) (before_on b x y before later))
     ∙ one_more_place b (filter p (x ∷ xs)) (none_left p (has_same_place b) (x ∷ xs) (before_not_same b x before, others))
 
 -- the rank of a right by those from the one before it on is that by those from itself on
-rank_on : (rank : ℕ) (b x y : LiveRight) (xs : List LiveRight) → is_filed_before x b ≡ false → AllByRecursion (λ z. is_filed_before z x ≡ false) xs → is_filed_before y x ≡ false
+rank_on : (rank : ℕ) (b x y : CreatedRight) (xs : List CreatedRight) → is_filed_before x b ≡ false → AllByRecursion (λ z. is_filed_before z x ≡ false) xs → is_filed_before y x ≡ false
     → rank_behind rank (Some b) x + places_before (x ∷ xs) y ≡ rank + places_before (b ∷ x ∷ xs) y
 rank_on rank b x y xs first up later =
     ⊎_elim
@@ -60,33 +61,33 @@ rank_on rank b x y xs first up later =
     (cases_Bool (has_same_place b x))
 
 -- the walk, from a right on
-walked : (rank : ℕ) (b : LiveRight) (xs : List LiveRight) → Ascends (b ∷ xs) → ranked_lines rank (Some b) xs ≡ flat_map (λ y. ranked_line (rank + places_before (b ∷ xs) y) y) xs
+walked : (rank : ℕ) (b : CreatedRight) (xs : List CreatedRight) → Ascends (b ∷ xs) → ranked_lines rank (Some b) xs ≡ flat_map (λ y. rank_line (rank + places_before (b ∷ xs) y) y) xs
 walked rank b [] up = refl
 walked rank b (x ∷ xs) up =
     let next = rank_behind rank (Some b) x in
     let here : next ≡ rank + places_before (b ∷ x ∷ xs) x =
     omega (arith, none_before x xs up.1.0, rank_on rank b x x xs up.0.0 up.1.0 (before_self x)) in
-    let same : flat_map (λ y. ranked_line (next + places_before (x ∷ xs) y) y) xs ≡ flat_map (λ y. ranked_line (rank + places_before (b ∷ x ∷ xs) y) y) xs =
-    flat_map_alike (λ y. ranked_line (next + places_before (x ∷ xs) y) y) (λ y. ranked_line (rank + places_before (b ∷ x ∷ xs) y) y) xs
-    (all_weaker (λ y. is_filed_before y x ≡ false) (λ y. ranked_line (next + places_before (x ∷ xs) y) y ≡ ranked_line (rank + places_before (b ∷ x ∷ xs) y) y) xs
-    (λ y later. ap (λ n. ranked_line n y) (rank_on rank b x y xs up.0.0 up.1.0 later)) up.1.0) in
+    let same : flat_map (λ y. rank_line (next + places_before (x ∷ xs) y) y) xs ≡ flat_map (λ y. rank_line (rank + places_before (b ∷ x ∷ xs) y) y) xs =
+    flat_map_alike (λ y. rank_line (next + places_before (x ∷ xs) y) y) (λ y. rank_line (rank + places_before (b ∷ x ∷ xs) y) y) xs
+    (all_weaker (λ y. is_filed_before y x ≡ false) (λ y. rank_line (next + places_before (x ∷ xs) y) y ≡ rank_line (rank + places_before (b ∷ x ∷ xs) y) y) xs
+    (λ y later. ap (λ n. rank_line n y) (rank_on rank b x y xs up.0.0 up.1.0 later)) up.1.0) in
     let rest = walked next x xs up.1 ∙ same in
-    λ i. ranked_line (here i) x ++ rest i
+    λ i. rank_line (here i) x ++ rest i
 
 -- the walk over all rights
-walked_all : (xs : List LiveRight) → Ascends xs → ranked_lines 0 None xs ≡ flat_map (λ y. ranked_line (1 + places_before xs y) y) xs
+walked_all : (xs : List CreatedRight) → Ascends xs → ranked_lines 0 None xs ≡ flat_map (λ y. rank_line (1 + places_before xs y) y) xs
 walked_all [] up = refl
 walked_all (x ∷ xs) up =
     let here : 1 ≡ 1 + places_before (x ∷ xs) x = ap (λ n. 1 + n) (sym (none_before x xs up.0)) in
     let rest = walked 1 x xs up in
-    λ i. ranked_line (here i) x ++ rest i
+    λ i. rank_line (here i) x ++ rest i
 
 -- where the order of places is that of filing and group
-pub ranks_in_order : (standing : List TitlePlace) (xs : List LiveRight) → Ascends xs
+pub ranks_in_order : (standing : List TitlePlace) (xs : List CreatedRight) → Ascends xs
     → AllByRecursion (λ y. AllByRecursion (λ x. is_filed_before x y ≡ stands_ahead standing x y) xs) xs
-    → ranked_lines 0 None xs ≡ flat_map (rank_line standing xs) xs
+    → ranked_lines 0 None xs ≡ rank_lines standing xs
 ranks_in_order standing xs up order =
     walked_all xs up
-    ∙ flat_map_alike (λ y. ranked_line (1 + places_before xs y) y) (rank_line standing xs) xs
-    (all_weaker (λ y. AllByRecursion (λ x. is_filed_before x y ≡ stands_ahead standing x y) xs) (λ y. ranked_line (1 + places_before xs y) y ≡ rank_line standing xs y) xs
-    (λ y same. ap (λ ys. ranked_line (1 + different_places ys) y) (filter_alike (λ x. is_filed_before x y) (λ x. stands_ahead standing x y) xs same)) order)
+    ∙ flat_map_alike (λ y. rank_line (1 + places_before xs y) y) (λ y. rank_line (rank_of standing xs y) y) xs
+    (all_weaker (λ y. AllByRecursion (λ x. is_filed_before x y ≡ stands_ahead standing x y) xs) (λ y. rank_line (1 + places_before xs y) y ≡ rank_line (rank_of standing xs y) y) xs
+    (λ y same. ap (λ ys. rank_line (1 + different_places ys) y) (filter_alike (λ x. is_filed_before x y) (λ x. stands_ahead standing x y) xs same)) order)

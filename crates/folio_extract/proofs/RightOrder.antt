@@ -1,38 +1,38 @@
 -- Rights in order of filing and group: which stand before which, and which have one place.
 use Rattle.std.proofs.Common.{◌≡◌, true, false, arith}
 use Rattle.std.proofs.lemmas.Bool.Decides.{nat_tests}
-use Rattle.folio_extract.specs.RankTables.{has_same_place}
+use Rattle.folio_extract.specs.PlacedRights.{has_same_place}
 use Rattle.folio_extract.specs.inner.RankWalk.{is_filed_before}
-use Rattle.folio_extract.specs.declared.live_rights.LiveRight.{LiveRight}
+use Rattle.folio_extract.specs.declared.placed_rights.CreatedRight.{CreatedRight}
 
 -- rights of one place
-pub same_self : (x : LiveRight) → has_same_place x x ≡ true
+pub same_self : (x : CreatedRight) → has_same_place x x ≡ true
 same_self x = grind (arith, nat_tests)
 
-pub same_like : (x y z : LiveRight) → has_same_place x y ≡ true → has_same_place x z ≡ has_same_place y z
+pub same_like : (x y z : CreatedRight) → has_same_place x y ≡ true → has_same_place x z ≡ has_same_place y z
 same_like x y z same = grind (arith, nat_tests)
 
-pub before_like : (x y z : LiveRight) → has_same_place x y ≡ true → is_filed_before x z ≡ is_filed_before y z
+pub before_like : (x y z : CreatedRight) → has_same_place x y ≡ true → is_filed_before x z ≡ is_filed_before y z
 before_like x y z same = grind (arith, nat_tests)
 
 -- none stands before one of its place
-pub before_self : (x : LiveRight) → is_filed_before x x ≡ false
+pub before_self : (x : CreatedRight) → is_filed_before x x ≡ false
 before_self x = grind (arith, nat_tests)
 
-pub same_not_before : (x y : LiveRight) → has_same_place x y ≡ true → is_filed_before x y ≡ false
+pub same_not_before : (x y : CreatedRight) → has_same_place x y ≡ true → is_filed_before x y ≡ false
 same_not_before x y same = grind (arith, nat_tests)
 
-pub before_not_same : (x y : LiveRight) → is_filed_before x y ≡ true → has_same_place x y ≡ false
+pub before_not_same : (x y : CreatedRight) → is_filed_before x y ≡ true → has_same_place x y ≡ false
 before_not_same x y before = grind (arith, nat_tests)
 
 -- one stands before a later one of another place
-pub before_later : (x y : LiveRight) → is_filed_before y x ≡ false → has_same_place x y ≡ false → is_filed_before x y ≡ true
+pub before_later : (x y : CreatedRight) → is_filed_before y x ≡ false → has_same_place x y ≡ false → is_filed_before x y ≡ true
 before_later x y up other = grind (arith, nat_tests)
 
 -- and before all that do not stand before that one
-pub before_on : (x y z : LiveRight) → is_filed_before x y ≡ true → is_filed_before z y ≡ false → is_filed_before x z ≡ true
+pub before_on : (x y z : CreatedRight) → is_filed_before x y ≡ true → is_filed_before z y ≡ false → is_filed_before x z ≡ true
 before_on x y z before up = grind (arith, nat_tests)
 
 -- a right of another place has that of no right of the first one's
-pub same_apart : (x y z : LiveRight) → has_same_place x y ≡ true → has_same_place x z ≡ false → has_same_place z y ≡ false
+pub same_apart : (x y z : CreatedRight) → has_same_place x y ≡ true → has_same_place x z ≡ false → has_same_place z y ≡ false
 same_apart x y z same other = grind (arith, nat_tests)

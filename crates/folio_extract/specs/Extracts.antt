@@ -1,7 +1,6 @@
 -- The extract of a folio: its parcel, its owners, the filings that wait, and its rights.
-use Rattle.std.specs.Prelude.{ℕ, Bool, true, false, not, ◌&&◌, if◌then◌else◌, List, [], ◌++◌, codes, flat_map, Option, Some, None, is_none}
+use Rattle.std.specs.Prelude.{ℕ, Bool, true, false, ◌&&◌, if◌then◌else◌, List, [], ◌++◌, codes, flat_map, Option, Some, None, is_none}
 use Rattle.std.specs.Fmt.{decimal}
-use Rattle.gb_base.specs.RightNo.{RightNo}
 use Rattle.gb_base.specs.Texts.{date_text, euro, right_text}
 use Rattle.gb_base.specs.declared.keys.Key.{Key}
 use Rattle.gb_base.specs.declared.keys.Key.TheVariants.{Case, Right, Title}
@@ -11,13 +10,13 @@ use Rattle.act_model.specs.declared.receipts.Receipt.{Receipt}
 use Rattle.act_model.specs.declared.rights.RightKind.{RightKind}
 use Rattle.act_model.specs.declared.rights.RightKind.TheVariants as kind
 use Rattle.folio_sections.specs.Cases.{award, is_running}
-use Rattle.folio_sections.specs.Rights.{capital, form_of, holder, is_full_form, is_spent}
+use Rattle.folio_sections.specs.Rights.{capital, holder, is_full, is_spent}
 use Rattle.folio_sections.specs.Titles.{inventory, is_open, owners}
 use Rattle.folio_sections.specs.declared.entries.Created.{Created}
 use Rattle.folio_sections.specs.declared.entries.Entry.{Entry}
-use Rattle.folio_extract.specs.LiveRights.{live_rights}
+use Rattle.folio_extract.specs.PlacedRights.{live_rights}
 use Rattle.folio_extract.specs.WaitingFilings.{waiting_filings}
-use Rattle.folio_extract.specs.declared.live_rights.LiveRight.{LiveRight}
+use Rattle.folio_extract.specs.declared.placed_rights.CreatedRight.{CreatedRight}
 use Rattle.folio_extract.specs.declared.waiting.WaitingFiling.{WaitingFiling}
 
 -- ---- the folio
@@ -83,9 +82,9 @@ form_text true = codes "right"
 form_text false = codes "notice"
 
 -- an amount, a person, a right or a filing behind a word, where there is one
-abbrev pub part : {X : Type 0} → List ℕ → (X → List ℕ) → Option X → List ℕ
-part word text None = []
-part word text (Some x) = word ++ text x
+abbrev pub word_part : {X : Type 0} → List ℕ → (X → List ℕ) → Option X → List ℕ
+word_part word text None = []
+word_part word text (Some x) = word ++ text x
 
 -- a word, where this holds
 abbrev pub mark : List ℕ → Bool → List ℕ
@@ -96,18 +95,18 @@ mark word true = word
 -- ahead of which it stands
 abbrev pub notes : List Entry → Created → List ℕ
 notes entries made =
-    part (codes " behind ") decimal made.behind ++ (mark (codes " equal") made.equal ++ (part (codes " reserve ") euro made.reserve
-    ++ (mark (codes " spent") (is_spent entries) ++ part (codes " ahead-of ") right_text made.ahead_of)))
+    word_part (codes " behind ") decimal made.behind ++ (mark (codes " equal") made.equal ++ (word_part (codes " reserve ") euro made.reserve
+    ++ (mark (codes " spent") (is_spent entries) ++ word_part (codes " ahead-of ") right_text made.ahead_of)))
 
 -- a right, as it stands by the entries at it
-abbrev pub right_line : List Entry → LiveRight → List ℕ
+abbrev pub right_line : List Entry → CreatedRight → List ℕ
 right_line entries x =
-    codes "right " ++ (right_text x.id ++ (codes " " ++ (division_text x.made.spec.kind ++ (codes " " ++ (form_text (is_full_form (form_of entries))
-    ++ (codes " " ++ (kind_text x.made.spec.kind ++ (part (codes " ") euro (capital entries) ++ (rate_part x.made.spec.kind
-    ++ (part (codes " holder ") decimal (holder entries) ++ (codes " placed " ++ (date_text x.made.placed ++ (notes entries x.made ++ codes "\n")))))))))))))
+    codes "right " ++ (right_text x.id ++ (codes " " ++ (division_text x.made.spec.kind ++ (codes " " ++ (form_text (is_full entries)
+    ++ (codes " " ++ (kind_text x.made.spec.kind ++ (word_part (codes " ") euro (capital entries) ++ (rate_part x.made.spec.kind
+    ++ (word_part (codes " holder ") decimal (holder entries) ++ (codes " placed " ++ (date_text x.made.placed ++ (notes entries x.made ++ codes "\n")))))))))))))
 
 -- the right, and the filings that wait at it
-abbrev pub right_lines : List Receipt → List Entry → LiveRight → List ℕ
+abbrev pub right_lines : List Receipt → List Entry → CreatedRight → List ℕ
 right_lines journal entries x = right_line entries x ++ waiting_lines journal (right_text x.id) entries
 
 -- ---- together

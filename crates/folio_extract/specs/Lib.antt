@@ -1,6 +1,9 @@
 -- What contracts cite.
+pub mod CentTexts
+pub mod Exchanges
 pub mod Extracts
-pub mod LiveRights
+pub mod FolioLines
+pub mod PlacedRights
 pub mod RankTables
 pub mod Reports
 pub mod VerdictLines

@@ -3,7 +3,7 @@ use Rattle.std.specs.Prelude.{ℕ, List, filter_map, length, Option, option_map}
 use Rattle.act_model.specs.declared.receipts.Receipt.{Receipt}
 use Rattle.folio_sections.specs.Waiting.{notice, pending}
 use Rattle.folio_sections.specs.declared.entries.Entry.{Entry}
-use Rattle.folio_extract.specs.LiveRights.{one_to}
+use Rattle.folio_extract.specs.PlacedRights.{one_to}
 use Rattle.folio_extract.specs.declared.waiting.WaitingFiling.{WaitingFiling}
 
 -- filing n, where it waits

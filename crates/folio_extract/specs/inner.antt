@@ -1,6 +1,6 @@
 -- What only private clauses and proofs use.
 pub mod FilingRuns
-pub mod PlacePieces
+pub mod PieceRuns
 pub mod RankWalk
-pub mod WaitingPlaces
 pub mod Waits
+pub mod WaitsAt

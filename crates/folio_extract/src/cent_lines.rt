@@ -1,117 +1,95 @@
-// The cents that the rights of a folio take in turn, place by place.
-ghost use Rattle.std.specs.Prelude.{◌≡◌, ◌+◌, ◌*◌, ◌<◌, ◌≤◌, ◌^◌, ◌++◌, OnOk, codes, flat_map, length, map, sum_by};
-ghost use Rattle.std.specs.List.{prefix_len};
-ghost use Rattle.std.specs.Option.{option_map_or};
+// The cents that the rights of a folio take in turn, piece by piece.
+ghost use Rattle.std.specs.Prelude.{◌≡◌, ◌+◌, ◌<◌, ◌≤◌, ◌^◌, ◌++◌, OnOk, codes, flat_map, length, sum_by};
 ghost use Rattle.std.specs.String.{string_bytes};
-ghost use Rattle.gb_base.specs.Limits.{most_cents};
 ghost use Rattle.gb_base.specs.Texts.{right_text};
-ghost use Rattle.gb_base.specs.declared.keys.Key.TheVariants.{Right};
-ghost use Rattle.act_model.specs.Limits.{most_receipts};
-ghost use Rattle.folio_sections.specs.Held.{entries_at};
-ghost use Rattle.folio_sections.specs.Rights.{capital};
-ghost use Rattle.folio_extract.specs.RankTables.{cent_line, cent_lines, claim_of, has_same_place, pieces_of, place_text};
-ghost use Rattle.folio_extract.specs.inner.PlacePieces.{cents_of, piece_line};
-ghost use Rattle.folio_extract.specs.inner.RankWalk.{Ascends};
+ghost use Rattle.gb_base.specs.Limits.{most_sum};
+ghost use Rattle.folio_extract.specs.CentTexts.{line_text, owner_text, piece_line, shares_group};
+ghost use Rattle.folio_extract.specs.inner.PieceRuns.{run_len};
 
-use crate::live_rights::LiveRight;
-use crate::rank_lines::has_same_place;
-use folio_sections::Parts;
-use gb_base::{FolioId, NoMemory, RightId};
-use registrar::Register;
+use gb_base::NoMemory;
+use rank_slots::{Piece, Place, Slots};
 
-/// Adds the cents of these rights, which stand in the order of their filings and groups.
-pub(crate) fn add_cent_lines(
-    text: &mut String,
-    register: &Register,
-    folio: FolioId,
-    rights: &[LiveRight],
-) -> Result<(), NoMemory>
-    requires few { length rights.now ≤ 8 * most_receipts }
-    requires order { Ascends rights.now }
-    ensures { OnOk result (string_bytes text.new ≡ string_bytes text.old
-        ++ cent_lines rights.now 1 (pieces_of (cent_line (map (claim_of (entries_at register.now.parts) folio) rights.now)))) }
+/// Adds the cents of a line. Neighbouring pieces of one group are one.
+pub(crate) fn add_cent_lines(text: &mut String, slots: &Slots) -> Result<(), NoMemory>
+    ensures { OnOk result (string_bytes text.new ≡ string_bytes text.old ++ line_text slots.now.filled) }
 {
-    let mut rest = rights;
+    let mut rest = slots.pieces();
     let mut from = 1;
     while let Some(first) = rest.first() {
-        let (group, others) = rest.split_at(place_size(first, rest));
-        let cents = cents_of(register, folio, group);
-        add_piece(text, from, cents, group)?;
+        let (own, others) = rest.split_at(run_len(slots, rest));
+        let cents = total(own);
+        add_piece(text, from, cents, slots.group(first.right))?;
         rest = others;
         from += cents;
     }
     Ok(())
 }
 
-/// How many rights at the front have the place of this one.
-fn place_size(first: &LiveRight, rights: &[LiveRight]) -> usize
-    ensures value { result ≡ prefix_len (has_same_place first.now) rights.now }
-    ensures bound { result ≤ length rights.now }
+/// How many pieces at the front each share the group of the one before.
+fn run_len(slots: &Slots, pieces: &[Piece]) -> usize
+    requires { 0 < length pieces.now }
+    ensures value { result ≡ run_len slots.now.filled.places pieces.now }
+    ensures some { 1 ≤ result }
+    ensures within { result ≤ length pieces.now }
 {
-    rights
-        .iter()
-        .take_while(|right| has_same_place(first, right))
-        .count()
+    let mut len = 1;
+    while len < pieces.len() && shares_group(slots, &pieces[len - 1], &pieces[len]) {
+        len += 1;
+    }
+    len
 }
 
-/// The cents of the capitals of these rights.
-fn cents_of(register: &Register, folio: FolioId, rights: &[LiveRight]) -> u64
-    requires { length rights.now ≤ 8 * most_receipts }
-    ensures value { result ≡ cents_of (claim_of (entries_at register.now.parts) folio) rights.now }
-    ensures bound { result ≤ most_cents * length rights.now }
+/// Whether two pieces are of one group.
+fn shares_group(slots: &Slots, piece: &Piece, other: &Piece) -> bool
+    ensures { result ≡ shares_group slots.now.filled.places piece.now.right other.now.right }
+{
+    slots
+        .group(piece.right)
+        .iter()
+        .any(|place| place.right == other.right)
+}
+
+/// How many cents these pieces have.
+fn total(pieces: &[Piece]) -> u64
+    requires { sum_by (λ p. p.cents) pieces.now < most_sum }
+    ensures { result ≡ sum_by (λ p. p.cents) pieces.now }
 {
     let mut cents = 0;
-    for right in rights {
-        cents += capital(register, folio, right.id);
+    for piece in pieces {
+        cents += piece.cents;
     }
     cents
 }
 
-/// The cents of a right's capital.
-fn capital(register: &Register, folio: FolioId, id: RightId) -> u64
-    ensures value { result ≡ option_map_or (λ c. c) (capital (entries_at register.now.parts (Right folio id))) 0 }
-    ensures bound { result ≤ most_cents }
-{
-    match register.right(folio, id) {
-        Some(part) => match part.capital() {
-            Some(capital) => capital.get(),
-            None => 0,
-        },
-        None => 0,
-    }
-}
-
-/// Adds the cents that the rights of one place take from this cent on, where they take some.
-fn add_piece(text: &mut String, from: u64, cents: u64, group: &[LiveRight]) -> Result<(), NoMemory>
-    requires { from + cents < 2 ^ 64 }
+/// Adds the cents that a group takes from this one on.
+fn add_piece(text: &mut String, from: u64, cents: u64, group: &[Place]) -> Result<(), NoMemory>
+    requires some { 1 ≤ cents }
+    requires bound { from + cents < 2 ^ 64 }
     ensures { OnOk result (string_bytes text.new ≡ string_bytes text.old ++ piece_line from cents group.now) }
 {
-    if cents == 0 {
-        return Ok(());
-    }
     write!(text, "cents {from}-{} ", from + cents - 1)?;
-    add_place(text, group)?;
+    add_owner(text, group)?;
     text.push_str("\n")
 }
 
-/// Adds a right by its number, and rights of one place as a group.
-fn add_place(text: &mut String, rights: &[LiveRight]) -> Result<(), NoMemory>
-    ensures { OnOk result (string_bytes text.new ≡ string_bytes text.old ++ place_text rights.now) }
+/// Adds a right by its number, and rights of equal rank as a group.
+fn add_owner(text: &mut String, group: &[Place]) -> Result<(), NoMemory>
+    ensures { OnOk result (string_bytes text.new ≡ string_bytes text.old ++ owner_text group.now) }
 {
-    match rights {
+    match group {
         [] => Ok(()),
-        [only] => write!(text, "{}", only.id),
+        [only] => write!(text, "{}", only.right),
         group => add_group(text, group),
     }
 }
 
-fn add_group(text: &mut String, rights: &[LiveRight]) -> Result<(), NoMemory>
+fn add_group(text: &mut String, group: &[Place]) -> Result<(), NoMemory>
     ensures { OnOk result (string_bytes text.new
-        ≡ string_bytes text.old ++ (codes "group" ++ flat_map (λ x. codes " " ++ right_text x.id) rights.now)) }
+        ≡ string_bytes text.old ++ (codes "group" ++ flat_map (λ p. codes " " ++ right_text p.right) group.now)) }
 {
     text.push_str("group")?;
-    for right in rights {
-        write!(text, " {}", right.id)?;
+    for place in group {
+        write!(text, " {}", place.right)?;
     }
     Ok(())
 }

@@ -1,7 +1,7 @@
 // Extracts, each part of each line present and absent.
 use crate::extract;
 use crate::folio_reads::awaits_award;
-use crate::live_rights::LiveRight;
+use crate::placed_rights::CreatedRight;
 use crate::right_lines::add_right_line;
 use crate::testing::{
     assignment, by_owners, cents, consent, creation, day, docs, filing, folio, opened, person,
@@ -143,8 +143,8 @@ fn a_cured_filing_waits_no_longer(rt: HostRuntime) -> Result<(), Fail> {
 }
 
 /// Right 3.2, a usufruct placed on 1 March.
-fn usufruct(rt: &impl Abort) -> LiveRight {
-    LiveRight {
+fn usufruct(rt: &impl Abort) -> CreatedRight {
+    CreatedRight {
         id: right(rt, 3, 2),
         made: Created {
             spec: spec(rt, RightKind::Usufruct, 1_000, 27),

@@ -9,11 +9,11 @@ ghost use Rattle.folio_sections.specs.Titles.{inventory, owners};
 ghost use Rattle.folio_extract.specs.Extracts.{extract, extract_text, folio_line, inventory_line, owners_line, right_lines, sale_line, waiting_lines};
 ghost use Rattle.folio_extract.specs.inner.Waits.{WaitsInJournal};
 
-use crate::folio_reads::{inventory_of, is_for_sale, is_open, owners_of, title_entries};
-use crate::live_rights::{LiveRight, live_rights};
+use crate::folio_reads::{has_sale_note, inventory_of, is_open, owners_of, title_entries};
+use crate::placed_rights::{CreatedRight, live_rights};
 use crate::right_lines::add_right_line;
 use crate::waiting::waiting_filings;
-use crate::waiting_lines::{Place, add_waiting_lines};
+use crate::waiting_lines::{WaitsAt, add_waiting_lines};
 use act_model::{Inventory, Journal, Owners};
 use folio_sections::{Parts, RightPart};
 use gb_base::{FolioId, NoMemory, Person};
@@ -109,7 +109,7 @@ fn add_persons(text: &mut String, persons: &[Person]) -> Result<(), NoMemory>
 fn add_sale_note(text: &mut String, register: &Register, folio: FolioId) -> Result<(), NoMemory>
     ensures { OnOk result (string_bytes text.new ≡ string_bytes text.old ++ sale_line (entries_at register.now.parts (Case folio))) }
 {
-    if is_for_sale(register, folio) {
+    if has_sale_note(register, folio) {
         text.push_str("sale note\n")
     } else {
         Ok(())
@@ -129,7 +129,7 @@ fn add_title_filings(
         ++ waiting_lines journal.now.receipts (codes "title") (entries_at register.now.parts (Title folio))) }
 {
     let filings = waiting_filings(alloc, journal, title_entries(register, folio))?;
-    add_waiting_lines(text, &Place::Title, &filings)
+    add_waiting_lines(text, &WaitsAt::Title, &filings)
 }
 
 /// Adds these rights of the folio, and the filings that wait at them.
@@ -139,7 +139,7 @@ fn add_rights(
     register: &Register,
     journal: &Journal,
     folio: FolioId,
-    rights: &[LiveRight],
+    rights: &[CreatedRight],
 ) -> Result<(), NoMemory>
     requires kept { Kept journal.now.receipts (entries_at register.now.parts) }
     requires held { All (λ x. IsTrue (is_held register.now.parts (Right folio x.id))) rights.now }
@@ -159,12 +159,12 @@ fn add_right(
     text: &mut String,
     journal: &Journal,
     part: &RightPart,
-    right: &LiveRight,
+    right: &CreatedRight,
 ) -> Result<(), NoMemory>
     requires { All (λ e. WaitsInJournal journal.now.receipts e.what) part.now.entries }
     ensures { OnOk result (string_bytes text.new ≡ string_bytes text.old ++ right_lines journal.now.receipts part.now.entries right.now) }
 {
     add_right_line(text, part, right)?;
     let filings = waiting_filings(alloc, journal, part.entries())?;
-    add_waiting_lines(text, &Place::Right(right.id), &filings)
+    add_waiting_lines(text, &WaitsAt::Right(right.id), &filings)
 }

@@ -1,13 +1,16 @@
 // What stands in a folio of a register; nothing where the register does not hold the part.
-ghost use Rattle.std.specs.Prelude.{◌≡◌, ◌&&◌, is_none};
-ghost use Rattle.gb_base.specs.declared.keys.Key.TheVariants.{Case, Title};
+ghost use Rattle.std.specs.Prelude.{◌≡◌, ◌≤◌, ◌&&◌, is_none};
+ghost use Rattle.gb_base.specs.Limits.{most_cents};
+ghost use Rattle.gb_base.specs.declared.keys.Key.TheVariants.{Case, Right, Title};
 ghost use Rattle.folio_sections.specs.Cases.{award, is_running};
 ghost use Rattle.folio_sections.specs.Held.{entries_at};
+ghost use Rattle.folio_sections.specs.Rights.{is_live};
 ghost use Rattle.folio_sections.specs.Titles.{inventory, is_open, owners};
+ghost use Rattle.folio_extract.specs.FolioLines.{capital_at};
 
 use act_model::{Inventory, Owners};
 use folio_sections::{CasePart, Entry, Parts};
-use gb_base::FolioId;
+use gb_base::{FolioId, RightId};
 use registrar::Register;
 
 /// Whether the folio is open (GBO § 3).
@@ -54,9 +57,45 @@ pub(crate) fn title_entries(register: &Register, folio: FolioId) -> &[Entry]
     }
 }
 
+/// The entries at a right of the folio.
+#[tactic(auto, using(crate::proofs::NotHeld::not_held))]
+pub(crate) fn right_entries(register: &Register, folio: FolioId, id: RightId) -> &[Entry]
+    ensures { result.now ≡ entries_at register.now.parts (Right folio id) }
+{
+    match register.right(folio, id) {
+        Some(part) => part.entries(),
+        None => &[],
+    }
+}
+
+/// Whether a right of the folio is live.
+#[tactic(auto, using(crate::proofs::NotHeld::not_held))]
+pub(crate) fn is_live(register: &Register, folio: FolioId, id: RightId) -> bool
+    ensures { result ≡ is_live (entries_at register.now.parts (Right folio id)) }
+{
+    match register.right(folio, id) {
+        Some(part) => part.live(),
+        None => false,
+    }
+}
+
+/// The capital of a right of the folio, in cents; 0 where it has none.
+pub(crate) fn capital_of(register: &Register, folio: FolioId, id: RightId) -> u64
+    ensures value { result ≡ capital_at (entries_at register.now.parts) folio id }
+    ensures bound { result ≤ most_cents }
+{
+    match register.right(folio, id) {
+        Some(part) => match part.capital() {
+            Some(capital) => capital.get(),
+            None => 0,
+        },
+        None => 0,
+    }
+}
+
 /// Whether a forced sale of the folio runs in which no award stands (ZVG § 19).
 #[tactic(auto, using(crate::proofs::NotHeld::not_held))]
-pub(crate) fn is_for_sale(register: &Register, folio: FolioId) -> bool
+pub(crate) fn has_sale_note(register: &Register, folio: FolioId) -> bool
     ensures { result ≡ is_running (entries_at register.now.parts (Case folio)) && is_none (award (entries_at register.now.parts (Case folio))) }
 {
     match register.case(folio) {

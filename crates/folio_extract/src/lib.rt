@@ -2,11 +2,17 @@
 #![tactic(auto)]
 
 mod cent_lines;
+mod exchange_lines;
+#[cfg(test)]
+mod exchange_tests;
+mod exchanges;
 #[cfg(test)]
 mod extract_tests;
 mod extracts;
+mod folio_lines;
 mod folio_reads;
-mod live_rights;
+mod knots;
+mod placed_rights;
 mod rank_lines;
 #[cfg(test)]
 mod rank_table_tests;

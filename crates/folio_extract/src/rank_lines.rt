@@ -1,14 +1,14 @@
 // The ranks of a folio's rights, which stand in the order of their filings and groups (BGB § 879).
 ghost use Rattle.std.specs.Prelude.{◌≡◌, ◌+◌, ◌<◌, ◌≤◌, ◌^◌, ◌++◌, None, OnOk};
 ghost use Rattle.std.specs.String.{string_bytes};
-ghost use Rattle.folio_extract.specs.RankTables.{has_same_place};
+ghost use Rattle.folio_extract.specs.PlacedRights.{has_same_place};
 ghost use Rattle.folio_extract.specs.inner.RankWalk.{rank_behind, ranked_lines};
 
-use crate::live_rights::LiveRight;
+use crate::placed_rights::{CreatedRight, has_same_place};
 use gb_base::NoMemory;
 
 /// Adds each right with its rank.
-pub(crate) fn add_rank_lines(text: &mut String, rights: &[LiveRight]) -> Result<(), NoMemory>
+pub(crate) fn add_rank_lines(text: &mut String, rights: &[CreatedRight]) -> Result<(), NoMemory>
     ensures { OnOk result (string_bytes text.new ≡ string_bytes text.old ++ ranked_lines 0 None rights.now) }
 {
     let mut rank = 0;
@@ -22,7 +22,7 @@ pub(crate) fn add_rank_lines(text: &mut String, rights: &[LiveRight]) -> Result<
 }
 
 /// The rank of a right, from that of the right before it.
-fn rank_behind(rank: usize, before: Option<LiveRight>, right: &LiveRight) -> usize
+fn rank_behind(rank: usize, before: Option<CreatedRight>, right: &CreatedRight) -> usize
     requires { rank + 1 < 2 ^ 64 }
     ensures value { result ≡ rank_behind rank before right.now }
     ensures bound { result ≤ rank + 1 }
@@ -31,11 +31,4 @@ fn rank_behind(rank: usize, before: Option<LiveRight>, right: &LiveRight) -> usi
         Some(before) if has_same_place(&before, right) => rank,
         _ => rank + 1,
     }
-}
-
-/// Whether two rights of a folio have one place: they are of one filing and group.
-pub(crate) fn has_same_place(a: &LiveRight, b: &LiveRight) -> bool
-    ensures { result ≡ has_same_place a.now b.now }
-{
-    a.id.receipt() == b.id.receipt() && a.made.spec.group == b.made.spec.group
 }

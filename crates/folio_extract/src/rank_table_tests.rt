@@ -18,7 +18,7 @@ fn created(rt: &impl Abort, kind: RightKind, cents: u64, group: u8) -> Act {
     creation(rt, RightSpec { group, ..spec })
 }
 
-fn charge(rt: &impl Abort, cents: u64, group: u8) -> Act {
+pub fn charge(rt: &impl Abort, cents: u64, group: u8) -> Act {
     created(rt, RightKind::LandCharge { rate_bp: 500 }, cents, group)
 }
 
@@ -56,7 +56,7 @@ fn cancellation(rt: &impl Abort, of: u32) -> Item {
 // ---- journals
 
 /// Receipt 1 opens folio 7 for owner 10 on March 1.
-fn opened(rt: &impl Abort, alloc: Global) -> Journal {
+pub fn opened(rt: &impl Abort, alloc: Global) -> Journal {
     let mut journal = Journal::new(alloc);
     let item = by_owner(rt, 10, opening_by(rt, 7, 10));
     receive(rt, &mut journal, 1, &item);
@@ -64,12 +64,12 @@ fn opened(rt: &impl Abort, alloc: Global) -> Journal {
 }
 
 /// The owner files the creation of a right, on this day of March 2024.
-fn create(rt: &impl Abort, journal: &mut Journal, day: u8, act: Act) {
+pub fn create(rt: &impl Abort, journal: &mut Journal, day: u8, act: Act) {
     receive(rt, journal, day, &by_owner(rt, 10, act));
 }
 
 /// Whether this is the rank table of folio 7 in the register of the journal.
-fn has_table(
+pub fn has_table(
     rt: &impl Abort,
     alloc: Global,
     journal: &Journal,

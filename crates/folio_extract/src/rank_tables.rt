@@ -1,15 +1,23 @@
-// The rank table of a folio: the ranks of its rights, and the cents that they take in turn.
-ghost use Rattle.std.specs.Prelude.{◌≡◌, ◌*◌, ◌≤◌, ◌++◌, IfOk, OnOk, length, option_map};
+// The rank table of a folio: the ranks of its rights, the exchanges among them, and the cents that
+// they take in turn.
+ghost use Rattle.std.specs.Prelude.{◌≡◌, ◌++◌, IfOk, None, OnOk, codes, flat_map, option_map};
+ghost use Rattle.std.specs.Fmt.{decimal};
 ghost use Rattle.std.specs.String.{string_bytes};
-ghost use Rattle.act_model.specs.Limits.{most_receipts};
 ghost use Rattle.folio_sections.specs.Held.{entries_at};
 ghost use Rattle.folio_sections.specs.Kept.{Kept};
-ghost use Rattle.folio_extract.specs.RankTables.{claim_of, rank_table, rank_table_text};
-ghost use Rattle.folio_extract.specs.inner.RankWalk.{Ascends, walked_table};
+ghost use Rattle.folio_extract.specs.CentTexts.{line_text};
+ghost use Rattle.folio_extract.specs.Exchanges.{counted_exchanges, counted_knots};
+ghost use Rattle.folio_extract.specs.FolioLines.{filled_by};
+ghost use Rattle.folio_extract.specs.RankTables.{exercise_line, rank_table, rank_table_text};
+ghost use Rattle.folio_extract.specs.inner.RankWalk.{ranked_lines};
 
 use crate::cent_lines::add_cent_lines;
+use crate::exchange_lines::{add_exchange_lines, add_exercise_lines};
+use crate::exchanges::{Exchange, counted_exchanges};
+use crate::folio_lines::folio_slots;
 use crate::folio_reads::is_open;
-use crate::live_rights::{LiveRight, live_rights};
+use crate::knots::counted_knots;
+use crate::placed_rights::{CreatedRight, live_rights};
 use crate::rank_lines::add_rank_lines;
 use act_model::Journal;
 use gb_base::{FolioId, NoMemory};
@@ -46,21 +54,52 @@ pub(crate) fn add_rank_table(
     ensures { OnOk result (string_bytes text.new ≡ string_bytes text.old ++ rank_table_text journal.now.receipts (entries_at register.now.parts) folio) }
 {
     let rights = live_rights(alloc, register, journal, folio)?;
-    add_table(text, register, folio, &rights)
+    add_ranks(text, folio, &rights)?;
+    let exchanges = counted_exchanges(alloc, register, folio, &rights)?;
+    add_exchange_lines(text, &exchanges)?;
+    add_exercises(alloc, text, register, journal, folio)?;
+    add_cents(alloc, text, register, journal, folio, &exchanges)
 }
 
-/// Adds the rank table of these rights, which stand in the order of their filings and groups.
-fn add_table(
-    text: &mut String,
-    register: &Register,
-    folio: FolioId,
-    rights: &[LiveRight],
-) -> Result<(), NoMemory>
-    requires few { length rights.now ≤ 8 * most_receipts }
-    requires order { Ascends rights.now }
-    ensures { OnOk result (string_bytes text.new ≡ string_bytes text.old ++ walked_table (claim_of (entries_at register.now.parts) folio) folio rights.now) }
+/// Adds the ranks of these rights, which stand in order.
+fn add_ranks(text: &mut String, folio: FolioId, rights: &[CreatedRight]) -> Result<(), NoMemory>
+    ensures { OnOk result (string_bytes text.new ≡ string_bytes text.old
+        ++ (codes "ranks " ++ (decimal folio ++ (codes "\n" ++ ranked_lines 0 None rights.now)))) }
 {
     writeln!(text, "ranks {folio}")?;
-    add_rank_lines(text, rights)?;
-    add_cent_lines(text, register, folio, rights)
+    add_rank_lines(text, rights)
+}
+
+/// Adds the exercised reservations of the folio.
+fn add_exercises(
+    alloc: Global,
+    text: &mut String,
+    register: &Register,
+    journal: &Journal,
+    folio: FolioId,
+) -> Result<(), NoMemory>
+    requires { Kept journal.now.receipts (entries_at register.now.parts) }
+    ensures { OnOk result (string_bytes text.new ≡ string_bytes text.old
+        ++ flat_map exercise_line (counted_knots journal.now.receipts (entries_at register.now.parts) folio)) }
+{
+    let knots = counted_knots(alloc, register, journal, folio)?;
+    add_exercise_lines(text, &knots)
+}
+
+/// Adds the cents of the folio's line behind the exchanges that count.
+fn add_cents(
+    alloc: Global,
+    text: &mut String,
+    register: &Register,
+    journal: &Journal,
+    folio: FolioId,
+    exchanges: &[Exchange],
+) -> Result<(), NoMemory>
+    requires kept { Kept journal.now.receipts (entries_at register.now.parts) }
+    requires counted { exchanges.now ≡ counted_exchanges journal.now.receipts (entries_at register.now.parts) folio }
+    ensures { OnOk result (string_bytes text.new ≡ string_bytes text.old
+        ++ line_text (filled_by exchanges.now journal.now.receipts (entries_at register.now.parts) folio)) }
+{
+    let slots = folio_slots(alloc, register, journal, folio, exchanges)?;
+    add_cent_lines(text, &slots)
 }

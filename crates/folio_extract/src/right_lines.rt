@@ -4,9 +4,9 @@ ghost use Rattle.std.specs.Fmt.{decimal};
 ghost use Rattle.std.specs.String.{string_bytes};
 ghost use Rattle.gb_base.specs.Texts.{date_text, euro, right_text};
 ghost use Rattle.folio_sections.specs.Rights.{capital, form_of, holder, is_full, is_spent};
-ghost use Rattle.folio_extract.specs.Extracts.{division_text, form_text, kind_text, mark, notes, part as word_part, rate_part, right_line};
+ghost use Rattle.folio_extract.specs.Extracts.{division_text, form_text, kind_text, mark, notes, rate_part, right_line, word_part};
 
-use crate::live_rights::LiveRight;
+use crate::placed_rights::CreatedRight;
 use act_model::RightKind;
 use folio_sections::{Created, RightPart};
 use gb_base::{Cents, NoMemory, Person, ReceiptNo, RightId};
@@ -15,7 +15,7 @@ use gb_base::{Cents, NoMemory, Person, ReceiptNo, RightId};
 pub(crate) fn add_right_line(
     text: &mut String,
     part: &RightPart,
-    right: &LiveRight,
+    right: &CreatedRight,
 ) -> Result<(), NoMemory>
     ensures { OnOk result (string_bytes text.new ≡ string_bytes text.old ++ right_line part.now.entries right.now) }
 {
@@ -27,7 +27,7 @@ pub(crate) fn add_right_line(
 }
 
 /// Adds which right it is, its division, its form and its kind.
-fn add_kind(text: &mut String, part: &RightPart, right: &LiveRight) -> Result<(), NoMemory>
+fn add_kind(text: &mut String, part: &RightPart, right: &CreatedRight) -> Result<(), NoMemory>
     ensures { OnOk result (string_bytes text.new ≡ string_bytes text.old
         ++ (codes "right " ++ (right_text right.now.id ++ (codes " " ++ (division_text right.now.made.spec.kind ++ (codes " " ++ (form_text (is_full part.now.entries)
         ++ (codes " " ++ kind_text right.now.made.spec.kind)))))))) }

@@ -16,7 +16,7 @@ use std::collections::BTreeMap;
 #[derive(Clone, Copy, Debug)]
 pub struct WaitingFiling {
     pub filing: ReceiptNo,
-    /// The last day for a cure.
+    /// Its deadline: up to this day a lapse is too early.
     pub until: Day,
     /// The day of its official notice there, if it has one.
     pub notice: Option<Day>,
@@ -32,13 +32,13 @@ pub(crate) fn waiting_filings(
     requires { All (λ e. WaitsInJournal journal.now.receipts e.what) entries.now }
     ensures { IfOk result (λ filings. filings.items ≡ waiting_filings journal.now.receipts entries.now) }
 {
-    let waiting = days_of_cure(alloc, entries)?;
+    let waiting = deadlines(alloc, entries)?;
     let notices = days_of_notice(alloc, entries)?;
     with_notices(alloc, &waiting, &notices)
 }
 
-/// The last day for a cure of each filing that waits.
-fn days_of_cure(alloc: Global, entries: &[Entry]) -> Result<BTreeMap<ReceiptNo, Day>, NoMemory>
+/// The deadline of each filing that waits.
+fn deadlines(alloc: Global, entries: &[Entry]) -> Result<BTreeMap<ReceiptNo, Day>, NoMemory>
     ensures value { IfOk result (λ days. (n : ℕ) → get nat_cmp days n ≡ pending n entries.now) }
     ensures from_one { IfOk result (λ days. get nat_cmp days 0 ≡ None) }
 {
@@ -56,6 +56,7 @@ fn note_waiting(days: &mut BTreeMap<ReceiptNo, Day>, what: &What) -> Result<(), 
 {
     match what {
         What::Pending { filing, until } => {
+            // So nothing waits under 0.
             prove!(filing.get() > 0);
             days.insert(*filing, *until)?;
         }

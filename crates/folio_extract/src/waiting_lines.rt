@@ -2,7 +2,7 @@
 ghost use Rattle.std.specs.Prelude.{◌≡◌, ◌++◌, OnOk, Some, codes, flat_map};
 ghost use Rattle.std.specs.String.{string_bytes};
 ghost use Rattle.folio_extract.specs.Extracts.{notice_part, waiting_line};
-ghost use Rattle.folio_extract.specs.inner.WaitingPlaces.{place_text};
+ghost use Rattle.folio_extract.specs.inner.WaitsAt.{waits_at_text};
 
 use crate::waiting::WaitingFiling;
 use gb_base::{Day, NoMemory, RightId};
@@ -10,19 +10,19 @@ use std::fmt;
 
 /// Where a filing waits.
 #[derive(Clone, Copy, Debug)]
-pub(crate) enum Place {
+pub(crate) enum WaitsAt {
     Title,
     Right(RightId),
 }
 
 /// `title`, or the number of the right.
-impl fmt::Display for Place {
-    ghost output = { λ place. Some (place_text place) };
+impl fmt::Display for WaitsAt {
+    ghost output = { λ place. Some (waits_at_text place) };
 
     fn fmt<W: fmt::Write>(&self, f: &mut fmt::Formatter<W>) -> fmt::Result {
         match self {
-            Place::Title => f.write_str("title"),
-            Place::Right(id) => write!(f, "{id}"),
+            WaitsAt::Title => f.write_str("title"),
+            WaitsAt::Right(id) => write!(f, "{id}"),
         }
     }
 }
@@ -30,10 +30,10 @@ impl fmt::Display for Place {
 /// Adds a line for each filing that waits at this place.
 pub(crate) fn add_waiting_lines(
     text: &mut String,
-    place: &Place,
+    place: &WaitsAt,
     filings: &[WaitingFiling],
 ) -> Result<(), NoMemory>
-    ensures { OnOk result (string_bytes text.new ≡ string_bytes text.old ++ flat_map (waiting_line (place_text place.now)) filings.now) }
+    ensures { OnOk result (string_bytes text.new ≡ string_bytes text.old ++ flat_map (waiting_line (waits_at_text place.now)) filings.now) }
 {
     for waiting in filings {
         add_waiting_line(text, place, waiting)?;
@@ -44,10 +44,10 @@ pub(crate) fn add_waiting_lines(
 /// Adds a filing that waits at this place.
 fn add_waiting_line(
     text: &mut String,
-    place: &Place,
+    place: &WaitsAt,
     waiting: &WaitingFiling,
 ) -> Result<(), NoMemory>
-    ensures { OnOk result (string_bytes text.new ≡ string_bytes text.old ++ waiting_line (place_text place.now) waiting.now) }
+    ensures { OnOk result (string_bytes text.new ≡ string_bytes text.old ++ waiting_line (waits_at_text place.now) waiting.now) }
 {
     write!(
         text,

@@ -1,7 +1,7 @@
 -- The rights of one filing.
 use Rattle.std.specs.Prelude.{ℕ, Bool, ◌==◌}
-use Rattle.folio_extract.specs.declared.live_rights.LiveRight.{LiveRight}
+use Rattle.folio_extract.specs.declared.placed_rights.CreatedRight.{CreatedRight}
 
 -- the right is of this filing
-abbrev pub is_of_filing : ℕ → LiveRight → Bool
+abbrev pub is_of_filing : ℕ → CreatedRight → Bool
 is_of_filing filing x = x.id.receipt == filing

@@ -1,19 +1,41 @@
-use Rattle.std.proofs.Common.{arith, refl}
+use Rattle.std.proofs.Common.{◌++◌, ◌+◌, ◌<◌, ap, subst, sym, ◌∙◌, arith}
+use Rattle.std.specs.Option.{option_copied}
 use Rattle.std.specs.String.{string_bytes}
-use Rattle.folio_sections.specs.Held.{entries_at}
-use Rattle.folio_extract.specs.RankTables.{claim_of}
-use Rattle.folio_extract.proofs.PlaceLines.{next_place}
+use Rattle.folio_extract.specs.CentTexts.{by_owner, line_text, piece_line, piece_lines}
+use Rattle.folio_extract.proofs.CentLines.{WritesOn, goes_on, takes}
+use Rattle.folio_extract.proofs.PieceRuns.{cents_of}
 use Rattle.folio_extract.proofs.cent_lines.add_cent_lines.Goals as goal
+
+pub total-cents-requires : goal.total-cents-requires
+total-cents-requires c =
+    let places = c.args.slots.now.filled.places in
+    let whole = string_bytes c.args.text.now ++ line_text c.args.slots.now.filled in
+    let first = sym c.first.ensures.value ∙ ap option_copied c.in-Some.is in
+    let run = takes places (string_bytes c.loop-first.text) whole c.loop-first.from c.loop-first.rest.now c.in-Some.first.now c.run_len.result first c.run_len.ensures.some c.loop-first.invariant in
+    let below = run.below in
+    let begun = c.loop-first.invariant.begun in
+    subst (λ ps. cents_of ps < 1000000000000000000) (sym c.split_at.ensures.front) (omega (arith, below, begun))
+
+pub loop-first-init : goal.loop-first-init
+loop-first-init c =
+    let places = c.args.slots.now.filled.places in
+    let sum = c.pieces-rest.ensures.sum in
+    record {
+      written = ap (λ ps. string_bytes c.args.text.now ++ piece_lines places 1 (by_owner places ps)) c.pieces-rest.ensures.value;
+      begun = omega arith;
+      bound = omega (arith, sum);
+      some = c.pieces-rest.ensures.some;
+    }
 
 pub loop-first-preserved : goal.loop-first-preserved
 loop-first-preserved c =
-    let before = c.loop-first.invariant in
-    let next = next_place (claim_of (entries_at c.args.register.now.parts) c.args.folio) (λ x. refl) (string_bytes c.loop-first.text) (string_bytes c.add_piece.new.text) _
-    c.loop-first.from c.cents_of-cents.result c.place_size.result c.in-Some.first.now c.loop-first.rest.now c.split_at.result.0.now c.split_at.result.1.now
-    c.in-Some.ensures.item.3.0 c.in-Some.ensures.item.1 before.order c.place_size.ensures.value c.split_at.ensures.front c.split_at.ensures.back
-    c.cents_of-cents.ensures.value c.in_ok-add_piece.ensures before.written in
-    record {
-      written = next.0;
-      order = next.1;
-      bound = omega (arith, before.bound, c.cents_of-cents.ensures.bound, c.split_at.ensures.front_len, c.split_at.ensures.back_len);
-    }
+    let places = c.args.slots.now.filled.places in
+    let old = string_bytes c.loop-first.text in
+    let new = string_bytes c.add_piece.new.text in
+    let whole = string_bytes c.args.text.now ++ line_text c.args.slots.now.filled in
+    let first = sym c.first.ensures.value ∙ ap option_copied c.in-Some.is in
+    let cents = c.total-cents.ensures ∙ ap cents_of c.split_at.ensures.front in
+    let added = c.in_ok-add_piece.ensures ∙ ap (λ g. old ++ piece_line c.loop-first.from c.total-cents.result g) c.group.ensures in
+    subst (λ ps. WritesOn places new whole (c.loop-first.from + c.total-cents.result) ps) (sym c.split_at.ensures.back)
+    (goes_on places old new whole c.loop-first.from c.total-cents.result c.loop-first.rest.now c.in-Some.first.now c.run_len.result first c.run_len.ensures.some c.run_len.ensures.value
+    cents added c.loop-first.invariant)

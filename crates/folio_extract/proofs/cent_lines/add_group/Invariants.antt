@@ -3,7 +3,7 @@ use Rattle.std.specs.String.{string_bytes}
 use Rattle.gb_base.specs.Texts.{right_text}
 use Rattle.folio_extract.proofs.cent_lines.add_group.Given as goal
 
-abbrev pub invariant-loop-right : goal.invariant-loop-right
-invariant-loop-right l =
-    string_bytes l.text ++ flat_map (λ x. codes " " ++ right_text x.id) (drop l.right-index l.rights)
-    ≡ string_bytes l.fn.text ++ (codes "group" ++ flat_map (λ x. codes " " ++ right_text x.id) l.rights)
+abbrev pub invariant-loop-place : goal.invariant-loop-place
+invariant-loop-place l =
+    string_bytes l.text ++ flat_map (λ p. codes " " ++ right_text p.right) (drop l.place-index l.group)
+    ≡ string_bytes l.fn.text ++ (codes "group" ++ flat_map (λ p. codes " " ++ right_text p.right) l.group)

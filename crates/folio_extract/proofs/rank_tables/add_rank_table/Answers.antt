@@ -1,15 +1,22 @@
-use Rattle.std.proofs.Common.{◌∙◌, sym, subst}
+use Rattle.std.proofs.Common.{ap, flat_map, ◌++◌, ◌∙◌, sym}
+use Rattle.std.specs.String.{string_bytes}
 use Rattle.folio_sections.specs.Held.{entries_at}
-use Rattle.folio_extract.specs.inner.RankWalk.{Ascends}
-use Rattle.folio_extract.proofs.LiveOrder.{live_rights_ascend}
-use Rattle.folio_extract.proofs.RankTableLines.{table_added}
+use Rattle.folio_extract.specs.RankTables.{exchange_line}
+use Rattle.folio_extract.proofs.RankTableText.{counted_of, table_added}
 use Rattle.folio_extract.proofs.rank_tables.add_rank_table.Goals as goal
 
-pub add_table-requires-clause-order : goal.add_table-requires-clause-order
-add_table-requires-clause-order c =
-    subst Ascends (sym (c.deref.ensures.value ∙ c.in_ok-rights.ensures.value)) (live_rights_ascend c.args.journal.now.receipts (entries_at c.args.register.now.parts) c.args.folio)
+pub add_cents-requires-clause-counted : goal.add_cents-requires-clause-counted
+add_cents-requires-clause-counted c =
+    counted_of c.args.journal.now.receipts (entries_at c.args.register.now.parts) c.args.folio c.deref-2.result.now c.deref-4.result.now
+    (c.deref-2.ensures.value ∙ c.in_ok-rights.ensures.value) (c.deref-4.ensures.value ∙ c.in_ok-exchanges.ensures)
 
 pub returns : goal.returns
 returns c =
-    table_added c.args.journal.now.receipts (entries_at c.args.register.now.parts) c.args.folio c.deref.result.now c.live_rights.ensures.journal c.requires
-    (c.deref.ensures.value ∙ c.in_ok-rights.ensures.value) _ _ c.add_table.result c.add_table.ensures
+    let at = entries_at c.args.register.now.parts in
+    let journal = c.args.journal.now.receipts in
+    let live = c.deref-2.ensures.value ∙ c.in_ok-rights.ensures.value in
+    table_added journal at c.args.folio c.deref.result.now c.deref-4.result.now c.live_rights.ensures.journal c.requires (c.deref.ensures.value ∙ c.in_ok-rights.ensures.value)
+    (counted_of journal at c.args.folio c.deref-2.result.now c.deref-4.result.now live (c.deref-4.ensures.value ∙ c.in_ok-exchanges.ensures))
+    _ _ _ _ _ c.add_cents.result c.in_ok-add_ranks.ensures
+    (c.in_ok-add_exchange_lines.ensures ∙ ap (λ xs. string_bytes c.add_ranks.new.text ++ flat_map exchange_line xs) (c.deref-3.ensures.value ∙ sym c.deref-4.ensures.value))
+    c.in_ok-add_exercises.ensures c.add_cents.ensures

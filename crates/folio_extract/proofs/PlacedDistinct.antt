@@ -1,0 +1,79 @@
+-- The rights that are placed in a folio are of different numbers.
+use Rattle.std.proofs.Common.{◌≡◌, ℕ, ◌<◌, Bool, true, false, List, filter, length, Some, sym, ap, ◌∙◌, ⊎_elim, arith}
+use Rattle.std.specs.List.{IsDistinct}
+use Rattle.std.proofs.lemmas.Bool.{cases_Bool}
+use Rattle.std.proofs.lemmas.Bool.Decides.{nat_tests}
+use Rattle.std.proofs.lemmas.Option.{same_Some}
+use Rattle.gb_base.specs.Limits.{most_acts}
+use Rattle.gb_base.specs.RightNo.{same_right}
+use Rattle.gb_base.specs.declared.keys.Key.{Key}
+use Rattle.gb_base.specs.declared.keys.Key.TheVariants.{Right}
+use Rattle.act_model.specs.Limits.{most_groups}
+use Rattle.act_model.specs.Touches.{new_right}
+use Rattle.act_model.specs.declared.receipts.Receipt.{Receipt}
+use Rattle.folio_sections.specs.Rights.{created}
+use Rattle.folio_sections.specs.declared.entries.Created.{Created}
+use Rattle.folio_sections.specs.declared.entries.Entry.{Entry}
+use Rattle.folio_extract.specs.PlacedRights.{by_group, is_of_group, placed_at, placed_of, placed_rights}
+use Rattle.folio_extract.specs.declared.exchanges.Exchange.{Exchange}
+use Rattle.folio_extract.specs.declared.placed_rights.CreatedRight.{CreatedRight}
+use Rattle.folio_extract.proofs.DistinctLists.{distinct_filter, distinct_flat, distinct_row}
+use Rattle.folio_extract.proofs.ListLemmas.{of_filter}
+use Rattle.folio_extract.proofs.PlacedOrder.{of_filing, of_filing_by_group, placed_at_number}
+use Rattle.rank_slots.proofs.SameRights.{right_is}
+
+-- both are of one number
+abbrev pub has_same_number : CreatedRight → CreatedRight → Bool
+has_same_number x y = same_right x.id y.id
+
+-- ---- different acts of a filing
+
+apart_acts : (m k l : ℕ) → k < l → same_right (new_right m k) (new_right m l) ≡ false
+apart_acts m k l less = grind (arith, nat_tests, less)
+
+acts_distinct : (exchanges : List Exchange) (at : Key → List Entry) (folio m : ℕ) → IsDistinct has_same_number (placed_of exchanges at folio m)
+acts_distinct exchanges at folio m =
+    distinct_row has_same_number (new_right m) (placed_at exchanges at folio)
+    (λ k l x y less here there.
+    let first = placed_at_number exchanges at folio (new_right m k) x here in
+    let second = placed_at_number exchanges at folio (new_right m l) y there in
+    (λ i. same_right (first i) (second i)) ∙ apart_acts m k l less)
+    1 most_acts
+
+-- ---- different groups of a filing
+
+-- a number has one right
+pub one_right : (at : Key → List Entry) (folio : ℕ) (x y : CreatedRight) → created (at (Right folio x.id)) ≡ Some x.made → created (at (Right folio y.id)) ≡ Some y.made → has_same_number x y ≡ true → x.made ≡ y.made
+one_right at folio x y first second same =
+    same_Some x.made y.made (sym first ∙ ap (λ id. created (at (Right folio id))) (right_is x.id y.id same) ∙ second)
+
+one_group : (x y : CreatedRight) (k l : ℕ) → is_of_group k x ≡ true → is_of_group l y ≡ true → k < l → x.made ≡ y.made → ⊥
+one_group x y k l first second less same =
+    let group = ap (λ (made : Created). made.spec.group) same in
+    grind (arith, nat_tests, first, second, less, group)
+
+groups_distinct : (exchanges : List Exchange) (at : Key → List Entry) (folio m : ℕ) → IsDistinct has_same_number (by_group (placed_of exchanges at folio m))
+groups_distinct exchanges at folio m =
+    let rights = placed_of exchanges at folio m in
+    distinct_flat has_same_number (λ group. filter (is_of_group group) rights)
+    (λ k. distinct_filter has_same_number (is_of_group k) rights (acts_distinct exchanges at folio m))
+    (λ k l x y less here there.
+    let first = of_filter (is_of_group k) rights x here in
+    let second = of_filter (is_of_group l) rights y there in
+    ⊎_elim
+    (λ same. absurd (one_group x y k l first.1 second.1 less (one_right at folio x y (of_filing exchanges at folio m x first.0).made (of_filing exchanges at folio m y second.0).made same)))
+    (λ other. other)
+    (cases_Bool (has_same_number x y)))
+    1 most_groups
+
+-- ---- different filings
+
+apart_filings : (x y : CreatedRight) (m n : ℕ) → x.id.receipt ≡ m → y.id.receipt ≡ n → m < n → has_same_number x y ≡ false
+apart_filings x y m n first second less = grind (arith, nat_tests)
+
+pub placed_distinct : (exchanges : List Exchange) (journal : List Receipt) (at : Key → List Entry) (folio : ℕ) → IsDistinct has_same_number (placed_rights exchanges journal at folio)
+placed_distinct exchanges journal at folio =
+    distinct_flat has_same_number (λ m. by_group (placed_of exchanges at folio m)) (groups_distinct exchanges at folio)
+    (λ m n x y less here there.
+    apart_filings x y m n (of_filing_by_group exchanges at folio m x here).filing (of_filing_by_group exchanges at folio n y there).filing less)
+    1 (length journal)

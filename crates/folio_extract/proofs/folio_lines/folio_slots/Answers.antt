@@ -1,0 +1,14 @@
+use Rattle.std.proofs.Common.{◌≤◌, All, None, sym, ap, subst, ◌∙◌}
+use Rattle.gb_base.specs.Limits.{most_cents}
+use Rattle.folio_sections.specs.Held.{entries_at}
+use Rattle.rank_slots.specs.declared.places.Place.{Place}
+use Rattle.folio_extract.specs.FolioLines.{places_behind}
+use Rattle.folio_extract.proofs.FolioFills.{can_fill}
+use Rattle.folio_extract.proofs.folio_lines.folio_slots.Goals as goal
+
+pub fill-requires-clause-fits : goal.fill-requires-clause-fits
+fill-requires-clause-fits c =
+    let at = entries_at c.args.register.now.parts in
+    can_fill c.args.journal.now.receipts at c.args.folio c.args.exchanges.now c.deref-2.result.now c.deref-3.result.now c.requires.kept c.in_ok-rights.ensures.journal c.requires.counted
+    (c.deref-2.ensures.value ∙ c.in_ok-places.ensures.value ∙ ap (places_behind at c.args.folio None) (c.deref.ensures.value ∙ c.in_ok-rights.ensures.value))
+    (c.deref-3.ensures.value ∙ c.in_ok-swaps.ensures) (subst (All (λ (p : Place). p.claim ≤ most_cents)) (sym c.deref-2.ensures.value) c.in_ok-places.ensures.bound)

@@ -1,0 +1,118 @@
+// The exchanges of rank of a folio that count (BGB § 880).
+ghost use Rattle.std.specs.Prelude.{◌≡◌, ◌++◌, ◌||◌, IfOk, OnOk, filter, filter_map, flat_map};
+ghost use Rattle.std.specs.List.{list_any};
+ghost use Rattle.gb_base.specs.declared.keys.Key.TheVariants.{Right};
+ghost use Rattle.folio_sections.specs.Held.{entries_at};
+ghost use Rattle.folio_extract.specs.Exchanges.{counted_at, in_turn, is_cancellation_by_consent, keeps_room, rise_by};
+
+use crate::folio_reads::{is_live, right_entries};
+use crate::placed_rights::CreatedRight;
+use folio_sections::{Entry, What};
+use gb_base::{FolioId, NoMemory, ReceiptNo, RightId};
+use registrar::Register;
+use std::alloc::Global;
+
+/// An exchange of rank that is entered in a folio.
+#[derive(Clone, Copy, Debug)]
+pub struct Exchange {
+    /// The item that entered it: a filing, or the cure of one.
+    pub item: ReceiptNo,
+    /// The act of the filing.
+    pub act: u8,
+    /// The right that steps back.
+    pub recede: RightId,
+    /// The right that takes its rank.
+    pub rise: RightId,
+}
+
+/// The exchanges by which these live rights rise and that count, by item and act: the room of the
+/// right that recedes stays.
+pub(crate) fn counted_exchanges(
+    alloc: Global,
+    register: &Register,
+    folio: FolioId,
+    live: &[CreatedRight],
+) -> Result<Vec<Exchange>, NoMemory>
+    ensures { IfOk result (λ exchanges. exchanges.items ≡ in_turn (flat_map (counted_at (entries_at register.now.parts) folio) live.now)) }
+{
+    let mut exchanges = counted_by_right(alloc, register, folio, live)?;
+    exchanges.sort_by_key(|exchange: &Exchange| (exchange.item, exchange.act))?;
+    Ok(exchanges)
+}
+
+/// The same by the right that rises.
+fn counted_by_right(
+    alloc: Global,
+    register: &Register,
+    folio: FolioId,
+    live: &[CreatedRight],
+) -> Result<Vec<Exchange>, NoMemory>
+    ensures { IfOk result (λ exchanges. exchanges.items ≡ flat_map (counted_at (entries_at register.now.parts) folio) live.now) }
+{
+    let mut exchanges = Vec::new(alloc);
+    for right in live {
+        add_counted(&mut exchanges, register, folio, right)?;
+    }
+    Ok(exchanges)
+}
+
+/// Adds the exchanges by which a live right rises, and that count.
+fn add_counted(
+    exchanges: &mut Vec<Exchange>,
+    register: &Register,
+    folio: FolioId,
+    right: &CreatedRight,
+) -> Result<(), NoMemory>
+    ensures { OnOk result (exchanges.new.items ≡ exchanges.old.items ++ counted_at (entries_at register.now.parts) folio right.now) }
+{
+    for entry in right_entries(register, folio, right.id) {
+        if let Some(exchange) = rise_by(right.id, entry) {
+            if keeps_room(register, folio, exchange.recede) {
+                exchanges.push(exchange)?;
+            }
+        }
+    }
+    Ok(())
+}
+
+/// The exchange that an entry is, where the right rises by it.
+fn rise_by(right: RightId, entry: &Entry) -> Option<Exchange>
+    ensures { result ≡ rise_by right entry.now.receipt entry.now.what }
+{
+    match &entry.what {
+        What::Exchanged { recede, rise, act } if *rise == right => Some(Exchange {
+            item: entry.receipt,
+            act: *act,
+            recede: *recede,
+            rise: *rise,
+        }),
+        _ => None,
+    }
+}
+
+/// Whether the room of a right stays for those that rose into it: it is live, or it was cancelled
+/// without a proof that it expired.
+fn keeps_room(register: &Register, folio: FolioId, id: RightId) -> bool
+    ensures { result ≡ keeps_room (entries_at register.now.parts (Right folio id)) }
+{
+    is_live(register, folio, id) || was_cancelled_by_consent(right_entries(register, folio, id))
+}
+
+/// Whether an entry cancels the right by consent.
+fn was_cancelled_by_consent(entries: &[Entry]) -> bool
+    ensures { result ≡ list_any (λ e. is_cancellation_by_consent e.what) entries.now }
+{
+    entries
+        .iter()
+        .any(|entry| is_cancellation_by_consent(&entry.what))
+}
+
+/// Whether a content cancels the right by consent, without a proof that it expired.
+fn is_cancellation_by_consent(what: &What) -> bool
+    ensures { result ≡ is_cancellation_by_consent what.now }
+{
+    match what {
+        What::Cancelled { expired } => !*expired,
+        _ => false,
+    }
+}

@@ -1,0 +1,96 @@
+// The line of a folio: its rights in order, with their capitals, and the exchanges among them.
+ghost use Rattle.std.specs.Prelude.{◌≡◌, ◌≤◌, All, IfOk, None, map};
+ghost use Rattle.gb_base.specs.Limits.{most_cents};
+ghost use Rattle.folio_sections.specs.Held.{entries_at};
+ghost use Rattle.folio_sections.specs.Kept.{Kept};
+ghost use Rattle.folio_extract.specs.Exchanges.{counted_exchanges};
+ghost use Rattle.folio_extract.specs.FolioLines.{filled_by, joins_place, place_behind, places_behind, swap_of};
+
+use crate::exchanges::Exchange;
+use crate::folio_reads::{capital_of, is_live};
+use crate::placed_rights::{CreatedRight, has_same_place, placed_rights};
+use act_model::Journal;
+use gb_base::{FolioId, NoMemory};
+use rank_slots::{Place, Slots, Swap};
+use registrar::Register;
+use std::alloc::Global;
+
+/// The line of a folio behind the exchanges that count.
+pub(crate) fn folio_slots(
+    alloc: Global,
+    register: &Register,
+    journal: &Journal,
+    folio: FolioId,
+    exchanges: &[Exchange],
+) -> Result<Slots, NoMemory>
+    requires kept { Kept journal.now.receipts (entries_at register.now.parts) }
+    requires counted { exchanges.now ≡ counted_exchanges journal.now.receipts (entries_at register.now.parts) folio }
+    ensures { IfOk result (λ slots. slots.filled ≡ filled_by exchanges.now journal.now.receipts (entries_at register.now.parts) folio) }
+{
+    let rights = placed_rights(alloc, register, journal, folio, exchanges)?;
+    let places = places_of(alloc, register, folio, &rights)?;
+    let swaps = swaps_of(alloc, exchanges)?;
+    let mut slots = Slots::with_room(alloc, places.len(), swaps.len())?;
+    slots.fill(&places, &swaps, &[]);
+    Ok(slots)
+}
+
+/// The places of these rights, which stand in order.
+fn places_of(
+    alloc: Global,
+    register: &Register,
+    folio: FolioId,
+    rights: &[CreatedRight],
+) -> Result<Vec<Place>, NoMemory>
+    ensures value { IfOk result (λ places. places.items ≡ places_behind (entries_at register.now.parts) folio None rights.now) }
+    ensures bound { IfOk result (λ places. All (λ p. p.claim ≤ most_cents) places.items) }
+{
+    let mut places = Vec::new(alloc);
+    let mut before = None;
+    for right in rights {
+        places.push(place_behind(register, folio, before, right))?;
+        before = Some(*right);
+    }
+    Ok(places)
+}
+
+/// The place of a right behind another.
+fn place_behind(
+    register: &Register,
+    folio: FolioId,
+    before: Option<CreatedRight>,
+    right: &CreatedRight,
+) -> Place
+    ensures value { result ≡ place_behind (entries_at register.now.parts) folio before right.now }
+    ensures bound { result.claim ≤ most_cents }
+{
+    Place {
+        right: right.id,
+        claim: capital_of(register, folio, right.id),
+        with_previous: joins_place(before, right),
+        dropped: !is_live(register, folio, right.id),
+    }
+}
+
+/// Whether the right joins the place of the one before it.
+fn joins_place(before: Option<CreatedRight>, right: &CreatedRight) -> bool
+    ensures { result ≡ joins_place before right.now }
+{
+    match before {
+        Some(before) => has_same_place(&before, right),
+        None => false,
+    }
+}
+
+/// These exchanges on the line.
+fn swaps_of(alloc: Global, exchanges: &[Exchange]) -> Result<Vec<Swap>, NoMemory>
+    ensures { IfOk result (λ swaps. swaps.items ≡ map swap_of exchanges.now) }
+{
+    exchanges
+        .iter()
+        .map(|exchange| Swap {
+            recede: exchange.recede,
+            rise: exchange.rise,
+        })
+        .collect(alloc)
+}

@@ -1,0 +1,163 @@
+// The rights of a folio in order: those that are live, and those that give their rank away.
+ghost use Rattle.std.specs.Prelude.{◌≡◌, ◌++◌, ◌≤◌, ◌*◌, ◌||◌, IfOk, OnOk, [], filter, filter_map, length};
+ghost use Rattle.std.specs.List.{prefix_len};
+ghost use Rattle.act_model.specs.Creations.{creations_in};
+ghost use Rattle.act_model.specs.Limits.{most_receipts};
+ghost use Rattle.act_model.specs.Receiving.{IsJournal};
+ghost use Rattle.folio_sections.specs.Held.{entries_at};
+ghost use Rattle.folio_sections.specs.Kept.{Kept};
+ghost use Rattle.folio_extract.specs.PlacedRights.{by_group, has_same_place, is_of_group, live_rights, placed_at, placed_right, placed_rights, recedes};
+ghost use Rattle.folio_extract.specs.inner.FilingRuns.{is_of_filing};
+
+use crate::exchanges::Exchange;
+use act_model::Journal;
+use folio_sections::{Created, Parts, RightPart};
+use gb_base::{FolioId, NoMemory, ReceiptNo, RightId};
+use registrar::Register;
+use std::alloc::Global;
+
+/// A right of a folio.
+#[derive(Clone, Copy, Debug)]
+pub struct CreatedRight {
+    pub id: RightId,
+    /// The right as it was created.
+    pub made: Created,
+}
+
+/// The rights that are live in a folio, in order of filing, group and act.
+pub(crate) fn live_rights(
+    alloc: Global,
+    register: &Register,
+    journal: &Journal,
+    folio: FolioId,
+) -> Result<Vec<CreatedRight>, NoMemory>
+    requires { Kept journal.now.receipts (entries_at register.now.parts) }
+    ensures value { IfOk result (λ rights. rights.items ≡ live_rights journal.now.receipts (entries_at register.now.parts) folio) }
+    ensures few { IfOk result (λ rights. length rights.items ≤ 8 * most_receipts) }
+    ensures journal { IsJournal journal.now.receipts }
+{
+    placed_rights(alloc, register, journal, folio, &[])
+}
+
+/// The rights that are live in a folio, and those that recede in these exchanges, in order of
+/// filing, group and act.
+pub(crate) fn placed_rights(
+    alloc: Global,
+    register: &Register,
+    journal: &Journal,
+    folio: FolioId,
+    exchanges: &[Exchange],
+) -> Result<Vec<CreatedRight>, NoMemory>
+    requires { Kept journal.now.receipts (entries_at register.now.parts) }
+    ensures value { IfOk result (λ rights. rights.items ≡ placed_rights exchanges.now journal.now.receipts (entries_at register.now.parts) folio) }
+    ensures few { IfOk result (λ rights. length rights.items ≤ 8 * most_receipts) }
+    ensures journal { IsJournal journal.now.receipts }
+{
+    let placed = placed_by_act(alloc, register, journal, folio, exchanges)?;
+    let mut rights = Vec::new(alloc);
+    let mut rest = placed.as_slice();
+    while let Some(first) = rest.first() {
+        let (of_filing, behind) = rest.split_at(count_of_filing(first.id.receipt(), rest));
+        add_by_group(&mut rights, of_filing)?;
+        rest = behind;
+    }
+    Ok(rights)
+}
+
+/// The rights that are live in a folio, and those that recede in these exchanges, by filing and
+/// act.
+pub(crate) fn placed_by_act(
+    alloc: Global,
+    register: &Register,
+    journal: &Journal,
+    folio: FolioId,
+    exchanges: &[Exchange],
+) -> Result<Vec<CreatedRight>, NoMemory>
+    ensures value { IfOk result (λ rights. rights.items ≡ filter_map (placed_at exchanges.now (entries_at register.now.parts) folio) (creations_in journal.now.receipts folio)) }
+    ensures few { length (creations_in journal.now.receipts folio) ≤ 8 * most_receipts }
+    ensures journal { IsJournal journal.now.receipts }
+{
+    // The contract of `len` says that this is a journal; its filings have at most eight acts each.
+    let receipts = journal.len() as usize;
+    prove!(receipts <= Journal::MAX);
+    journal
+        .creations_in(folio)
+        .iter()
+        .filter_map(|id| placed_at(register, folio, exchanges, *id))
+        .collect(alloc)
+}
+
+/// The right of this number, where it is live in the folio or recedes in one of these exchanges.
+fn placed_at(
+    register: &Register,
+    folio: FolioId,
+    exchanges: &[Exchange],
+    id: RightId,
+) -> Option<CreatedRight>
+    ensures { result ≡ placed_at exchanges.now (entries_at register.now.parts) folio id }
+{
+    let made = placed_right(exchanges, id, register.right(folio, id)?)?;
+    Some(CreatedRight { id, made })
+}
+
+/// The right of this part as it was created, where it is live or recedes.
+fn placed_right(exchanges: &[Exchange], id: RightId, part: &RightPart) -> Option<Created>
+    ensures { result ≡ placed_right exchanges.now id part.now.entries }
+{
+    if part.live() || recedes(exchanges, id) {
+        part.created()
+    } else {
+        None
+    }
+}
+
+/// Whether the right recedes in one of these exchanges.
+fn recedes(exchanges: &[Exchange], id: RightId) -> bool
+    ensures { result ≡ recedes exchanges.now id }
+{
+    exchanges.iter().any(|exchange| exchange.recede == id)
+}
+
+/// How many rights at the front are of this filing.
+fn count_of_filing(filing: ReceiptNo, rights: &[CreatedRight]) -> usize
+    ensures value { result ≡ prefix_len (is_of_filing filing) rights.now }
+    ensures within { result ≤ length rights.now }
+{
+    rights
+        .iter()
+        .take_while(|right| right.id.receipt() == filing)
+        .count()
+}
+
+/// Adds these rights by group.
+fn add_by_group(rights: &mut Vec<CreatedRight>, of_filing: &[CreatedRight]) -> Result<(), NoMemory>
+    ensures { OnOk result (rights.new.items ≡ rights.old.items ++ by_group of_filing.now) }
+{
+    for group in 1..=8 {
+        add_group(rights, of_filing, group)?;
+    }
+    Ok(())
+}
+
+/// Adds those of these rights that are of this group.
+fn add_group(
+    rights: &mut Vec<CreatedRight>,
+    of_filing: &[CreatedRight],
+    group: u8,
+) -> Result<(), NoMemory>
+    ensures { OnOk result (rights.new.items ≡ rights.old.items ++ filter (is_of_group group) of_filing.now) }
+{
+    for right in of_filing {
+        if right.made.spec.group == group {
+            rights.push(*right)?;
+        }
+    }
+    Ok(())
+}
+
+/// Whether two rights of a folio have one place: they are of one filing and group (GBO § 45(3)).
+pub(crate) fn has_same_place(a: &CreatedRight, b: &CreatedRight) -> bool
+    ensures { result ≡ has_same_place a.now b.now }
+{
+    a.id.receipt() == b.id.receipt() && a.made.spec.group == b.made.spec.group
+}
