@@ -1,11 +1,13 @@
 #!/usr/bin/env python3
 """Measures how fast the one registrar settles a journal.
 
-    bench/settling.py [SHAPE N ..]    N receipts each time; without words openings of 50000, 100000
-                                      and 200000 folios, and 2500, 5000 and 10000 waiting receipts
+    bench/settling.py [SHAPE N ..]    N receipts each time; without words 5000 and 10000 filings,
+                                      openings of 50000, 100000 and 200000 folios, and 2500, 5000
+                                      and 10000 waiting receipts
 
-SHAPE is `openings`, each of a folio of its own, or `waiting`: filings in one folio, of which some
-are entered, some wait and are cured, some lapse and some are rejected. The program receives them
+SHAPE is `filings` in one folio, of which half are entered and the others rejected or set to wait;
+`openings`, each of a folio of its own; or `waiting`: filings in one folio, of which some are entered,
+some wait and are cured, some lapse and some are rejected. The program receives them
 into a journal in memory and settles it; the time is that of both. The parts of the register walk
 their lists. Each entry in a folio looks for the filings that still wait there: it walks the list
 once for each filing that was ever set to wait, so the time of a receipt grows with the square of
@@ -20,7 +22,7 @@ import time
 ROOT = pathlib.Path(__file__).resolve().parent.parent
 PROGRAM = ROOT / "crates" / "enter_filings" / "out" / "enter_filings"
 
-ALL = {"openings": [50_000, 100_000, 200_000], "waiting": [2_500, 5_000, 10_000]}
+ALL = {"filings": [5_000, 10_000], "openings": [50_000, 100_000, 200_000], "waiting": [2_500, 5_000, 10_000]}
 
 
 def measure(shape, count):
