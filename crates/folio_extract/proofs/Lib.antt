@@ -23,6 +23,7 @@ pub mod PlainAlone
 pub mod PlainRights
 pub mod RankTableText
 pub mod RankWalks
+pub mod ReportTold
 pub mod RightOrder
 pub mod Turns
 pub mod WaitingInOrder

@@ -1,11 +1,13 @@
 -- The report: what becomes of each item, the extract and the rank table of each open folio, and a line that ends it.
-use Rattle.std.specs.Prelude.{ℕ, List, ◌++◌, codes, flat_map, length}
+use Rattle.std.specs.Prelude.{◌≡◌, ℕ, List, ◌++◌, codes, flat_map, length}
 use Rattle.std.specs.Fmt.{decimal}
 use Rattle.gb_base.specs.declared.keys.Key.{Key}
 use Rattle.act_model.specs.declared.receipts.Receipt.{Receipt}
 use Rattle.folio_sections.specs.Entries.{at as at_key}
+use Rattle.folio_sections.specs.Held.{entries_at}
 use Rattle.folio_sections.specs.declared.entries.Entry.{Entry}
 use Rattle.registrar.specs.OpenFolios.{open_folios}
+use Rattle.registrar.specs.RegisterState.{RegisterState}
 use Rattle.registrar.specs.Settling.{Settled}
 use Rattle.registrar.specs.declared.verdicts.Verdict.{Verdict}
 use Rattle.folio_extract.specs.Extracts.{extract_text}
@@ -25,6 +27,12 @@ abbrev pub report_text : List Receipt → List (ℕ × Verdict) → (Key → Lis
 report_text journal verdicts at folios =
     verdict_lines verdicts ++ (folio_texts journal at folios ++ end_line (length verdicts) (length folios))
 
--- the report of a register
+-- The register tells what is settled: what stands at each key, the verdicts, and the folios that are open.
+pub record Tells (register : RegisterState) (settled : Settled) : Type 0 where
+  pub entries : entries_at register.parts ≡ at_key settled.entries
+  pub verdicts : register.verdicts ≡ settled.verdicts
+  pub folios : register.folios ≡ open_folios settled.entries
+
+-- the report of what is settled
 abbrev pub report : List Receipt → Settled → List ℕ
 report journal settled = report_text journal settled.verdicts (at_key settled.entries) (open_folios settled.entries)

@@ -3,7 +3,8 @@ ghost use Rattle.std.specs.Prelude.{◌≡◌, ◌++◌, IfOk, OnOk, length};
 ghost use Rattle.std.specs.String.{string_bytes};
 ghost use Rattle.folio_sections.specs.Held.{entries_at};
 ghost use Rattle.folio_sections.specs.Kept.{Kept};
-ghost use Rattle.folio_extract.specs.Reports.{end_line, folio_texts, report_text};
+ghost use Rattle.folio_extract.specs.Reports.{Tells, end_line, folio_texts, report, report_text};
+ghost use Rattle.registrar.specs.Settling.{Settled};
 
 use crate::extracts::add_extract;
 use crate::rank_tables::add_rank_table;
@@ -16,6 +17,15 @@ use std::alloc::Global;
 /// The report of a register: what became of each receipt, the extract and the rank table of each
 /// open folio, ascending, and a line that ends it.
 pub fn report(alloc: Global, register: &Register, journal: &Journal) -> Result<Vec<u8>, NoMemory>
+    requires { Kept journal.now.receipts (entries_at register.now.parts) }
+    ensures text { IfOk result (λ text. text.items ≡ report_text journal.now.receipts register.now.verdicts (entries_at register.now.parts) register.now.folios) }
+    ensures report { (settled : Settled) → Tells register.now settled → IfOk result (λ text. text.items ≡ report journal.now.receipts settled) }
+{
+    whole_text(alloc, register, journal)
+}
+
+/// The text of the report.
+fn whole_text(alloc: Global, register: &Register, journal: &Journal) -> Result<Vec<u8>, NoMemory>
     requires { Kept journal.now.receipts (entries_at register.now.parts) }
     ensures { IfOk result (λ text. text.items ≡ report_text journal.now.receipts register.now.verdicts (entries_at register.now.parts) register.now.folios) }
 {
