@@ -13,7 +13,7 @@ use Rattle.folio_sections.specs.Rights.{is_live}
 use Rattle.folio_sections.specs.declared.entries.Entry.{Entry}
 use Rattle.folio_sections.specs.declared.entries.What.{What}
 use Rattle.folio_sections.specs.declared.entries.What.TheVariants as what
-use Rattle.folio_extract.specs.Exchanges.{counted_at, counted_exchanges, in_turn, in_turn_with, is_earlier, keeps_room, rise_by}
+use Rattle.folio_extract.specs.Exchanges.{counted_at, counted_exchanges, in_turn, in_turn_with, is_earlier, keeps_cents, rise_by}
 use Rattle.folio_extract.specs.PlacedRights.{live_rights}
 use Rattle.folio_extract.specs.declared.exchanges.Exchange.{Exchange}
 use Rattle.folio_extract.proofs.ListLemmas.{in_all, of_filter, of_filter_map}
@@ -68,7 +68,7 @@ is_counted journal at folio y kept there =
     let right = from.0.id in
     let entries = at (Right folio right) in
     let rise : Entry → Option Exchange = λ e. rise_by right e.receipt e.what in
-    let entry = of_filter_map rise entries y (of_filter (λ x. keeps_room (at (Right folio x.recede))) (filter_map rise entries) y from.2).0 in
+    let entry = of_filter_map rise entries y (of_filter (λ x. keeps_cents (at (Right folio x.recede))) (filter_map rise entries) y from.2).0 in
     let kinds = recursion_from_All (λ (e : Entry). ActsOnItsKind journal at folio right e.what) entries (kept.exchanged_are_plain.kinds folio right) in
     let rises = rises_here journal at folio right entry.0.receipt entry.0.what y (in_all (λ (e : Entry). ActsOnItsKind journal at folio right e.what) entries entry.0 kinds entry.1) entry.2 in
     let stands = (of_placed_rights [] journal at folio from.0 from.1).stands in

@@ -27,14 +27,14 @@ abbrev pub is_cancellation_by_consent : What → Bool
 is_cancellation_by_consent (what.Cancelled expired) = not expired
 is_cancellation_by_consent other = false
 
--- the room of a right stays for those that rose into it: it is live, or it was cancelled without a proof that it expired
-abbrev pub keeps_room : List Entry → Bool
-keeps_room entries = is_live entries || list_any (λ e. is_cancellation_by_consent e.what) entries
+-- the cents of a right stay for those that rose into its rank: it is live, or it was cancelled without a proof that it expired
+abbrev pub keeps_cents : List Entry → Bool
+keeps_cents entries = is_live entries || list_any (λ e. is_cancellation_by_consent e.what) entries
 
 -- the exchanges by which a live right rises, and that count
 abbrev pub counted_at : (Key → List Entry) → ℕ → CreatedRight → List Exchange
 counted_at at folio x =
-    filter (λ y. keeps_room (at (Right folio y.recede))) (filter_map (λ e. rise_by x.id e.receipt e.what) (at (Right folio x.id)))
+    filter (λ y. keeps_cents (at (Right folio y.recede))) (filter_map (λ e. rise_by x.id e.receipt e.what) (at (Right folio x.id)))
 
 -- exchange x is of an earlier item than y, or of an earlier act of the same item
 abbrev pub is_earlier : Exchange → Exchange → Bool
@@ -50,7 +50,7 @@ abbrev pub in_turn : List Exchange → List Exchange
 in_turn [] = []
 in_turn (x ∷ xs) = in_turn_with x (in_turn xs)
 
--- The exchanges of a folio that count, by item and act: the right that rises is live, and the room of the other stays (BGB § 880).
+-- The exchanges of a folio that count, by item and act: the right that rises is live, and the cents of the other stay (BGB § 880).
 abbrev pub counted_exchanges : List Receipt → (Key → List Entry) → ℕ → List Exchange
 counted_exchanges journal at folio = in_turn (flat_map (counted_at at folio) (live_rights journal at folio))
 
@@ -61,7 +61,7 @@ abbrev pub is_spent_on : RightNo → What → Bool
 is_spent_on right (what.Exercised by) = same_right by right
 is_spent_on right other = false
 
--- the right whose reservation right x has spent, where that is live
+-- the knot of right x and the one whose reservation it has spent, where that is live
 abbrev pub knot_behind : (Key → List Entry) → ℕ → CreatedRight → RightNo → Option Knot
 knot_behind at folio x reserved =
     if is_live (at (Right folio reserved)) && list_any (λ e. is_spent_on x.id e.what) (at (Right folio reserved))

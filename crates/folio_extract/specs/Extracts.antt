@@ -21,8 +21,9 @@ use Rattle.folio_extract.specs.declared.waiting.WaitingFiling.{WaitingFiling}
 
 -- ---- the folio
 
-abbrev pub folio_line : ℕ → List ℕ
-folio_line folio = codes "folio " ++ (decimal folio ++ codes "\n")
+-- the line that names the folio
+abbrev pub heading_line : ℕ → List ℕ
+heading_line folio = codes "folio " ++ (decimal folio ++ codes "\n")
 
 -- the parcel, where there is one
 abbrev pub inventory_line : Option Inventory → List ℕ
@@ -114,7 +115,7 @@ right_lines journal entries x = right_line entries x ++ waiting_lines journal (r
 -- the extract of a folio
 unfoldable pub extract_text : List Receipt → (Key → List Entry) → ℕ → List ℕ
 extract_text journal at folio =
-    folio_line folio ++ (inventory_line (inventory (at (Title folio))) ++ (owners_line (owners (at (Title folio))) ++ (sale_line (at (Case folio))
+    heading_line folio ++ (inventory_line (inventory (at (Title folio))) ++ (owners_line (owners (at (Title folio))) ++ (sale_line (at (Case folio))
     ++ (waiting_lines journal (codes "title") (at (Title folio))
     ++ flat_map (λ x. right_lines journal (at (Right folio x.id)) x) (live_rights journal at folio)))))
 

@@ -1,4 +1,4 @@
--- The rank table of a folio: the ranks of its rights, the exchanges among them, and the cents that they take in turn.
+-- The rank table of a folio: the ranks of its rights, the exchanges and exercised reservations that count, and the cents behind the exchanges.
 use Rattle.std.specs.Prelude.{ℕ, ◌+◌, Bool, if◌then◌else◌, List, [], ◌∷◌, ◌++◌, codes, filter, flat_map, Option, Some, None}
 use Rattle.std.specs.List.{list_any}
 use Rattle.std.specs.Fmt.{decimal}

@@ -3,7 +3,7 @@ ghost use Rattle.std.specs.Prelude.{◌≡◌, ◌++◌, ◌||◌, IfOk, OnOk, f
 ghost use Rattle.std.specs.List.{list_any};
 ghost use Rattle.gb_base.specs.declared.keys.Key.TheVariants.{Right};
 ghost use Rattle.folio_sections.specs.Held.{entries_at};
-ghost use Rattle.folio_extract.specs.Exchanges.{counted_at, in_turn, is_cancellation_by_consent, keeps_room, rise_by};
+ghost use Rattle.folio_extract.specs.Exchanges.{counted_at, in_turn, is_cancellation_by_consent, keeps_cents, rise_by};
 
 use crate::folio_reads::{is_live, right_entries};
 use crate::placed_rights::CreatedRight;
@@ -25,8 +25,8 @@ pub struct Exchange {
     pub rise: RightId,
 }
 
-/// The exchanges by which these live rights rise and that count, by item and act: the room of the
-/// right that recedes stays.
+/// The exchanges by which these live rights rise and that count, by item and act: the cents of the
+/// right that recedes stay.
 pub(crate) fn counted_exchanges(
     alloc: Global,
     register: &Register,
@@ -67,7 +67,7 @@ fn add_counted(
 {
     for entry in right_entries(register, folio, right.id) {
         if let Some(exchange) = rise_by(right.id, entry) {
-            if keeps_room(register, folio, exchange.recede) {
+            if keeps_cents(register, folio, exchange.recede) {
                 exchanges.push(exchange)?;
             }
         }
@@ -90,10 +90,10 @@ fn rise_by(right: RightId, entry: &Entry) -> Option<Exchange>
     }
 }
 
-/// Whether the room of a right stays for those that rose into it: it is live, or it was cancelled
-/// without a proof that it expired.
-fn keeps_room(register: &Register, folio: FolioId, id: RightId) -> bool
-    ensures { result ≡ keeps_room (entries_at register.now.parts (Right folio id)) }
+/// Whether the cents of a right stay for those that rose into its rank: it is live, or it was
+/// cancelled without a proof that it expired.
+fn keeps_cents(register: &Register, folio: FolioId, id: RightId) -> bool
+    ensures { result ≡ keeps_cents (entries_at register.now.parts (Right folio id)) }
 {
     is_live(register, folio, id) || was_cancelled_by_consent(right_entries(register, folio, id))
 }

@@ -6,7 +6,7 @@ ghost use Rattle.gb_base.specs.declared.keys.Key.TheVariants.{Case, Right, Title
 ghost use Rattle.folio_sections.specs.Held.{entries_at, is_held};
 ghost use Rattle.folio_sections.specs.Kept.{Kept};
 ghost use Rattle.folio_sections.specs.Titles.{inventory, owners};
-ghost use Rattle.folio_extract.specs.Extracts.{extract, extract_text, folio_line, inventory_line, owners_line, right_lines, sale_line, waiting_lines};
+ghost use Rattle.folio_extract.specs.Extracts.{extract, extract_text, heading_line, inventory_line, owners_line, right_lines, sale_line, waiting_lines};
 ghost use Rattle.folio_extract.specs.inner.Waits.{WaitsInJournal};
 
 use crate::folio_reads::{has_sale_note, inventory_of, is_open, owners_of, title_entries};
@@ -58,7 +58,7 @@ pub(crate) fn add_extract(
 /// Adds what the extract says of the folio itself.
 fn add_folio(text: &mut String, register: &Register, folio: FolioId) -> Result<(), NoMemory>
     ensures { OnOk result (string_bytes text.new ≡ string_bytes text.old
-        ++ (folio_line folio ++ (inventory_line (inventory (entries_at register.now.parts (Title folio)))
+        ++ (heading_line folio ++ (inventory_line (inventory (entries_at register.now.parts (Title folio)))
         ++ (owners_line (owners (entries_at register.now.parts (Title folio))) ++ sale_line (entries_at register.now.parts (Case folio)))))) }
 {
     writeln!(text, "folio {folio}")?;

@@ -1,5 +1,5 @@
-// The rank table of a folio: the ranks of its rights, the exchanges among them, and the cents that
-// they take in turn.
+// The rank table of a folio: the ranks of its rights, the exchanges and exercised reservations that
+// count, and the cents behind the exchanges.
 ghost use Rattle.std.specs.Prelude.{◌≡◌, ◌++◌, IfOk, None, OnOk, codes, flat_map, option_map};
 ghost use Rattle.std.specs.Fmt.{decimal};
 ghost use Rattle.std.specs.String.{string_bytes};

@@ -27,8 +27,8 @@ plain_pay filled right t =
 abbrev pub claim_of : List Place → RightNo → ℕ
 claim_of places right = option_map_or (λ p. p.claim) (find (is_of right) places) 0
 
--- What a right gets of the first t cents. The reserved right of a knot gets what it would without the claim of the exercised
--- one; the exercised one gets what is left of both (BGB § 881).
+-- What a right gets of the first t cents. The reserved right of a knot gets what it would, knots apart, of a sum that is smaller
+-- by the exercised one's claim; the exercised one gets what is left of both (BGB § 881).
 abbrev pub pay_in : List Knot → Filled → RightNo → ℕ → ℕ
 pay_in [] filled right t = plain_pay filled right t
 pay_in (k ∷ ks) filled right t =

@@ -20,8 +20,8 @@ const MOST_PLACES: usize = 256;
 
 impl Slots {
     /// How many of the first t cents the right gets. One of a group gets its share of the group's
-    /// cents; the reserved right of a knot gets what it would without the claim of the exercised
-    /// one, and the exercised one what is left of both (BGB § 881).
+    /// cents; the reserved right of a knot gets what it would, knots apart, of a sum that is
+    /// smaller by the exercised one's claim, and the exercised one what is left of both (BGB § 881).
     pub fn pay(&self, right: RightId, t: u64) -> u64
         requires { keeps_place self.now.filled.places right ≡ true }
         ensures { result ≡ pay self.now.filled right t }

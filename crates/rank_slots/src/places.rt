@@ -19,7 +19,7 @@ pub struct Place {
 pub struct Swap {
     /// The right that steps back.
     pub recede: RightId,
-    /// The right that takes its rank.
+    /// The right that gets the first of both rights' cents.
     pub rise: RightId,
 }
 
@@ -28,7 +28,7 @@ pub struct Swap {
 pub struct Knot {
     /// The right whose reservation is spent.
     pub reserved: RightId,
-    /// The right that was entered in its rank.
+    /// The right that was entered to precede it; its place is that of its own filing.
     pub exercised: RightId,
 }
 
