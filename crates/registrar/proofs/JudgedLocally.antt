@@ -1,5 +1,5 @@
 -- The judgement of a filing follows from what stands at the filing's keys.
-use Rattle.std.proofs.Common.{◌≡◌, ℕ, ◌+◌, Bool, true, false, not, ◌&&◌, ◌==◌, List, [], ◌∷◌, filter, find, flat_map, map, take, All, Contains, IsTrue, Some, refl, ap}
+use Rattle.std.proofs.Common.{◌≡◌, ℕ, ◌+◌, not, ◌&&◌, ◌==◌, List, [], ◌∷◌, find, flat_map, map, take, Some, refl, ap}
 use Rattle.std.specs.List.{AllByRecursion, enumerate_from, list_any}
 use Rattle.std.proofs.lemmas.List.Elements.{recursion_from_All}
 use Rattle.gb_base.specs.declared.keys.Key.{Key}
@@ -17,7 +17,7 @@ use Rattle.consent_rules.proofs.HeldLemmas.{parts_of_filing}
 use Rattle.consent_rules.specs.inner.Held.{HasParts}
 use Rattle.folio_sections.specs.Documents.{documents, is_strangers_consent}
 use Rattle.folio_sections.specs.Held.{is_given}
-use Rattle.folio_sections.specs.Judging.{curables, defects, defects_under, grounds, holds, is_defective, is_plain_among, is_rejected_under, is_silent_among, judged_filing, judgement_by, lacks_owner, lacks_owner_of_exchange, rejection, with_before, KnowsExchanges}
+use Rattle.folio_sections.specs.Judging.{curables, defects_under, grounds, holds, is_defective, is_plain_among, is_rejected_under, is_silent_among, judged_filing, judgement_by, lacks_owner, lacks_owner_of_exchange, with_before, KnowsExchanges}
 use Rattle.folio_sections.specs.Persons.{number_behind}
 use Rattle.folio_sections.specs.declared.entries.Entry.{Entry}
 use Rattle.folio_sections.specs.declared.judgements.Defect.{Defect}
