@@ -19,8 +19,7 @@ use Rattle.folio_sections.specs.Kept.{Kept}
 use Rattle.folio_sections.specs.PartState.{PartState}
 use Rattle.folio_sections.specs.declared.entries.Entry.{Entry}
 use Rattle.folio_sections.proofs.Additions.{at-append}
-use Rattle.folio_sections.proofs.Unchanged.{all_at}
-use Rattle.interim_orders.proofs.Noticing.{all_map}
+use Rattle.folio_sections.proofs.Unchanged.{all_at, all_weaker}
 use Rattle.registrar.proofs.StepLemmas.{brings_is, brings_leaves}
 use Rattle.registrar.specs.Brings.{Brought, brings, brought_by_item, nothing_pending}
 use Rattle.registrar.specs.Settling.{Settled, nothing_settled, registrar, settled_in_order, settled_next}
@@ -96,7 +95,7 @@ all_before : (n : ℕ) (before more : List Entry) → All (λ e. e.receipt < n +
 all_before n before more earlier now =
     All-append (λ e. e.receipt < (n + 1) + 1) before more
     (λ j e within. let less = earlier j e within in omega arith)
-    (All-from_recursion (λ e. e.receipt < (n + 1) + 1) more (all_map (λ e. e.receipt ≡ n + 1) (λ e. e.receipt < (n + 1) + 1) more (λ e is. omega arith) now))
+    (All-from_recursion (λ e. e.receipt < (n + 1) + 1) more (all_weaker (λ e. e.receipt ≡ n + 1) (λ e. e.receipt < (n + 1) + 1) more (λ e is. omega arith) now))
 
 -- one more
 pub one_settled : (journal : List Receipt) (n : ℕ) (at0 at1 : Key → List Entry) (vs : List Verdict) (v : Verdict) → IsJournal journal → SettledTo journal n at0 vs
