@@ -13,9 +13,9 @@ use Rattle.act_model.specs.declared.filing_acts.Act.{Act}
 use Rattle.act_model.specs.declared.items.Item.{Item}
 use Rattle.act_model.specs.declared.items.Item.TheVariants as item
 use Rattle.act_model.specs.declared.receipts.Receipt.{Receipt}
+use Rattle.act_model.proofs.KeysStay.{keys_of_filing_stay, receipt_stays}
 use Rattle.folio_sections.specs.Limits.{most_creations}
 use Rattle.folio_sections.proofs.Unchanged.{all_both}
-use Rattle.registrar.proofs.FilingKeysStay.{keys_of_filing_stay, receipt_stays}
 use Rattle.registrar.specs.ItemKeys.{earlier_rights, keys_by_item, keys_of_item, keys_of_named, keys_of_sale}
 
 -- ---- what later receipts create
