@@ -1,9 +1,6 @@
 -- What each receipt adds to the register and to the verdicts.
-use Rattle.std.proofs.Common.{◌≡◌, ℕ, ◌+◌, suc, List, [], ◌∷◌, ◌++◌, true, false, cond, All, find, Some, None, Option, option_map, option_to_list, refl, ap, sym, ◌∙◌, arith}
+use Rattle.std.proofs.Common.{◌≡◌, ℕ, ◌+◌, suc, List, [], ◌∷◌, ◌++◌, All, Some, None, Option, option_map, option_to_list, ap, sym, ◌∙◌, arith}
 use Rattle.std.proofs.lemmas.List.{append-nil}
-use Rattle.std.proofs.lemmas.List.Elements.{All-tail}
-use Rattle.std.specs.Option.{option_map_or}
-use Rattle.gb_base.specs.Keys.{same_key}
 use Rattle.gb_base.specs.declared.keys.Key.{Key}
 use Rattle.act_model.specs.Touches.{filing_at}
 use Rattle.act_model.specs.declared.receipts.Receipt.{Receipt}
@@ -14,21 +11,13 @@ use Rattle.folio_sections.specs.Judging.{judged, judged_filing}
 use Rattle.folio_sections.specs.PartState.{PartState}
 use Rattle.folio_sections.specs.declared.entries.Entry.{Entry}
 use Rattle.folio_sections.specs.declared.judgements.Judgement.{Judgement}
+use Rattle.folio_sections.proofs.HeldParts.{nothing_at}
 use Rattle.enter_filings.specs.Settling.{brought, brought_by, register_after, verdict_on, verdicts_after}
 use Rattle.enter_filings.specs.declared.settling.Verdict.{Verdict}
 
 -- no entry changes nothing
 with_none : (at : Key → List Entry) → with_entries at [] ≡ at
 with_none at = λ i k. append-nil (at k) i
-
--- where no part has an entry, nothing stands
-nothing_at : (parts : List PartState) (k : Key) → All (λ p. p.entries ≡ []) parts → entries_at parts k ≡ []
-nothing_at [] k none = refl
-nothing_at (p ∷ ps) k none =
-    elim (same_key p.key k) as (λ b. option_map_or (λ (q : PartState). q.entries) (cond b (Some p) (find (λ q. same_key q.key k) ps)) [] ≡ []) [
-      | true ↦ none 0 p (omega arith)
-      | false ↦ nothing_at ps k (All-tail (λ q. q.entries ≡ []) p ps none)
-    ]
 
 pub empty_register : (parts : List PartState) → All (λ p. p.entries ≡ []) parts → entries_at parts ≡ λ k. []
 empty_register parts none = λ i k. nothing_at parts k none i
