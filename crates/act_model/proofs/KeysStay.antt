@@ -19,7 +19,7 @@ slice_get_front (r ∷ rs) more zero within = refl
 slice_get_front (r ∷ rs) more (suc i) within = slice_get_front rs more i (omega arith)
 
 module _ (journal more : List Receipt) where
-  receipt_stays : (n : ℕ) → n ≤ length journal → receipt_at (journal ++ more) n ≡ receipt_at journal n
+  pub receipt_stays : (n : ℕ) → n ≤ length journal → receipt_at (journal ++ more) n ≡ receipt_at journal n
   receipt_stays n within = ⊎_elim
       (λ none. subst (λ k. receipt_at (journal ++ more) k ≡ receipt_at journal k) (sym none) refl)
       (λ some. ap (λ (r : Option Receipt). cond (eqb n 0) None r) (slice_get_front journal more (n - 1) (omega arith)))

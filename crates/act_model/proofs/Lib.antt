@@ -8,5 +8,5 @@ pub mod ItemIndexLemmas
 pub mod JournalLemmas
 mod KeyLemmas
 pub mod KeyOrder
-mod KeysStay
+pub mod KeysStay
 pub mod ReadyLemmas

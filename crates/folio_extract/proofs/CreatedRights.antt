@@ -29,7 +29,7 @@ use Rattle.folio_sections.specs.declared.entries.Created.{Created}
 use Rattle.folio_sections.specs.declared.entries.Entry.{Entry}
 use Rattle.folio_sections.specs.declared.entries.What.{What}
 use Rattle.folio_sections.specs.declared.entries.What.TheVariants as what
-use Rattle.interim_orders.proofs.Noticing.{all_map as all_weaker}
+use Rattle.folio_sections.proofs.Unchanged.{all_weaker}
 use Rattle.registrar.proofs.ItemsKeep.{well_filed}
 use Rattle.registrar.proofs.RightReads.{IfCreates, created_has}
 

@@ -10,8 +10,7 @@ use Rattle.gb_base.specs.declared.keys.Key.TheVariants.{Right}
 use Rattle.act_model.specs.Touches.{new_right}
 use Rattle.folio_sections.specs.declared.entries.Created.{Created}
 use Rattle.folio_sections.specs.declared.entries.Entry.{Entry}
-use Rattle.folio_sections.proofs.Unchanged.{all_both}
-use Rattle.interim_orders.proofs.Noticing.{all_map as all_weaker}
+use Rattle.folio_sections.proofs.Unchanged.{all_both, all_weaker}
 use Rattle.folio_extract.specs.PlacedRights.{by_group, one_to, placed_at, placed_of, placed_right}
 use Rattle.folio_extract.specs.declared.exchanges.Exchange.{Exchange}
 use Rattle.folio_extract.specs.declared.placed_rights.CreatedRight.{CreatedRight}

@@ -15,11 +15,6 @@ pub filter_none : {X : Type 0} (p : X → Bool) (xs : List X) → AllByRecursion
 filter_none p [] all = refl
 filter_none p (x ∷ xs) all = filter_skips p x xs all.0 ∙ filter_none p xs all.1
 
--- where all pass all are left
-pub filter_all : {X : Type 0} (p : X → Bool) (xs : List X) → AllByRecursion (λ x. p x ≡ true) xs → filter p xs ≡ xs
-filter_all p [] all = refl
-filter_all p (x ∷ xs) all = filter_takes p x xs all.0 ∙ ap (λ ys. x ∷ ys) (filter_all p xs all.1)
-
 -- tests that agree on the elements
 pub filter_alike : {X : Type 0} (p q : X → Bool) (xs : List X) → AllByRecursion (λ x. p x ≡ q x) xs → filter p xs ≡ filter q xs
 filter_alike p q [] all = refl

@@ -6,7 +6,7 @@ use Rattle.std.specs.Ordering.{is_lt, nat_cmp, ordering_then}
 use Rattle.std.specs.declared.cmp.Ordering.TheVariants.{Less, Equal, Greater}
 use Rattle.std.proofs.lemmas.Bool.{cases_Bool, cond-false, cond-true, false≢true}
 use Rattle.std.proofs.lemmas.Bool.Decides.{nat_tests}
-use Rattle.interim_orders.proofs.Noticing.{all_map as all_weaker}
+use Rattle.folio_sections.proofs.Unchanged.{all_weaker}
 use Rattle.folio_extract.specs.Exchanges.{in_turn, in_turn_with, is_earlier}
 use Rattle.folio_extract.specs.declared.exchanges.Exchange.{Exchange}
 

@@ -35,6 +35,15 @@ held_found parts k p h = sym (is_some-find (is_at k) parts) ∙ ap is_some h
 pub held_none : (parts : List PartState) (k : Key) → find (is_at k) parts ≡ None → is_held parts k ≡ false
 held_none parts k h = sym (is_some-find (is_at k) parts) ∙ ap is_some h
 
+-- where no part has an entry, nothing stands
+pub nothing_at : (parts : List PartState) (k : Key) → All (λ p. p.entries ≡ []) parts → entries_at parts k ≡ []
+nothing_at [] k none = refl
+nothing_at (p ∷ ps) k none =
+    elim (same_key p.key k) as (λ b. option_map_or (λ (q : PartState). q.entries) (cond b (Some p) (find (λ q. same_key q.key k) ps)) [] ≡ []) [
+      | true ↦ none 0 p (omega arith)
+      | false ↦ nothing_at ps k (All-tail (λ q. q.entries ≡ []) p ps none)
+    ]
+
 -- the part at a key's index is found there
 pub found_there : (parts : List PartState) (k : Key) (i : ℕ) (p : PartState) → position (is_at k) parts ≡ Some i → p ≡ get_or parts i p → find (is_at k) parts ≡ Some p
 found_there parts k i p h e =

@@ -1,6 +1,6 @@
 -- Lemmas on tests over lists, and on loops that go along them.
 use Rattle.std.proofs.Common.{◌≡◌, ℕ, ◌+◌, ◌<◌, Bool, true, false, ◌&&◌, ◌||◌, cond, List, [], ◌∷◌, length, get_or, drop, filter, flat_map, refl, sym, ap, subst, ◌∙◌, add-one, drop-cons}
-use Rattle.std.specs.List.{list_any}
+use Rattle.std.specs.List.{AllByRecursion, list_any}
 use Rattle.std.proofs.lemmas.List.Elements.{filter-append}
 use Rattle.std.proofs.lemmas.List.Folds.{list_any-append}
 
@@ -18,6 +18,11 @@ pub any_brought : {X Y : Type 0} (p q : Y → Bool) (t : X → Bool) (d : X → 
     → list_any p (filter q (flat_map d (filter t xs))) ≡ list_any (λ x. t x && list_any p (filter q (d x))) xs
 any_brought p q t d [] = refl
 any_brought p q t d (x ∷ xs) = any_of_parts p q d x (filter t xs) (t x) _ (any_brought p q t d xs)
+
+-- where all pass all are left
+pub filter_all : {X : Type 0} (p : X → Bool) (xs : List X) → AllByRecursion (λ x. p x ≡ true) xs → filter p xs ≡ xs
+filter_all p [] all = refl
+filter_all p (x ∷ xs) all = rw all.0 (ap (λ ys. x ∷ ys) (filter_all p xs all.1))
 
 -- one that does not pass is passed over
 pub any_past : {X : Type 0} (p : X → Bool) (xs : List X) (i : ℕ) (x : X) → i < length xs → p (get_or xs i x) ≡ false

@@ -21,14 +21,11 @@ use Rattle.folio_sections.specs.declared.entries.What.TheVariants as what
 use Rattle.folio_sections.specs.inner.Unnoticed.{lacks_notice}
 use Rattle.folio_sections.proofs.Additions.{none_at}
 use Rattle.folio_sections.proofs.Indexes.{find_passes}
+use Rattle.folio_sections.proofs.ListLemmas.{filter_all}
 use Rattle.folio_sections.proofs.Progress.{Progress, begins, ends, goes_on_by, has_room_by}
-use Rattle.folio_sections.proofs.Unchanged.{KeepsNotice, all_at, all_both, own_notice_stays, pending_stays}
+use Rattle.folio_sections.proofs.Unchanged.{KeepsNotice, all_at, all_both, all_weaker, own_notice_stays, pending_stays}
 use Rattle.folio_sections.proofs.Below.{below_next}
 use Rattle.folio_sections.proofs.Unnoticed.{unnoticed_is}
-
-pub all_map : {X : Type 0} (P Q : X → Type 0) (xs : List X) → ((x : X) → P x → Q x) → AllByRecursion P xs → AllByRecursion Q xs
-all_map P Q [] f all = tt
-all_map P Q (x ∷ xs) f all = (f x all.0, all_map P Q xs f all.1)
 
 all_filtered : (P : ℕ → Type 0) (q : ℕ → Bool) (xs : List ℕ) → AllByRecursion P xs → AllByRecursion P (filter q xs)
 all_filtered P q [] all = tt
@@ -63,7 +60,7 @@ below_less zero = tt
 below_less (suc zero) = tt
 below_less (suc (suc n)) =
     subst (AllByRecursion (λ x. nat_lt x (suc (suc n)) ≡ true)) (sym (below_next n)) (all_both (λ x. nat_lt x (suc (suc n)) ≡ true) (below (suc n)) (suc n ∷ [])
-    (all_map (λ x. nat_lt x (suc n) ≡ true) (λ x. nat_lt x (suc (suc n)) ≡ true) (below (suc n)) (λ x less. grind (arith, nat_tests, less)) (below_less (suc n)))
+    (all_weaker (λ x. nat_lt x (suc n) ≡ true) (λ x. nat_lt x (suc (suc n)) ≡ true) (below (suc n)) (λ x less. grind (arith, nat_tests, less)) (below_less (suc n)))
     (grind (arith, nat_tests), tt))
 
 below_ascends : (m : ℕ) → Ascends (below m)
@@ -80,10 +77,6 @@ unnoticed_ascend m entries =
 above_further : (after : Option ℕ) (n k : ℕ) → is_above after n ≡ true → nat_lt n k ≡ true → is_above after k ≡ true
 above_further None n k high above = refl
 above_further (Some m) n k high above = grind (arith, nat_tests, high, above)
-
-filter_all : (p : ℕ → Bool) (xs : List ℕ) → AllByRecursion (λ x. p x ≡ true) xs → filter p xs ≡ xs
-filter_all p [] all = refl
-filter_all p (x ∷ xs) all = rw all.0 (ap (λ ys. x ∷ ys) (filter_all p xs all.1))
 
 pub all_above : (xs : List ℕ) → filter (is_above None) xs ≡ xs
 all_above [] = refl
@@ -106,7 +99,7 @@ first_above after (x ∷ xs) n up h =
           let same : x ≡ n = cc in
           let itself : nat_lt x x ≡ false = grind (arith, nat_tests) in
           let ours : filter (is_above after) xs ≡ xs =
-          filter_all (is_above after) xs (all_map (λ y. nat_lt x y ≡ true) (λ y. is_above after y ≡ true) xs (λ y above. above_further after x y high above) up.0) in
+          filter_all (is_above after) xs (all_weaker (λ y. nat_lt x y ≡ true) (λ y. is_above after y ≡ true) xs (λ y above. above_further after x y high above) up.0) in
           let theirs : filter (is_above (Some x)) xs ≡ xs = filter_all (is_above (Some x)) xs up.0 in
           subst (λ k. x ∷ filter (is_above after) xs ≡ k ∷ cond (nat_lt k x) (x ∷ filter (is_above (Some k)) xs) (filter (is_above (Some k)) xs)) same
           (ap (λ ys. x ∷ ys) (ours ∙ sym theirs ∙ ap (λ b. cond b (x ∷ filter (is_above (Some x)) xs) (filter (is_above (Some x)) xs)) (sym itself)))
@@ -165,7 +158,7 @@ own_leaves journal i key n = λ k above before. (refl, grind (arith, nat_tests, 
 
 lacks_same : (after : Option ℕ) (xs ys : List Entry) → AllByRecursion (LeavesAbove after) ys → (n : ℕ) → is_above after n ≡ true → lacks_notice n (xs ++ ys) ≡ lacks_notice n xs
 lacks_same after xs ys all n above =
-    let own = all_map (LeavesAbove after) (KeepsNotice n) ys (λ e leaves. leaves n above) all in
+    let own = all_weaker (LeavesAbove after) (KeepsNotice n) ys (λ e leaves. leaves n above) all in
     λ i. is_some (pending_stays n xs ys own i) && is_none (own_notice_stays n xs ys own i)
 
 -- the next is the one that would have been found at first
@@ -226,7 +219,7 @@ noticed_next journal m i key after n at0 at1 at2 room0 room1 room2 holds0 holds1
     let high : is_above after n ≡ true = find_passes (is_above after) (waiting_unnoticed m (at1 key)) n (sym is) in
     goes_on_by ℕ (notice_of journal i key) (LeavesAbove after) (LeavesAbove (Some n)) all n (filter (is_above (Some n)) all) at0 at1 at2 room0 room1 room2 holds0 holds1 holds2
     first refl
-    (all_map (LeavesAbove after) (LeavesAbove (Some n)) first.done (λ e leaves. leaves_further after n e high leaves) first.keeps)
+    (all_weaker (LeavesAbove after) (LeavesAbove (Some n)) first.done (λ e leaves. leaves_further after n e high leaves) first.keeps)
     (own_leaves journal i key n, tt) more held
 
 pub all_noticed : (journal : List Receipt) (m i : ℕ) (key : Key) (after : Option ℕ) (at0 at1 : Key → List Entry) (room0 room1 : Key → ℕ) (holds0 holds1 : Key → Bool)
@@ -267,7 +260,7 @@ notices_apart journal i key rest (n ∷ ns) apart = (apart, notices_apart journa
 notices_same : (journal : List Receipt) (m i : ℕ) (keys : List Key) (key : Key) (rest : List Key) (at0 at1 : Key → List Entry) (room0 room1 : Key → ℕ) (holds0 holds1 : Key → Bool)
     → Progress Key (notices_at journal m i) (StandsApart (key ∷ rest)) keys (key ∷ rest) at0 at1 room0 room1 holds0 holds1 → notices_at journal m i at1 key ≡ notices_at journal m i at0 key
 notices_same journal m i keys key rest at0 at1 room0 room1 holds0 holds1 so_far =
-    let none = none_at so_far.done key (all_map (StandsApart (key ∷ rest)) (λ e. same_key e.key key ≡ false) so_far.done (λ e apart. apart.0) so_far.keeps) in
+    let none = none_at so_far.done key (all_weaker (StandsApart (key ∷ rest)) (λ e. same_key e.key key ≡ false) so_far.done (λ e apart. apart.0) so_far.keeps) in
     ap (λ es. map (λ n. entry_by journal i key (what.Notice n)) (waiting_unnoticed m es))
     (so_far.added.there key ∙ ap (λ es. at0 key ++ es) none ∙ append-nil (at0 key))
 
@@ -287,5 +280,5 @@ key_noticed journal m i keys n key rest at0 at1 at2 room0 room1 room2 holds0 hol
     let apart = first_apart key rest (subst (IsStrictlySortedBy key_cmp) next (sorted_rest keys n sorted)) in
     goes_on_by Key (notices_at journal m i) (StandsApart (key ∷ rest)) (StandsApart rest) keys key rest at0 at1 at2 room0 room1 room2 holds0 holds1 holds2 so_far
     (notices_same journal m i keys key rest at0 at1 room0 room1 holds0 holds1 so_far)
-    (all_map (StandsApart (key ∷ rest)) (StandsApart rest) so_far.done (λ e apart. apart.1) so_far.keeps)
+    (all_weaker (StandsApart (key ∷ rest)) (StandsApart rest) so_far.done (λ e apart. apart.1) so_far.keeps)
     (notices_apart journal i key rest (waiting_unnoticed m (at0 key)) apart) more held

@@ -25,12 +25,13 @@ use Rattle.folio_sections.specs.declared.entries.What.TheVariants as what
 use Rattle.folio_sections.specs.inner.Unnoticed.{lacks_notice}
 use Rattle.folio_sections.proofs.Additions.{at_few, length-at, none_at}
 use Rattle.folio_sections.proofs.Unnoticed.{unnoticed_is}
+use Rattle.folio_sections.proofs.Unchanged.{all_weaker}
 use Rattle.interim_orders.specs.Lapses.{brought_by_lapse, lapse_at, lapse_brought, lapse_by}
 use Rattle.interim_orders.specs.Orders.{end_brought, state_by, state_of, waits_until}
 use Rattle.interim_orders.specs.declared.answers.Lapse.TheVariants.{NotPending, Rejected, TooEarly}
 use Rattle.interim_orders.specs.inner.Marks.{mark, marks}
 use Rattle.interim_orders.proofs.Marking.{each_marked, mark_at}
-use Rattle.interim_orders.proofs.Noticing.{all_map, first_apart, sorted_rest}
+use Rattle.interim_orders.proofs.Noticing.{first_apart, sorted_rest}
 
 -- what is brought at a key stands there
 abbrev StaysThere : (Key → List Entry) → Type 0
@@ -45,7 +46,7 @@ turned j k apart =
 
 none_there : (f : Key → List Entry) → StaysThere f → (k key : Key) → same_key key k ≡ false → at (f key) k ≡ []
 none_there f stays k key apart =
-    none_at (f key) k (all_map (λ e. e.key ≡ key) (λ e. same_key e.key k ≡ false) (f key) (λ e is. subst (λ j. same_key j k ≡ false) (sym is) apart) (stays key))
+    none_at (f key) k (all_weaker (λ e. e.key ≡ key) (λ e. same_key e.key k ≡ false) (f key) (λ e is. subst (λ j. same_key j k ≡ false) (sym is) apart) (stays key))
 
 none_later : (f : Key → List Entry) → StaysThere f → (k : Key) (keys : List Key) → AllByRecursion (λ j. same_key k j ≡ false) keys → length (at (flat_map f keys) k) ≡ 0
 none_later f stays k [] apart = refl

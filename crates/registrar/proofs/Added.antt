@@ -9,7 +9,7 @@ use Rattle.act_model.proofs.KeyOrder.{has, has_decides, same_is}
 use Rattle.folio_sections.specs.Entries.{at, with_entries}
 use Rattle.folio_sections.specs.declared.entries.Entry.{Entry}
 use Rattle.folio_sections.proofs.Additions.{none_at}
-use Rattle.interim_orders.proofs.Noticing.{all_map as all_weaker}
+use Rattle.folio_sections.proofs.Unchanged.{all_weaker}
 
 -- ---- the entries at a key
 

@@ -1,6 +1,6 @@
 -- Two registers that agree at some keys, and what is read of both along a list.
-use Rattle.std.proofs.Common.{◌≡◌, ℕ, ◌+◌, Bool, true, false, ◌||◌, cond, List, [], ◌∷◌, ◌++◌, filter, flat_map, map, take, Contains, refl, ap, ◌∙◌}
-use Rattle.std.specs.List.{AllByRecursion, enumerate_from, list_any}
+use Rattle.std.proofs.Common.{◌≡◌, Bool, true, false, ◌||◌, cond, List, [], ◌∷◌, ◌++◌, filter, flat_map, Contains, refl, ap, ◌∙◌}
+use Rattle.std.specs.List.{AllByRecursion, list_any}
 use Rattle.std.proofs.lemmas.List.Elements.{Contains-append_left, Contains-append_right}
 use Rattle.gb_base.specs.declared.keys.Key.{Key}
 use Rattle.folio_sections.specs.Entries.{at, with_entries}

@@ -5,8 +5,7 @@ use Rattle.std.proofs.lemmas.Bool.{cases_lt}
 use Rattle.std.proofs.lemmas.List.{get_or_append_left}
 use Rattle.std.proofs.lemmas.List.Concat.{flat_map-cons}
 use Rattle.std.proofs.lemmas.List.Elements.{All-contains_itself, Contains-append_left, Contains-append_right, recursion_from_All}
-use Rattle.folio_sections.proofs.Unchanged.{all_both}
-use Rattle.interim_orders.proofs.Noticing.{all_map as all_weaker}
+use Rattle.folio_sections.proofs.Unchanged.{all_both, all_weaker}
 
 -- ---- each element
 

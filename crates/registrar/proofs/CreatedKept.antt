@@ -26,9 +26,8 @@ use Rattle.folio_sections.specs.declared.entries.Entry.{Entry}
 use Rattle.folio_sections.specs.declared.entries.What.{What}
 use Rattle.folio_sections.specs.declared.entries.What.TheVariants as what
 use Rattle.folio_sections.specs.declared.title_places.TitlePlace.{TitlePlace}
-use Rattle.folio_sections.proofs.Unchanged.{all_at}
+use Rattle.folio_sections.proofs.Unchanged.{all_at, all_weaker}
 use Rattle.interim_orders.specs.Orders.{end_brought}
-use Rattle.interim_orders.proofs.Noticing.{all_map as all_weaker}
 use Rattle.registrar.proofs.ContainedParts.{any_in_first}
 use Rattle.registrar.proofs.Dealing.{Deals, IsFit}
 use Rattle.registrar.proofs.LeavingRights.{LeavesRights, end_leaves_rights}

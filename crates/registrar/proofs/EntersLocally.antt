@@ -1,6 +1,6 @@
 -- What the entry of a filing brings follows from what stands at the filing's keys.
-use Rattle.std.proofs.Common.{◌≡◌, ℕ, ◌+◌, false, true, cond, ◌&&◌, List, [], ◌∷◌, ◌++◌, flat_map, map, Contains, Option, Some, None, is_none, option_to_list, refl, ap, arith}
-use Rattle.std.specs.List.{AllByRecursion, enumerate_from}
+use Rattle.std.proofs.Common.{◌≡◌, ℕ, ◌+◌, false, true, cond, ◌&&◌, List, [], ◌∷◌, ◌++◌, flat_map, map, Some, None, is_none, option_to_list, refl, ap, arith}
+use Rattle.std.specs.List.{enumerate_from}
 use Rattle.std.specs.Option.{option_map_or}
 use Rattle.gb_base.specs.declared.keys.Key.{Key}
 use Rattle.gb_base.specs.declared.keys.Key.TheVariants.{Title, Right, Case}
@@ -10,7 +10,6 @@ use Rattle.act_model.specs.Touches.{acts_of, filing_at, keys_in_order, keys_of_a
 use Rattle.act_model.specs.declared.documents.Doc.{Doc}
 use Rattle.act_model.specs.declared.filing_acts.Act.{Act}
 use Rattle.act_model.specs.declared.filing_acts.Act.TheVariants.{Open, Transfer, Create, NoticeFor, Convert, Assign, Cancel, Exchange, Exercise}
-use Rattle.act_model.specs.declared.items.Filing.{Filing}
 use Rattle.act_model.specs.declared.receipts.Receipt.{Receipt}
 use Rattle.folio_sections.specs.Documents.{documents}
 use Rattle.folio_sections.specs.Entering.{as_entered, content, contents_brought, creation, entered, enters, entry_by, notices_at, notices_brought, placed_at, places_brought, waiting_unnoticed, with_notices, with_places}

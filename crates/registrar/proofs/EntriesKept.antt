@@ -13,7 +13,7 @@ use Rattle.act_model.proofs.KeyOrder.{has, has_decides}
 use Rattle.folio_sections.specs.Entries.{at, with_entries}
 use Rattle.folio_sections.specs.KeptEntries.{IsCreatedInTime, IsPlacedInTime, IsStamped, ReceiptsRise, WaitsInTime}
 use Rattle.folio_sections.specs.declared.entries.Entry.{Entry}
-use Rattle.interim_orders.proofs.Noticing.{all_map as all_weaker}
+use Rattle.folio_sections.proofs.Unchanged.{all_weaker}
 use Rattle.registrar.proofs.Added.{all_here, unchanged_elsewhere}
 use Rattle.registrar.proofs.ContainedParts.{pairs_append}
 use Rattle.registrar.proofs.Dealing.{Deals, IsBrought}

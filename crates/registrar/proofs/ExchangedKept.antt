@@ -12,9 +12,8 @@ use Rattle.folio_sections.specs.Entries.{at, with_entries}
 use Rattle.folio_sections.specs.KeptRights.{ActsOnItsKind, ExchangedArePlain}
 use Rattle.folio_sections.specs.Rights.{created}
 use Rattle.folio_sections.specs.declared.entries.Entry.{Entry}
-use Rattle.folio_sections.proofs.Unchanged.{all_at}
+use Rattle.folio_sections.proofs.Unchanged.{all_at, all_weaker}
 use Rattle.interim_orders.specs.Orders.{end_brought}
-use Rattle.interim_orders.proofs.Noticing.{all_map as all_weaker}
 use Rattle.registrar.proofs.CreatedKept.{created_entered}
 use Rattle.registrar.proofs.Dealing.{Deals, IsFit}
 use Rattle.registrar.proofs.ExchangesStand.{ActsAt, ReadOn, exercises, exercises_both, kind_stays, leaves_acts, none_exercised}

@@ -1,5 +1,5 @@
 -- A right that is a key of a forced sale is a key of the filing that creates it.
-use Rattle.std.proofs.Common.{◌≡◌, ℕ, zero, suc, ◌+◌, ◌-◌, eqb, Bool, true, false, ◌&&◌, cond, nat_lt, List, [], ◌∷◌, ◌++◌, filter, flat_map, slice_get, take, All, Contains, Option, Some, None, is_some, option_and_then, refl, sym, ap, subst, ◌∙◌, arith}
+use Rattle.std.proofs.Common.{◌≡◌, ℕ, suc, ◌+◌, ◌-◌, eqb, true, false, cond, nat_lt, List, [], ◌∷◌, flat_map, slice_get, take, Contains, Some, None, option_and_then, refl, sym, ap, subst, arith}
 use Rattle.std.specs.List.{AllByRecursion, cons_option, enumerate_from, filter_map}
 use Rattle.std.specs.Option.{option_map_or}
 use Rattle.std.proofs.lemmas.Bool.{eqb-true, false≢true}
@@ -13,7 +13,6 @@ use Rattle.act_model.specs.Receiving.{receipt_at}
 use Rattle.act_model.specs.Touches.{filing_at, filing_in, keys_of_act, keys_of_acts, keys_of_filing, new_right}
 use Rattle.act_model.specs.declared.filing_acts.Act.{Act}
 use Rattle.act_model.specs.declared.filing_acts.Act.TheVariants.{Open, Transfer, Create, NoticeFor, Convert, Assign, Cancel, Exchange, Exercise}
-use Rattle.act_model.specs.declared.items.Filing.{Filing}
 use Rattle.act_model.specs.declared.items.Item.{Item}
 use Rattle.act_model.specs.declared.items.Item.TheVariants as item
 use Rattle.act_model.specs.declared.receipts.Receipt.{Receipt}

@@ -1,5 +1,5 @@
 -- The judgement of a filing follows from what stands at the filing's keys.
-use Rattle.std.proofs.Common.{◌≡◌, ℕ, ◌+◌, Bool, true, false, not, ◌&&◌, ◌==◌, List, [], ◌∷◌, filter, find, flat_map, map, take, All, Contains, IsTrue, Some, refl, ap}
+use Rattle.std.proofs.Common.{◌≡◌, ℕ, ◌+◌, not, ◌&&◌, ◌==◌, List, [], ◌∷◌, find, flat_map, map, take, Some, refl, ap}
 use Rattle.std.specs.List.{AllByRecursion, enumerate_from, list_any}
 use Rattle.std.proofs.lemmas.List.Elements.{recursion_from_All}
 use Rattle.gb_base.specs.declared.keys.Key.{Key}
@@ -17,11 +17,11 @@ use Rattle.consent_rules.proofs.HeldLemmas.{parts_of_filing}
 use Rattle.consent_rules.specs.inner.Held.{HasParts}
 use Rattle.folio_sections.specs.Documents.{documents, is_strangers_consent}
 use Rattle.folio_sections.specs.Held.{is_given}
-use Rattle.folio_sections.specs.Judging.{curables, defects, defects_under, grounds, holds, is_defective, is_plain_among, is_rejected_under, is_silent_among, judged_filing, judgement_by, lacks_owner, lacks_owner_of_exchange, rejection, with_before, KnowsExchanges}
+use Rattle.folio_sections.specs.Judging.{curables, defects_under, grounds, holds, is_defective, is_plain_among, is_rejected_under, is_silent_among, judged_filing, judgement_by, lacks_owner, lacks_owner_of_exchange, with_before, KnowsExchanges}
 use Rattle.folio_sections.specs.Persons.{number_behind}
 use Rattle.folio_sections.specs.declared.entries.Entry.{Entry}
 use Rattle.folio_sections.specs.declared.judgements.Defect.{Defect}
-use Rattle.interim_orders.proofs.Noticing.{all_map}
+use Rattle.folio_sections.proofs.Unchanged.{all_weaker}
 use Rattle.registrar.proofs.ActReads.{affected_locally, applicants_locally, assignment_locally, conversion_locally, exchange_locally, folio_locally, needed_locally, others_locally, owner_side_locally, reservation_locally, right_locally, ReadsSame}
 pub use Rattle.registrar.proofs.Agreeing.{AgreesAt}
 use Rattle.registrar.proofs.Agreeing.{any_same, filter_same}
@@ -57,7 +57,7 @@ act_reads keys at0 at1 (Exercise folio behind spec) agrees parts = record {
 acts_read : (journal : List Receipt) (m : ℕ) (f : Filing) (at0 at1 : Key → List Entry) → filing_at journal m ≡ Some f → KnowsExchanges journal m at0 → AgreesAt (keys_of_filing journal m) at0 at1 → AllByRecursion (ReadsSame at0 at1) f.acts
 acts_read journal m f at0 at1 is known agrees =
     let keys = keys_of_filing journal m in
-    all_map (HasParts (is_given keys) at0) (ReadsSame at0 at1) f.acts (λ act parts. act_reads keys at0 at1 act agrees parts)
+    all_weaker (HasParts (is_given keys) at0) (ReadsSame at0 at1) f.acts (λ act parts. act_reads keys at0 at1 act agrees parts)
     (recursion_from_All (HasParts (is_given keys) at0) f.acts
     (parts_of_filing (is_given keys) at0 journal m f is (λ k there. (has_decides k keys).1 there) known))
 
@@ -87,7 +87,7 @@ ground_locally : (journal : List Receipt) (m : ℕ) (f : Filing) (docs : List Do
     → list_any (λ p. holds journal m f docs at1 s p.0 p.1) (with_before f.acts) ≡ list_any (λ p. holds journal m f docs at0 s p.0 p.1) (with_before f.acts)
 ground_locally journal m f docs at0 at1 s same =
     any_same (λ (p : List Act × Act). holds journal m f docs at1 s p.0 p.1) (λ (p : List Act × Act). holds journal m f docs at0 s p.0 p.1) (with_before f.acts)
-    (all_map (λ (p : List Act × Act). ReadsSame at0 at1 p.1) (λ (p : List Act × Act). holds journal m f docs at1 s p.0 p.1 ≡ holds journal m f docs at0 s p.0 p.1) (with_before f.acts)
+    (all_weaker (λ (p : List Act × Act). ReadsSame at0 at1 p.1) (λ (p : List Act × Act). holds journal m f docs at1 s p.0 p.1 ≡ holds journal m f docs at0 s p.0 p.1) (with_before f.acts)
     (λ p here. holds_locally journal m f docs at0 at1 s p.0 p.1 here) same)
 
 rejected_locally : (journal : List Receipt) (m : ℕ) (f : Filing) (docs : List Doc) (at0 at1 : Key → List Entry) (s : Section) → AllByRecursion (λ (p : List Act × Act). ReadsSame at0 at1 p.1) (with_before f.acts)
@@ -125,7 +125,7 @@ defects_locally : (journal : List Receipt) (m : ℕ) (f : Filing) (docs : List D
 defects_locally journal m f docs at0 at1 s same =
     ap (λ found. map {B = Defect} (λ p. record { section = s; act = number_behind p.0 }) found)
     (filter_same (λ (p : List Act × Act). is_defective journal m docs at1 s p.0 p.1) (λ (p : List Act × Act). is_defective journal m docs at0 s p.0 p.1) (with_before f.acts)
-    (all_map (λ (p : List Act × Act). ReadsSame at0 at1 p.1) (λ (p : List Act × Act). is_defective journal m docs at1 s p.0 p.1 ≡ is_defective journal m docs at0 s p.0 p.1) (with_before f.acts)
+    (all_weaker (λ (p : List Act × Act). ReadsSame at0 at1 p.1) (λ (p : List Act × Act). is_defective journal m docs at1 s p.0 p.1 ≡ is_defective journal m docs at0 s p.0 p.1) (with_before f.acts)
     (λ p here. defective_locally journal m docs at0 at1 s p.0 p.1 here) same))
 
 -- ---- the judgement

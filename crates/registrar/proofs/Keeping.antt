@@ -9,9 +9,8 @@ use Rattle.folio_sections.specs.Entering.{enters}
 use Rattle.folio_sections.specs.Entries.{with_entries}
 use Rattle.folio_sections.specs.Kept.{Kept}
 use Rattle.folio_sections.specs.declared.entries.Entry.{Entry}
-use Rattle.folio_sections.proofs.Unchanged.{all_both}
+use Rattle.folio_sections.proofs.Unchanged.{all_both, all_weaker}
 use Rattle.interim_orders.specs.Orders.{end_brought, order_brought}
-use Rattle.interim_orders.proofs.Noticing.{all_map}
 use Rattle.registrar.proofs.ByItem.{end_by_item, enters_by_item, order_by_item}
 use Rattle.registrar.proofs.CasesKept.{case_in_order}
 use Rattle.registrar.proofs.CreatedKept.{created_cured, created_entered, created_stays}
@@ -34,7 +33,7 @@ none_leave journal i at kept =
     record { kept = subst (Kept journal) same kept; by_item = tt }
 
 all_by_item : (journal : List Receipt) (m i : ℕ) (es : List Entry) → AllByRecursion (IsBrought journal m i) es → AllByRecursion (λ e. e.receipt ≡ i) es
-all_by_item journal m i es all = all_map (IsBrought journal m i) (λ e. e.receipt ≡ i) es (λ e brought. brought.by_item) all
+all_by_item journal m i es all = all_weaker (IsBrought journal m i) (λ e. e.receipt ≡ i) es (λ e brought. brought.by_item) all
 
 -- the filing is set to wait
 pub order_leaves : (journal : List Receipt) (m : ℕ) (f : Filing) (at : Key → List Entry) → Deals journal m f m at → IsFit journal m f at → Leaves journal m at (order_brought journal m)

@@ -16,7 +16,6 @@ pub mod EntriesKept
 pub mod ExchangedKept
 pub mod ExchangesStand
 pub mod ExercisedOnce
-pub mod FilingKeysStay
 pub mod ItemKeysHeld
 pub mod ItemKeysStay
 pub mod ItemRooms

@@ -1,12 +1,11 @@
 -- What an item brings follows from what stands at its keys.
-use Rattle.std.proofs.Common.{◌≡◌, ℕ, ◌<◌, true, false, cond, nat_lt, List, [], ◌∷◌, ◌++◌, All, Contains, Option, Some, None, is_some, option_and_then, option_map, refl, sym, ap, subst, ◌∙◌, arith}
+use Rattle.std.proofs.Common.{◌≡◌, ℕ, ◌<◌, true, false, cond, nat_lt, List, [], ◌∷◌, ◌++◌, Contains, Option, Some, None, is_some, option_and_then, option_map, refl, ap, subst, ◌∙◌, arith}
 use Rattle.std.specs.List.{slice_get}
 use Rattle.std.specs.Option.{option_map_or}
 use Rattle.gb_base.specs.declared.keys.Key.{Key}
 use Rattle.act_model.proofs.KeyOrder.{in_key_order_members}
 use Rattle.act_model.specs.Receiving.{day_of, receipt_at}
 use Rattle.act_model.specs.Touches.{filing_at, filing_in, keys_in_order, keys_of_filing}
-use Rattle.act_model.specs.declared.items.Filing.{Filing}
 use Rattle.act_model.specs.declared.items.Item.{Item}
 use Rattle.act_model.specs.declared.items.Item.TheVariants as item
 use Rattle.act_model.specs.declared.receipts.Receipt.{Receipt}
@@ -16,7 +15,7 @@ use Rattle.folio_sections.specs.Waiting.{pending}
 use Rattle.folio_sections.specs.declared.entries.Entry.{Entry}
 use Rattle.folio_sections.specs.declared.judgements.Judgement.{Judgement}
 use Rattle.folio_sections.specs.declared.judgements.Judgement.TheVariants.{Enter, Interim, Reject}
-use Rattle.interim_orders.specs.Lapses.{brought_by_lapse, lapse_at, lapse_brought, lapse_by, lapsed}
+use Rattle.interim_orders.specs.Lapses.{brought_by_lapse, lapse_at, lapse_by, lapsed}
 use Rattle.interim_orders.specs.Orders.{end_brought, state_by, state_of, waits_until}
 use Rattle.interim_orders.specs.declared.answers.Lapse.TheVariants as answer
 use Rattle.interim_orders.specs.declared.states.FilingState.{FilingState}

@@ -17,8 +17,7 @@ use Rattle.folio_sections.specs.Entries.{at, with_entries}
 use Rattle.folio_sections.proofs.Additions.{at-append}
 use Rattle.folio_sections.specs.KeptRights.{act_of_right}
 use Rattle.folio_sections.specs.declared.entries.Entry.{Entry}
-use Rattle.folio_sections.proofs.Unchanged.{all_both}
-use Rattle.interim_orders.proofs.Noticing.{all_map as all_weaker}
+use Rattle.folio_sections.proofs.Unchanged.{all_both, all_weaker}
 use Rattle.registrar.proofs.ContainedParts.{all_at_numbers, all_joined, all_paired, all_themselves}
 use Rattle.registrar.proofs.LeavingRights.{LeavesRights, notices_leave_rights, places_leave_rights}
 

@@ -15,8 +15,7 @@ use Rattle.folio_sections.specs.Waiting.{below, is_notice_of, is_pending, notice
 use Rattle.folio_sections.specs.declared.entries.Entry.{Entry}
 use Rattle.folio_sections.specs.declared.entries.What.TheVariants as what
 use Rattle.folio_sections.specs.declared.title_places.TitlePlace.{TitlePlace}
-use Rattle.folio_sections.proofs.Unchanged.{all_both}
-use Rattle.interim_orders.proofs.Noticing.{all_map}
+use Rattle.folio_sections.proofs.Unchanged.{all_both, all_weaker}
 use Rattle.registrar.proofs.PlaceReads.{has_place_by_notice, is_noticed, is_ranked, lacks_is, waits_as_before}
 use Rattle.registrar.proofs.RankedTitles.{InOrder, IsUnplaced, Ranked, ranked_on, ranked_with, all_before_unnoticed}
 
@@ -39,7 +38,7 @@ rises_filtered : (q : ℕ → Bool) (xs : List ℕ) → Rises xs → Rises (filt
 rises_filtered q [] up = tt
 rises_filtered q (x ∷ xs) up =
     elim (q x) as (λ b. Rises (cond b (x ∷ filter q xs) (filter q xs))) [
-      | true ↦ (all_map (λ y. (x < y) × (q y ≡ true)) (λ y. x < y) (filter q xs) (λ y both. both.0) (all_that_pass (λ y. x < y) q xs up.0), rises_filtered q xs up.1)
+      | true ↦ (all_weaker (λ y. (x < y) × (q y ≡ true)) (λ y. x < y) (filter q xs) (λ y both. both.0) (all_that_pass (λ y. x < y) q xs up.0), rises_filtered q xs up.1)
       | false ↦ rises_filtered q xs up.1
     ]
 
@@ -88,7 +87,7 @@ unnoticed_rise m entries =
 
 pub unnoticed_lack : (m : ℕ) (entries : List Entry) → AllByRecursion (λ n. (n < m) × LacksNotice entries n) (waiting_unnoticed m entries)
 unnoticed_lack m entries =
-    all_map (λ n. ((n < m) × (is_pending n entries ≡ true)) × (is_none (notice n entries) ≡ true)) (λ n. (n < m) × LacksNotice entries n) (waiting_unnoticed m entries)
+    all_weaker (λ n. ((n < m) × (is_pending n entries ≡ true)) × (is_none (notice n entries) ≡ true)) (λ n. (n < m) × LacksNotice entries n) (waiting_unnoticed m entries)
     (λ n all. (all.0.0, (all.0.1, not_false (is_noticed n entries) (sym (lacks_is n entries all.0.1) ∙ all.1))))
     (all_that_pass (λ n. (n < m) × (is_pending n entries ≡ true)) (λ n. is_none (notice n entries)) (waiting_before m entries)
     (all_that_pass (λ n. n < m) (λ n. is_pending n entries) (below m) (below_less m)))
@@ -202,10 +201,10 @@ all_notices_ranked journal folio m i key entries order =
     let ns = waiting_unnoticed m entries in
     let lack = unnoticed_lack m entries in
     all_noticed_from journal folio m i key ns entries
-    (all_map (λ n. (n < m) × LacksNotice entries n) (λ n. n < m) ns (λ n both. both.0) lack) (unnoticed_rise m entries)
+    (all_weaker (λ n. (n < m) × LacksNotice entries n) (λ n. n < m) ns (λ n both. both.0) lack) (unnoticed_rise m entries)
     (record {
       order = order;
-      lack = all_map (λ n. (n < m) × LacksNotice entries n) (LacksNotice entries) ns (λ n both. both.1) lack;
+      lack = all_weaker (λ n. (n < m) × LacksNotice entries n) (LacksNotice entries) ns (λ n both. both.1) lack;
       left = λ n less creates lacks. unnoticed_has journal folio m n entries less creates lacks;
     })
 
@@ -230,4 +229,4 @@ pub notices_before : (journal : List Receipt) (folio m i : ℕ) (key : Key) (ent
     → AllByRecursion (λ p. p.filing < m) (places_among journal folio (map (notice_entry journal i key) (waiting_unnoticed m entries)))
 notices_before journal folio m i key entries =
     noticed_before journal folio m i key (waiting_unnoticed m entries)
-    (all_map (λ n. (n < m) × LacksNotice entries n) (λ n. n < m) (waiting_unnoticed m entries) (λ n both. both.0) (unnoticed_lack m entries))
+    (all_weaker (λ n. (n < m) × LacksNotice entries n) (λ n. n < m) (waiting_unnoticed m entries) (λ n both. both.0) (unnoticed_lack m entries))

@@ -10,7 +10,8 @@ use Rattle.act_model.specs.Touches.{in_key_order}
 use Rattle.folio_sections.specs.Entries.{at as at_key}
 use Rattle.folio_sections.specs.Titles.{is_open}
 use Rattle.folio_sections.specs.declared.entries.Entry.{Entry}
-use Rattle.registrar.specs.OpenFolios.{AreOpenFolios, folio_of_title, open_folios}
+use Rattle.registrar.specs.OpenFolios.{folio_of_title, open_folios}
+use Rattle.registrar.specs.inner.OpenFolios.{AreOpenFolios}
 use Rattle.registrar.proofs.OpenTitles.{among_rises, are_open, open_among}
 use Rattle.registrar.proofs.RisingNumbers.{contains_of_in, in_of_contains, one_rising, rises_of_pairs}
 

@@ -17,8 +17,7 @@ use Rattle.folio_sections.specs.PartState.{PartState}
 use Rattle.folio_sections.specs.Titles.{is_open}
 use Rattle.folio_sections.specs.declared.entries.Entry.{Entry}
 use Rattle.folio_sections.proofs.HeldParts.{held_found, is_at}
-use Rattle.registrar.specs.OpenFolios.{AreOpenFolios}
-use Rattle.registrar.specs.inner.OpenTitles.{open_title}
+use Rattle.registrar.specs.inner.OpenFolios.{AreOpenFolios, open_title}
 use Rattle.registrar.proofs.NoticedPlaces.{Rises}
 use Rattle.registrar.proofs.RisingNumbers.{contains_of_in, in_of_contains, pairs_of_rises}
 

@@ -22,8 +22,7 @@ use Rattle.folio_sections.specs.Waiting.{is_notice_of, is_pending, notice}
 use Rattle.folio_sections.specs.declared.entries.Entry.{Entry}
 use Rattle.folio_sections.specs.declared.entries.What.{What}
 use Rattle.folio_sections.specs.declared.entries.What.TheVariants as what
-use Rattle.folio_sections.proofs.Unchanged.{all_at, all_both}
-use Rattle.interim_orders.proofs.Noticing.{all_map as all_weaker}
+use Rattle.folio_sections.proofs.Unchanged.{all_at, all_both, all_weaker}
 use Rattle.registrar.proofs.ContainedParts.{each_mapped, all_parts, any_in_first, any_in_second, any_of, contains_first, contains_kept, contains_part, list_any_of}
 use Rattle.registrar.proofs.NewContents.{IsActOf, standing}
 

@@ -4,7 +4,7 @@ use Rattle.std.specs.List.{range_with_len}
 use Rattle.std.proofs.lemmas.List.FromFn.{get_or-range_with_len, length-range_with_len}
 use Rattle.act_model.specs.declared.receipts.Receipt.{Receipt}
 use Rattle.folio_sections.specs.Waiting.{below}
-use Rattle.registrar.specs.Schedules.{Conflicts, IsPermitted}
+use Rattle.registrar.specs.Schedules.{IsPermitted}
 
 -- of two numbers in a row the one ahead is the smaller
 rising : (n : ℕ) → AllPairs (λ i later. i < later) (range_with_len 1 n)

@@ -1,12 +1,10 @@
 -- The one registrar goes on by one item.
-use Rattle.std.proofs.Common.{◌≡◌, ℕ, zero, suc, ◌+◌, ◌-◌, ◌<◌, true, false, cond, List, [], ◌∷◌, ◌++◌, length, All, find, Some, None, is_some, refl, sym, ap, subst, ◌∙◌, length-append, arith}
+use Rattle.std.proofs.Common.{◌≡◌, ℕ, zero, suc, ◌+◌, ◌-◌, ◌<◌, List, [], ◌∷◌, ◌++◌, length, All, Some, None, is_some, refl, sym, ap, subst, ◌∙◌, length-append, arith}
 use Rattle.std.specs.List.{AllByRecursion, enumerate_from, range_with_len}
-use Rattle.std.specs.Option.{option_map_or}
 use Rattle.std.proofs.lemmas.Bool.{false≢true}
 use Rattle.std.proofs.lemmas.List.{append-nil}
-use Rattle.std.proofs.lemmas.List.Elements.{All-append, All-from_recursion, All-nil, All-tail}
+use Rattle.std.proofs.lemmas.List.Elements.{All-append, All-from_recursion, All-nil}
 use Rattle.std.proofs.lemmas.List.Sums.{fold-append}
-use Rattle.gb_base.specs.Keys.{same_key}
 use Rattle.gb_base.specs.declared.keys.Key.{Key}
 use Rattle.act_model.specs.Receiving.{IsJournal, receipt_at}
 use Rattle.act_model.specs.declared.items.Item.{Item}
@@ -19,8 +17,8 @@ use Rattle.folio_sections.specs.Kept.{Kept}
 use Rattle.folio_sections.specs.PartState.{PartState}
 use Rattle.folio_sections.specs.declared.entries.Entry.{Entry}
 use Rattle.folio_sections.proofs.Additions.{at-append}
-use Rattle.folio_sections.proofs.Unchanged.{all_at}
-use Rattle.interim_orders.proofs.Noticing.{all_map}
+use Rattle.folio_sections.proofs.HeldParts.{nothing_at}
+use Rattle.folio_sections.proofs.Unchanged.{all_at, all_weaker}
 use Rattle.registrar.proofs.StepLemmas.{brings_is, brings_leaves}
 use Rattle.registrar.specs.Brings.{Brought, brings, brought_by_item, nothing_pending}
 use Rattle.registrar.specs.Settling.{Settled, nothing_settled, registrar, settled_in_order, settled_next}
@@ -73,14 +71,6 @@ numbered_more a (w ∷ ws) v =
 
 -- ---- the first so many items are settled
 
-nothing_at : (parts : List PartState) (k : Key) → All (λ p. p.entries ≡ []) parts → entries_at parts k ≡ []
-nothing_at [] k none = refl
-nothing_at (p ∷ ps) k none =
-    elim (same_key p.key k) as (λ b. option_map_or (λ (q : PartState). q.entries) (cond b (Some p) (find (λ q. same_key q.key k) ps)) [] ≡ []) [
-      | true ↦ none 0 p (omega arith)
-      | false ↦ nothing_at ps k (All-tail (λ q. q.entries ≡ []) p ps none)
-    ]
-
 pub none_settled : (journal : List Receipt) (parts : List PartState) → All (λ p. p.entries ≡ []) parts → Kept journal (λ k. []) → SettledTo journal 0 (entries_at parts) []
 none_settled journal parts none kept =
     let empty : entries_at parts ≡ λ k. [] = λ j k. nothing_at parts k none j in
@@ -96,7 +86,7 @@ all_before : (n : ℕ) (before more : List Entry) → All (λ e. e.receipt < n +
 all_before n before more earlier now =
     All-append (λ e. e.receipt < (n + 1) + 1) before more
     (λ j e within. let less = earlier j e within in omega arith)
-    (All-from_recursion (λ e. e.receipt < (n + 1) + 1) more (all_map (λ e. e.receipt ≡ n + 1) (λ e. e.receipt < (n + 1) + 1) more (λ e is. omega arith) now))
+    (All-from_recursion (λ e. e.receipt < (n + 1) + 1) more (all_weaker (λ e. e.receipt ≡ n + 1) (λ e. e.receipt < (n + 1) + 1) more (λ e is. omega arith) now))
 
 -- one more
 pub one_settled : (journal : List Receipt) (n : ℕ) (at0 at1 : Key → List Entry) (vs : List Verdict) (v : Verdict) → IsJournal journal → SettledTo journal n at0 vs

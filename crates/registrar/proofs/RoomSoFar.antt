@@ -8,7 +8,8 @@ use Rattle.act_model.specs.declared.receipts.Receipt.{Receipt}
 use Rattle.act_model.proofs.KeyOrder.{in_key_order_members}
 use Rattle.folio_sections.specs.Held.{entries_at, is_held, room_at}
 use Rattle.folio_sections.specs.PartState.{PartState}
-use Rattle.registrar.specs.Rooms.{HasRoomToEnter, most_brought, room_to_enter}
+use Rattle.registrar.specs.Rooms.{most_brought, room_to_enter}
+use Rattle.registrar.specs.inner.RoomToEnter.{HasRoomToEnter}
 use Rattle.registrar.proofs.UnnoticedFew.{unnoticed_at_most}
 
 -- the first of these keys have room for filing m; no entry and no key has changed

@@ -14,7 +14,7 @@ use Rattle.folio_sections.proofs.Additions.{length-at}
 use Rattle.interim_orders.proofs.Room.{marks_fit, notices_fit}
 use Rattle.interim_orders.specs.Orders.{end_brought}
 use Rattle.interim_orders.specs.inner.Marks.{marks}
-use Rattle.registrar.specs.Rooms.{HasRoomToEnter}
+use Rattle.registrar.specs.inner.RoomToEnter.{HasRoomToEnter}
 
 -- so much at these keys, and nothing elsewhere
 abbrev only_at : List Key → (Key → ℕ) → Key → ℕ

@@ -1,32 +1,29 @@
 -- What an item needs and brings on parts that stand for a kept register.
-use Rattle.std.proofs.Common.{◌≡◌, ℕ, ◌+◌, ◌<◌, Bool, List, [], ◌∷◌, ◌++◌, All, Contains, IfSome, IsTrue, Option, Some, None, refl, sym, ap, subst, ◌∙◌, arith}
+use Rattle.std.proofs.Common.{◌≡◌, ℕ, ◌+◌, ◌<◌, Bool, List, [], ◌∷◌, All, Contains, IfSome, IsTrue, Some, None, refl, sym, subst, ◌∙◌, arith}
 use Rattle.std.specs.List.{AllByRecursion}
 use Rattle.std.specs.Option.{option_map_or}
 use Rattle.std.proofs.lemmas.List.Elements.{All-from_recursion, recursion_from_All}
 use Rattle.gb_base.specs.declared.keys.Key.{Key}
 use Rattle.gb_base.specs.declared.keys.Key.TheVariants.{Right}
-use Rattle.act_model.specs.Receiving.{IsJournal, receipt_at}
-use Rattle.act_model.specs.Touches.{acts_of, created_before, filing_at, keys_of_act, keys_of_acts, keys_of_filing}
+use Rattle.act_model.specs.Receiving.{receipt_at}
+use Rattle.act_model.specs.Touches.{created_before, filing_at, keys_of_act, keys_of_acts, keys_of_filing}
 use Rattle.act_model.specs.declared.filing_acts.Act.{Act}
 use Rattle.act_model.specs.declared.filing_acts.Act.TheVariants.{Exchange}
 use Rattle.act_model.specs.declared.items.Item.{Item}
 use Rattle.act_model.specs.declared.items.Item.TheVariants as item
 use Rattle.act_model.specs.declared.receipts.Receipt.{Receipt}
-use Rattle.folio_sections.specs.Adding.{AddsList}
 use Rattle.folio_sections.specs.Judging.{IsKnownExchange, KnowsExchanges}
 use Rattle.folio_sections.specs.Kept.{Kept}
 use Rattle.folio_sections.specs.Rights.{live_right}
 use Rattle.folio_sections.specs.declared.entries.Entry.{Entry}
-use Rattle.interim_orders.specs.Orders.{state_of}
-use Rattle.interim_orders.specs.declared.states.FilingState.TheVariants.{Pending}
 use Rattle.registrar.proofs.Agreeing.{AgreesAt, agrees_before, agrees_behind}
 use Rattle.registrar.proofs.CuresKeep.{AreEarlier}
 use Rattle.registrar.proofs.ItemRooms.{named}
 use Rattle.registrar.proofs.Locality.{locality, state_locally}
 use Rattle.registrar.proofs.StepLemmas.{keys_are, step_knows}
 use Rattle.registrar.proofs.WaitingStates.{found_waiting}
-use Rattle.registrar.specs.Brings.{Brought, brings}
-use Rattle.registrar.specs.ItemKeys.{keys_by_item, keys_of_item, keys_of_named}
+use Rattle.registrar.specs.Brings.{brings}
+use Rattle.registrar.specs.ItemKeys.{keys_by_item, keys_of_item}
 use Rattle.registrar.specs.Standing.{StandsFor}
 use Rattle.registrar.specs.inner.Exchanges.{KnowsItsExchanges}
 

@@ -1,5 +1,5 @@
 -- The open folios of a register.
-use Rattle.std.specs.Prelude.{◌↔◌, ℕ, ◌<◌, List, AllPairs, Contains, IsTrue, filter, filter_map, map, Option, Some, None}
+use Rattle.std.specs.Prelude.{ℕ, List, filter, filter_map, map, Option, Some, None}
 use Rattle.gb_base.specs.declared.keys.Key.{Key}
 use Rattle.gb_base.specs.declared.keys.Key.TheVariants.{Title, Right, Case}
 use Rattle.act_model.specs.Touches.{in_key_order}
@@ -20,8 +20,3 @@ folios_of entries = filter_map folio_of_title (in_key_order (map (λ e. e.key) e
 -- the open ones among them, ascending
 abbrev pub open_folios : List Entry → List ℕ
 open_folios entries = filter (λ folio. is_open (at entries (Title folio))) (folios_of entries)
-
--- these are the open folios, ascending, of what stands at each key
-pub record AreOpenFolios (folios : List ℕ) (at : Key → List Entry) : Type 0 where
-  pub ascending : AllPairs (λ folio later. folio < later) folios
-  pub members : (folio : ℕ) → Contains folios folio ↔ IsTrue (is_open (at (Title folio)))

@@ -3,7 +3,6 @@ use Rattle.std.specs.Prelude.{ℕ, ◌+◌, ◌≤◌, List, length, Contains}
 use Rattle.std.specs.Option.{option_map_or}
 use Rattle.gb_base.specs.declared.keys.Key.{Key}
 use Rattle.act_model.specs.Receiving.{receipt_at}
-use Rattle.act_model.specs.Touches.{keys_of_filing}
 use Rattle.act_model.specs.declared.items.Item.{Item}
 use Rattle.act_model.specs.declared.items.Item.TheVariants as item
 use Rattle.act_model.specs.declared.receipts.Receipt.{Receipt}
@@ -20,10 +19,6 @@ most_brought = 3
 -- without one
 abbrev pub room_to_enter : ℕ → List Entry → ℕ
 room_to_enter m entries = most_brought + length (waiting_unnoticed m entries)
-
--- each key of filing m has so much room
-abbrev pub HasRoomToEnter : List Receipt → ℕ → (Key → List Entry) → (Key → ℕ) → Type 0
-HasRoomToEnter journal m at room = (k : Key) → Contains (keys_of_filing journal m) k → room_to_enter m (at k) ≤ room k
 
 -- What item i wants at one of its keys. An item of a forced sale brings nothing yet, and one entry is asked for all the same.
 abbrev pub room_by_item : ℕ → Item → List Entry → ℕ

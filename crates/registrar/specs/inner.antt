@@ -1,5 +1,6 @@
 -- What only private clauses and proofs use.
 pub mod Exchanges
 pub mod Named
-pub mod OpenTitles
+pub mod OpenFolios
+pub mod RoomToEnter
 pub mod SettledTo

@@ -4,8 +4,7 @@ ghost use Rattle.gb_base.specs.declared.keys.Key.{Key};
 ghost use Rattle.gb_base.specs.declared.keys.Key.TheVariants.{Title};
 ghost use Rattle.folio_sections.specs.Held.{entries_at, is_given, is_held};
 ghost use Rattle.folio_sections.specs.Titles.{is_open};
-ghost use Rattle.registrar.specs.OpenFolios.{AreOpenFolios};
-ghost use Rattle.registrar.specs.inner.OpenTitles.{open_title};
+ghost use Rattle.registrar.specs.inner.OpenFolios.{AreOpenFolios, open_title};
 
 use folio_sections::{MapParts, Parts};
 use gb_base::{FolioId, Key, NoMemory};

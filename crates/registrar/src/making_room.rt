@@ -3,7 +3,7 @@ ghost use Rattle.std.specs.Prelude.{◌≡◌, ◌+◌, ◌≤◌, Contains, IsT
 ghost use Rattle.gb_base.specs.declared.keys.Key.{Key};
 ghost use Rattle.act_model.specs.Touches.{keys_of_filing};
 ghost use Rattle.folio_sections.specs.Held.{entries_at, is_held, room_at};
-ghost use Rattle.registrar.specs.Rooms.{HasRoomToEnter};
+ghost use Rattle.registrar.specs.inner.RoomToEnter.{HasRoomToEnter};
 
 use act_model::{Journal, filing_keys};
 use folio_sections::MapParts;
