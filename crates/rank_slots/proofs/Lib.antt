@@ -2,6 +2,7 @@
 pub mod Ahead
 pub mod EmptySums
 pub mod Exchanges
+pub mod FillTests
 pub mod Filling
 pub mod GroupMembers
 pub mod GroupShares

@@ -2,7 +2,13 @@
 //! groups of equal rank, exchanges of rank (BGB § 880) and exercised reservations (BGB § 881).
 #![tactic(auto)]
 
+#[cfg(test)]
+mod cent_by_cent;
+#[cfg(test)]
+mod drawn;
 mod exchanging;
+#[cfg(test)]
+mod fitting;
 mod groups;
 pub mod laws;
 mod paying;
@@ -10,6 +16,10 @@ mod pieces;
 mod places;
 mod relations;
 mod slots;
+#[cfg(test)]
+mod testing;
+#[cfg(test)]
+mod tests;
 mod thresholds;
 
 pub use places::{Knot, Piece, Place, Swap};

@@ -16,7 +16,7 @@ use arrayvec::ArrayVec;
 use gb_base::{RightId, share};
 
 /// The most places of a line.
-const MOST_PLACES: usize = 256;
+pub(crate) const MOST_PLACES: usize = 256;
 
 impl Slots {
     /// How many of the first t cents the right gets. One of a group gets its share of the group's
