@@ -11,6 +11,7 @@ use Rattle.gb_base.specs.Keys.{key_cmp, same_key}
 use Rattle.gb_base.specs.RightNo.{RightNo, same_right}
 use Rattle.gb_base.specs.declared.keys.Key.{Key}
 use Rattle.gb_base.specs.declared.keys.Key.TheVariants.{Title, Right, Case}
+use Rattle.gb_base.proofs.SameRights.{right_is}
 use Rattle.act_model.proofs.KeyOrder.{has, in_key_order_sorted, not_above_itself, same_is}
 use Rattle.act_model.specs.Persons.{is_distinct}
 use Rattle.act_model.specs.WellFormed.{are_different, folio_with_new_owners, gives_owners_once, keep_groups_apart, keeps_rules, names_few_folios, names_rights_once, rights_named}
@@ -157,11 +158,6 @@ right_swap r s = λ i. number_swap s.receipt r.receipt i && number_swap s.act r.
   where
     number_swap : (a b : ℕ) → eqb a b ≡ eqb b a
     number_swap a b = grind (arith, nat_tests)
-
-right_is : (r s : RightNo) → same_right r s ≡ true → r ≡ s
-right_is r s h =
-    let both = and_parts (eqb r.receipt s.receipt) (eqb r.act s.act) h in
-    λ i. record { receipt = eqb-true r.receipt s.receipt both.0 i; act = eqb-true r.act s.act both.1 i }
 
 rights_differ : (rs : List RightNo) → are_different rs ≡ differ same_right rs
 rights_differ [] = refl

@@ -6,6 +6,7 @@ use Rattle.gb_base.specs.RightNo.{RightNo, same_right}
 use Rattle.gb_base.specs.declared.keys.Key.{Key}
 use Rattle.gb_base.specs.declared.keys.Key.TheVariants.{Right}
 use Rattle.gb_base.proofs.Members.{In, of_flat_map}
+use Rattle.gb_base.proofs.SameRights.{right_is}
 use Rattle.act_model.specs.declared.receipts.Receipt.{Receipt}
 use Rattle.folio_sections.specs.Kept.{Kept}
 use Rattle.folio_sections.specs.KeptRights.{ActsOnItsKind, StandsPlain}
@@ -18,7 +19,6 @@ use Rattle.folio_extract.specs.PlacedRights.{live_rights}
 use Rattle.folio_extract.specs.declared.exchanges.Exchange.{Exchange}
 use Rattle.folio_extract.proofs.ListLemmas.{in_all, of_filter, of_filter_map}
 use Rattle.folio_extract.proofs.PlacedOrder.{of_placed_rights}
-use Rattle.rank_slots.proofs.SameRights.{right_is}
 
 -- ---- by item and act they are the same
 

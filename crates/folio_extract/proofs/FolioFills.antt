@@ -10,6 +10,7 @@ use Rattle.gb_base.specs.RightNo.{same_right}
 use Rattle.gb_base.specs.declared.keys.Key.{Key}
 use Rattle.gb_base.specs.declared.keys.Key.TheVariants.{Right}
 use Rattle.gb_base.proofs.Members.{In}
+use Rattle.gb_base.proofs.SameRights.{right_is, right_self}
 use Rattle.act_model.specs.Receiving.{IsJournal}
 use Rattle.act_model.specs.declared.receipts.Receipt.{Receipt}
 use Rattle.folio_sections.specs.Kept.{Kept}
@@ -36,7 +37,6 @@ use Rattle.folio_extract.proofs.PlacedFew.{placed_few}
 use Rattle.folio_extract.proofs.PlacedOrder.{of_placed_rights}
 use Rattle.folio_extract.proofs.PlacesBehind.{all_places, first_joins_none, places_distinct, places_many}
 use Rattle.folio_extract.proofs.PlainAlone.{line_places, plain_alone}
-use Rattle.rank_slots.proofs.SameRights.{right_is, right_self}
 
 -- ---- each claim is from one cent
 

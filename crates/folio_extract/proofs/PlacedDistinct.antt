@@ -8,6 +8,7 @@ use Rattle.gb_base.specs.Limits.{most_acts}
 use Rattle.gb_base.specs.RightNo.{same_right}
 use Rattle.gb_base.specs.declared.keys.Key.{Key}
 use Rattle.gb_base.specs.declared.keys.Key.TheVariants.{Right}
+use Rattle.gb_base.proofs.SameRights.{right_is}
 use Rattle.act_model.specs.Limits.{most_groups}
 use Rattle.act_model.specs.Touches.{new_right}
 use Rattle.act_model.specs.declared.receipts.Receipt.{Receipt}
@@ -20,7 +21,6 @@ use Rattle.folio_extract.specs.declared.placed_rights.CreatedRight.{CreatedRight
 use Rattle.folio_extract.proofs.DistinctLists.{distinct_filter, distinct_flat, distinct_row}
 use Rattle.folio_extract.proofs.ListLemmas.{of_filter}
 use Rattle.folio_extract.proofs.PlacedOrder.{of_filing, of_filing_by_group, placed_at_number}
-use Rattle.rank_slots.proofs.SameRights.{right_is}
 
 -- both are of one number
 abbrev pub has_same_number : CreatedRight → CreatedRight → Bool

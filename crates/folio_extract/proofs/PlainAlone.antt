@@ -5,6 +5,7 @@ use Rattle.gb_base.specs.RightNo.{RightNo, same_right}
 use Rattle.gb_base.specs.declared.keys.Key.{Key}
 use Rattle.gb_base.specs.declared.keys.Key.TheVariants.{Right}
 use Rattle.gb_base.proofs.Members.{In}
+use Rattle.gb_base.proofs.SameRights.{right_is, right_self}
 use Rattle.act_model.specs.Receiving.{IsJournal}
 use Rattle.act_model.specs.declared.receipts.Receipt.{Receipt}
 use Rattle.folio_sections.specs.Groups.{shares_its_group}
@@ -26,7 +27,6 @@ use Rattle.folio_extract.proofs.PlacedFew.{is_placed}
 use Rattle.folio_extract.proofs.PlacedOrder.{of_placed_rights, the_right}
 use Rattle.folio_extract.proofs.PlacesBehind.{listed, none_joins, shares_place}
 use Rattle.folio_extract.proofs.PlainRights.{plain_apart}
-use Rattle.rank_slots.proofs.SameRights.{right_is, right_self}
 
 -- the places of a folio behind these exchanges
 abbrev pub line_places : List Exchange → List Receipt → (Key → List Entry) → ℕ → List Place

@@ -5,6 +5,7 @@ use Rattle.std.proofs.lemmas.Bool.{eq-eqb, eqb-true, ne_eqb}
 use Rattle.std.proofs.lemmas.List.FromFn.{get_or-range_with_len, length-range_with_len}
 use Rattle.std.proofs.lemmas.List.Sums.{prefix_len-le-length, prefix_len_is}
 use Rattle.gb_base.specs.RightNo.{RightNo, same_right}
+use Rattle.gb_base.proofs.SameRights.{right_is, right_self}
 use Rattle.rank_slots.specs.CanFill.{CanFill, CanKnot, StandsAlone}
 use Rattle.rank_slots.specs.Filled.{Filled, line}
 use Rattle.rank_slots.specs.Groups.{group_of}
@@ -17,7 +18,6 @@ use Rattle.rank_slots.proofs.KnotTies.{AreTied, are_tied}
 use Rattle.rank_slots.proofs.LineCounts.{counted, first_within, none_ahead, one_with_first}
 use Rattle.rank_slots.proofs.LonePay.{lone_group, lone_pay}
 use Rattle.rank_slots.proofs.Precedence.{first_ahead, room_behind}
-use Rattle.rank_slots.proofs.SameRights.{right_is, right_self}
 
 -- nothing up to m, and something from the next on, if there is one
 last_empty : (f : ℕ → ℕ) (n m : ℕ) → m ≤ n → ((t : ℕ) → t ≤ m → f t ≡ 0) → (m < n → 1 ≤ f (m + 1)) → prefix_len (λ t. f t == 0) (range_with_len 1 n) ≡ m

@@ -3,9 +3,9 @@ use Rattle.std.proofs.Common.{◌≡◌, ℕ, ◌+◌, ◌-◌, ◌<◌, ◌≤�
 use Rattle.std.proofs.lemmas.Bool.{cases_eq, cases_lt, ne_eqb, or_from, or_left, or_right}
 use Rattle.std.proofs.lemmas.List.{append_assoc, replicate-append-replicate}
 use Rattle.gb_base.specs.RightNo.{RightNo, same_right}
+use Rattle.gb_base.proofs.SameRights.{others_turned, right_turned}
 use Rattle.rank_slots.specs.CentLine.{exchanged, is_of_either}
 use Rattle.rank_slots.specs.declared.places.Swap.{Swap}
-use Rattle.rank_slots.proofs.SameRights.{others_turned, right_turned}
 
 -- the test of the two rights, one after the other
 pub either_by_first : (s : Swap) (c : RightNo) → same_right c s.recede ≡ true → is_of_either s c ≡ true

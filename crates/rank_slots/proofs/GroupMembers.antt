@@ -7,12 +7,12 @@ use Rattle.std.proofs.lemmas.List.Elements.{All-from_recursion, recursion_from_A
 use Rattle.std.proofs.lemmas.List.Folds.{list_any-append}
 use Rattle.std.proofs.lemmas.List.Sums.{sum_by-append}
 use Rattle.gb_base.specs.RightNo.{RightNo, same_right}
+use Rattle.gb_base.proofs.SameRights.{right_is}
 use Rattle.rank_slots.specs.CanFill.{StandsAlone}
 use Rattle.rank_slots.specs.Groups.{group_of, groups, is_of, joins, with_first}
 use Rattle.rank_slots.specs.declared.places.Place.{Place}
 use Rattle.rank_slots.proofs.LineCounts.{counted, counted_both, none_from_count, some_counted}
 use Rattle.rank_slots.proofs.PlaceLines.{AreDifferent, places_few}
-use Rattle.rank_slots.proofs.SameRights.{right_is}
 
 -- the places of these groups
 abbrev members : List (List Place) → List Place

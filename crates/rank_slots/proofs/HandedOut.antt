@@ -6,6 +6,7 @@ use Rattle.std.proofs.lemmas.List.Elements.{All-head, All-tail}
 use Rattle.std.proofs.lemmas.List.Sums.{sum_by-cons}
 use Rattle.std.proofs.lemmas.Map.Keys.{IsDistinct-head, IsDistinct-tail}
 use Rattle.gb_base.specs.RightNo.{RightNo, same_right}
+use Rattle.gb_base.proofs.SameRights.{others_turned, right_is, right_self}
 use Rattle.rank_slots.specs.CanFill.{CanFill, CanKnot, knotted}
 use Rattle.rank_slots.specs.Filled.{Filled, without_knots}
 use Rattle.rank_slots.specs.Groups.{is_of, keeps_place}
@@ -16,7 +17,6 @@ use Rattle.rank_slots.proofs.KnotPay.{all_tied, exercised_pay, pay_behind, untie
 use Rattle.rank_slots.proofs.KnotTies.{AreTied, reserved_grows}
 use Rattle.rank_slots.proofs.LineCounts.{counted, counted_filter, tally}
 use Rattle.rank_slots.proofs.PlaceLines.{AreDifferent, places_few}
-use Rattle.rank_slots.proofs.SameRights.{others_turned, right_is, right_self}
 
 -- ---- sums over places
 

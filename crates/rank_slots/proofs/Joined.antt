@@ -4,11 +4,11 @@ use Rattle.std.specs.List.{AllByRecursion}
 use Rattle.std.proofs.lemmas.List.Elements.{All-from_recursion}
 use Rattle.std.proofs.lemmas.List.{append_assoc, length-take-le, replicate-append-replicate, set_at, take_all, take_more}
 use Rattle.gb_base.specs.RightNo.{RightNo, same_right}
+use Rattle.gb_base.proofs.SameRights.{right_self}
 use Rattle.rank_slots.specs.CentLine.{one_more_cent, pieces_of}
 use Rattle.rank_slots.specs.declared.places.Piece.{Piece}
 use Rattle.rank_slots.specs.inner.Pieces.{AreJoined, BeginsElsewhere, line_of}
 use Rattle.rank_slots.proofs.Lines.{line_push}
-use Rattle.rank_slots.proofs.SameRights.{right_self}
 
 -- ---- the last piece
 

@@ -7,13 +7,13 @@ use Rattle.std.proofs.lemmas.List.Folds.{list_any_at}
 use Rattle.std.proofs.lemmas.Map.Keys.{IsDistinct-head, IsDistinct-tail}
 use Rattle.gb_base.proofs.Members.{find_sound}
 use Rattle.gb_base.specs.RightNo.{RightNo, same_right}
+use Rattle.gb_base.proofs.SameRights.{others_turned, right_is, right_self}
 use Rattle.rank_slots.specs.CanFill.{CanFill, CanKnot, knotted}
 use Rattle.rank_slots.specs.Filled.{Filled}
 use Rattle.rank_slots.specs.Payments.{claim_of, pay, pay_in, plain_pay}
 use Rattle.rank_slots.specs.declared.places.Knot.{Knot}
 use Rattle.rank_slots.specs.inner.Knots.{knot_of, left_of_both}
 use Rattle.rank_slots.proofs.KnotTies.{AreTied, are_tied, exercised_within}
-use Rattle.rank_slots.proofs.SameRights.{others_turned, right_is, right_self}
 
 -- what right r gets as the exercised one of a knot
 abbrev pub exercised_pay : Knot → Filled → RightNo → ℕ → ℕ

@@ -1,17 +1,18 @@
 -- There are no more knots than places, since no right is in two and each has a place.
-use Rattle.std.proofs.Common.{◌≡◌, ◌*◌, ◌<◌, ◌≤◌, true, false, cond, not, ◌&&◌, ◌||◌, List, [], ◌∷◌, All, filter, length, refl, sym, ap, arith, ◌∙◌}
+use Rattle.std.proofs.Common.{◌≡◌, ◌*◌, ◌<◌, ◌≤◌, true, false, cond, not, ◌||◌, List, [], ◌∷◌, All, filter, length, refl, sym, ap, arith, ◌∙◌}
 use Rattle.std.specs.List.{AllByRecursion, IsDistinct}
 use Rattle.std.proofs.lemmas.Bool.{false≢true}
 use Rattle.std.proofs.lemmas.List.Elements.{recursion_from_All}
 use Rattle.std.proofs.lemmas.List.Sums.{count_by-le-length, length-filter}
 use Rattle.std.proofs.lemmas.Map.Keys.{IsDistinct-head, IsDistinct-tail}
 use Rattle.gb_base.specs.RightNo.{RightNo, same_right}
+use Rattle.gb_base.proofs.SameRights.{right_is}
 use Rattle.rank_slots.specs.CanFill.{CanKnot, knotted}
-use Rattle.rank_slots.specs.Groups.{is_listed, is_of, keeps_place}
+use Rattle.rank_slots.specs.Groups.{is_listed, is_of}
 use Rattle.rank_slots.specs.declared.places.Knot.{Knot}
 use Rattle.rank_slots.specs.declared.places.Place.{Place}
 use Rattle.rank_slots.specs.declared.places.Swap.{Swap}
-use Rattle.rank_slots.proofs.SameRights.{right_is}
+use Rattle.rank_slots.proofs.PlaceLines.{kept_listed}
 
 -- the places of other rights
 abbrev others : RightNo → List Place → List Place
@@ -54,17 +55,10 @@ no_more_rights (r ∷ rs) places apart listed =
     let one = fewer r places listed.0 in
     omega arith
 
-kept_is_listed : (places : List Place) (right : RightNo) → keeps_place places right ≡ true → is_listed places right ≡ true
-kept_is_listed [] right keeps = keeps
-kept_is_listed (p ∷ ps) right keeps = elim (is_of right p) as (λ b. (b && not p.dropped || keeps_place ps right) ≡ true → (b || is_listed ps right) ≡ true) [
-  | true ↦ λ here. refl
-  | false ↦ λ behind. kept_is_listed ps right behind
-] keeps
-
 all_listed : (places : List Place) (swaps : List Swap) (knots : List Knot) → AllByRecursion (CanKnot places swaps) knots → AllByRecursion (λ r. is_listed places r ≡ true) (knotted knots)
 all_listed places swaps [] can = tt
 all_listed places swaps (k ∷ ks) can =
-    (kept_is_listed places k.reserved can.0.reserved.kept, (kept_is_listed places k.exercised can.0.exercised.kept, all_listed places swaps ks can.1))
+    (kept_listed k.reserved places can.0.reserved.kept, (kept_listed k.exercised places can.0.exercised.kept, all_listed places swaps ks can.1))
 
 length_knotted : (knots : List Knot) → length (knotted knots) ≡ 2 * length knots
 length_knotted [] = refl

@@ -2,6 +2,7 @@
 use Rattle.std.proofs.Common.{◌≡◌, ℕ, ◌+◌, ◌-◌, ◌≤◌, true, false, not, List, take, sym, ◌∙◌, subst, arith}
 use Rattle.std.proofs.lemmas.Bool.{both_ways, false_from_ne_true, not_from_false}
 use Rattle.gb_base.specs.RightNo.{RightNo, same_right}
+use Rattle.gb_base.proofs.SameRights.{right_is}
 use Rattle.rank_slots.specs.CanFill.{ArePlaces, CanKnot, CanTie}
 use Rattle.rank_slots.specs.CentLine.{cent_line, exchange_all, is_dropped, written}
 use Rattle.rank_slots.specs.Filled.{Filled, line}
@@ -15,7 +16,6 @@ use Rattle.rank_slots.proofs.LineSwaps.{counted_exchange_all, precedes_exchange_
 use Rattle.rank_slots.proofs.LonePay.{lone_pay}
 use Rattle.rank_slots.proofs.PlaceLines.{AreDifferent, ahead_differ, claim_least, claim_written, kept_listed, kept_undropped, precedes_written}
 use Rattle.rank_slots.proofs.Precedence.{AreApart, Precedes, precedes_filter, window_below}
-use Rattle.rank_slots.proofs.SameRights.{right_is}
 
 -- ---- a right that may be tied has all cents of its claim in the line
 

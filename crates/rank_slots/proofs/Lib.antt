@@ -18,6 +18,5 @@ pub mod Lines
 pub mod LonePay
 pub mod PlaceLines
 pub mod Precedence
-pub mod SameRights
 pub mod TakenOut
 pub mod ThirdRights

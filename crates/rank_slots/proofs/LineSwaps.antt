@@ -2,12 +2,12 @@
 use Rattle.std.proofs.Common.{◌≡◌, ℕ, zero, suc, ◌+◌, ◌-◌, Bool, true, false, cond, eqb, List, [], ◌∷◌, filter, take, refl, sym, ap, ◌∙◌, subst, ⊎_elim, arith}
 use Rattle.std.proofs.lemmas.Bool.{cond-true, or_cases, or_parts}
 use Rattle.gb_base.specs.RightNo.{RightNo, same_right}
+use Rattle.gb_base.proofs.SameRights.{others_turned, right_is}
 use Rattle.rank_slots.specs.CanFill.{is_swapped}
 use Rattle.rank_slots.specs.CentLine.{cents_of, exchange, exchange_all, exchanged, is_of_either}
 use Rattle.rank_slots.specs.declared.places.Swap.{Swap}
 use Rattle.rank_slots.proofs.LineCounts.{counted, tally}
 use Rattle.rank_slots.proofs.Precedence.{Precedes}
-use Rattle.rank_slots.proofs.SameRights.{others_turned, right_is}
 
 -- neither right of the exchange passes
 pub record PassesNeither (p : RightNo → Bool) (s : Swap) : Type 0 where

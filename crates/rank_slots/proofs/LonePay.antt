@@ -1,13 +1,13 @@
 -- What a right gets that stands alone: its own cents.
 use Rattle.std.proofs.Common.{◌≡◌, ℕ, true, false, ◌||◌, List, [], ◌∷◌, count_by, take, refl, sym, ◌∙◌, subst}
 use Rattle.gb_base.specs.RightNo.{RightNo, same_right}
+use Rattle.gb_base.proofs.SameRights.{right_is}
 use Rattle.rank_slots.specs.Filled.{Filled, line}
 use Rattle.rank_slots.specs.Groups.{group_of}
 use Rattle.rank_slots.specs.Payments.{is_of_group, part_of, plain_pay}
 use Rattle.rank_slots.specs.declared.places.Place.{Place}
 use Rattle.rank_slots.proofs.GroupMembers.{IsAlone}
 use Rattle.rank_slots.proofs.LineCounts.{counted, counted_agree, counted_is}
-use Rattle.rank_slots.proofs.SameRights.{right_is}
 
 -- a cent is of the group just where it is the right's
 lone_test : (p : Place) (r : RightNo) → same_right p.right r ≡ true → (c : RightNo) → is_of_group (p ∷ []) c ≡ same_right r c

@@ -6,13 +6,13 @@ use Rattle.std.proofs.lemmas.Bool.{both_ways, false_from_ne_true, false≢true, 
 use Rattle.std.proofs.lemmas.List.Elements.{All-head, All-tail}
 use Rattle.std.proofs.lemmas.Map.Keys.{IsDistinct-head, IsDistinct-tail}
 use Rattle.gb_base.specs.RightNo.{RightNo, same_right}
+use Rattle.gb_base.proofs.SameRights.{others_turned, right_is, right_turned}
 use Rattle.rank_slots.specs.CentLine.{is_dropped, written}
 use Rattle.rank_slots.specs.Groups.{is_listed_ahead, is_of, keeps_place}
 use Rattle.rank_slots.specs.Payments.{claim_of}
 use Rattle.rank_slots.specs.declared.places.Place.{Place}
 use Rattle.rank_slots.proofs.LineCounts.{counted, counted_both, counted_copies, counted_no_copies, none_counted, tally}
 use Rattle.rank_slots.proofs.Precedence.{Precedes, precedes_copies, precedes_none}
-use Rattle.rank_slots.proofs.SameRights.{others_turned, right_is, right_turned}
 
 -- the places are of different rights
 abbrev pub AreDifferent : List Place → Type 0

@@ -2,13 +2,14 @@
 use Rattle.std.proofs.Common.{◌≡◌, ℕ, ◌+◌, ◌≤◌, Bool, true, false, cond, not, eqb, ◌&&◌, List, [], ◌∷◌, ◌++◌, IsTrue, Some, length, flat_map, refl, sym, ap, subst, ◌∙◌, arith}
 use Rattle.std.specs.List.{AllByRecursion, enumerate_from, list_all, list_any}
 use Rattle.std.specs.Option.{option_map_or}
-use Rattle.std.proofs.lemmas.Bool.{and_from, and_parts, eq-eqb, eqb-true, false≢true, or_parts}
+use Rattle.std.proofs.lemmas.Bool.{and_parts, false≢true, or_parts}
 use Rattle.std.proofs.lemmas.List.Concat.{flat_map-cons}
 use Rattle.gb_base.specs.Keys.{same_key}
 use Rattle.gb_base.specs.Limits.{is_between, most_acts}
 use Rattle.gb_base.specs.RightNo.{RightNo, same_right}
 use Rattle.gb_base.specs.declared.keys.Key.{Key}
 use Rattle.gb_base.specs.declared.keys.Key.TheVariants.{Right}
+use Rattle.gb_base.proofs.SameRights.{right_is, right_turned}
 use Rattle.act_model.proofs.KeyOrder.{same_is}
 use Rattle.act_model.specs.Touches.{filing_at, new_right}
 use Rattle.act_model.specs.WellFormed.{are_different, gives_owners_once, is_act, is_doc, is_filing, keep_groups_apart, keeps_rules, names_few_folios, names_rights_once, rights_named}
@@ -48,15 +49,6 @@ none_named r (s ∷ rs) none =
     let here : tally (same_right r s) ≡ 0 = ap tally parts.0 in
     let rest = none_named r rs parts.1 in
     omega arith
-
-right_is : (r s : RightNo) → same_right r s ≡ true → r ≡ s
-right_is r s h =
-    let both = and_parts (eqb r.receipt s.receipt) (eqb r.act s.act) h in
-    λ i. record { receipt = eqb-true r.receipt s.receipt both.0 i; act = eqb-true r.act s.act both.1 i }
-
-right_swapped : (r s : RightNo) → same_right r s ≡ true → same_right s r ≡ true
-right_swapped r s h =
-    subst (λ t. same_right t r ≡ true) (right_is r s h) (and_from (eqb r.receipt r.receipt) (eqb r.act r.act) (eq-eqb r.receipt r.receipt refl) (eq-eqb r.act r.act refl))
 
 of_not_true : (b : Bool) → not b ≡ true → b ≡ false
 of_not_true true h = absurd (false≢true h)
@@ -120,7 +112,7 @@ used journal m i a g folio b r at0 unspent =
     elim (same_key (Right g b) (Right folio r)) as (λ t. same_key (Right g b) (Right folio r) ≡ t → exercises (cond t (e ∷ []) []) ≤ bound (is_spent (at0 (Right folio r))) r (b ∷ [])) [
       | true ↦ λ same.
           let left : is_spent (at0 (Right folio r)) ≡ false = subst (λ k. is_spent (at0 k) ≡ false) (same_is (Right g b) (Right folio r) same) unspent in
-          let own : same_right r b ≡ true = right_swapped b r (and_parts (eqb g folio) (same_right b r) same).1 in
+          let own : same_right r b ≡ true = right_turned b r (and_parts (eqb g folio) (same_right b r) same).1 in
           let one : bound (is_spent (at0 (Right folio r))) r (b ∷ []) ≡ 1 = λ j. cond (left j) 0 (tally (own j) + 0) in
           omega arith
       | false ↦ λ other. omega arith

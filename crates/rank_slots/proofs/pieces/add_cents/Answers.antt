@@ -2,9 +2,9 @@
 use Rattle.std.proofs.Common.{◌≡◌, ◌-◌, ◌++◌, [], ◌∷◌, ap, length, replicate, sym, vec_len, arith, ◌∙◌}
 use Rattle.std.proofs.lemmas.Grind.{common_steps}
 use Rattle.std.proofs.lemmas.List.{nil_from_length}
+use Rattle.gb_base.proofs.SameRights.{right_is}
 use Rattle.rank_slots.specs.inner.Pieces.{line_of}
 use Rattle.rank_slots.proofs.Joined.{joined_behind, joined_first, joined_grown, line_grown}
-use Rattle.rank_slots.proofs.SameRights.{right_is}
 use Rattle.rank_slots.proofs.pieces.add_cents.Goals as goal
 use Rattle.rank_slots.proofs.pieces.add_cents.Goals.{in_default-via-in-Some+else-eq, in_default-via-in-None-1}
 

@@ -1,5 +1,5 @@
 -- Rights with the same number are the same.
-use Rattle.std.proofs.Common.{◌≡◌, true, false, eqb, refl, sym, ◌∙◌, subst}
+use Rattle.std.proofs.Common.{◌≡◌, true, false, eqb, refl, sym, subst}
 use Rattle.std.proofs.lemmas.Bool.{and_from, and_parts, both_ways, eq-eqb, eqb-true, false_from_ne_true}
 use Rattle.gb_base.specs.RightNo.{RightNo, same_right}
 
@@ -21,14 +21,3 @@ right_turned a b same = right_from b a (sym (right_is a b same))
 
 pub others_turned : (a b : RightNo) → same_right a b ≡ false → same_right b a ≡ false
 others_turned a b other = false_from_ne_true (same_right b a) (λ same. both_ways (same_right a b) other (right_turned b a same))
-
-pub same_turned : (a b : RightNo) → same_right a b ≡ same_right b a
-same_turned a b =
-    elim (same_right a b) as (λ t. same_right a b ≡ t → t ≡ same_right b a) [
-      | true ↦ λ same. sym (right_turned a b same)
-      | false ↦ λ other. sym (others_turned a b other)
-    ] refl
-
--- two rights that are a third one are one
-pub right_joined : (a b c : RightNo) → same_right a c ≡ true → same_right b c ≡ true → same_right a b ≡ true
-right_joined a b c one other = right_from a b (right_is a c one ∙ sym (right_is b c other))
