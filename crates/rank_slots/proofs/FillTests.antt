@@ -9,7 +9,7 @@ use Rattle.rank_slots.specs.CanFill.{knotted}
 use Rattle.rank_slots.specs.Groups.{is_of}
 use Rattle.rank_slots.specs.declared.places.Knot.{Knot}
 use Rattle.rank_slots.specs.declared.places.Place.{Place}
-use Rattle.rank_slots.proofs.SameRights.{others_turned}
+use Rattle.gb_base.proofs.SameRights.{others_turned}
 
 -- ---- a test of each element
 

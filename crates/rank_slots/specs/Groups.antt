@@ -28,10 +28,6 @@ groups (p ∷ ps) = if joins ps then with_first p (groups ps) else (p ∷ []) �
 abbrev pub group_of : List Place → RightNo → List Place
 group_of places right = option_map_or (λ g. g) (find (list_any (is_of right)) (groups places)) []
 
--- the right has a place here
-abbrev pub is_listed : List Place → RightNo → Bool
-is_listed places right = list_any (is_of right) places
-
 -- the right has a place here that is not dropped
 abbrev pub keeps_place : List Place → RightNo → Bool
 keeps_place places right = list_any (λ p. is_of right p && not p.dropped) places
