@@ -22,7 +22,7 @@ pub fn open_order<P: Parts>(parts: &mut P, journal: &Journal, filing: ReceiptNo)
     ensures held { P.holds parts.new ≡ P.holds parts.old }
 {
     let until = deadline(day_of(journal, filing));
-    mark_keys(parts, journal, filing, filing, Some(until));
+    enter_waiting(parts, journal, filing, filing, Some(until));
     until
 }
 
@@ -35,11 +35,11 @@ pub fn close_order<P: Parts>(parts: &mut P, journal: &Journal, item: ReceiptNo, 
     ensures added { AddsList (P.at parts.old) (P.at parts.new) (P.room parts.old) (P.room parts.new) (end_brought journal.now.receipts filing item) }
     ensures held { P.holds parts.new ≡ P.holds parts.old }
 {
-    mark_keys(parts, journal, item, filing, None);
+    enter_waiting(parts, journal, item, filing, None);
 }
 
 /// Enters at each key of a filing that it waits until this day, or no longer where there is none.
-fn mark_keys<P: Parts>(
+fn enter_waiting<P: Parts>(
     parts: &mut P,
     journal: &Journal,
     item: ReceiptNo,

@@ -17,13 +17,13 @@ use Rattle.folio_sections.specs.PartState.{PartState}
 use Rattle.folio_sections.specs.Titles.{is_open}
 use Rattle.folio_sections.specs.declared.entries.Entry.{Entry}
 use Rattle.folio_sections.proofs.HeldParts.{held_found, is_at}
-use Rattle.registrar.specs.inner.OpenFolios.{AreOpenFolios, open_title}
+use Rattle.registrar.specs.inner.OpenFolios.{AreOpenFolios, open_folio_of_title}
 use Rattle.registrar.proofs.NoticedPlaces.{Rises}
 use Rattle.registrar.proofs.RisingNumbers.{contains_of_in, in_of_contains, pairs_of_rises}
 
 -- the folios of the open titles among these keys
 abbrev pub open_among : (Key → List Entry) → List Key → List ℕ
-open_among at ks = filter_map (open_title at) ks
+open_among at ks = filter_map (open_folio_of_title at) ks
 
 -- ---- which they are
 
@@ -41,9 +41,9 @@ pub open_is_among : (at : Key → List Entry) (ks : List Key) (folio : ℕ) → 
 open_is_among at [] folio there is = absurd (false≢true there)
 open_is_among at (k ∷ ks) folio there is =
     ⊎_elim
-    (λ here. subst (λ j. In folio (cons_option (open_title at j) (open_among at ks))) (sym (same_is k (Title folio) here))
+    (λ here. subst (λ j. In folio (cons_option (open_folio_of_title at j) (open_among at ks))) (sym (same_is k (Title folio) here))
     (subst (λ b. In folio (cons_option (cond b (Some folio) None) (open_among at ks))) (sym is) (inl refl)))
-    (λ later. behind (open_title at k) (open_among at ks) (open_is_among at ks folio later is))
+    (λ later. behind (open_folio_of_title at k) (open_among at ks) (open_is_among at ks folio later is))
     (or_cases (same_key k (Title folio)) (has (Title folio) ks) there)
   where
     behind : (o : Option ℕ) (ns : List ℕ) → In folio ns → In folio (cons_option o ns)

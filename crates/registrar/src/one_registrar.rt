@@ -101,10 +101,10 @@ fn settle_next(
 }
 
 /// The filing that an item is about: itself, or the one that it names.
-fn filing_named(item: ReceiptNo, what: &Item) -> Option<ReceiptNo>
-    ensures { result ≡ filing_named item what.now }
+fn filing_named(item: ReceiptNo, received: &Item) -> Option<ReceiptNo>
+    ensures { result ≡ filing_named item received.now }
 {
-    match what {
+    match received {
         Item::Filing(_) => Some(item),
         Item::Cure { filing, .. } => Some(*filing),
         Item::Lapse { filing } => Some(*filing),

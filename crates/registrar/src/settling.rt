@@ -21,18 +21,23 @@ use gb_base::ReceiptNo;
 use interim_orders::{FilingState, Lapse, close_order, enter_notices, lapse, open_order, state};
 
 /// Adds what this item of the journal brings, and says what becomes of it.
-pub fn settle<P: Parts>(parts: &mut P, journal: &Journal, item: ReceiptNo, what: &Item) -> Verdict
+pub(crate) fn settle<P: Parts>(
+    parts: &mut P,
+    journal: &Journal,
+    item: ReceiptNo,
+    received: &Item,
+) -> Verdict
     requires received { item ≤ length journal.now.receipts }
-    requires item { option_map (λ r. r.item) (receipt_at journal.now.receipts item) ≡ Some what.now }
-    requires held { (k : Key) → Contains (keys_by_item journal.now.receipts item what.now) k → IsTrue (P.holds parts.old k) }
-    requires room { HasRoom (P.room parts.old) (brought_by_item journal.now.receipts item (P.at parts.old) what.now).entries }
-    requires exchanges { KnowsItsExchanges journal.now.receipts item (P.at parts.old) what.now }
-    ensures verdict { result ≡ (brought_by_item journal.now.receipts item (P.at parts.old) what.now).verdict }
+    requires item { option_map (λ r. r.item) (receipt_at journal.now.receipts item) ≡ Some received.now }
+    requires held { (k : Key) → Contains (keys_by_item journal.now.receipts item received.now) k → IsTrue (P.holds parts.old k) }
+    requires room { HasRoom (P.room parts.old) (brought_by_item journal.now.receipts item (P.at parts.old) received.now).entries }
+    requires exchanges { KnowsItsExchanges journal.now.receipts item (P.at parts.old) received.now }
+    ensures verdict { result ≡ (brought_by_item journal.now.receipts item (P.at parts.old) received.now).verdict }
     ensures added { AddsList (P.at parts.old) (P.at parts.new) (P.room parts.old) (P.room parts.new)
-        (brought_by_item journal.now.receipts item (P.at parts.old) what.now).entries }
+        (brought_by_item journal.now.receipts item (P.at parts.old) received.now).entries }
     ensures held { P.holds parts.new ≡ P.holds parts.old }
 {
-    match what {
+    match received {
         Item::Filing(_) => {
             let judgement = judge(parts, journal, item, item);
             settle_filing(parts, journal, item, judgement)

@@ -6,10 +6,10 @@ use Rattle.folio_sections.specs.Titles.{is_open}
 use Rattle.folio_sections.specs.declared.entries.Entry.{Entry}
 
 -- the folio whose title has this key, where it is open
-abbrev pub open_title : (Key → List Entry) → Key → Option ℕ
-open_title at (Title folio) = if is_open (at (Title folio)) then Some folio else None
-open_title at (Right folio right) = None
-open_title at (Case folio) = None
+abbrev pub open_folio_of_title : (Key → List Entry) → Key → Option ℕ
+open_folio_of_title at (Title folio) = if is_open (at (Title folio)) then Some folio else None
+open_folio_of_title at (Right folio right) = None
+open_folio_of_title at (Case folio) = None
 
 -- these are the open folios, ascending, of what stands at each key
 pub record AreOpenFolios (folios : List ℕ) (at : Key → List Entry) : Type 0 where

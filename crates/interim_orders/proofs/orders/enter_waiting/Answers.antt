@@ -9,7 +9,7 @@ use Rattle.folio_sections.proofs.ListLemmas.{drop_next}
 use Rattle.folio_sections.proofs.Progress.{Progress, ends, goes_on, has_room, key_held}
 use Rattle.interim_orders.specs.inner.Marks.{mark}
 use Rattle.interim_orders.proofs.Marking.{IsAny, each_marked, entry_is, mark_at, marks_apart}
-use Rattle.interim_orders.proofs.orders.mark_keys.Goals as goal
+use Rattle.interim_orders.proofs.orders.enter_waiting.Goals as goal
 
 pub add-requires-clause-held : goal.add-requires-clause-held
 add-requires-clause-held g c =

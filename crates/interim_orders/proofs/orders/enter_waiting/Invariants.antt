@@ -3,7 +3,7 @@ use Rattle.gb_base.specs.declared.keys.Key.{Key}
 use Rattle.folio_sections.proofs.Progress.{Progress}
 use Rattle.interim_orders.specs.inner.Marks.{mark}
 use Rattle.interim_orders.proofs.Marking.{IsAny, mark_at}
-use Rattle.interim_orders.proofs.orders.mark_keys.Given as goal
+use Rattle.interim_orders.proofs.orders.enter_waiting.Given as goal
 
 abbrev pub invariant-loop-key : goal.invariant-loop-key
 invariant-loop-key g l =
