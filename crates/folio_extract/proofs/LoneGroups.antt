@@ -5,8 +5,9 @@ use Rattle.std.specs.Option.{option_map_or}
 use Rattle.std.proofs.lemmas.Bool.{cases_Bool, false≢true, or_from}
 use Rattle.gb_base.specs.RightNo.{RightNo}
 use Rattle.rank_slots.specs.CanFill.{StandsAlone}
-use Rattle.rank_slots.specs.Groups.{groups, is_listed, is_of, joins, with_first}
+use Rattle.rank_slots.specs.Groups.{groups, is_of, joins, with_first}
 use Rattle.rank_slots.specs.declared.places.Place.{Place}
+use Rattle.rank_slots.proofs.PlaceLines.{is_listed}
 
 -- each place of the right joins none, and none behind it joins it
 abbrev pub NoneJoins : RightNo → List Place → Type 0

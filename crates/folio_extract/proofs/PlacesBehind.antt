@@ -6,8 +6,9 @@ use Rattle.gb_base.specs.RightNo.{RightNo, same_right}
 use Rattle.gb_base.specs.declared.keys.Key.{Key}
 use Rattle.gb_base.proofs.Members.{In}
 use Rattle.folio_sections.specs.declared.entries.Entry.{Entry}
-use Rattle.rank_slots.specs.Groups.{is_listed, joins}
+use Rattle.rank_slots.specs.Groups.{joins}
 use Rattle.rank_slots.specs.declared.places.Place.{Place}
+use Rattle.rank_slots.proofs.PlaceLines.{is_listed}
 use Rattle.folio_extract.specs.FolioLines.{place_behind, places_behind}
 use Rattle.folio_extract.specs.PlacedRights.{has_same_place}
 use Rattle.folio_extract.specs.declared.placed_rights.CreatedRight.{CreatedRight}

@@ -1,6 +1,6 @@
 -- There are no more knots than places, since no right is in two and each has a place.
-use Rattle.std.proofs.Common.{◌≡◌, ◌*◌, Bool, ◌<◌, ◌≤◌, true, false, cond, not, ◌||◌, List, [], ◌∷◌, All, filter, length, refl, sym, ap, arith, ◌∙◌}
-use Rattle.std.specs.List.{AllByRecursion, IsDistinct, list_any}
+use Rattle.std.proofs.Common.{◌≡◌, ◌*◌, ◌<◌, ◌≤◌, true, false, cond, not, ◌||◌, List, [], ◌∷◌, All, filter, length, refl, sym, ap, arith, ◌∙◌}
+use Rattle.std.specs.List.{AllByRecursion, IsDistinct}
 use Rattle.std.proofs.lemmas.Bool.{false≢true}
 use Rattle.std.proofs.lemmas.List.Elements.{recursion_from_All}
 use Rattle.std.proofs.lemmas.List.Sums.{count_by-le-length, length-filter}
@@ -12,11 +12,7 @@ use Rattle.rank_slots.specs.Groups.{is_of}
 use Rattle.rank_slots.specs.declared.places.Knot.{Knot}
 use Rattle.rank_slots.specs.declared.places.Place.{Place}
 use Rattle.rank_slots.specs.declared.places.Swap.{Swap}
-use Rattle.rank_slots.proofs.PlaceLines.{kept_listed}
-
--- the right has a place here
-abbrev is_listed : List Place → RightNo → Bool
-is_listed places right = list_any (is_of right) places
+use Rattle.rank_slots.proofs.PlaceLines.{is_listed, kept_listed}
 
 -- the places of other rights
 abbrev others : RightNo → List Place → List Place

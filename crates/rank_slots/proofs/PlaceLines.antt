@@ -14,6 +14,10 @@ use Rattle.rank_slots.specs.declared.places.Place.{Place}
 use Rattle.rank_slots.proofs.LineCounts.{counted, counted_both, counted_copies, counted_no_copies, none_counted, tally}
 use Rattle.rank_slots.proofs.Precedence.{Precedes, precedes_copies, precedes_none}
 
+-- the right has a place here
+abbrev pub is_listed : List Place → RightNo → Bool
+is_listed places right = list_any (is_of right) places
+
 -- the places are of different rights
 abbrev pub AreDifferent : List Place → Type 0
 AreDifferent places = IsDistinct (λ p q. same_right p.right q.right) places
