@@ -15,7 +15,8 @@ whole_part money claims claim = money * claim / sum claims
 abbrev pub left_over : ℕ → List ℕ → ℕ
 left_over money claims = money - sum (map (whole_part money claims) claims)
 
--- what claim i gets: the whole claim where the money reaches the sum, else the whole cents of its part, and the first claims one of the cents left over each
+-- what claim i gets: the whole claim where the money reaches the sum; else the whole cents of its part, and one cent more where it
+-- is among the first while cents are left over (ZVG § 10(1))
 abbrev pub share : ℕ → List ℕ → ℕ → ℕ
 share money claims i =
     if nat_le (sum claims) money then claim_at claims i

@@ -9,9 +9,8 @@ use Rattle.gb_base.proofs.SameRights.{right_is, right_self}
 use Rattle.rank_slots.specs.CanFill.{CanFill, CanKnot, StandsAlone}
 use Rattle.rank_slots.specs.Filled.{Filled, line}
 use Rattle.rank_slots.specs.Groups.{group_of}
-use Rattle.rank_slots.specs.Payments.{cents_ahead, claim_of, empty_up_to, pay, threshold}
+use Rattle.rank_slots.specs.Payments.{cents_ahead, claim_of, empty_up_to, knot_of, pay, threshold}
 use Rattle.rank_slots.specs.declared.places.Knot.{Knot}
-use Rattle.rank_slots.specs.inner.Knots.{knot_of}
 use Rattle.rank_slots.proofs.GroupMembers.{IsAlone, alone_group}
 use Rattle.rank_slots.proofs.KnotPay.{found_all, found_exercised, found_reserved, found_ties, unfound}
 use Rattle.rank_slots.proofs.KnotTies.{AreTied, are_tied}

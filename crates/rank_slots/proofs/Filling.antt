@@ -16,12 +16,12 @@ unfolding cent_line
 made_in_turn places swaps first second third one two three =
     three ∙ ap (filter (λ c. not (is_dropped places c))) (two ∙ ap (λ cs. exchange_all cs swaps) one)
 
--- nothing has no cents
+-- a line without places has no cents
 pub no_cents : line_of [] ≡ line empty
 unfolding cent_line
 no_cents = refl
 
--- nothing fits
+-- and it can be filled in
 pub nothing_fits : CanFill empty
 unfolding IsDistinct
 nothing_fits = record {

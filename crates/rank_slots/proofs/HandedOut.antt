@@ -10,10 +10,10 @@ use Rattle.gb_base.proofs.SameRights.{others_turned, right_is, right_self}
 use Rattle.rank_slots.specs.CanFill.{CanFill, CanKnot, knotted}
 use Rattle.rank_slots.specs.Filled.{Filled, without_knots}
 use Rattle.rank_slots.specs.Groups.{is_of, keeps_place}
-use Rattle.rank_slots.specs.Payments.{claim_of, paid_out, pay_in, plain_pay}
+use Rattle.rank_slots.specs.Payments.{claim_of, paid_out, plain_pay}
 use Rattle.rank_slots.specs.declared.places.Knot.{Knot}
 use Rattle.rank_slots.specs.declared.places.Place.{Place}
-use Rattle.rank_slots.proofs.KnotPay.{all_tied, exercised_pay, pay_behind, untied_pay}
+use Rattle.rank_slots.proofs.KnotPay.{all_tied, exercised_pay, first_pays, others_pay, pay_with, reserved_pay, untied_pay}
 use Rattle.rank_slots.proofs.KnotTies.{AreTied, reserved_grows}
 use Rattle.rank_slots.proofs.LineCounts.{counted, counted_filter, tally}
 use Rattle.rank_slots.proofs.PlaceLines.{AreDifferent, places_few}
@@ -92,34 +92,27 @@ kept_once r places differ kept =
 
 -- ---- knot by knot
 
--- a further knot leaves what other rights get
-others_pay : (k : Knot) (ks : List Knot) (filled : Filled) (t : ℕ) (r : RightNo) → same_right k.reserved r ≡ false → same_right k.exercised r ≡ false → pay_in (k ∷ ks) filled r t ≡ pay_in ks filled r t
-others_pay k ks filled t r first last =
-    cond-false (same_right k.reserved r) (plain_pay filled r (t - claim_of filled.places k.exercised)) (pay_behind k ks filled r t) first
-    ∙ cond-false (same_right k.exercised r) (exercised_pay k filled r t) (pay_in ks filled r t) last
-
--- its two rights get as much together
+-- the two rights of a further knot get as much together
 two_pay : (k : Knot) (ks : List Knot) (filled : Filled) (t : ℕ) → AreTied filled k → AllByRecursion (λ y. same_right k.reserved y ≡ false) (k.exercised ∷ knotted ks) → AllByRecursion (λ y. same_right k.exercised y ≡ false) (knotted ks)
-    → pay_in (k ∷ ks) filled k.reserved t + pay_in (k ∷ ks) filled k.exercised t ≡ pay_in ks filled k.reserved t + pay_in ks filled k.exercised t
+    → pay_with (k ∷ ks) filled k.reserved t + pay_with (k ∷ ks) filled k.exercised t ≡ pay_with ks filled k.reserved t + pay_with ks filled k.exercised t
 two_pay k ks filled t tie first last =
     let without = t - claim_of filled.places k.exercised in
-    let one = cond-true (same_right k.reserved k.reserved) (plain_pay filled k.reserved without) (pay_behind k ks filled k.reserved t) (right_self k.reserved) in
-    let two =
-    cond-false (same_right k.reserved k.exercised) (plain_pay filled k.exercised without) (pay_behind k ks filled k.exercised t) tie.two
-    ∙ cond-true (same_right k.exercised k.exercised) (exercised_pay k filled k.exercised t) (pay_in ks filled k.exercised t) (right_self k.exercised) in
+    let own = right_self k.reserved in
+    let one = first_pays k ks filled k.reserved t (ap (λ b. b || same_right k.exercised k.reserved) own) ∙ reserved_pay k filled k.reserved t own in
+    let two = first_pays k ks filled k.exercised t (λ i. tie.two i || right_self k.exercised i) ∙ exercised_pay k filled k.exercised t tie.two in
     let plain_first = untied_pay ks filled k.reserved t first.1 in
     let plain_last = untied_pay ks filled k.exercised t last in
     let grows = reserved_grows filled k tie without t (omega arith) in
     (λ i. one i + two i) ∙ (omega arith)
 
 knots_total : (ks : List Knot) (filled : Filled) (t : ℕ) → AreDifferent filled.places → IsDistinct same_right (knotted ks) → All (CanKnot filled.places filled.swaps) ks → All (AreTied filled) ks
-    → total (λ r. pay_in ks filled r t) (filter (λ p. not p.dropped) filled.places) ≡ total (λ r. plain_pay filled r t) (filter (λ p. not p.dropped) filled.places)
+    → total (λ r. pay_with ks filled r t) (filter (λ p. not p.dropped) filled.places) ≡ total (λ r. plain_pay filled r t) (filter (λ p. not p.dropped) filled.places)
 knots_total [] filled t differ once knots tied = refl
 knots_total (k ∷ ks) filled t differ once knots tied =
     let later = IsDistinct-tail same_right k.reserved (k.exercised ∷ knotted ks) once in
     let knot = All-head (CanKnot filled.places filled.swaps) k ks knots in
     let tie = All-head (AreTied filled) k ks tied in
-    total_two k.reserved k.exercised (λ r. pay_in ks filled r t) (λ r. pay_in (k ∷ ks) filled r t) tie.two (others_pay k ks filled t)
+    total_two k.reserved k.exercised (λ r. pay_with ks filled r t) (λ r. pay_with (k ∷ ks) filled r t) tie.two (λ r first last. others_pay k ks filled r t (λ i. first i || last i))
     (two_pay k ks filled t tie
     (IsDistinct-head same_right k.reserved (k.exercised ∷ knotted ks) once) (IsDistinct-head same_right k.exercised (knotted ks) later))
     (filter (λ p. not p.dropped) filled.places)
@@ -129,6 +122,6 @@ knots_total (k ∷ ks) filled t differ once knots tied =
 pub all_handed_out : (filled : Filled) (t : ℕ) → CanFill filled → paid_out filled t ≡ paid_out (without_knots filled) t
 all_handed_out filled t fits =
     let kept = filter (λ (p : Place). not p.dropped) filled.places in
-    total_is (λ r. pay_in filled.knots filled r t) kept
+    total_is (λ r. pay_with filled.knots filled r t) kept
     ∙ (knots_total filled.knots filled t fits.places.distinct fits.once fits.knots (all_tied filled fits filled.knots fits.knots)
     ∙ sym (total_is (λ r. plain_pay filled r t) kept))

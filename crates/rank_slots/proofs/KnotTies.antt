@@ -1,12 +1,12 @@
 -- The two rights of a knot on the line: the reserved one's cents stand ahead of the exercised one's.
-use Rattle.std.proofs.Common.{◌≡◌, ℕ, ◌+◌, ◌-◌, ◌≤◌, true, false, not, List, take, sym, ◌∙◌, subst, arith}
+use Rattle.std.proofs.Common.{◌≡◌, ℕ, ◌-◌, ◌≤◌, true, false, not, List, take, sym, ◌∙◌, subst, arith}
 use Rattle.std.proofs.lemmas.Bool.{both_ways, false_from_ne_true, not_from_false}
 use Rattle.gb_base.specs.RightNo.{RightNo, same_right}
 use Rattle.gb_base.proofs.SameRights.{right_is}
 use Rattle.rank_slots.specs.CanFill.{ArePlaces, CanKnot, CanTie}
 use Rattle.rank_slots.specs.CentLine.{cent_line, exchange_all, is_dropped, written}
 use Rattle.rank_slots.specs.Filled.{Filled, line}
-use Rattle.rank_slots.specs.Payments.{claim_of, plain_pay}
+use Rattle.rank_slots.specs.Payments.{claim_of, pay_exercised, plain_pay}
 use Rattle.rank_slots.specs.declared.places.Knot.{Knot}
 use Rattle.rank_slots.specs.declared.places.Place.{Place}
 use Rattle.rank_slots.specs.declared.places.Swap.{Swap}
@@ -75,8 +75,7 @@ reserved_grows filled k tied t u more =
     let longer = counted_longer (same_right k.reserved) t u (line filled) more in omega arith
 
 -- the exercised right gets no more than its claim
-pub exercised_within : (filled : Filled) (k : Knot) → AreTied filled k → (t : ℕ)
-    → plain_pay filled k.reserved t + plain_pay filled k.exercised t - plain_pay filled k.reserved (t - claim_of filled.places k.exercised) ≤ claim_of filled.places k.exercised
+pub exercised_within : (filled : Filled) (k : Knot) → AreTied filled k → (t : ℕ) → pay_exercised filled k t ≤ claim_of filled.places k.exercised
 exercised_within filled k tied t =
     let claim = claim_of filled.places k.exercised in
     let all = tied.claim in

@@ -1,7 +1,7 @@
 -- A further exchange leaves what third rights get.
-use Rattle.std.proofs.Common.{◌≡◌, ℕ, ◌+◌, ◌-◌, Bool, true, false, cond, not, List, [], ◌∷◌, ◌++◌, All, filter, take, sym, ap, ◌∙◌}
+use Rattle.std.proofs.Common.{◌≡◌, ℕ, ◌+◌, ◌-◌, Bool, true, false, cond, not, Option, Some, None, List, [], ◌∷◌, ◌++◌, filter, take, refl, sym, ap, ◌∙◌}
 use Rattle.std.proofs.lemmas.Bool.{not_from_false, or_parts}
-use Rattle.std.proofs.lemmas.List.Elements.{All-contains, All-head, All-tail, Contains-push}
+use Rattle.std.proofs.lemmas.List.Elements.{All-contains, Contains-push}
 use Rattle.std.proofs.lemmas.List.Folds.{list_any-append}
 use Rattle.std.proofs.lemmas.List.Sums.{fold_push}
 use Rattle.gb_base.specs.RightNo.{RightNo, same_right}
@@ -9,11 +9,12 @@ use Rattle.rank_slots.specs.CanFill.{CanFill, CanKnot, CanSwap, StandsAlone, is_
 use Rattle.rank_slots.specs.CentLine.{cent_line, cents_of, exchange, exchange_all, is_dropped, is_of_either, written}
 use Rattle.rank_slots.specs.Filled.{Filled, line, with_swap}
 use Rattle.rank_slots.specs.Groups.{group_of, keeps_place}
-use Rattle.rank_slots.specs.Payments.{claim_of, is_of_group, part_of, pay, pay_in, plain_pay}
+use Rattle.rank_slots.specs.Payments.{claim_of, is_of_group, knot_of, part_of, pay, pay_by, plain_pay}
 use Rattle.rank_slots.specs.declared.places.Knot.{Knot}
 use Rattle.rank_slots.specs.declared.places.Place.{Place}
 use Rattle.rank_slots.specs.declared.places.Swap.{Swap}
 use Rattle.rank_slots.proofs.GroupMembers.{apart_from_alone}
+use Rattle.rank_slots.proofs.KnotPay.{found_all}
 use Rattle.rank_slots.proofs.LineCounts.{counted, counted_is}
 use Rattle.rank_slots.proofs.LineSwaps.{PassesNeither, front_exchanged}
 use Rattle.rank_slots.proofs.PlaceLines.{AreDifferent, kept_undropped}
@@ -51,26 +52,23 @@ unswapped_last swaps s r none =
     let parts = or_parts (is_swapped swaps r) (is_swapped (s ∷ []) r) (sym (list_any-append (λ o. is_of_either o r) swaps (s ∷ [])) ∙ none) in
     (or_parts (is_of_either s r) false parts.1).0
 
-third_pay : (ks : List Knot) (filled : Filled) (s : Swap) (r : RightNo) (t : ℕ) → IsFurther filled.places s → All (CanKnot filled.places (filled.swaps ++ s ∷ [])) ks → is_of_either s r ≡ false
-    → pay_in ks (with_swap filled s) r t ≡ pay_in ks filled r t
-third_pay [] filled s r t further knots third = third_plain filled s r t further third
-third_pay (k ∷ ks) filled s r t further knots third =
-    let knot = All-head (CanKnot filled.places (filled.swaps ++ s ∷ [])) k ks knots in
+third_pay : (filled : Filled) (s : Swap) (r : RightNo) (t : ℕ) (knot : Option Knot) → IsFurther filled.places s → CanFill (with_swap filled s) → is_of_either s r ≡ false → knot_of filled.knots r ≡ knot
+    → pay_by knot (with_swap filled s) r t ≡ pay_by knot filled r t
+third_pay filled s r t None further fits third none = third_plain filled s r t further third
+third_pay filled s r t (Some k) further fits third found =
+    let knot = found_all (CanKnot filled.places (filled.swaps ++ s ∷ [])) filled.knots r k fits.knots found in
     let reserved = unswapped_last filled.swaps s k.reserved knot.reserved.unswapped in
-    let without = t - claim_of filled.places k.exercised in
-    let left = t - claim_of filled.places r in
-    let one = third_plain filled s r without further third in
+    let exercised = unswapped_last filled.swaps s k.exercised knot.exercised.unswapped in
+    let without = third_plain filled s k.reserved (t - claim_of filled.places k.exercised) further reserved in
     let first = third_plain filled s k.reserved t further reserved in
-    let last = third_plain filled s r t further third in
-    let behind = third_plain filled s k.reserved left further reserved in
-    let rest = third_pay ks filled s r t further (All-tail (CanKnot filled.places (filled.swaps ++ s ∷ [])) k ks knots) third in
-    λ i. cond (same_right k.reserved r) (one i) (cond (same_right k.exercised r) (first i + last i - behind i) (rest i))
+    let last = third_plain filled s k.exercised t further exercised in
+    λ i. cond (same_right k.reserved r) (without i) (first i + last i - without i)
 
 pub third_right : (filled : Filled) (s : Swap) (r : RightNo) (t : ℕ) → CanFill (with_swap filled s) → keeps_place filled.places s.recede ≡ true → keeps_place filled.places s.rise ≡ true
     → is_of_either s r ≡ false → pay (with_swap filled s) r t ≡ pay filled r t
 third_right filled s r t fits recede rise third =
     let own = All-contains (CanSwap filled.places) (filled.swaps ++ s ∷ []) s fits.swaps (Contains-push filled.swaps s) in
-    third_pay filled.knots filled s r t
+    third_pay filled s r t (knot_of filled.knots r)
     (record {
       differ = fits.places.distinct;
       recede = own.0;
@@ -78,4 +76,4 @@ third_right filled s r t fits recede rise third =
       recede_kept = kept_undropped s.recede filled.places fits.places.distinct recede;
       rise_kept = kept_undropped s.rise filled.places fits.places.distinct rise;
     })
-    fits.knots third
+    fits third refl

@@ -1,7 +1,8 @@
 -- Which places, exchanges and knots make a line.
-use Rattle.std.specs.Prelude.{◌≡◌, ◌<◌, ◌≤◌, Bool, true, false, ◌||◌, List, [], ◌∷◌, All, flat_map, length, sum_by}
+use Rattle.std.specs.Prelude.{◌≡◌, ◌<◌, ◌≤◌, Bool, true, false, List, [], ◌∷◌, All, flat_map, length, sum_by}
 use Rattle.std.specs.List.{IsDistinct, list_any}
 use Rattle.gb_base.specs.RightNo.{RightNo, same_right}
+use Rattle.rank_slots.specs.CentLine.{is_of_either}
 use Rattle.rank_slots.specs.Filled.{Filled}
 use Rattle.rank_slots.specs.Groups.{group_of, is_listed_ahead, joins, keeps_place}
 use Rattle.gb_base.specs.Limits.{most_sum}
@@ -29,7 +30,7 @@ CanSwap places s = StandsAlone places s.recede × StandsAlone places s.rise
 
 -- the right is one of those that are exchanged
 abbrev pub is_swapped : List Swap → RightNo → Bool
-is_swapped swaps right = list_any (λ s. same_right s.recede right || same_right s.rise right) swaps
+is_swapped swaps right = list_any (λ s. is_of_either s right) swaps
 
 -- the right stands alone, is not dropped, and is not exchanged
 pub record CanTie (places : List Place) (swaps : List Swap) (right : RightNo) : Type 0 where

@@ -27,11 +27,11 @@ exchanged s left (c ∷ cs) =
     then (if left == 0 then s.recede ∷ exchanged s 0 cs else s.rise ∷ exchanged s (left - 1) cs)
     else c ∷ exchanged s left cs
 
--- the line behind one exchange (BGB § 880)
+-- the line after an exchange (BGB § 880)
 abbrev pub exchange : List RightNo → Swap → List RightNo
 exchange line s = exchanged s (cents_of s.rise line) line
 
--- the line behind these exchanges, one after the other
+-- the line after these exchanges, which are made one after the other
 abbrev pub exchange_all : List RightNo → List Swap → List RightNo
 exchange_all line swaps = fold exchange line swaps
 
@@ -39,7 +39,7 @@ exchange_all line swaps = fold exchange line swaps
 abbrev pub is_dropped : List Place → RightNo → Bool
 is_dropped places right = list_any (λ p. is_of right p && p.dropped) places
 
--- the cent line: the claims behind all exchanges, and the cents of dropped places taken out last
+-- the cent line: the claims after all exchanges, and the cents of dropped places taken out last
 unfoldable pub cent_line : List Place → List Swap → List RightNo
 cent_line places swaps = filter (λ c. not (is_dropped places c)) (exchange_all (written places) swaps)
 

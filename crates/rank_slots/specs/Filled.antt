@@ -16,7 +16,7 @@ pub record Filled : Type 0 where
 abbrev pub line : Filled → List RightNo
 line filled = cent_line filled.places filled.swaps
 
--- the same with one exchange more, behind the others
+-- the same with one exchange more, after the others
 abbrev pub with_swap : Filled → Swap → Filled
 with_swap filled s = record { places = filled.places; swaps = filled.swaps ++ s ∷ []; knots = filled.knots }
 
@@ -24,12 +24,14 @@ with_swap filled s = record { places = filled.places; swaps = filled.swaps ++ s 
 abbrev pub without_knots : Filled → Filled
 without_knots filled = record { places = filled.places; swaps = filled.swaps; knots = [] }
 
--- nothing
+-- a line without places
 abbrev pub empty : Filled
 empty = record { places = []; swaps = []; knots = [] }
 
--- the slots of a line: how many places and exchanges they have room for, and what they were filled with
+-- the slots of a line: how many places and exchanges they have room for, what they were filled with, and for how many elements
+-- their lists have memory
 pub record SlotsState : Type 0 where
   pub place_room : ℕ
   pub swap_room : ℕ
   pub filled : Filled
+  pub capacity : ℕ

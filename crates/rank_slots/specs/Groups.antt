@@ -28,6 +28,10 @@ groups (p ∷ ps) = if joins ps then with_first p (groups ps) else (p ∷ []) �
 abbrev pub group_of : List Place → RightNo → List Place
 group_of places right = option_map_or (λ g. g) (find (list_any (is_of right)) (groups places)) []
 
+-- right y is of right x's group
+abbrev pub shares_group : List Place → RightNo → RightNo → Bool
+shares_group places x y = list_any (is_of y) (group_of places x)
+
 -- the right has a place here that is not dropped
 abbrev pub keeps_place : List Place → RightNo → Bool
 keeps_place places right = list_any (λ p. is_of right p && not p.dropped) places

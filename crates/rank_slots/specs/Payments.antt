@@ -1,5 +1,5 @@
 -- What each right gets of a sum that is paid along the cent line (BGB §§ 879, 881).
-use Rattle.std.specs.Prelude.{ℕ, ◌+◌, ◌-◌, Bool, ◌==◌, not, if◌then◌else◌, List, [], ◌∷◌, count_by, filter, find, length, map, sum_by, take}
+use Rattle.std.specs.Prelude.{ℕ, ◌+◌, ◌-◌, Bool, ◌==◌, ◌||◌, not, if◌then◌else◌, List, [], ◌∷◌, Option, Some, None, count_by, filter, find, length, map, sum_by, take}
 use Rattle.std.specs.List.{list_any, position_or_len, prefix_len, range_with_len}
 use Rattle.std.specs.Option.{option_map_or}
 use Rattle.gb_base.specs.RightNo.{RightNo, same_right}
@@ -27,19 +27,26 @@ plain_pay filled right t =
 abbrev pub claim_of : List Place → RightNo → ℕ
 claim_of places right = option_map_or (λ p. p.claim) (find (is_of right) places) 0
 
--- What a right gets of the first t cents. The reserved right of a knot gets what it would, knots apart, of a sum that is smaller
--- by the exercised one's claim; the exercised one gets what is left of both (BGB § 881).
-abbrev pub pay_in : List Knot → Filled → RightNo → ℕ → ℕ
-pay_in [] filled right t = plain_pay filled right t
-pay_in (k ∷ ks) filled right t =
-    if same_right k.reserved right then plain_pay filled right (t - claim_of filled.places k.exercised)
-    else (if same_right k.exercised right
-    then plain_pay filled k.reserved t + plain_pay filled right t - plain_pay filled k.reserved (t - claim_of filled.places right)
-    else pay_in ks filled right t)
+-- the knot that ties the right, if one does
+abbrev pub knot_of : List Knot → RightNo → Option Knot
+knot_of knots right = find (λ k. same_right k.reserved right || same_right k.exercised right) knots
 
--- the same with all its knots
+-- what the reserved right of a knot gets: what it would, knots apart, of a sum that is smaller by the exercised one's claim
+abbrev pub pay_reserved : Filled → Knot → ℕ → ℕ
+pay_reserved filled k t = plain_pay filled k.reserved (t - claim_of filled.places k.exercised)
+
+-- what the exercised right gets: what both get knots apart, less what the reserved one gets (BGB § 881(4))
+abbrev pub pay_exercised : Filled → Knot → ℕ → ℕ
+pay_exercised filled k t = plain_pay filled k.reserved t + plain_pay filled k.exercised t - pay_reserved filled k t
+
+-- what a right gets by the knot that ties it, if one does
+abbrev pub pay_by : Option Knot → Filled → RightNo → ℕ → ℕ
+pay_by None filled right t = plain_pay filled right t
+pay_by (Some k) filled right t = if same_right k.reserved right then pay_reserved filled k t else pay_exercised filled k t
+
+-- what a right gets of the first t cents of the line (BGB §§ 879, 881(4))
 abbrev pub pay : Filled → RightNo → ℕ → ℕ
-pay filled right t = pay_in filled.knots filled right t
+pay filled right t = pay_by (knot_of filled.knots right) filled right t
 
 -- what all rights get together of the first t cents
 abbrev pub paid_out : Filled → ℕ → ℕ
@@ -49,7 +56,8 @@ paid_out filled t = sum_by (λ p. pay filled p.right t) (filter (λ p. not p.dro
 abbrev pub cents_ahead : List Place → List RightNo → ℕ
 cents_ahead group line = position_or_len (is_of_group group) line
 
--- the greatest sum up to which a right gets nothing
+-- The greatest sum up to which a right gets nothing. It looks no further than the line's length: of that sum each right that
+-- stands alone, and is not dropped, gets something.
 abbrev pub empty_up_to : Filled → RightNo → ℕ
 empty_up_to filled right = prefix_len (λ t. pay filled right t == 0) (range_with_len 1 (length (line filled)))
 

@@ -1,9 +1,9 @@
 -- Which of two rights stands ahead of the other.
-use Rattle.std.specs.Prelude.{Bool, ◌&&◌, ◌||◌, if◌then◌else◌, List, fold, Option, Some, None}
-use Rattle.std.specs.List.{list_any}
+use Rattle.std.specs.Prelude.{Bool, ◌&&◌, ◌||◌, if◌then◌else◌, List, filter, Option, Some, None}
+use Rattle.std.specs.List.{last_or, list_any}
 use Rattle.gb_base.specs.RightNo.{RightNo, same_right}
 use Rattle.rank_slots.specs.Filled.{Filled}
-use Rattle.rank_slots.specs.Groups.{group_of, is_listed_ahead, is_of}
+use Rattle.rank_slots.specs.Groups.{is_listed_ahead, shares_group}
 use Rattle.rank_slots.specs.declared.places.Knot.{Knot}
 use Rattle.rank_slots.specs.declared.places.Place.{Place}
 use Rattle.rank_slots.specs.declared.places.Swap.{Swap}
@@ -18,15 +18,15 @@ is_exercised_over knots x y = list_any (λ k. same_right k.exercised x && same_r
 abbrev pub swaps_both : RightNo → RightNo → Swap → Bool
 swaps_both x y s = (same_right s.recede x && same_right s.rise y) || (same_right s.recede y && same_right s.rise x)
 
--- the last exchange of just these two
+-- the last of the exchanges of just these two
 abbrev pub last_between : RightNo → RightNo → List Swap → Option Swap
-last_between x y swaps = fold (λ before s. if swaps_both x y s then Some s else before) None swaps
+last_between x y swaps = last_or None (filter (swaps_both x y) swaps)
 
 -- by an exchange the rising right is ahead; without one those of one group are equal, and else the place decides
 abbrev pub relation_by : Option Swap → List Place → RightNo → RightNo → Relation
 relation_by (Some s) places x y = if same_right s.rise x then Ahead else Behind
 relation_by None places x y =
-    if list_any (is_of y) (group_of places x) then Equal
+    if shares_group places x y then Equal
     else (if is_listed_ahead places x y then Ahead else Behind)
 
 -- How right x stands to right y: a knot of the two puts the exercised one ahead (BGB § 881), else their last exchange decides

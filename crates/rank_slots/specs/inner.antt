@@ -1,4 +1,3 @@
 -- What private clauses alone say.
-pub mod Knots
 pub mod Pieces
 pub mod Slots

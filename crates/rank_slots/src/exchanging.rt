@@ -37,6 +37,7 @@ pub(crate) fn exchange_all(pieces: &mut Vec<Piece>, spare: &mut Vec<Piece>, swap
     ensures len { vec_len pieces.new ≤ vec_len pieces.old + length swaps.now }
     ensures sum { sum_by (λ p. p.cents) pieces.new.items < most_sum }
     ensures capacity { min (vec_capacity pieces.new) (vec_capacity spare.new) ≡ min (vec_capacity pieces.old) (vec_capacity spare.old) }
+    ensures memory { vec_capacity pieces.new + vec_capacity spare.new ≡ vec_capacity pieces.old + vec_capacity spare.old }
 {
     for swap in swaps {
         exchange(pieces, spare, *swap);

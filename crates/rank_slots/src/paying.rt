@@ -6,8 +6,7 @@ ghost use Rattle.rank_slots.specs.CanFill.{CanFill, CanKnot, StandsAlone};
 ghost use Rattle.rank_slots.specs.Groups.{is_of, keeps_place};
 ghost use Rattle.gb_base.specs.Limits.{most_sum};
 ghost use Rattle.rank_slots.specs.Limits.{most_places};
-ghost use Rattle.rank_slots.specs.Payments.{claim_of, part_of, pay, plain_pay};
-ghost use Rattle.rank_slots.specs.inner.Knots.{knot_of, left_of_both};
+ghost use Rattle.rank_slots.specs.Payments.{claim_of, knot_of, part_of, pay, pay_exercised, pay_reserved, plain_pay};
 
 use crate::groups::{group_of, places_ahead};
 use crate::pieces::cents_within;
@@ -21,30 +20,36 @@ pub(crate) const MOST_PLACES: usize = 256;
 impl Slots {
     /// How many of the first t cents the right gets. One of a group gets its share of the group's
     /// cents; the reserved right of a knot gets what it would, knots apart, of a sum that is
-    /// smaller by the exercised one's claim, and the exercised one what is left of both (BGB § 881).
+    /// smaller by the exercised one's claim, and the exercised one what is left of both
+    /// (BGB § 881(4)).
     pub fn pay(&self, right: RightId, t: u64) -> u64
-        requires { keeps_place self.now.filled.places right ≡ true }
-        ensures { result ≡ pay self.now.filled right t }
+        requires kept { keeps_place self.now.filled.places right ≡ true }
+        ensures value { result ≡ pay self.now.filled right t }
     {
         match self.knot_of(right) {
             None => self.plain_pay(right, t),
-            Some(knot) if knot.reserved == right => {
-                self.plain_pay(right, t.saturating_sub(self.claim_of(knot.exercised)))
-            }
+            Some(knot) if knot.reserved == right => self.pay_reserved(knot, t),
             Some(knot) => self.pay_exercised(knot, t),
         }
+    }
+
+    /// What the reserved right of a knot gets.
+    fn pay_reserved(&self, knot: Knot, t: u64) -> u64
+        requires { CanKnot self.now.filled.places self.now.filled.swaps knot }
+        ensures { result ≡ pay_reserved self.now.filled knot t }
+    {
+        let without = t.saturating_sub(self.claim_of(knot.exercised));
+        self.plain_pay(knot.reserved, without)
     }
 
     /// What the exercised right of a knot gets.
     fn pay_exercised(&self, knot: Knot, t: u64) -> u64
         requires fits { CanFill self.now.filled }
         requires knot { CanKnot self.now.filled.places self.now.filled.swaps knot }
-        ensures { result ≡ left_of_both self.now.filled knot t }
+        ensures { result ≡ pay_exercised self.now.filled knot t }
     {
-        let reserved = knot.reserved;
-        let without = t.saturating_sub(self.claim_of(knot.exercised));
-        self.plain_pay(reserved, t) + self.plain_pay(knot.exercised, t)
-            - self.plain_pay(reserved, without)
+        self.plain_pay(knot.reserved, t) + self.plain_pay(knot.exercised, t)
+            - self.pay_reserved(knot, t)
     }
 
     /// The knot of this right.

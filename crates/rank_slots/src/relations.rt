@@ -23,7 +23,7 @@ impl Slots {
     pub fn relation(&self, x: RightId, y: RightId) -> Relation
         requires x { keeps_place self.now.filled.places x ≡ true }
         requires y { keeps_place self.now.filled.places y ≡ true }
-        ensures { result ≡ relation self.now.filled x y }
+        ensures value { result ≡ relation self.now.filled x y }
     {
         if is_exercised_over(&self.knots, x, y) {
             Relation::Ahead
@@ -48,14 +48,13 @@ fn is_exercised_over(knots: &[Knot], x: RightId, y: RightId) -> bool
 fn last_between(swaps: &[Swap], x: RightId, y: RightId) -> Option<Swap>
     ensures { result ≡ last_between x y swaps.now }
 {
-    swaps.iter().fold(
-        None,
-        |before, swap| if swaps_both(x, y, *swap) {
-            Some(*swap)
-        } else {
-            before
-        },
-    )
+    let mut last = None;
+    for swap in swaps {
+        if swaps_both(x, y, *swap) {
+            last = Some(*swap);
+        }
+    }
+    last
 }
 
 /// Whether the exchange is of just these two.

@@ -16,7 +16,8 @@ use std::marker::Model;
 use std::mem;
 
 /// The cent line of a list of places, in pieces: the claims stand one behind the other, so that a
-/// sum is paid along it. In contracts it is what it was filled with, and how much it has room for.
+/// sum is paid along it. In contracts it is what it was filled with, what it has room for, and how
+/// much memory its lists have.
 #[derive(Debug, Drop)]
 pub struct Slots {
     place_room: usize,
@@ -31,18 +32,22 @@ pub struct Slots {
 }
 
 impl Model for Slots {
-    ghost use Rattle.std.specs.Prelude.{vec_capacity};
+    ghost use Rattle.std.specs.Prelude.{◌+◌, vec_capacity};
     ghost use Rattle.rank_slots.specs.Filled.{SlotsState};
     ghost use Rattle.rank_slots.specs.inner.Slots.{HasRoom, IsFilled};
 
     ghost Value = { SlotsState };
 
-    ghost view = { λ a. record { place_room = a.place_room; swap_room = a.swap_room; filled = record { places = a.places.items; swaps = a.swaps.items; knots = a.knots.items } } };
+    ghost view = { λ a. record {
+      place_room = a.place_room;
+      swap_room = a.swap_room;
+      filled = record { places = a.places.items; swaps = a.swaps.items; knots = a.knots.items };
+      capacity = vec_capacity a.places + vec_capacity a.swaps + vec_capacity a.knots + vec_capacity a.pieces + vec_capacity a.spare;
+    } };
 
     ghost invariant = { λ a.
-        IsFilled (record { place_room = a.place_room; swap_room = a.swap_room; filled = record { places = a.places.items; swaps = a.swaps.items; knots = a.knots.items } }) a.pieces.items
-        × HasRoom (record { place_room = a.place_room; swap_room = a.swap_room; filled = record { places = a.places.items; swaps = a.swaps.items; knots = a.knots.items } })
-        (vec_capacity a.places) (vec_capacity a.swaps) (vec_capacity a.knots) (vec_capacity a.pieces) (vec_capacity a.spare) };
+        IsFilled (record { places = a.places.items; swaps = a.swaps.items; knots = a.knots.items }) a.pieces.items
+        × HasRoom a.place_room a.swap_room (vec_capacity a.places) (vec_capacity a.swaps) (vec_capacity a.knots) (vec_capacity a.pieces) (vec_capacity a.spare) };
 }
 
 impl Slots {
@@ -73,6 +78,7 @@ impl Slots {
         ensures filled { self.new.filled ≡ record { places = places.now; swaps = swaps.now; knots = knots.now } }
         ensures place_room { self.new.place_room ≡ self.old.place_room }
         ensures swap_room { self.new.swap_room ≡ self.old.swap_room }
+        ensures memory { self.new.capacity ≡ self.old.capacity }
     {
         copy_into(&mut self.places, places);
         copy_into(&mut self.swaps, swaps);
@@ -94,7 +100,7 @@ impl Slots {
     /// The places of equal rank with this right's, itself among them, in order; none where it has
     /// no place here.
     pub fn group(&self, right: RightId) -> &[Place]
-        ensures { result.now ≡ group_of self.now.filled.places right }
+        ensures value { result.now ≡ group_of self.now.filled.places right }
     {
         group_of(&self.places, right)
     }

@@ -111,8 +111,8 @@ fn exchanges_are_made_in_turn(rt: HostRuntime) -> Result<(), Fail> {
 fn a_group_shares_its_cents(rt: HostRuntime) -> Result<(), Fail> {
     let places = [
         place(&rt, 1, 5),
-        place(&rt, 2, 1),
-        joined(&rt, 3, 1),
+        place(&rt, 2, 2),
+        joined(&rt, 3, 2),
         joined(&rt, 4, 1),
         place(&rt, 5, 9),
     ];
@@ -122,8 +122,8 @@ fn a_group_shares_its_cents(rt: HostRuntime) -> Result<(), Fail> {
         &slots,
         &[
             piece(&rt, 1, 5),
-            piece(&rt, 2, 1),
-            piece(&rt, 3, 1),
+            piece(&rt, 2, 2),
+            piece(&rt, 3, 2),
             piece(&rt, 4, 1),
             piece(&rt, 5, 9),
         ],
@@ -131,6 +131,7 @@ fn a_group_shares_its_cents(rt: HostRuntime) -> Result<(), Fail> {
     assert_eq!(rt; paid(&rt, &slots, right(&rt, 2), 7), 1);
     assert_eq!(rt; paid(&rt, &slots, right(&rt, 3), 7), 1);
     assert_eq!(rt; paid(&rt, &slots, right(&rt, 4), 7), 0);
+    assert_eq!(rt; paid(&rt, &slots, right(&rt, 2), 8), 2);
     assert_eq!(rt; threshold(&rt, &slots, right(&rt, 4)), 5);
     stands(&rt, &slots, 4, Relation::Equal, 2);
     stands(&rt, &slots, 4, Relation::Behind, 1);

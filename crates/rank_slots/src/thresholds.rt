@@ -14,8 +14,8 @@ impl Slots {
     /// The greatest sum, in cents, up to which the right gets nothing; for one of a group how many
     /// cents stand ahead of the group.
     pub fn threshold(&self, right: RightId) -> u64
-        requires { keeps_place self.now.filled.places right ≡ true }
-        ensures { result ≡ threshold self.now.filled right }
+        requires kept { keeps_place self.now.filled.places right ≡ true }
+        ensures value { result ≡ threshold self.now.filled right }
     {
         match self.knot_of(right) {
             None => self.cents_ahead(right),

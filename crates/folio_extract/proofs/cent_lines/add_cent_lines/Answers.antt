@@ -35,7 +35,7 @@ loop-first-preserved c =
     let whole = string_bytes c.args.text.now ++ line_text c.args.slots.now.filled in
     let first = sym c.first.ensures.value ∙ ap option_copied c.in-Some.is in
     let cents = c.total-cents.ensures ∙ ap cents_of c.split_at.ensures.front in
-    let added = c.in_ok-add_piece.ensures ∙ ap (λ g. old ++ piece_line c.loop-first.from c.total-cents.result g) c.group.ensures in
+    let added = c.in_ok-add_piece.ensures ∙ ap (λ g. old ++ piece_line c.loop-first.from c.total-cents.result g) c.group.ensures.value in
     subst (λ ps. WritesOn places new whole (c.loop-first.from + c.total-cents.result) ps) (sym c.split_at.ensures.back)
     (goes_on places old new whole c.loop-first.from c.total-cents.result c.loop-first.rest.now c.in-Some.first.now c.run_len.result first c.run_len.ensures.some c.run_len.ensures.value
     cents added c.loop-first.invariant)

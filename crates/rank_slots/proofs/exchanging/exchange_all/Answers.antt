@@ -22,4 +22,5 @@ loop-swap-preserved c =
       few = omega (arith, ap vec_len c.swap.ensures.x_after);
       sum = ap (λ v. sum_by (λ p. p.cents) v.items) c.swap.ensures.x_after ∙ c.exchange.ensures.sum ∙ ap (λ ps. sum_by (λ p. p.cents) ps) c.deref.ensures.value ∙ c.loop-swap.invariant.sum;
       capacity = omega (arith, ap vec_capacity c.swap.ensures.x_after, ap vec_capacity c.swap.ensures.y_after);
+      memory = omega (arith, ap vec_capacity c.swap.ensures.x_after, ap vec_capacity c.swap.ensures.y_after);
     }

@@ -11,4 +11,5 @@ invariant-loop-swap l = record {
   few : vec_len l.pieces ≤ vec_len l.fn.pieces + l.swap-index;
   sum : sum_by (λ p. p.cents) l.pieces.items ≡ sum_by (λ p. p.cents) l.fn.pieces.items;
   capacity : min (vec_capacity l.pieces) (vec_capacity l.spare) ≡ min (vec_capacity l.fn.pieces) (vec_capacity l.fn.spare);
+  memory : vec_capacity l.pieces + vec_capacity l.spare ≡ vec_capacity l.fn.pieces + vec_capacity l.fn.spare;
 }

@@ -8,7 +8,7 @@ use Rattle.rank_slots.proofs.slots.Slots.cents_ahead.Goals as goal
 
 pub returns-clause-value : goal.returns-clause-value
 returns-clause-value c =
-    let is : IsFilled c.args.self.now c.self.inside.pieces.items = subst (λ s. IsFilled s c.self.inside.pieces.items) c.self.view_is c.self.invariant.0 in
+    let is : IsFilled c.args.self.now.filled c.self.inside.pieces.items = subst (λ s. IsFilled s.filled c.self.inside.pieces.items) c.self.view_is c.self.invariant.0 in
     let places = c.deref-2.ensures.value ∙ ap (λ (s : SlotsState). s.filled.places) c.self.view_is in
     let group = c.group_of.ensures ∙ ap (λ ps. group_of ps c.args.right) places in
     let whole = ap line_of c.deref.ensures.value ∙ is.line in

@@ -4,7 +4,7 @@ use Rattle.std.proofs.lemmas.Iterator.Search.{find_from_yields_List}
 use Rattle.gb_base.specs.RightNo.{same_right}
 use Rattle.rank_slots.specs.CanFill.{CanFill}
 use Rattle.rank_slots.specs.Filled.{SlotsState}
-use Rattle.rank_slots.specs.inner.Knots.{knot_of}
+use Rattle.rank_slots.specs.Payments.{knot_of}
 use Rattle.rank_slots.proofs.slots.Slots.knot_of.Goals as goal
 
 pub returns-clause-value : goal.returns-clause-value

@@ -1,4 +1,5 @@
-use Rattle.std.proofs.Common.{◌≤◌, arith}
+use Rattle.std.proofs.Common.{◌-◌, ◌≤◌, arith}
+use Rattle.rank_slots.specs.Payments.{claim_of}
 use Rattle.rank_slots.proofs.KnotTies.{are_tied, reserved_grows}
 use Rattle.rank_slots.proofs.slots.Slots.pay_exercised.Goals as goal
 
@@ -11,8 +12,9 @@ overflow_add-result c =
 pub overflow_sub-result : goal.overflow_sub-result
 overflow_sub-result c =
     let tied = are_tied c.args.self.now.filled c.args.knot c.requires.fits.places c.requires.knot in
-    let less : c.saturating_sub-without.result ≤ c.args.t = omega (arith, c.saturating_sub-without.ensures) in
-    let grows = reserved_grows c.args.self.now.filled c.args.knot tied c.saturating_sub-without.result c.args.t less in
+    let without = c.args.t - claim_of c.args.self.now.filled.places c.args.knot.exercised in
+    let less : without ≤ c.args.t = omega arith in
+    let grows = reserved_grows c.args.self.now.filled c.args.knot tied without c.args.t less in
     let first = c.plain_pay.ensures.value in
-    let without = c.plain_pay-3.ensures.value in
+    let reserved = c.pay_reserved.ensures in
     omega arith

@@ -7,7 +7,7 @@ use Rattle.rank_slots.proofs.slots.Slots.plain_pay.Goals as goal
 
 pub part_of-requires : goal.part_of-requires
 part_of-requires c =
-    let is : IsFilled c.args.self.now c.self.inside.pieces.items = subst (λ s. IsFilled s c.self.inside.pieces.items) c.self.view_is c.self.invariant.0 in
+    let is : IsFilled c.args.self.now.filled c.self.inside.pieces.items = subst (λ s. IsFilled s.filled c.self.inside.pieces.items) c.self.view_is c.self.invariant.0 in
     let fit =
     read_group c.args.self.now.filled c.deref.result.now c.group_of-group.result.now c.args.right
     (c.deref.ensures.value ∙ ap (λ (s : SlotsState). s.filled.places) c.self.view_is) c.group_of-group.ensures is.fits.places c.requires in
@@ -15,7 +15,7 @@ part_of-requires c =
 
 pub returns-clause-value : goal.returns-clause-value
 returns-clause-value c =
-    let is : IsFilled c.args.self.now c.self.inside.pieces.items = subst (λ s. IsFilled s c.self.inside.pieces.items) c.self.view_is c.self.invariant.0 in
+    let is : IsFilled c.args.self.now.filled c.self.inside.pieces.items = subst (λ s. IsFilled s.filled c.self.inside.pieces.items) c.self.view_is c.self.invariant.0 in
     read_pay c.args.self.now.filled c.deref.result.now c.group_of-group.result.now c.deref-2.result.now c.args.right c.args.t c.cents_within.result c.part_of.result
     (c.deref.ensures.value ∙ ap (λ (s : SlotsState). s.filled.places) c.self.view_is) c.group_of-group.ensures
     (ap line_of c.deref-2.ensures.value ∙ is.line) c.cents_within.ensures.value c.part_of.ensures

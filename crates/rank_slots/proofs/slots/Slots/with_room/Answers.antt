@@ -1,4 +1,4 @@
--- Empty slots are filled with nothing.
+-- Empty slots have a line without places.
 use Rattle.std.proofs.Common.{◌≡◌, ◌+◌, ◌<◌, arith, ap, subst, sum_by, sym, ◌∙◌}
 use Rattle.std.proofs.lemmas.Grind.{common_steps}
 use Rattle.rank_slots.specs.CanFill.{CanFill}
