@@ -14,14 +14,14 @@ ghost use Rattle.folio_sections.specs.declared.entries.Entry.{Entry};
 
 /// The empty register is a kept one (`Kept`).
 pub fn empty_register_is_kept()
-    ensures { (journal : List Receipt) → Kept journal (λ _. []) }
+    ensures kept { (journal : List Receipt) → Kept journal (λ _. []) }
 {}
 
 /// In every kept register rights stand in the order of their filings and groups, whether they are
 /// live or not: the one that is ahead by places and days is the one of the earlier filing, or of
 /// the smaller group in one filing (BGB § 879, GBO § 45).
 pub fn kept_order()
-    ensures { (journal : List Receipt) (at : Key → List Entry) (folio : ℕ) (x y : RightNo) (a b : Created)
+    ensures order { (journal : List Receipt) (at : Key → List Entry) (folio : ℕ) (x y : RightNo) (a b : Created)
         → IsJournal journal → Kept journal at → created (at (Right folio x)) ≡ Some a → created (at (Right folio y)) ≡ Some b
         → is_ahead (places journal at folio) (ranked x a) (ranked y b) ≡ is_filed_ahead (ranked x a) (ranked y b) }
 {}

@@ -26,7 +26,7 @@ pub fn state<P: Parts>(
     filing: ReceiptNo,
 ) -> FilingState
     requires held { filing < item → (k : Key) → Contains (keys_of_filing journal.now.receipts filing) k → IsTrue (P.holds parts.now k) }
-    ensures { result ≡ state_of journal.now.receipts filing item (P.at parts.now) }
+    ensures value { result ≡ state_of journal.now.receipts filing item (P.at parts.now) }
 {
     if filing < item {
         state_by(waits_until(parts, journal, filing))

@@ -1,9 +1,13 @@
 -- The keys of the filings of a journal, and those of an item that is about one.
-use Rattle.std.proofs.Common.{◌≡◌, ℕ, zero, suc, ◌+◌, ◌-◌, ◌<◌, ◌≤◌, eqb, true, false, cond, nat_le, nat_lt, List, [], ◌∷◌, ◌++◌, length, Contains, IsSome, IsTrue, Option, Some, None, option_and_then, is_some, slice_get, refl, sym, ap, subst, arith}
+use Rattle.std.proofs.Common.{◌≡◌, ℕ, zero, suc, ◌+◌, ◌-◌, ◌<◌, ◌≤◌, eqb, true, false, cond, nat_le, nat_lt, List, [], ◌∷◌, ◌++◌, length, Contains, IsSome, IsTrue, Option, Some, None, option_and_then, is_some, slice_get, refl, sym, ap, subst, ◌∙◌, ◌||◌, flat_map, arith}
+use Rattle.std.specs.List.{range_with_len}
 use Rattle.std.specs.Option.{option_map_or}
-use Rattle.std.proofs.lemmas.Bool.{false≢true}
-use Rattle.std.proofs.lemmas.Bool.Decides.{nat_tests}
-use Rattle.std.proofs.lemmas.List.Elements.{Contains-append_left, Contains-append_right}
+use Rattle.std.proofs.lemmas.Bool.{false≢true, or_left, or_right}
+use Rattle.std.proofs.lemmas.Bool.Decides.{nat_tests, same_from_decides}
+use Rattle.std.proofs.lemmas.Grind.{flat_map-append}
+use Rattle.std.proofs.lemmas.List.{append-nil}
+use Rattle.std.proofs.lemmas.List.Folds.{list_any-append}
+use Rattle.gb_base.specs.Keys.{same_key}
 use Rattle.gb_base.specs.declared.keys.Key.{Key}
 use Rattle.act_model.proofs.KeyOrder.{has_decides, in_key_order_members}
 use Rattle.act_model.specs.Receiving.{receipt_at}
@@ -12,9 +16,10 @@ use Rattle.act_model.specs.declared.items.Item.{Item}
 use Rattle.act_model.specs.declared.items.Item.TheVariants as item
 use Rattle.act_model.specs.declared.receipts.Receipt.{Receipt}
 use Rattle.folio_sections.specs.Held.{is_given}
+use Rattle.registrar.proofs.Registering.{range_more}
 use Rattle.registrar.proofs.StepLemmas.{keys_are}
 use Rattle.registrar.proofs.WaitingStates.{is_a_filing}
-use Rattle.registrar.specs.ItemKeys.{keys_by_item, keys_of_item, keys_of_named}
+use Rattle.registrar.specs.ItemKeys.{keys_by_item, keys_of_filings, keys_of_item, keys_of_named}
 use Rattle.registrar.specs.inner.Named.{filing_named}
 
 -- ---- no filing is beyond the journal
@@ -35,27 +40,74 @@ filed_within journal m =
       | false ↦ λ there. let within = got_within journal (m - 1) (received (slice_get journal (m - 1)) there) in omega arith
     ]
 
-pub keys_within : (journal : List Receipt) (m : ℕ) (k : Key) → Contains (keys_of_filing journal m) k → m ≤ length journal
+keys_within : (journal : List Receipt) (m : ℕ) (k : Key) → Contains (keys_of_filing journal m) k → m ≤ length journal
 keys_within journal m k there = filed_within journal m (is_a_filing journal m k there)
 
 -- nothing has the number 0
-pub no_keys_of_none : (journal : List Receipt) (m : ℕ) (k : Key) → m ≤ 0 → Contains (keys_of_filing journal m) k → ⊥
+no_keys_of_none : (journal : List Receipt) (m : ℕ) (k : Key) → m ≤ 0 → Contains (keys_of_filing journal m) k → ⊥
 no_keys_of_none journal m k least there =
     let none : m ≡ 0 = omega arith in
     omega (arith, (subst (λ n. Contains (keys_of_filing journal n) k) none there).1)
 
 -- ---- the keys that are gathered
 
-given : (keys : List Key) (k : Key) → Contains keys k → IsTrue (is_given keys k)
-given keys k there = (has_decides k keys).1 there
+-- a key is among those in order just where it is among all of them
+given_in_order : (journal : List Receipt) (m : ℕ) (k : Key) → is_given (keys_in_order journal m) k ≡ is_given (keys_of_filing journal m) k
+given_in_order journal m k =
+    let members = in_key_order_members (keys_of_filing journal m) k in
+    let ordered = has_decides k (keys_in_order journal m) in
+    same_from_decides (is_given (keys_in_order journal m) k) (is_given (keys_of_filing journal m) k)
+    (λ is. members.0 (ordered.0 is), λ there. ordered.1 (members.1 there)) (has_decides k (keys_of_filing journal m))
 
-pub given_before : (keys more : List Key) (k : Key) → IsTrue (is_given keys k) → IsTrue (is_given (keys ++ more) k)
-given_before keys more k there = given (keys ++ more) k (Contains-append_left keys more k ((has_decides k keys).0 there))
+-- the keys of the first so many filings
+abbrev pub keys_of_first : List Receipt → ℕ → List Key
+keys_of_first journal i = flat_map (keys_of_filing journal) (range_with_len 1 i)
 
-pub given_now : (journal : List Receipt) (m : ℕ) (keys more : List Key) (k : Key) → more ≡ keys_in_order journal m → Contains (keys_of_filing journal m) k → IsTrue (is_given (keys ++ more) k)
-given_now journal m keys more k all there =
-    given (keys ++ more) k (Contains-append_right keys more k
-    (subst (λ ks. Contains ks k) (sym all) ((in_key_order_members (keys_of_filing journal m) k).1 there)))
+first_and_next : (journal : List Receipt) (i : ℕ) → keys_of_first journal (i + 1) ≡ keys_of_first journal i ++ keys_of_filing journal (i + 1)
+first_and_next journal i =
+    ap (flat_map (keys_of_filing journal)) (range_more 1 i)
+    ∙ flat_map-append (keys_of_filing journal) (range_with_len 1 i) ((1 + i) ∷ [])
+    ∙ ap (λ ks. keys_of_first journal i ++ ks) (append-nil (keys_of_filing journal (1 + i)) ∙ ap (keys_of_filing journal) (omega arith))
+
+-- and of one more
+pub given_next : (journal : List Receipt) (i m : ℕ) (keys more all : List Key) → m ≡ i + 1 → more ≡ keys_in_order journal m → all ≡ keys ++ more
+    → ((k : Key) → is_given keys k ≡ is_given (keys_of_first journal i) k) → (k : Key) → is_given all k ≡ is_given (keys_of_first journal (i + 1)) k
+given_next journal i m keys more all next here both so_far k =
+    let now : is_given more k ≡ is_given (keys_of_filing journal (i + 1)) k =
+    ap (λ ks. is_given ks k) here ∙ given_in_order journal m k ∙ ap (λ n. is_given (keys_of_filing journal n) k) next in
+    ap (λ ks. is_given ks k) both
+    ∙ list_any-append (λ j. same_key j k) keys more
+    ∙ ap (λ b. b || is_given more k) (so_far k)
+    ∙ ap (λ b. is_given (keys_of_first journal i) k || b) now
+    ∙ sym (list_any-append (λ j. same_key j k) (keys_of_first journal i) (keys_of_filing journal (i + 1)))
+    ∙ ap (λ ks. is_given ks k) (sym (first_and_next journal i))
+
+-- the keys of all filings are those of as many as the journal has receipts
+pub all_given : (journal : List Receipt) (n : ℕ) (k : Key) → n ≡ length journal → is_given (keys_of_first journal n) k ≡ is_given (keys_of_filings journal) k
+all_given journal n k count =
+    let last : n ≡ (length journal + 1) - 1 = omega (arith, count) in
+    ap (λ i. is_given (keys_of_first journal i) k) last
+
+-- those of each filing are among them
+given_among : (journal : List Receipt) (m n : ℕ) (k : Key) → m ≤ n → Contains (keys_of_filing journal m) k → IsTrue (is_given (keys_of_first journal n) k)
+given_among journal m zero k within there = absurd (no_keys_of_none journal m k within there)
+given_among journal m (suc n) k within there =
+    let end : n + 1 ≡ suc n = omega arith in
+    subst (λ i. IsTrue (is_given (keys_of_first journal i) k)) end
+    (subst IsTrue (ap (λ ks. is_given ks k) (sym (first_and_next journal n)))
+    (subst IsTrue (sym (list_any-append (λ j. same_key j k) (keys_of_first journal n) (keys_of_filing journal (n + 1))))
+    (elim (nat_le m n) as (λ b. nat_le m n ≡ b → IsTrue (is_given (keys_of_first journal n) k || is_given (keys_of_filing journal (n + 1)) k)) [
+      | true ↦ λ earlier. or_left (is_given (keys_of_first journal n) k) (is_given (keys_of_filing journal (n + 1)) k)
+          (given_among journal m n k (grind (arith, nat_tests, earlier)) there)
+      | false ↦ λ later.
+          let last : m ≡ n + 1 = grind (arith, nat_tests, later, within) in
+          or_right (is_given (keys_of_first journal n) k) (is_given (keys_of_filing journal (n + 1)) k)
+          ((has_decides k (keys_of_filing journal (n + 1))).1 (subst (λ x. Contains (keys_of_filing journal x) k) last there))
+    ] refl)))
+
+pub given_of_filing : (journal : List Receipt) (m : ℕ) (k : Key) → Contains (keys_of_filing journal m) k → IsTrue (is_given (keys_of_filings journal) k)
+given_of_filing journal m k there =
+    subst IsTrue (all_given journal (length journal) k refl) (given_among journal m (length journal) k (keys_within journal m k there) there)
 
 -- ---- an item's keys are those of the filing that it is about
 
@@ -77,16 +129,3 @@ item_named journal i m k other is there = absurd (false≢true (ap is_some is))
 
 pub item_keys : (journal : List Receipt) (i m : ℕ) (k : Key) (r : Receipt) → receipt_at journal i ≡ Some r → filing_named i r.item ≡ Some m → Contains (keys_of_item journal i) k → Contains (keys_of_filing journal m) k
 item_keys journal i m k r is names there = item_named journal i m k r.item names (subst (λ ks. Contains ks k) (keys_are journal i r is) there)
-
--- the keys of the first so many filings, and of one more
-pub given_next : (journal : List Receipt) (i m : ℕ) (keys more all : List Key) → m ≡ i + 1 → more ≡ keys_in_order journal m → all ≡ keys ++ more
-    → ((n : ℕ) (k : Key) → n ≤ i → Contains (keys_of_filing journal n) k → IsTrue (is_given keys k))
-    → (n : ℕ) (k : Key) → n ≤ i + 1 → Contains (keys_of_filing journal n) k → IsTrue (is_given all k)
-given_next journal i m keys more all next here both so_far n k within there =
-    subst (λ ks. IsTrue (is_given ks k)) (sym both)
-    (elim (nat_le n i) as (λ b. nat_le n i ≡ b → IsTrue (is_given (keys ++ more) k)) [
-      | true ↦ λ earlier. given_before keys more k (so_far n k (grind (arith, nat_tests, earlier)) there)
-      | false ↦ λ later.
-          let last : n ≡ m = grind (arith, nat_tests, later, within, next) in
-          given_now journal m keys more k here (subst (λ x. Contains (keys_of_filing journal x) k) last there)
-    ] refl)

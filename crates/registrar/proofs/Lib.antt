@@ -3,6 +3,7 @@ pub mod ActReads
 pub mod Added
 pub mod Additions
 pub mod Agreeing
+pub mod AnsweredOnce
 pub mod ByItem
 pub mod CasesKept
 pub mod ContainedParts

@@ -6,14 +6,14 @@ use Rattle.registrar.specs.RegisterState.{verdict_among}
 use Rattle.registrar.specs.declared.verdicts.Verdict.{Verdict}
 
 -- none has a number below the first
-none_below : (vs : List Verdict) (a n : ℕ) → n < a → verdict_among (enumerate_from a vs) n ≡ None
+pub none_below : (vs : List Verdict) (a n : ℕ) → n < a → verdict_among (enumerate_from a vs) n ≡ None
 none_below [] a n below = refl
 none_below (v ∷ vs) a n below =
     let other : eqb a n ≡ false = grind (arith, nat_tests, below) in
     subst (λ b. option_map (λ (p : ℕ × Verdict). p.1) (cond b (Some (a, v)) (find (λ p. p.0 == n) (enumerate_from (a + 1) vs))) ≡ None) (sym other)
     (none_below vs (a + 1) n (omega arith))
 
-numbered_from : (vs : List Verdict) (a k : ℕ) → verdict_among (enumerate_from a vs) (a + k) ≡ slice_get vs k
+pub numbered_from : (vs : List Verdict) (a k : ℕ) → verdict_among (enumerate_from a vs) (a + k) ≡ slice_get vs k
 numbered_from [] a k = refl
 numbered_from (v ∷ vs) a zero =
     let same : eqb a (a + 0) ≡ true = grind (arith, nat_tests) in

@@ -51,7 +51,7 @@ unchanged journal i stands r is none =
 
 -- ---- the fold
 
-range_more : (a n : ℕ) → range_with_len a (n + 1) ≡ range_with_len a n ++ (a + n) ∷ []
+pub range_more : (a n : ℕ) → range_with_len a (n + 1) ≡ range_with_len a n ++ (a + n) ∷ []
 range_more a zero = ap (λ m. m ∷ []) (omega arith)
 range_more a (suc n) =
     let longer : suc n + 1 ≡ suc (n + 1) = omega arith in
@@ -64,7 +64,7 @@ settled_more journal n =
     ∙ fold-append (settled_next journal) nothing_settled (range_with_len 1 n) ((1 + n) ∷ [])
     ∙ ap (settled_next journal (settled_in_order journal (range_with_len 1 n))) (omega arith)
 
-numbered_more : (a : ℕ) (vs : List Verdict) (v : Verdict) → enumerate_from a (vs ++ v ∷ []) ≡ enumerate_from a vs ++ (a + length vs, v) ∷ []
+pub numbered_more : (a : ℕ) (vs : List Verdict) (v : Verdict) → enumerate_from a (vs ++ v ∷ []) ≡ enumerate_from a vs ++ (a + length vs, v) ∷ []
 numbered_more a [] v = ap (λ m. (m, v) ∷ []) (omega arith)
 numbered_more a (w ∷ ws) v =
     ap (λ ps. (a, w) ∷ ps) (numbered_more (a + 1) ws v ∙ ap (λ m. enumerate_from (a + 1) ws ++ (m, v) ∷ []) (omega arith))

@@ -1,17 +1,19 @@
 -- What an item needs and brings on parts that stand for a kept register.
-use Rattle.std.proofs.Common.{◌≡◌, ℕ, ◌+◌, ◌<◌, Bool, List, [], ◌∷◌, All, Contains, IfSome, IsTrue, Some, None, refl, sym, subst, ◌∙◌, arith}
+use Rattle.std.proofs.Common.{◌≡◌, ℕ, ◌+◌, ◌<◌, ◌++◌, Bool, List, [], ◌∷◌, All, Contains, IfSome, IsTrue, Some, None, refl, sym, ap, subst, ◌∙◌, arith}
 use Rattle.std.specs.List.{AllByRecursion}
 use Rattle.std.specs.Option.{option_map_or}
 use Rattle.std.proofs.lemmas.List.Elements.{All-from_recursion, recursion_from_All}
 use Rattle.gb_base.specs.declared.keys.Key.{Key}
 use Rattle.gb_base.specs.declared.keys.Key.TheVariants.{Right}
-use Rattle.act_model.specs.Receiving.{receipt_at}
+use Rattle.act_model.specs.Receiving.{IsJournal, receipt_at}
 use Rattle.act_model.specs.Touches.{created_before, filing_at, keys_of_act, keys_of_acts, keys_of_filing}
 use Rattle.act_model.specs.declared.filing_acts.Act.{Act}
 use Rattle.act_model.specs.declared.filing_acts.Act.TheVariants.{Exchange}
 use Rattle.act_model.specs.declared.items.Item.{Item}
 use Rattle.act_model.specs.declared.items.Item.TheVariants as item
 use Rattle.act_model.specs.declared.receipts.Receipt.{Receipt}
+use Rattle.folio_sections.specs.Adding.{AddsAll}
+use Rattle.folio_sections.specs.Entries.{at, with_entries}
 use Rattle.folio_sections.specs.Judging.{IsKnownExchange, KnowsExchanges}
 use Rattle.folio_sections.specs.Kept.{Kept}
 use Rattle.folio_sections.specs.Rights.{live_right}
@@ -20,11 +22,11 @@ use Rattle.registrar.proofs.Agreeing.{AgreesAt, agrees_before, agrees_behind}
 use Rattle.registrar.proofs.CuresKeep.{AreEarlier}
 use Rattle.registrar.proofs.ItemRooms.{named}
 use Rattle.registrar.proofs.Locality.{locality, state_locally}
-use Rattle.registrar.proofs.StepLemmas.{keys_are, step_knows}
+use Rattle.registrar.proofs.StepLemmas.{brings_leaves, keys_are, step_knows}
 use Rattle.registrar.proofs.WaitingStates.{found_waiting}
-use Rattle.registrar.specs.Brings.{brings}
+use Rattle.registrar.specs.Brings.{Brought, brings}
 use Rattle.registrar.specs.ItemKeys.{keys_by_item, keys_of_item}
-use Rattle.registrar.specs.Standing.{StandsFor}
+use Rattle.registrar.specs.Standing.{StandsFor, StandsForKept}
 use Rattle.registrar.specs.inner.Exchanges.{KnowsItsExchanges}
 
 -- ---- a judge knows the same of two registers that agree at a filing's keys
@@ -77,3 +79,25 @@ pub parts_bring : (journal : List Receipt) (i : ℕ) (holds : Key → Bool) (sta
 parts_bring journal i holds stands register same kept held before =
     let agrees = stand_agree holds stands register (keys_of_item journal i) same held in
     locality journal i register stands kept (stand_earlier i stands register (keys_of_item journal i) agrees before) agrees
+
+-- ---- the parts behind an item
+
+-- they stand for the register with what the item brings to it
+pub stand_behind : (journal : List Receipt) (i : ℕ) (holds0 holds1 : Key → Bool) (at0 at1 register : Key → List Entry) → StandsFor holds0 at0 register → Kept journal register → ((k : Key) → Contains (keys_of_item journal i) k → IsTrue (holds0 k))
+    → AreEarlier i at0 (keys_of_item journal i) → holds1 ≡ holds0 → AddsAll at0 at1 (brings journal i at0).entries → StandsFor holds1 at1 (with_entries register (brings journal i register).entries)
+stand_behind journal i holds0 holds1 at0 at1 register stands kept held before still added k held_now =
+    let held_before : IsTrue (holds0 k) = subst (λ holds. IsTrue (holds k)) still held_now in
+    added k
+    ∙ ap (λ es. es ++ at (brings journal i at0).entries k) (stands k held_before)
+    ∙ ap (λ (b : Brought). with_entries register b.entries k) (parts_bring journal i holds0 at0 register stands kept held before)
+
+-- and so for a kept one
+pub still_stand : (journal : List Receipt) (i : ℕ) (holds0 holds1 : Key → Bool) (at0 at1 : Key → List Entry) → IsJournal journal → StandsForKept journal holds0 at0 → ((k : Key) → Contains (keys_of_item journal i) k → IsTrue (holds0 k))
+    → AreEarlier i at0 (keys_of_item journal i) → holds1 ≡ holds0 → AddsAll at0 at1 (brings journal i at0).entries → StandsForKept journal holds1 at1
+still_stand journal i holds0 holds1 at0 at1 journaled before held earlier still added =
+    let agrees = stand_agree holds0 at0 before.register (keys_of_item journal i) before.stands held in
+    record {
+      register = with_entries before.register (brings journal i before.register).entries;
+      stands = stand_behind journal i holds0 holds1 at0 at1 before.register before.stands before.kept held earlier still added;
+      kept = (brings_leaves journal i before.register journaled before.kept (stand_earlier i at0 before.register (keys_of_item journal i) agrees earlier)).kept;
+    }

@@ -6,6 +6,7 @@ ghost use Rattle.folio_sections.specs.Entries.{at, with_entries};
 ghost use Rattle.folio_sections.specs.Held.{entries_at, is_held, is_given};
 ghost use Rattle.folio_sections.specs.Kept.{Kept};
 ghost use Rattle.registrar.specs.Brings.{brings};
+ghost use Rattle.registrar.specs.ItemKeys.{keys_of_filings};
 ghost use Rattle.registrar.specs.OpenFolios.{open_folios};
 ghost use Rattle.registrar.specs.Settling.{registrar};
 ghost use Rattle.registrar.specs.inner.Named.{filing_named};
@@ -22,12 +23,13 @@ use gb_base::{Key, NoMemory, ReceiptNo};
 use std::alloc::Global;
 
 /// The register that one registrar leaves who takes the items of a journal in the order of their
-/// receipts, and what becomes of each item.
+/// receipts, and what becomes of each item. It has parts at the keys of the journal's filings and at
+/// no other.
 pub fn alone(alloc: Global, journal: &Journal) -> Result<Register, NoMemory>
     ensures entries { IfOk result (λ register. entries_at register.parts ≡ at (registrar journal.now.receipts).entries) }
     ensures verdicts { IfOk result (λ register. register.verdicts ≡ (registrar journal.now.receipts).verdicts) }
     ensures folios { IfOk result (λ register. register.folios ≡ open_folios (registrar journal.now.receipts).entries) }
-    ensures held { IfOk result (λ register. (m : ℕ) (k : Key) → Contains (keys_of_filing journal.now.receipts m) k → IsTrue (is_held register.parts k)) }
+    ensures held { IfOk result (λ register. (k : Key) → is_held register.parts k ≡ is_given (keys_of_filings journal.now.receipts) k) }
     ensures kept { IfOk result (λ register. Kept journal.now.receipts (entries_at register.parts)) }
 {
     let keys = keys_of_filings(alloc, journal)?;
@@ -39,7 +41,7 @@ pub fn alone(alloc: Global, journal: &Journal) -> Result<Register, NoMemory>
 
 /// The keys of all filings of a journal; some come twice.
 fn keys_of_filings(alloc: Global, journal: &Journal) -> Result<Vec<Key>, NoMemory>
-    ensures { IfOk result (λ keys. (m : ℕ) (k : Key) → Contains (keys_of_filing journal.now.receipts m) k → IsTrue (is_given keys.items k)) }
+    ensures { IfOk result (λ keys. (k : Key) → is_given keys.items k ≡ is_given (keys_of_filings journal.now.receipts) k) }
 {
     let mut keys = Vec::new(alloc);
     for index in 0..journal.len() {

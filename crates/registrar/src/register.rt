@@ -9,14 +9,14 @@ use folio_sections::{CasePart, Entry, MapParts, Parts, RightPart, TitlePart};
 use gb_base::{FolioId, ReceiptNo, RightId};
 use std::marker::Model;
 
-/// The register of a journal: its parts at the keys of all filings, what became of each item, and
-/// the open folios.
+/// The register of a journal: its parts at the keys of all filings and at no other, what became of
+/// each item, and the open folios.
 #[derive(Drop)]
 pub struct Register {
     parts: MapParts,
     /// What became of each item, in the order of receipts.
     verdicts: Vec<Verdict>,
-    /// The open folios, ascending.
+    /// The folios that were open once the journal was settled, ascending.
     folios: Vec<FolioId>,
 }
 
@@ -43,23 +43,24 @@ impl Register {
         }
     }
 
-    /// What became of receipt n; None where the journal has no such receipt.
+    /// What became of receipt n; None where the journal that was settled has no such receipt.
     pub fn verdict(&self, n: ReceiptNo) -> Option<&Verdict>
-        ensures { option_copied result ≡ verdict_among self.now.verdicts n }
+        ensures value { option_copied result ≡ verdict_among self.now.verdicts n }
     {
         at_number(self.verdicts.as_slice(), n)
     }
 
     /// What became of each receipt, from the first on.
     pub fn verdicts(&self) -> &[Verdict]
-        ensures { enumerate_from 1 result.now ≡ self.now.verdicts }
+        ensures value { enumerate_from 1 result.now ≡ self.now.verdicts }
     {
         self.verdicts.as_slice()
     }
 
-    /// The open folios, ascending (GBO § 3).
+    /// The open folios, ascending, as `alone` left them (GBO § 3): this list does not follow what is
+    /// appended later.
     pub fn folios(&self) -> &[FolioId]
-        ensures { result.now ≡ self.now.folios }
+        ensures value { result.now ≡ self.now.folios }
     {
         self.folios.as_slice()
     }

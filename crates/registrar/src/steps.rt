@@ -19,8 +19,9 @@ use gb_base::ReceiptNo;
 
 /// Settles an item on parts that stand for a kept register, where all that stands at the item's
 /// keys is by earlier items (GBO § 17). It adds what the item brings, which is the same on each
-/// kept register that the parts stand for, and leaves each of them kept; no other key changes. It
-/// takes no memory and cannot fail.
+/// kept register that the parts stand for; no other key changes. The parts then stand for each of
+/// these registers with what the item brings to it, and again for a kept one. It takes no memory
+/// and cannot fail.
 pub fn step<P: Parts>(
     parts: &mut P,
     _scratch: &mut Scratch,
@@ -38,8 +39,9 @@ pub fn step<P: Parts>(
         → AddsList (P.at parts.old) (P.at parts.new) (P.room parts.old) (P.room parts.new) (brings journal.now.receipts item register).entries }
     ensures others { (k : Key) → (Contains (keys_of_item journal.now.receipts item) k → ⊥) → P.at parts.new k ≡ P.at parts.old k }
     ensures held { P.holds parts.new ≡ P.holds parts.old }
-    ensures kept { (register : Key → List Entry) → StandsFor (P.holds parts.old) (P.at parts.old) register → Kept journal.now.receipts register
-        → Kept journal.now.receipts (with_entries register (brings journal.now.receipts item register).entries) }
+    ensures stands { (register : Key → List Entry) → StandsFor (P.holds parts.old) (P.at parts.old) register → Kept journal.now.receipts register
+        → StandsFor (P.holds parts.new) (P.at parts.new) (with_entries register (brings journal.now.receipts item register).entries) }
+    ensures kept { StandsForKept journal.now.receipts (P.holds parts.new) (P.at parts.new) }
     ensures scratch { _scratch.new ≡ _scratch.old }
 {
     let receipt = receipt_of(journal, item);

@@ -5,11 +5,12 @@ use crate::testing::{
     are, are_want_of_form, assignment, at_right, at_title, cancellation, certified,
     certified_charge, charge, cure, cure_by, day, filed_by, filing, folio, is_cure_rejected,
     is_cured, is_entered, is_not_pending, is_rejected, is_still_open, lapse, opened, placed, plain,
-    receipt, receive, receive_opening, right, verdict, waits,
+    receipt, receive, receive_opening, right, transfer, verdict, waits,
 };
 use crate::{Verdict, alone};
 use act_model::{Item, Journal};
 use arrayvec::ArrayVec;
+use folio_sections::Parts;
 use gb_base::{Day, Section};
 use std::test::Fail;
 
@@ -166,6 +167,26 @@ fn what_a_register_answers(rt: HostRuntime) -> Result<(), Fail> {
     assert!(rt; is_rejected(verdict(&rt, &register, 4), Section::Gbo3));
     assert!(rt; is_entered(verdict(&rt, &register, 5)));
     assert!(rt; register.verdict(receipt(&rt, 6)).is_none());
+    Ok(())
+}
+
+/// A register has parts at the keys of its journal's filings, also of one that is rejected, and at
+/// no other: at none of a forced sale, and of no folio that other items alone name.
+#[test]
+fn the_parts_of_a_register(rt: HostRuntime) -> Result<(), Fail> {
+    let mut journal = opened(&rt, rt.alloc());
+    let rejected = filed_by(&rt, 10, transfer(&rt, 8, 11), &[]);
+    receive(&rt, &mut journal, day(&rt, 3, 1), &Item::Filing(rejected));
+    let sale = Item::Distribute {
+        folio: folio(&rt, 9),
+    };
+    receive(&rt, &mut journal, day(&rt, 3, 2), &sale);
+    let register = alone(rt.alloc(), &journal)?;
+    assert!(rt; register.title(folio(&rt, 7)).is_some());
+    assert!(rt; at_title(&rt, &register, 8).is_empty());
+    assert!(rt; register.title(folio(&rt, 9)).is_none());
+    assert!(rt; register.title(folio(&rt, 999)).is_none());
+    assert!(rt; register.case(folio(&rt, 7)).is_none());
     Ok(())
 }
 

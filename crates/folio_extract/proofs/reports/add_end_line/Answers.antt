@@ -6,6 +6,6 @@ use Rattle.folio_extract.proofs.reports.add_end_line.Goals as goal
 
 pub returns : goal.returns
 returns c =
-    let receipts = sym (length-enumerate_from 1 c.verdicts.result.now) ∙ ap length c.verdicts.ensures in
-    let folios = ap length c.folios.ensures in
+    let receipts = sym (length-enumerate_from 1 c.verdicts.result.now) ∙ ap length c.verdicts.ensures.value in
+    let folios = ap length c.folios.ensures.value in
     c.in_ok-writeln.ensures.bytes ∙ (λ i. string_bytes c.args.text.now ++ end_line (receipts i) (folios i))

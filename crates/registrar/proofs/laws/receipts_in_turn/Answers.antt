@@ -2,4 +2,4 @@ use Rattle.registrar.proofs.ReceiptOrder.{receipts_in_turn}
 use Rattle.registrar.proofs.laws.receipts_in_turn.Goals as goal
 
 pub returns : goal.returns
-returns c = receipts_in_turn
+returns c = record { permitted = receipts_in_turn }

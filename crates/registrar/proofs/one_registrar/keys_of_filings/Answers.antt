@@ -1,5 +1,5 @@
-use Rattle.std.proofs.Common.{◌≡◌, ◌+◌, IfSome, subst, ◌∙◌, arith}
-use Rattle.registrar.proofs.JournalKeys.{given_next, keys_within}
+use Rattle.std.proofs.Common.{◌≡◌, ◌+◌, IfSome, length, subst, ◌∙◌, arith}
+use Rattle.registrar.proofs.JournalKeys.{all_given, given_next}
 use Rattle.registrar.proofs.one_registrar.keys_of_filings.Goals as goal
 
 pub loop-index-preserved : goal.loop-index-preserved
@@ -9,6 +9,6 @@ loop-index-preserved c =
     (c.as_slice.ensures.value ∙ c.filing_keys.ensures) c.in_ok-extend_from_slice.ensures.items c.loop-index.invariant
 
 pub returns : goal.returns
-returns c = λ m k there.
-    let within = keys_within c.args.journal.now.receipts m k there in
-    c.loop-index.invariant m k (omega (arith, within, c.loop-index-test.false, c.len-index-end.ensures.value)) there
+returns c = λ k.
+    let all : c.loop-index.index ≡ length c.args.journal.now.receipts = omega (arith, c.loop-index-test.false, c.loop-index.auto.index-end, c.len-index-end.ensures.value) in
+    c.loop-index.invariant k ∙ all_given c.args.journal.now.receipts c.loop-index.index k all

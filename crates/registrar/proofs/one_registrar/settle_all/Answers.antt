@@ -8,7 +8,7 @@ use Rattle.registrar.proofs.one_registrar.settle_all.Goals as goal
 pub loop-index-init : goal.loop-index-init
 loop-index-init c = record {
   settled = subst (λ (vs : List Verdict). SettledTo c.args.journal.now.receipts 0 (entries_at c.args.parts.now) vs) (sym c.new-verdicts.ensures.items)
-      (none_settled c.args.journal.now.receipts c.args.parts.now c.requires.empty (c.empty_register_is_kept.ensures c.args.journal.now.receipts));
+      (none_settled c.args.journal.now.receipts c.args.parts.now c.requires.empty (c.empty_register_is_kept.ensures.kept c.args.journal.now.receipts));
   held = refl;
 }
 

@@ -3,6 +3,7 @@ use Rattle.folio_sections.specs.Kept.{Kept}
 use Rattle.folio_sections.specs.Held.{entries_at}
 use Rattle.registrar.proofs.JournalKeys.{item_keys}
 use Rattle.registrar.proofs.Registering.{added_to}
+use Rattle.registrar.proofs.StepLemmas.{step_leaves}
 use Rattle.registrar.specs.Brings.{brings}
 use Rattle.registrar.proofs.one_registrar.settle_next.Goals as goal
 
@@ -43,4 +44,6 @@ returns-in_ok-make_room-in-Some-clause-kept c =
     let journal = c.args.journal.now.receipts in
     let before = entries_at c.make_room.new.parts in
     let kept = subst (Kept journal) (sym c.make_room.ensures.entries) c.requires.kept in
-    subst (Kept journal) (sym (λ j k. (c.step.ensures.added before (λ l held. refl) kept).there k j)) (c.step.ensures.kept before (λ l held. refl) kept)
+    step_leaves journal c.args.item before (entries_at c.step.new.parts) c.receipt_of-receipt.ensures.journal kept
+    (λ k there. subst (λ stands. All (λ e. e.receipt < c.args.item) (stands k)) (sym c.make_room.ensures.entries) (c.requires.earlier k))
+    (c.step.ensures.added before (λ k held. refl) kept).there

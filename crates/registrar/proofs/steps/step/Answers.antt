@@ -1,8 +1,8 @@
 use Rattle.std.proofs.Common.{sym, ap, subst, ◌∙◌}
 use Rattle.folio_sections.specs.Adding.{AddsList}
 use Rattle.registrar.proofs.Elsewhere.{stays_elsewhere}
-use Rattle.registrar.proofs.StandingParts.{parts_bring, parts_know, stand_agree, stand_earlier}
-use Rattle.registrar.proofs.StepLemmas.{brings_is, brings_leaves, step_fits}
+use Rattle.registrar.proofs.StandingParts.{parts_bring, parts_know, stand_agree, stand_behind, still_stand}
+use Rattle.registrar.proofs.StepLemmas.{brings_is, step_fits}
 use Rattle.registrar.specs.Brings.{Brought}
 use Rattle.registrar.specs.ItemKeys.{keys_of_item}
 use Rattle.registrar.proofs.steps.step.Goals as goal
@@ -39,8 +39,17 @@ returns-clause-others g c = λ k off.
     (subst (λ (b : Brought). AddsList (g.P.Parts.at c.args.parts.now) (g.P.Parts.at c.settle.new.parts) (g.P.Parts.room c.args.parts.now) (g.P.Parts.room c.settle.new.parts) b.entries)
     (sym (brings_is c.args.journal.now.receipts c.args.item (g.P.Parts.at c.args.parts.now) c.receipt_of-receipt.result.now c.receipt_of-receipt.ensures.value)) c.settle.ensures.added).there
 
+pub returns-clause-stands : goal.returns-clause-stands
+returns-clause-stands g c = λ register stands kept.
+    stand_behind c.args.journal.now.receipts c.args.item (g.P.Parts.holds c.args.parts.now) (g.P.Parts.holds c.settle.new.parts) (g.P.Parts.at c.args.parts.now) (g.P.Parts.at c.settle.new.parts) register
+    stands kept c.requires.held c.requires.earlier c.settle.ensures.held
+    (subst (λ (b : Brought). AddsList (g.P.Parts.at c.args.parts.now) (g.P.Parts.at c.settle.new.parts) (g.P.Parts.room c.args.parts.now) (g.P.Parts.room c.settle.new.parts) b.entries)
+    (sym (brings_is c.args.journal.now.receipts c.args.item (g.P.Parts.at c.args.parts.now) c.receipt_of-receipt.result.now c.receipt_of-receipt.ensures.value)) c.settle.ensures.added).there
+
 pub returns-clause-kept : goal.returns-clause-kept
-returns-clause-kept g c = λ register stands kept.
-    (brings_leaves c.args.journal.now.receipts c.args.item register c.receipt_of-receipt.ensures.journal kept
-    (stand_earlier c.args.item (g.P.Parts.at c.args.parts.now) register (keys_of_item c.args.journal.now.receipts c.args.item)
-    (stand_agree (g.P.Parts.holds c.args.parts.now) (g.P.Parts.at c.args.parts.now) register (keys_of_item c.args.journal.now.receipts c.args.item) stands c.requires.held) c.requires.earlier)).kept
+returns-clause-kept g c =
+    let before = c.requires.kept in
+    still_stand c.args.journal.now.receipts c.args.item (g.P.Parts.holds c.args.parts.now) (g.P.Parts.holds c.settle.new.parts) (g.P.Parts.at c.args.parts.now) (g.P.Parts.at c.settle.new.parts)
+    c.receipt_of-receipt.ensures.journal before c.requires.held c.requires.earlier c.settle.ensures.held
+    (subst (λ (b : Brought). AddsList (g.P.Parts.at c.args.parts.now) (g.P.Parts.at c.settle.new.parts) (g.P.Parts.room c.args.parts.now) (g.P.Parts.room c.settle.new.parts) b.entries)
+    (sym (brings_is c.args.journal.now.receipts c.args.item (g.P.Parts.at c.args.parts.now) c.receipt_of-receipt.result.now c.receipt_of-receipt.ensures.value)) c.settle.ensures.added).there
