@@ -34,7 +34,7 @@ use Rattle.folio_sections.proofs.ReceiptNumbers.{distinct_over_numbers, in_recei
 -- ---- the rights that there may be
 
 -- right y is x, or stands before it
-abbrev pub is_up_to : RightNo → RightNo → Bool
+abbrev is_up_to : RightNo → RightNo → Bool
 is_up_to x y = nat_lt y.receipt x.receipt || (y.receipt == x.receipt && nat_le y.act x.act)
 
 one_way : (x y : RightNo) → is_up_to x y ≡ false → is_up_to y x ≡ false → ⊥
@@ -70,7 +70,7 @@ is_numbered id is = record {
   act_to = grind (arith, nat_tests, is);
 }
 
-pub has_number : (id : RightNo) → IsNumbered id → is_right_number id ≡ true
+has_number : (id : RightNo) → IsNumbered id → is_right_number id ≡ true
 has_number id is =
     let a = is.receipt_from in
     let b = is.receipt_to in
@@ -94,17 +94,17 @@ of_right_numbers id there =
 -- ---- the range of a folio's rights
 
 -- the key of the first right that there may be in a folio, and that of the last
-abbrev pub first_key : ℕ → Key
+abbrev first_key : ℕ → Key
 first_key folio = Right folio (new_right 1 1)
 
-abbrev pub last_key : ℕ → Key
+abbrev last_key : ℕ → Key
 last_key folio = Right folio (new_right last_number most_acts)
 
 -- the first does not stand behind the last
 forward : (folio : ℕ) → IsLeBy key_cmp (first_key folio) (last_key folio)
 forward folio = grind (arith, nat_tests)
 
-abbrev pub is_between_rights : ℕ → Key → Bool
+abbrev is_between_rights : ℕ → Key → Bool
 is_between_rights folio k = range_contains key_cmp (Included (first_key folio)) (Included (last_key folio)) k
 
 -- a key between them is of a right there
@@ -129,7 +129,7 @@ right_between folio id is =
     let d = is.act_to in
     grind (arith, nat_tests, a, b, c, d)
 
-pub numbered_in : (folio : ℕ) (id : RightNo) → IsNumbered id → right_in (Right folio id) ≡ Some id
+numbered_in : (folio : ℕ) (id : RightNo) → IsNumbered id → right_in (Right folio id) ≡ Some id
 numbered_in folio id is = ap (λ b. cond b (Some id) None) (has_number id is)
 
 number_in : (k : Key) (id : RightNo) → right_in k ≡ Some id → IsNumbered id
@@ -144,7 +144,7 @@ number_in (Right g r) id is =
 -- ---- what an index has
 
 -- an entry whose key does not stand before that of another
-abbrev pub is_not_before : Key × ℕ → Key × ℕ → Bool
+abbrev is_not_before : Key × ℕ → Key × ℕ → Bool
 is_not_before d e = not (is_lt (key_cmp d.0 e.0))
 
 entries_rise : (es : List (Key × ℕ)) → IsStrictlySortedBy key_cmp (keys_of es) → IsDistinct is_not_before es
