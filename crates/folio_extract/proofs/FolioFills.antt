@@ -20,6 +20,7 @@ use Rattle.folio_sections.specs.declared.entries.Created.{Created}
 use Rattle.folio_sections.specs.declared.entries.Entry.{Entry}
 use Rattle.folio_sections.specs.declared.entries.What.{What}
 use Rattle.folio_sections.specs.declared.entries.What.TheVariants as what
+use Rattle.folio_sections.proofs.FilteredLists.{all_in, any_in, of_any}
 use Rattle.rank_slots.specs.CanFill.{ArePlaces, CanFill, CanSwap, StandsAlone}
 use Rattle.rank_slots.specs.Limits.{most_places}
 use Rattle.rank_slots.specs.declared.places.Place.{Place}
@@ -31,7 +32,6 @@ use Rattle.folio_extract.specs.declared.exchanges.Exchange.{Exchange}
 use Rattle.folio_extract.specs.declared.placed_rights.CreatedRight.{CreatedRight}
 use Rattle.folio_extract.proofs.CountedExchanges.{is_counted}
 use Rattle.folio_extract.proofs.CreatedRights.{is_created_here, is_in_ranges}
-use Rattle.folio_sections.proofs.FilteredLists.{all_in, any_in, of_any}
 use Rattle.folio_extract.proofs.PlacedDistinct.{placed_distinct}
 use Rattle.folio_extract.proofs.PlacedFew.{placed_few}
 use Rattle.folio_extract.proofs.PlacedOrder.{of_placed_rights}

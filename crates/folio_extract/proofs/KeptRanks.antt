@@ -7,11 +7,11 @@ use Rattle.act_model.specs.declared.receipts.Receipt.{Receipt}
 use Rattle.folio_sections.specs.Kept.{Kept}
 use Rattle.folio_sections.specs.Places.{places}
 use Rattle.folio_sections.specs.declared.entries.Entry.{Entry}
+use Rattle.folio_sections.proofs.FilteredLists.{all_in}
 use Rattle.folio_sections.proofs.KeptOrder.{kept_is_order}
 use Rattle.folio_extract.specs.PlacedRights.{live_rights, lives}
 use Rattle.folio_extract.specs.RankTables.{rank_lines, stands_ahead}
 use Rattle.folio_extract.specs.inner.RankWalk.{is_filed_before, ranked_lines}
-use Rattle.folio_sections.proofs.FilteredLists.{all_in}
 use Rattle.folio_extract.proofs.PlacedOrder.{of_placed_rights, placed_rights_ascend}
 use Rattle.folio_extract.proofs.RankWalks.{ranks_in_order}
 

@@ -14,11 +14,11 @@ use Rattle.act_model.specs.Touches.{new_right}
 use Rattle.folio_sections.specs.Rights.{created}
 use Rattle.folio_sections.specs.declared.entries.Created.{Created}
 use Rattle.folio_sections.specs.declared.entries.Entry.{Entry}
-use Rattle.folio_extract.specs.PlacedRights.{by_group, is_of_group, right_where, rights_of, rights_where}
-use Rattle.folio_extract.specs.declared.placed_rights.CreatedRight.{CreatedRight}
 use Rattle.folio_sections.proofs.DistinctLists.{distinct_filter, distinct_flat, distinct_row}
 use Rattle.folio_sections.proofs.FilteredLists.{of_filter}
 use Rattle.folio_sections.proofs.ReceiptNumbers.{distinct_over_numbers}
+use Rattle.folio_extract.specs.PlacedRights.{by_group, is_of_group, right_where, rights_of, rights_where}
+use Rattle.folio_extract.specs.declared.placed_rights.CreatedRight.{CreatedRight}
 use Rattle.folio_extract.proofs.PlacedOrder.{of_filing, of_filing_by_group, placed_at_number}
 
 -- both are of one number

@@ -26,13 +26,13 @@ use Rattle.folio_sections.specs.Limits.{most_creations}
 use Rattle.folio_sections.specs.Rights.{created}
 use Rattle.folio_sections.specs.declared.entries.Created.{Created}
 use Rattle.folio_sections.specs.declared.entries.Entry.{Entry}
+use Rattle.folio_sections.proofs.FilteredLists.{in_filter, in_filter_map}
+use Rattle.folio_sections.proofs.ReceiptNumbers.{in_receipt_numbers}
 use Rattle.rank_slots.specs.Limits.{most_places}
 use Rattle.folio_extract.specs.PlacedRights.{by_group, is_of_group, right_where, rights_of, rights_where}
 use Rattle.folio_extract.proofs.CreatedRights.{IsCreatedHere, IsInRanges, is_created_here}
 use Rattle.folio_extract.proofs.FiledRights.{placed_creations}
 use Rattle.folio_extract.proofs.GroupedRights.{all_by_group_few}
-use Rattle.folio_sections.proofs.FilteredLists.{in_filter, in_filter_map}
-use Rattle.folio_sections.proofs.ReceiptNumbers.{in_receipt_numbers}
 use Rattle.folio_extract.proofs.PlacedOrder.{placed_at_made, the_right}
 
 -- ---- all of them

@@ -15,12 +15,12 @@ use Rattle.folio_sections.specs.HeldRights.{receipt_numbers, rights_of_filing}
 use Rattle.folio_sections.specs.Rights.{created}
 use Rattle.folio_sections.specs.declared.entries.Created.{Created}
 use Rattle.folio_sections.specs.declared.entries.Entry.{Entry}
-use Rattle.folio_extract.specs.PlacedRights.{by_group, is_of_group, right_where, rights_of, rights_where}
-use Rattle.folio_extract.specs.inner.RankWalk.{Ascends, is_filed_before}
-use Rattle.folio_extract.specs.declared.placed_rights.CreatedRight.{CreatedRight}
 use Rattle.folio_sections.proofs.DistinctLists.{distinct_by, distinct_flat}
 use Rattle.folio_sections.proofs.FilteredLists.{of_filter, of_filter_map}
 use Rattle.folio_sections.proofs.ReceiptNumbers.{distinct_over_numbers}
+use Rattle.folio_extract.specs.PlacedRights.{by_group, is_of_group, right_where, rights_of, rights_where}
+use Rattle.folio_extract.specs.inner.RankWalk.{Ascends, is_filed_before}
+use Rattle.folio_extract.specs.declared.placed_rights.CreatedRight.{CreatedRight}
 
 -- ---- each as it was created
 
