@@ -1,5 +1,5 @@
 -- The exchanges of a kept folio that count: both rights are plain, and the one that rises is live.
-use Rattle.std.proofs.Common.{◌≡◌, ◌⊎◌, ℕ, Bool, true, false, cond, ◌||◌, List, [], ◌∷◌, filter_map, flat_map, IfSome, Option, Some, None, is_some, inl, inr, refl, ap, subst, ◌∙◌, ⊎_elim}
+use Rattle.std.proofs.Common.{◌≡◌, ◌⊎◌, ℕ, true, false, cond, List, [], ◌∷◌, filter_map, flat_map, IfSome, Option, Some, None, is_some, inl, inr, refl, ap, subst, ◌∙◌, ⊎_elim}
 use Rattle.std.proofs.lemmas.Bool.{false≢true}
 use Rattle.std.proofs.lemmas.List.Elements.{recursion_from_All}
 use Rattle.gb_base.specs.RightNo.{RightNo, same_right}
@@ -14,10 +14,10 @@ use Rattle.folio_sections.specs.Rights.{is_live}
 use Rattle.folio_sections.specs.declared.entries.Entry.{Entry}
 use Rattle.folio_sections.specs.declared.entries.What.{What}
 use Rattle.folio_sections.specs.declared.entries.What.TheVariants as what
+use Rattle.folio_sections.proofs.FilteredLists.{in_all, of_filter, of_filter_map}
 use Rattle.folio_extract.specs.Exchanges.{counted_at, counted_exchanges, in_turn, in_turn_with, is_earlier, keeps_cents, rise_by}
-use Rattle.folio_extract.specs.PlacedRights.{live_rights}
+use Rattle.folio_extract.specs.PlacedRights.{live_rights, lives}
 use Rattle.folio_extract.specs.declared.exchanges.Exchange.{Exchange}
-use Rattle.folio_extract.proofs.ListLemmas.{in_all, of_filter, of_filter_map}
 use Rattle.folio_extract.proofs.PlacedOrder.{of_placed_rights}
 
 -- ---- by item and act they are the same
@@ -57,13 +57,9 @@ rises_here journal at folio right receipt (what.Exchanged recede rise act) y pla
     the_exchange from to number = record { item = receipt; act = number; recede = from; rise = to }
 rises_here journal at folio right receipt other y plain is = absurd (false≢true (ap is_some is))
 
-none_recedes : (b : Bool) → (b || false) ≡ true → b ≡ true
-none_recedes true is = refl
-none_recedes false is = is
-
-pub is_counted : (journal : List Receipt) (at : Key → List Entry) (folio : ℕ) (y : Exchange) → Kept journal at → In y (counted_exchanges journal at folio) → IsCounted journal at folio y
+pub is_counted : (journal : List Receipt) (at : Key → List Entry) (folio : ℕ) (y : Exchange) → Kept journal at → In y (counted_exchanges at folio) → IsCounted journal at folio y
 is_counted journal at folio y kept there =
-    let live = live_rights journal at folio in
+    let live = live_rights at folio in
     let from = of_flat_map (counted_at at folio) live y (of_turn (flat_map (counted_at at folio) live) y there) in
     let right = from.0.id in
     let entries = at (Right folio right) in
@@ -71,9 +67,9 @@ is_counted journal at folio y kept there =
     let entry = of_filter_map rise entries y (of_filter (λ x. keeps_cents (at (Right folio x.recede))) (filter_map rise entries) y from.2).0 in
     let kinds = recursion_from_All (λ (e : Entry). ActsOnItsKind journal at folio right e.what) entries (kept.exchanged_are_plain.kinds folio right) in
     let rises = rises_here journal at folio right entry.0.receipt entry.0.what y (in_all (λ (e : Entry). ActsOnItsKind journal at folio right e.what) entries entry.0 kinds entry.1) entry.2 in
-    let stands = (of_placed_rights [] journal at folio from.0 from.1).stands in
+    let stands = (of_placed_rights lives at folio from.0 from.1).stands in
     record {
       recede = rises.0;
       rise = rises.1;
-      live = ap (λ id. is_live (at (Right folio id))) (right_is y.rise right rises.2) ∙ none_recedes (is_live (at (Right folio right))) stands;
+      live = ap (λ id. is_live (at (Right folio id))) (right_is y.rise right rises.2) ∙ stands;
     }

@@ -5,14 +5,17 @@ use Rattle.std.proofs.Math.Seq.{drop-append_seam, take-append_seam}
 use Rattle.std.proofs.lemmas.Bool.{eq-eqb}
 use Rattle.std.proofs.lemmas.List.{append-nil}
 use Rattle.std.proofs.lemmas.Bool.Decides.{nat_tests}
+use Rattle.gb_base.specs.RightNo.{RightNo}
 use Rattle.gb_base.specs.declared.keys.Key.{Key}
 use Rattle.gb_base.specs.declared.keys.Key.TheVariants.{Right}
 use Rattle.act_model.specs.Touches.{new_right}
+use Rattle.folio_sections.specs.HeldRights.{last_number, receipt_numbers}
+use Rattle.folio_sections.specs.Rights.{created}
 use Rattle.folio_sections.specs.declared.entries.Created.{Created}
 use Rattle.folio_sections.specs.declared.entries.Entry.{Entry}
+use Rattle.folio_sections.proofs.ReceiptNumbers.{numbers_are}
 use Rattle.folio_sections.proofs.Unchanged.{all_both, all_weaker}
-use Rattle.folio_extract.specs.PlacedRights.{by_group, one_to, placed_at, placed_of, placed_right}
-use Rattle.folio_extract.specs.declared.exchanges.Exchange.{Exchange}
+use Rattle.folio_extract.specs.PlacedRights.{by_group, right_where, rights_of}
 use Rattle.folio_extract.specs.declared.placed_rights.CreatedRight.{CreatedRight}
 use Rattle.folio_extract.specs.inner.FilingRuns.{is_of_filing}
 
@@ -22,13 +25,13 @@ use Rattle.folio_extract.specs.inner.FilingRuns.{is_of_filing}
 abbrev pub AreOfFilings : (ℕ → List CreatedRight) → Type 0
 AreOfFilings f = (m : ℕ) → AllByRecursion (λ x. is_of_filing m x ≡ true) (f m)
 
-pub placed_of_filings : (exchanges : List Exchange) (at : Key → List Entry) (folio : ℕ) → AreOfFilings (placed_of exchanges at folio)
-placed_of_filings exchanges at folio m = by (one_to 8)
+pub placed_of_filings : (holds : RightNo → List Entry → Bool) (at : Key → List Entry) (folio : ℕ) → AreOfFilings (rights_of holds at folio)
+placed_of_filings holds at folio m = by (range_with_len 1 8)
   where
-    by : (acts : List ℕ) → AllByRecursion (λ x. is_of_filing m x ≡ true) (filter_map (placed_at exchanges at folio) (map (new_right m) acts))
+    by : (acts : List ℕ) → AllByRecursion (λ x. is_of_filing m x ≡ true) (filter_map (right_where holds at folio) (map (new_right m) acts))
     by [] = tt
     by (a ∷ acts) =
-        elim (placed_right exchanges (new_right m a) (at (Right folio (new_right m a)))) as (λ o. AllByRecursion (λ x. is_of_filing m x ≡ true) (cons_option (option_map (λ made. right_of a made) o) (filter_map (placed_at exchanges at folio) (map (new_right m) acts)))) [
+        elim (cond (holds (new_right m a) (at (Right folio (new_right m a)))) (created (at (Right folio (new_right m a)))) None) as (λ o. AllByRecursion (λ x. is_of_filing m x ≡ true) (cons_option (option_map (λ made. right_of a made) o) (filter_map (right_where holds at folio) (map (new_right m) acts)))) [
           | None ↦ by acts
           | Some made ↦ (eq-eqb m m refl, by acts)
         ]
@@ -112,8 +115,11 @@ run_is_some (x ∷ rest) first is =
 
 -- ---- all of them
 
-pub begins : (f : ℕ → List CreatedRight) (n : ℕ) (rest : List CreatedRight) → rest ≡ flat_map f (one_to n) → Left f [] rest (flat_map (λ m. by_group (f m)) (one_to n))
-begins f n rest ahead = record { from = 1; many = n; ahead = ahead; whole = refl }
+begins_row : (f : ℕ → List CreatedRight) (n : ℕ) (ms : List ℕ) (rest : List CreatedRight) → ms ≡ range_with_len 1 n → rest ≡ flat_map f ms → Left f [] rest (flat_map (λ m. by_group (f m)) ms)
+begins_row f n ms rest is ahead = record { from = 1; many = n; ahead = ahead ∙ ap (flat_map f) is; whole = ap (flat_map (λ m. by_group (f m))) (sym is) }
+
+pub begins : (f : ℕ → List CreatedRight) (rest : List CreatedRight) → rest ≡ flat_map f receipt_numbers → Left f [] rest (flat_map (λ m. by_group (f m)) receipt_numbers)
+begins f rest ahead = begins_row f last_number receipt_numbers rest numbers_are ahead
 
 none_left : (f : ℕ → List CreatedRight) (from many : ℕ) → [] ≡ flat_map f (range_with_len from many) → flat_map (λ m. by_group (f m)) (range_with_len from many) ≡ []
 none_left f from zero none = refl

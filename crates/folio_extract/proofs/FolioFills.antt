@@ -20,18 +20,18 @@ use Rattle.folio_sections.specs.declared.entries.Created.{Created}
 use Rattle.folio_sections.specs.declared.entries.Entry.{Entry}
 use Rattle.folio_sections.specs.declared.entries.What.{What}
 use Rattle.folio_sections.specs.declared.entries.What.TheVariants as what
+use Rattle.folio_sections.proofs.FilteredLists.{all_in, any_in, of_any}
 use Rattle.rank_slots.specs.CanFill.{ArePlaces, CanFill, CanSwap, StandsAlone}
 use Rattle.rank_slots.specs.Limits.{most_places}
 use Rattle.rank_slots.specs.declared.places.Place.{Place}
 use Rattle.rank_slots.specs.declared.places.Swap.{Swap}
 use Rattle.folio_extract.specs.Exchanges.{counted_exchanges}
-use Rattle.folio_extract.specs.FolioLines.{capital_at, swap_of}
-use Rattle.folio_extract.specs.PlacedRights.{placed_rights, recedes}
+use Rattle.folio_extract.specs.FolioLines.{capital_at, recedes, stands_on_line, swap_of}
+use Rattle.folio_extract.specs.PlacedRights.{rights_where}
 use Rattle.folio_extract.specs.declared.exchanges.Exchange.{Exchange}
 use Rattle.folio_extract.specs.declared.placed_rights.CreatedRight.{CreatedRight}
 use Rattle.folio_extract.proofs.CountedExchanges.{is_counted}
 use Rattle.folio_extract.proofs.CreatedRights.{is_created_here, is_in_ranges}
-use Rattle.folio_extract.proofs.ListLemmas.{all_in, any_in, of_any}
 use Rattle.folio_extract.proofs.PlacedDistinct.{placed_distinct}
 use Rattle.folio_extract.proofs.PlacedFew.{placed_few}
 use Rattle.folio_extract.proofs.PlacedOrder.{of_placed_rights}
@@ -70,9 +70,9 @@ gone_recedes true gives stands gone = absurd (false≢true gone)
 gone_recedes false gives stands gone = stands
 
 -- both rights of an exchange that counts stand alone
-swap_alone : (journal : List Receipt) (at : Key → List Entry) (folio : ℕ) (y : Exchange) → Kept journal at → IsJournal journal → In y (counted_exchanges journal at folio) → CanSwap (line_places (counted_exchanges journal at folio) journal at folio) (swap_of y)
+swap_alone : (journal : List Receipt) (at : Key → List Entry) (folio : ℕ) (y : Exchange) → Kept journal at → IsJournal journal → In y (counted_exchanges at folio) → CanSwap (line_places (counted_exchanges at folio) at folio) (swap_of y)
 swap_alone journal at folio y kept stands there =
-    let exchanges = counted_exchanges journal at folio in
+    let exchanges = counted_exchanges at folio in
     let counted = is_counted journal at folio y kept there in
     let gives = any_in (λ (x : Exchange). same_right x.recede y.recede) exchanges y there (right_self y.recede) in (
       plain_alone exchanges journal at folio y.recede kept stands counted.recede (or_right (is_live (at (Right folio y.recede))) (recedes exchanges y.recede) gives),
@@ -80,32 +80,32 @@ swap_alone journal at folio y kept stands there =
     )
 
 -- and so does the right of a dropped place
-dropped_alone : (journal : List Receipt) (at : Key → List Entry) (folio : ℕ) (x : CreatedRight) → Kept journal at → IsJournal journal → In x (placed_rights (counted_exchanges journal at folio) journal at folio) → not (is_live (at (Right folio x.id))) ≡ true
-    → StandsAlone (line_places (counted_exchanges journal at folio) journal at folio) x.id
+dropped_alone : (journal : List Receipt) (at : Key → List Entry) (folio : ℕ) (x : CreatedRight) → Kept journal at → IsJournal journal → In x (rights_where (stands_on_line (counted_exchanges at folio)) at folio) → not (is_live (at (Right folio x.id))) ≡ true
+    → StandsAlone (line_places (counted_exchanges at folio) at folio) x.id
 dropped_alone journal at folio x kept stands there gone =
-    let exchanges = counted_exchanges journal at folio in
-    let placed = of_placed_rights exchanges journal at folio x there in
+    let exchanges = counted_exchanges at folio in
+    let placed = of_placed_rights (stands_on_line exchanges) at folio x there in
     let gives = gone_recedes (is_live (at (Right folio x.id))) (recedes exchanges x.id) placed.stands gone in
     let from = of_any (λ (y : Exchange). same_right y.recede x.id) exchanges gives in
-    subst (StandsAlone (line_places exchanges journal at folio)) (right_is from.0.recede x.id from.2) (swap_alone journal at folio from.0 kept stands from.1).0
+    subst (StandsAlone (line_places exchanges at folio)) (right_is from.0.recede x.id from.2) (swap_alone journal at folio from.0 kept stands from.1).0
 
 -- the places of the line are places
-are_places : (journal : List Receipt) (at : Key → List Entry) (folio : ℕ) → Kept journal at → IsJournal journal → All (λ (p : Place). p.claim ≤ most_cents) (line_places (counted_exchanges journal at folio) journal at folio)
-    → ArePlaces (line_places (counted_exchanges journal at folio) journal at folio)
+are_places : (journal : List Receipt) (at : Key → List Entry) (folio : ℕ) → Kept journal at → IsJournal journal → All (λ (p : Place). p.claim ≤ most_cents) (line_places (counted_exchanges at folio) at folio)
+    → ArePlaces (line_places (counted_exchanges at folio) at folio)
 are_places journal at folio kept stands bound =
-    let exchanges = counted_exchanges journal at folio in
-    let rights = placed_rights exchanges journal at folio in
-    let places = line_places exchanges journal at folio in
-    let few : length places ≤ most_places = subst (λ n. n ≤ most_places) (sym (places_many at folio None rights)) (placed_few exchanges journal at folio kept stands) in
+    let exchanges = counted_exchanges at folio in
+    let rights = rights_where (stands_on_line exchanges) at folio in
+    let places = line_places exchanges at folio in
+    let few : length places ≤ most_places = subst (λ n. n ≤ most_places) (sym (places_many at folio None rights)) (placed_few (stands_on_line exchanges) journal at folio kept stands) in
     let sum = sum_by-le (λ (p : Place). p.claim) most_cents places bound in
     record {
       few = few;
-      distinct = places_distinct at folio None rights (placed_distinct exchanges journal at folio);
+      distinct = places_distinct at folio None rights (placed_distinct (stands_on_line exchanges) at folio);
       first = first_joins_none at folio rights;
       dropped = All-from_recursion (λ p. p.dropped ≡ true → StandsAlone places p.right) places
           (all_places (λ p. p.dropped ≡ true → StandsAlone places p.right) at folio None rights (λ b x there. dropped_alone journal at folio x kept stands there));
       claims = All-from_recursion (λ p. 1 ≤ p.claim) places
-          (all_places (λ p. 1 ≤ p.claim) at folio None rights (λ b x there. claims_from journal at folio x kept stands (of_placed_rights exchanges journal at folio x there).made));
+          (all_places (λ p. 1 ≤ p.claim) at folio None rights (λ b x there. claims_from journal at folio x kept stands (of_placed_rights (stands_on_line exchanges) at folio x there).made));
       sum = omega (arith, few, sum);
     }
 
@@ -115,16 +115,16 @@ no_knots = tt
 
 -- These are the places and the exchanges of the folio's line, and no place has a claim beyond the greatest amount.
 pub can_fill : (journal : List Receipt) (at : Key → List Entry) (folio : ℕ) (exchanges : List Exchange) (places : List Place) (swaps : List Swap) → Kept journal at → IsJournal journal
-    → exchanges ≡ counted_exchanges journal at folio → places ≡ line_places exchanges journal at folio → swaps ≡ map swap_of exchanges → All (λ p. p.claim ≤ most_cents) places
+    → exchanges ≡ counted_exchanges at folio → places ≡ line_places exchanges at folio → swaps ≡ map swap_of exchanges → All (λ p. p.claim ≤ most_cents) places
     → CanFill (record { places = places; swaps = swaps; knots = [] })
 can_fill journal at folio exchanges places swaps kept stands counted placed swapped bound =
-    let all = counted_exchanges journal at folio in
-    let of_folio = placed ∙ ap (λ xs. line_places xs journal at folio) counted in
-    let can_swap = All-map (CanSwap (line_places all journal at folio)) swap_of all
-    (All-from_recursion (λ y. CanSwap (line_places all journal at folio) (swap_of y)) all
-    (all_in (λ y. CanSwap (line_places all journal at folio) (swap_of y)) all (λ y there. swap_alone journal at folio y kept stands there))) in
+    let all = counted_exchanges at folio in
+    let of_folio = placed ∙ ap (λ xs. line_places xs at folio) counted in
+    let can_swap = All-map (CanSwap (line_places all at folio)) swap_of all
+    (All-from_recursion (λ y. CanSwap (line_places all at folio) (swap_of y)) all
+    (all_in (λ y. CanSwap (line_places all at folio) (swap_of y)) all (λ y there. swap_alone journal at folio y kept stands there))) in
     subst (λ xs. CanFill (record { places = xs; swaps = swaps; knots = [] })) (sym of_folio)
-    (subst (λ ss. CanFill (record { places = line_places all journal at folio; swaps = ss; knots = [] })) (sym (swapped ∙ ap (map swap_of) counted))
+    (subst (λ ss. CanFill (record { places = line_places all at folio; swaps = ss; knots = [] })) (sym (swapped ∙ ap (map swap_of) counted))
     (record {
       places = are_places journal at folio kept stands (subst (All (λ (p : Place). p.claim ≤ most_cents)) of_folio bound);
       swaps = can_swap;

@@ -1,6 +1,6 @@
 -- Rights by group are no more than they were.
-use Rattle.std.proofs.Common.{◌≡◌, ℕ, zero, suc, ◌+◌, ◌<◌, ◌≤◌, true, false, cond, List, [], ◌∷◌, ◌++◌, length, filter, filter_map, flat_map, Option, Some, None, refl, sym, subst, arith}
-use Rattle.std.specs.List.{cons_option, range_with_len}
+use Rattle.std.proofs.Common.{◌≡◌, ℕ, zero, suc, ◌+◌, ◌<◌, ◌≤◌, true, false, cond, List, [], ◌∷◌, ◌++◌, length, filter, flat_map, refl, sym, subst, arith}
+use Rattle.std.specs.List.{range_with_len}
 use Rattle.std.proofs.lemmas.List.{length-append}
 use Rattle.std.proofs.lemmas.Bool.Decides.{nat_tests}
 use Rattle.folio_extract.specs.PlacedRights.{by_group, is_of_group}
@@ -46,12 +46,3 @@ all_by_group_few f (m ∷ ms) =
     let here = by_group_few (f m) in
     let others = all_by_group_few f ms in
     rw (length-append (by_group (f m)) (flat_map (λ n. by_group (f n)) ms), length-append (f m) (flat_map f ms)) (omega (arith, here, others))
-
-pub filter_map_few : {X Y : Type 0} (h : X → Option Y) (xs : List X) → length (filter_map h xs) ≤ length xs
-filter_map_few h [] = omega arith
-filter_map_few h (x ∷ xs) =
-    let few = filter_map_few h xs in
-    elim (h x) as (λ o. length (cons_option o (filter_map h xs)) ≤ length (x ∷ xs)) [
-      | None ↦ omega (arith, few)
-      | Some y ↦ omega (arith, few)
-    ]

@@ -1,20 +1,22 @@
--- The rights that are placed are held.
-use Rattle.std.proofs.Common.{◌≡◌, true, false, List, ℕ, All, IsTrue, Some, is_some, refl, sym, ap, ◌∙◌}
-use Rattle.std.proofs.lemmas.Bool.{false≢true}
-use Rattle.std.proofs.lemmas.List.Elements.{All-from_recursion}
+-- The rights that are live are held, and those that are held are all that a test may hold of.
+use Rattle.std.proofs.Common.{◌≡◌, Bool, true, false, cond, List, [], ◌∷◌, ◌++◌, ℕ, All, IsTrue, Option, None, Some, filter, filter_map, flat_map, is_some, option_map, refl, sym, ap, ◌∙◌, ⊎_elim}
+use Rattle.std.specs.List.{cons_option}
+use Rattle.std.proofs.lemmas.Bool.{cases_Bool, false≢true}
+use Rattle.std.proofs.lemmas.List.Elements.{All-from_recursion, filter_map-append}
+use Rattle.gb_base.specs.RightNo.{RightNo}
 use Rattle.gb_base.specs.declared.keys.Key.{Key}
 use Rattle.gb_base.specs.declared.keys.Key.TheVariants.{Right}
-use Rattle.act_model.specs.declared.receipts.Receipt.{Receipt}
 use Rattle.folio_sections.specs.Held.{entries_at, is_held}
+use Rattle.folio_sections.specs.HeldRights.{held_rights, receipt_numbers, right_numbers, rights_of_filing}
 use Rattle.folio_sections.specs.PartState.{PartState}
 use Rattle.folio_sections.specs.Rights.{created}
 use Rattle.folio_sections.specs.declared.entries.Created.{Created}
-use Rattle.folio_extract.specs.PlacedRights.{placed_rights}
-use Rattle.folio_extract.specs.declared.exchanges.Exchange.{Exchange}
+use Rattle.folio_sections.specs.declared.entries.Entry.{Entry}
+use Rattle.folio_sections.proofs.FilteredLists.{all_in, filter_skips, filter_takes}
+use Rattle.folio_extract.specs.PlacedRights.{live_rights, lives, right_where, rights_of}
 use Rattle.folio_extract.specs.declared.placed_rights.CreatedRight.{CreatedRight}
-use Rattle.folio_extract.proofs.ListLemmas.{all_in}
 use Rattle.folio_extract.proofs.NotHeld.{not_held}
-use Rattle.folio_extract.proofs.PlacedOrder.{of_placed_rights}
+use Rattle.folio_extract.proofs.PlacedOrder.{of_placed_rights, the_right}
 
 created_is_held : (parts : List PartState) (k : Key) (made : Created) → created (entries_at parts k) ≡ Some made → is_held parts k ≡ true
 created_is_held parts k made is =
@@ -23,10 +25,39 @@ created_is_held parts k made is =
       | false ↦ λ apart. absurd (false≢true (ap is_some (sym (ap created (not_held parts k apart)) ∙ is)))
     ] refl
 
-pub placed_are_held : (exchanges : List Exchange) (journal : List Receipt) (parts : List PartState) (folio : ℕ)
-    → All (λ x. IsTrue (is_held parts (Right folio x.id))) (placed_rights exchanges journal (entries_at parts) folio)
-placed_are_held exchanges journal parts folio =
-    let rights = placed_rights exchanges journal (entries_at parts) folio in
+pub live_are_held : (parts : List PartState) (folio : ℕ) → All (λ x. IsTrue (is_held parts (Right folio x.id))) (live_rights (entries_at parts) folio)
+live_are_held parts folio =
+    let rights = live_rights (entries_at parts) folio in
     All-from_recursion (λ (x : CreatedRight). IsTrue (is_held parts (Right folio x.id))) rights
     (all_in (λ (x : CreatedRight). IsTrue (is_held parts (Right folio x.id))) rights
-    (λ x there. created_is_held parts (Right folio x.id) x.made (of_placed_rights exchanges journal (entries_at parts) folio x there).made))
+    (λ x there. created_is_held parts (Right folio x.id) x.made (of_placed_rights lives (entries_at parts) folio x there).made))
+
+-- ---- and those that are held are all
+
+-- nothing is placed where nothing is held
+none_placed : (holds : RightNo → List Entry → Bool) (parts : List PartState) (folio : ℕ) (id : RightNo) → is_held parts (Right folio id) ≡ false → right_where holds (entries_at parts) folio id ≡ None
+none_placed holds parts folio id apart =
+    ap (λ es. option_map (the_right id) (cond (holds id es) (created es) None)) (not_held parts (Right folio id) apart) ∙ nothing (holds id [])
+  where
+    nothing : (b : Bool) → option_map (the_right id) (cond b None None) ≡ None
+    nothing true = refl
+    nothing false = refl
+
+-- so a filter by what gives nothing leaves all that is given
+given_of_filter : {X Y : Type 0} (h : X → Option Y) (p : X → Bool) (xs : List X) → ((x : X) → p x ≡ false → h x ≡ None) → filter_map h (filter p xs) ≡ filter_map h xs
+given_of_filter h p [] none = refl
+given_of_filter h p (x ∷ xs) none =
+    ⊎_elim
+    (λ is. ap (filter_map h) (filter_takes p x xs is) ∙ ap (λ ys. cons_option (h x) ys) (given_of_filter h p xs none))
+    (λ fails. ap (filter_map h) (filter_skips p x xs fails) ∙ given_of_filter h p xs none ∙ sym (ap (λ o. cons_option o (filter_map h xs)) (none x fails)))
+    (cases_Bool (p x))
+
+given_in_turn : {X Y Z : Type 0} (h : Y → Option Z) (f : X → List Y) (xs : List X) → filter_map h (flat_map f xs) ≡ flat_map (λ x. filter_map h (f x)) xs
+given_in_turn h f [] = refl
+given_in_turn h f (x ∷ xs) = filter_map-append h (f x) (flat_map f xs) ∙ ap (λ ys. filter_map h (f x) ++ ys) (given_in_turn h f xs)
+
+pub held_are_all : (holds : RightNo → List Entry → Bool) (parts : List PartState) (folio : ℕ)
+    → filter_map (right_where holds (entries_at parts) folio) (held_rights parts folio) ≡ flat_map (rights_of holds (entries_at parts) folio) receipt_numbers
+held_are_all holds parts folio =
+    given_of_filter (right_where holds (entries_at parts) folio) (λ id. is_held parts (Right folio id)) right_numbers (λ id apart. none_placed holds parts folio id apart)
+    ∙ given_in_turn (right_where holds (entries_at parts) folio) rights_of_filing receipt_numbers

@@ -2,7 +2,6 @@
 pub mod CentLines
 pub mod CountedExchanges
 pub mod CreatedRights
-pub mod DistinctLists
 pub mod ExtractText
 pub mod FiledRights
 pub mod FilingRuns
@@ -10,7 +9,7 @@ pub mod FolioFills
 pub mod GroupedRights
 pub mod HeldRights
 pub mod KeptRanks
-pub mod ListLemmas
+pub mod LiveRights
 pub mod LoneGroups
 pub mod MapInOrder
 pub mod NotHeld

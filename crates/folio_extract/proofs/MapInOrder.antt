@@ -33,7 +33,7 @@ less x y is =
 here : (n k : ℕ) → n ≡ k → is_eq (nat_cmp n k) ≡ true
 here n k same = grind (arith, nat_tests, same)
 
-apart : (n k : ℕ) → n < k → is_eq (nat_cmp n k) ≡ false
+pub apart : (n k : ℕ) → n < k → is_eq (nat_cmp n k) ≡ false
 apart n k below = grind (arith, nat_tests, below)
 
 pub behind : (n k : ℕ) → k < n → is_eq (nat_cmp n k) ≡ false

@@ -1,25 +1,24 @@
 -- The rights that are placed in a folio are of different numbers.
-use Rattle.std.proofs.Common.{◌≡◌, ℕ, ◌<◌, Bool, true, false, List, filter, length, Some, sym, ap, ◌∙◌, ⊎_elim, arith}
+use Rattle.std.proofs.Common.{◌≡◌, ℕ, ◌<◌, Bool, true, false, List, filter, Some, sym, ap, ◌∙◌, ⊎_elim, arith}
 use Rattle.std.specs.List.{IsDistinct}
 use Rattle.std.proofs.lemmas.Bool.{cases_Bool}
 use Rattle.std.proofs.lemmas.Bool.Decides.{nat_tests}
 use Rattle.std.proofs.lemmas.Option.{same_Some}
 use Rattle.gb_base.specs.Limits.{most_acts}
-use Rattle.gb_base.specs.RightNo.{same_right}
+use Rattle.gb_base.specs.RightNo.{RightNo, same_right}
 use Rattle.gb_base.specs.declared.keys.Key.{Key}
 use Rattle.gb_base.specs.declared.keys.Key.TheVariants.{Right}
 use Rattle.gb_base.proofs.SameRights.{right_is}
 use Rattle.act_model.specs.Limits.{most_groups}
 use Rattle.act_model.specs.Touches.{new_right}
-use Rattle.act_model.specs.declared.receipts.Receipt.{Receipt}
 use Rattle.folio_sections.specs.Rights.{created}
 use Rattle.folio_sections.specs.declared.entries.Created.{Created}
 use Rattle.folio_sections.specs.declared.entries.Entry.{Entry}
-use Rattle.folio_extract.specs.PlacedRights.{by_group, is_of_group, placed_at, placed_of, placed_rights}
-use Rattle.folio_extract.specs.declared.exchanges.Exchange.{Exchange}
+use Rattle.folio_sections.proofs.DistinctLists.{distinct_filter, distinct_flat, distinct_row}
+use Rattle.folio_sections.proofs.FilteredLists.{of_filter}
+use Rattle.folio_sections.proofs.ReceiptNumbers.{distinct_over_numbers}
+use Rattle.folio_extract.specs.PlacedRights.{by_group, is_of_group, right_where, rights_of, rights_where}
 use Rattle.folio_extract.specs.declared.placed_rights.CreatedRight.{CreatedRight}
-use Rattle.folio_extract.proofs.DistinctLists.{distinct_filter, distinct_flat, distinct_row}
-use Rattle.folio_extract.proofs.ListLemmas.{of_filter}
 use Rattle.folio_extract.proofs.PlacedOrder.{of_filing, of_filing_by_group, placed_at_number}
 
 -- both are of one number
@@ -31,12 +30,12 @@ has_same_number x y = same_right x.id y.id
 apart_acts : (m k l : ℕ) → k < l → same_right (new_right m k) (new_right m l) ≡ false
 apart_acts m k l less = grind (arith, nat_tests, less)
 
-acts_distinct : (exchanges : List Exchange) (at : Key → List Entry) (folio m : ℕ) → IsDistinct has_same_number (placed_of exchanges at folio m)
-acts_distinct exchanges at folio m =
-    distinct_row has_same_number (new_right m) (placed_at exchanges at folio)
+acts_distinct : (holds : RightNo → List Entry → Bool) (at : Key → List Entry) (folio m : ℕ) → IsDistinct has_same_number (rights_of holds at folio m)
+acts_distinct holds at folio m =
+    distinct_row has_same_number (new_right m) (right_where holds at folio)
     (λ k l x y less here there.
-    let first = placed_at_number exchanges at folio (new_right m k) x here in
-    let second = placed_at_number exchanges at folio (new_right m l) y there in
+    let first = placed_at_number holds at folio (new_right m k) x here in
+    let second = placed_at_number holds at folio (new_right m l) y there in
     (λ i. same_right (first i) (second i)) ∙ apart_acts m k l less)
     1 most_acts
 
@@ -52,16 +51,16 @@ one_group x y k l first second less same =
     let group = ap (λ (made : Created). made.spec.group) same in
     grind (arith, nat_tests, first, second, less, group)
 
-groups_distinct : (exchanges : List Exchange) (at : Key → List Entry) (folio m : ℕ) → IsDistinct has_same_number (by_group (placed_of exchanges at folio m))
-groups_distinct exchanges at folio m =
-    let rights = placed_of exchanges at folio m in
+groups_distinct : (holds : RightNo → List Entry → Bool) (at : Key → List Entry) (folio m : ℕ) → IsDistinct has_same_number (by_group (rights_of holds at folio m))
+groups_distinct holds at folio m =
+    let rights = rights_of holds at folio m in
     distinct_flat has_same_number (λ group. filter (is_of_group group) rights)
-    (λ k. distinct_filter has_same_number (is_of_group k) rights (acts_distinct exchanges at folio m))
+    (λ k. distinct_filter has_same_number (is_of_group k) rights (acts_distinct holds at folio m))
     (λ k l x y less here there.
     let first = of_filter (is_of_group k) rights x here in
     let second = of_filter (is_of_group l) rights y there in
     ⊎_elim
-    (λ same. absurd (one_group x y k l first.1 second.1 less (one_right at folio x y (of_filing exchanges at folio m x first.0).made (of_filing exchanges at folio m y second.0).made same)))
+    (λ same. absurd (one_group x y k l first.1 second.1 less (one_right at folio x y (of_filing holds at folio m x first.0).made (of_filing holds at folio m y second.0).made same)))
     (λ other. other)
     (cases_Bool (has_same_number x y)))
     1 most_groups
@@ -71,9 +70,8 @@ groups_distinct exchanges at folio m =
 apart_filings : (x y : CreatedRight) (m n : ℕ) → x.id.receipt ≡ m → y.id.receipt ≡ n → m < n → has_same_number x y ≡ false
 apart_filings x y m n first second less = grind (arith, nat_tests)
 
-pub placed_distinct : (exchanges : List Exchange) (journal : List Receipt) (at : Key → List Entry) (folio : ℕ) → IsDistinct has_same_number (placed_rights exchanges journal at folio)
-placed_distinct exchanges journal at folio =
-    distinct_flat has_same_number (λ m. by_group (placed_of exchanges at folio m)) (groups_distinct exchanges at folio)
+pub placed_distinct : (holds : RightNo → List Entry → Bool) (at : Key → List Entry) (folio : ℕ) → IsDistinct has_same_number (rights_where holds at folio)
+placed_distinct holds at folio =
+    distinct_over_numbers has_same_number (λ m. by_group (rights_of holds at folio m)) (groups_distinct holds at folio)
     (λ m n x y less here there.
-    apart_filings x y m n (of_filing_by_group exchanges at folio m x here).filing (of_filing_by_group exchanges at folio n y there).filing less)
-    1 (length journal)
+    apart_filings x y m n (of_filing_by_group holds at folio m x here).filing (of_filing_by_group holds at folio n y there).filing less)

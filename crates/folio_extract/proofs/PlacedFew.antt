@@ -1,6 +1,6 @@
--- The rights that are placed in a folio: all that are created and are live or recede, and at most as many as a line has places.
-use Rattle.std.proofs.Common.{◌≡◌, ℕ, zero, suc, ◌+◌, ◌<◌, ◌≤◌, true, cond, ◌||◌, List, [], ◌∷◌, filter, filter_map, length, map, IsSomeAnd, Option, Some, None, is_some, option_and_then, option_map, refl, sym, ap, subst, ◌∙◌, arith}
-use Rattle.std.specs.List.{cons_option, position, slice_get}
+-- The rights of a folio of which a test holds: all that are created, and at most as many as a line has places.
+use Rattle.std.proofs.Common.{◌≡◌, ℕ, zero, suc, ◌+◌, ◌<◌, ◌≤◌, Bool, true, cond, List, [], ◌∷◌, filter, filter_map, length, IsSomeAnd, Option, Some, None, is_some, option_and_then, option_map, refl, sym, ap, subst, ◌∙◌, arith}
+use Rattle.std.specs.List.{cons_option, position, range_with_len, slice_get}
 use Rattle.std.proofs.lemmas.Bool.{eq-eqb}
 use Rattle.std.proofs.lemmas.Bool.Decides.{nat_tests}
 use Rattle.std.proofs.lemmas.Option.{get_or_from_slice_get, slice_get_within}
@@ -19,37 +19,39 @@ use Rattle.act_model.specs.Touches.{new_right}
 use Rattle.act_model.specs.declared.filing_acts.Act.{Act}
 use Rattle.act_model.specs.declared.receipts.Receipt.{Receipt}
 use Rattle.act_model.proofs.CreationOrder.{creations_rise, place_found}
+use Rattle.folio_sections.specs.HeldRights.{receipt_numbers, rights_of_filing}
 use Rattle.folio_sections.specs.Kept.{Kept}
 use Rattle.folio_sections.specs.KeptRights.{IsAsFiled, act_of_right}
 use Rattle.folio_sections.specs.Limits.{most_creations}
-use Rattle.folio_sections.specs.Rights.{created, is_live}
+use Rattle.folio_sections.specs.Rights.{created}
 use Rattle.folio_sections.specs.declared.entries.Created.{Created}
 use Rattle.folio_sections.specs.declared.entries.Entry.{Entry}
+use Rattle.folio_sections.proofs.FilteredLists.{in_filter, in_filter_map}
+use Rattle.folio_sections.proofs.ReceiptNumbers.{in_receipt_numbers}
 use Rattle.rank_slots.specs.Limits.{most_places}
-use Rattle.folio_extract.specs.PlacedRights.{by_group, is_of_group, one_to, placed_at, placed_of, placed_rights, recedes}
-use Rattle.folio_extract.specs.declared.exchanges.Exchange.{Exchange}
+use Rattle.folio_extract.specs.PlacedRights.{by_group, is_of_group, right_where, rights_of, rights_where}
 use Rattle.folio_extract.proofs.CreatedRights.{IsCreatedHere, IsInRanges, is_created_here}
 use Rattle.folio_extract.proofs.FiledRights.{placed_creations}
 use Rattle.folio_extract.proofs.GroupedRights.{all_by_group_few}
-use Rattle.folio_extract.proofs.ListLemmas.{in_filter, in_filter_map}
 use Rattle.folio_extract.proofs.PlacedOrder.{placed_at_made, the_right}
 
 -- ---- all of them
 
--- a right that is created, and is live or recedes, is placed
-pub is_placed : (exchanges : List Exchange) (journal : List Receipt) (at : Key → List Entry) (folio : ℕ) (id : RightNo) (made : Created) → IsInRanges journal id made → created (at (Right folio id)) ≡ Some made
-    → (is_live (at (Right folio id)) || recedes exchanges id) ≡ true → In (the_right id made) (placed_rights exchanges journal at folio)
-is_placed exchanges journal at folio id made ranges is stands =
+-- a right that is created is placed where the test holds of it
+pub is_placed : (holds : RightNo → List Entry → Bool) (journal : List Receipt) (at : Key → List Entry) (folio : ℕ) (id : RightNo) (made : Created) → IsJournal journal → IsInRanges journal id made → created (at (Right folio id)) ≡ Some made
+    → holds id (at (Right folio id)) ≡ true → In (the_right id made) (rights_where holds at folio)
+is_placed holds journal at folio id made stands ranges is passes =
     let x = the_right id made in
-    let rights = placed_of exchanges at folio id.receipt in
-    let placed : placed_at exchanges at folio id ≡ Some x = ap (λ b. option_map (the_right id) (cond b (created (at (Right folio id))) None)) stands ∙ ap (option_map (the_right id)) is in
-    let receipt = in_range 1 (length journal) id.receipt ranges.receipt_from (omega (arith, ranges.receipt_to)) in
+    let rights = rights_of holds at folio id.receipt in
+    let placed : right_where holds at folio id ≡ Some x = ap (λ b. option_map (the_right id) (cond b (created (at (Right folio id))) None)) passes ∙ ap (option_map (the_right id)) is in
+    let few = stands.few in
+    let receipt = in_receipt_numbers id.receipt ranges.receipt_from (omega (arith, ranges.receipt_to, few)) in
     let act = in_range 1 most_acts id.act ranges.act_from (omega (arith, ranges.act_to)) in
     let group = in_range 1 most_groups made.spec.group ranges.group_from (omega (arith, ranges.group_to)) in
-    let of_filing : In x rights = in_filter_map (placed_at exchanges at folio) (map (new_right id.receipt) (one_to most_acts)) id x (in_map (new_right id.receipt) (one_to most_acts) id.act act) placed in
+    let of_filing : In x rights = in_filter_map (right_where holds at folio) (rights_of_filing id.receipt) id x (in_map (new_right id.receipt) (range_with_len 1 most_acts) id.act act) placed in
     let grouped : In x (by_group rights) =
-    in_flat_map (λ group. filter (is_of_group group) rights) (one_to most_groups) made.spec.group x group (in_filter (is_of_group made.spec.group) rights x of_filing (eq-eqb made.spec.group made.spec.group refl)) in
-    in_flat_map (λ m. by_group (placed_of exchanges at folio m)) (one_to (length journal)) id.receipt x receipt grouped
+    in_flat_map (λ group. filter (is_of_group group) rights) (range_with_len 1 most_groups) made.spec.group x group (in_filter (is_of_group made.spec.group) rights x of_filing (eq-eqb made.spec.group made.spec.group refl)) in
+    in_flat_map (λ m. by_group (rights_of holds at folio m)) receipt_numbers id.receipt x receipt grouped
 
 -- ---- few
 
@@ -95,11 +97,11 @@ below_most journal folio i id made here filed =
     let less : i + 1 ≤ most_creations = subst (λ o. IsSomeAnd (option_map (λ k. k + 1) o) (λ n. n ≤ most_creations)) (place_is journal folio i id here) rank in
     omega (arith, less)
 
-pub placed_few : (exchanges : List Exchange) (journal : List Receipt) (at : Key → List Entry) (folio : ℕ) → Kept journal at → IsJournal journal → length (placed_rights exchanges journal at folio) ≤ most_places
-placed_few exchanges journal at folio kept stands =
-    let grouped = all_by_group_few (placed_of exchanges at folio) (one_to (length journal)) in
-    let filed = ap length (placed_creations exchanges journal at folio kept stands) in
-    let few = few_below (placed_at exchanges at folio) (creations_in journal folio) most_creations
+pub placed_few : (holds : RightNo → List Entry → Bool) (journal : List Receipt) (at : Key → List Entry) (folio : ℕ) → Kept journal at → IsJournal journal → length (rights_where holds at folio) ≤ most_places
+placed_few holds journal at folio kept stands =
+    let grouped = all_by_group_few (rights_of holds at folio) receipt_numbers in
+    let filed = ap length (placed_creations holds journal at folio kept stands) in
+    let few = few_below (right_where holds at folio) (creations_in journal folio) most_creations
     (λ i id x here placed. below_most journal folio i id x.made here
-    (is_created_here journal at folio id x.made kept (placed_at_made exchanges at folio id x placed))) in
+    (is_created_here journal at folio id x.made kept (placed_at_made holds at folio id x placed))) in
     omega (arith, grouped, filed, few)

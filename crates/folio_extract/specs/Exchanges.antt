@@ -1,11 +1,10 @@
 -- The exchanges of rank and the exercised reservations of a folio that count (BGB §§ 880, 881).
-use Rattle.std.specs.Prelude.{ℕ, Bool, false, not, ◌==◌, ◌&&◌, ◌||◌, nat_lt, if◌then◌else◌, List, [], ◌∷◌, filter, filter_map, flat_map, Option, Some, None, option_and_then}
+use Rattle.std.specs.Prelude.{ℕ, Bool, false, not, ◌==◌, ◌&&◌, ◌||◌, nat_lt, if◌then◌else◌, List, [], ◌∷◌, filter, filter_map, flat_map, Option, Some, None, is_some, option_and_then}
 use Rattle.std.specs.List.{list_any}
 use Rattle.gb_base.specs.RightNo.{RightNo, same_right}
 use Rattle.gb_base.specs.declared.keys.Key.{Key}
 use Rattle.gb_base.specs.declared.keys.Key.TheVariants.{Right}
-use Rattle.act_model.specs.declared.receipts.Receipt.{Receipt}
-use Rattle.folio_sections.specs.Rights.{is_live}
+use Rattle.folio_sections.specs.Rights.{created, is_live}
 use Rattle.folio_sections.specs.declared.entries.Entry.{Entry}
 use Rattle.folio_sections.specs.declared.entries.What.{What}
 use Rattle.folio_sections.specs.declared.entries.What.TheVariants as what
@@ -27,9 +26,10 @@ abbrev pub is_cancellation_by_consent : What → Bool
 is_cancellation_by_consent (what.Cancelled expired) = not expired
 is_cancellation_by_consent other = false
 
--- the cents of a right stay for those that rose into its rank: it is live, or it was cancelled without a proof that it expired
+-- the cents of a right stay for those that rose into its rank: it is live, or it was created and cancelled without a proof that it
+-- expired (BGB § 880(4))
 abbrev pub keeps_cents : List Entry → Bool
-keeps_cents entries = is_live entries || list_any (λ e. is_cancellation_by_consent e.what) entries
+keeps_cents entries = is_live entries || (is_some (created entries) && list_any (λ e. is_cancellation_by_consent e.what) entries)
 
 -- the exchanges by which a live right rises, and that count
 abbrev pub counted_at : (Key → List Entry) → ℕ → CreatedRight → List Exchange
@@ -51,8 +51,8 @@ in_turn [] = []
 in_turn (x ∷ xs) = in_turn_with x (in_turn xs)
 
 -- The exchanges of a folio that count, by item and act: the right that rises is live, and the cents of the other stay (BGB § 880).
-abbrev pub counted_exchanges : List Receipt → (Key → List Entry) → ℕ → List Exchange
-counted_exchanges journal at folio = in_turn (flat_map (counted_at at folio) (live_rights journal at folio))
+abbrev pub counted_exchanges : (Key → List Entry) → ℕ → List Exchange
+counted_exchanges at folio = in_turn (flat_map (counted_at at folio) (live_rights at folio))
 
 -- ---- exercised reservations
 
@@ -72,5 +72,5 @@ abbrev pub knot_of : (Key → List Entry) → ℕ → CreatedRight → Option Kn
 knot_of at folio x = option_and_then (knot_behind at folio x) x.made.ahead_of
 
 -- The exercised reservations of a folio that count, by the exercised right: both rights are live (BGB § 881).
-abbrev pub counted_knots : List Receipt → (Key → List Entry) → ℕ → List Knot
-counted_knots journal at folio = filter_map (knot_of at folio) (live_by_act journal at folio)
+abbrev pub counted_knots : (Key → List Entry) → ℕ → List Knot
+counted_knots at folio = filter_map (knot_of at folio) (live_by_act at folio)

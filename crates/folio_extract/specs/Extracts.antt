@@ -6,7 +6,6 @@ use Rattle.gb_base.specs.declared.keys.Key.{Key}
 use Rattle.gb_base.specs.declared.keys.Key.TheVariants.{Case, Right, Title}
 use Rattle.act_model.specs.Acts.{is_in_division_three}
 use Rattle.act_model.specs.declared.land.Inventory.{Inventory}
-use Rattle.act_model.specs.declared.receipts.Receipt.{Receipt}
 use Rattle.act_model.specs.declared.rights.RightKind.{RightKind}
 use Rattle.act_model.specs.declared.rights.RightKind.TheVariants as kind
 use Rattle.folio_sections.specs.Cases.{award, is_running}
@@ -54,8 +53,8 @@ waiting_line place w =
     codes "pending " ++ (decimal w.filing ++ (codes " " ++ (place ++ (codes " until " ++ (date_text w.until ++ (notice_part w.notice ++ codes "\n"))))))
 
 -- all that wait at it
-abbrev pub waiting_lines : List Receipt → List ℕ → List Entry → List ℕ
-waiting_lines journal place entries = flat_map (waiting_line place) (waiting_filings journal entries)
+abbrev pub waiting_lines : List ℕ → List Entry → List ℕ
+waiting_lines place entries = flat_map (waiting_line place) (waiting_filings entries)
 
 -- ---- rights
 
@@ -107,18 +106,18 @@ right_line entries x =
     ++ (word_part (codes " holder ") decimal (holder entries) ++ (codes " placed " ++ (date_text x.made.placed ++ (notes entries x.made ++ codes "\n")))))))))))))
 
 -- the right, and the filings that wait at it
-abbrev pub right_lines : List Receipt → List Entry → CreatedRight → List ℕ
-right_lines journal entries x = right_line entries x ++ waiting_lines journal (right_text x.id) entries
+abbrev pub right_lines : List Entry → CreatedRight → List ℕ
+right_lines entries x = right_line entries x ++ waiting_lines (right_text x.id) entries
 
 -- ---- together
 
 -- the extract of a folio
-unfoldable pub extract_text : List Receipt → (Key → List Entry) → ℕ → List ℕ
-extract_text journal at folio =
+unfoldable pub extract_text : (Key → List Entry) → ℕ → List ℕ
+extract_text at folio =
     heading_line folio ++ (inventory_line (inventory (at (Title folio))) ++ (owners_line (owners (at (Title folio))) ++ (sale_line (at (Case folio))
-    ++ (waiting_lines journal (codes "title") (at (Title folio))
-    ++ flat_map (λ x. right_lines journal (at (Right folio x.id)) x) (live_rights journal at folio)))))
+    ++ (waiting_lines (codes "title") (at (Title folio))
+    ++ flat_map (λ x. right_lines (at (Right folio x.id)) x) (live_rights at folio)))))
 
 -- the same, where the folio is open
-abbrev pub extract : List Receipt → (Key → List Entry) → ℕ → Option (List ℕ)
-extract journal at folio = if is_open (at (Title folio)) then Some (extract_text journal at folio) else None
+abbrev pub extract : (Key → List Entry) → ℕ → Option (List ℕ)
+extract at folio = if is_open (at (Title folio)) then Some (extract_text at folio) else None

@@ -1,17 +1,17 @@
 -- The line of a folio: its rights in order, with their capitals, and the exchanges among them.
-use Rattle.std.specs.Prelude.{ℕ, Bool, false, not, List, [], ◌∷◌, map, Option, Some, None}
+use Rattle.std.specs.Prelude.{ℕ, Bool, false, not, ◌||◌, List, [], ◌∷◌, map, Option, Some, None}
+use Rattle.std.specs.List.{list_any}
 use Rattle.std.specs.Option.{option_map_or}
-use Rattle.gb_base.specs.RightNo.{RightNo}
+use Rattle.gb_base.specs.RightNo.{RightNo, same_right}
 use Rattle.gb_base.specs.declared.keys.Key.{Key}
 use Rattle.gb_base.specs.declared.keys.Key.TheVariants.{Right}
-use Rattle.act_model.specs.declared.receipts.Receipt.{Receipt}
 use Rattle.folio_sections.specs.Rights.{capital, is_live}
 use Rattle.folio_sections.specs.declared.entries.Entry.{Entry}
 use Rattle.rank_slots.specs.Filled.{Filled}
 use Rattle.rank_slots.specs.declared.places.Place.{Place}
 use Rattle.rank_slots.specs.declared.places.Swap.{Swap}
 use Rattle.folio_extract.specs.Exchanges.{counted_exchanges}
-use Rattle.folio_extract.specs.PlacedRights.{has_same_place, placed_rights}
+use Rattle.folio_extract.specs.PlacedRights.{has_same_place, rights_where}
 use Rattle.folio_extract.specs.declared.exchanges.Exchange.{Exchange}
 use Rattle.folio_extract.specs.declared.placed_rights.CreatedRight.{CreatedRight}
 
@@ -38,11 +38,19 @@ places_behind at folio before (x ∷ xs) = place_behind at folio before x ∷ pl
 abbrev pub swap_of : Exchange → Swap
 swap_of x = record { recede = x.recede; rise = x.rise }
 
--- the line of a folio behind these exchanges: the live rights and those that recede, each at its place
-abbrev pub filled_by : List Exchange → List Receipt → (Key → List Entry) → ℕ → Filled
-filled_by exchanges journal at folio =
-    record { places = places_behind at folio None (placed_rights exchanges journal at folio); swaps = map swap_of exchanges; knots = [] }
+-- the right recedes in one of these exchanges
+abbrev pub recedes : List Exchange → RightNo → Bool
+recedes exchanges id = list_any (λ x. same_right x.recede id) exchanges
+
+-- the right with these entries has a place on the line behind these exchanges: it is live, or it gives its rank away
+abbrev pub stands_on_line : List Exchange → RightNo → List Entry → Bool
+stands_on_line exchanges id entries = is_live entries || recedes exchanges id
+
+-- the line of a folio behind these exchanges
+abbrev pub filled_by : List Exchange → (Key → List Entry) → ℕ → Filled
+filled_by exchanges at folio =
+    record { places = places_behind at folio None (rights_where (stands_on_line exchanges) at folio); swaps = map swap_of exchanges; knots = [] }
 
 -- the line of a folio, of the capitals behind all exchanges that count
-abbrev pub folio_line : List Receipt → (Key → List Entry) → ℕ → Filled
-folio_line journal at folio = filled_by (counted_exchanges journal at folio) journal at folio
+abbrev pub folio_line : (Key → List Entry) → ℕ → Filled
+folio_line at folio = filled_by (counted_exchanges at folio) at folio

@@ -62,9 +62,9 @@ exercise_line k = pair_line (codes "exercise") k.reserved k.exercised
 -- the rank table of a folio
 unfoldable pub rank_table_text : List Receipt → (Key → List Entry) → ℕ → List ℕ
 rank_table_text journal at folio =
-    codes "ranks " ++ (decimal folio ++ (codes "\n" ++ (rank_lines (places journal at folio) (live_rights journal at folio)
-    ++ (flat_map exchange_line (counted_exchanges journal at folio) ++ (flat_map exercise_line (counted_knots journal at folio)
-    ++ line_text (folio_line journal at folio))))))
+    codes "ranks " ++ (decimal folio ++ (codes "\n" ++ (rank_lines (places journal at folio) (live_rights at folio)
+    ++ (flat_map exchange_line (counted_exchanges at folio) ++ (flat_map exercise_line (counted_knots at folio)
+    ++ line_text (folio_line at folio))))))
 
 -- the same, where the folio is open
 abbrev pub rank_table : List Receipt → (Key → List Entry) → ℕ → Option (List ℕ)

@@ -16,7 +16,7 @@ use Rattle.folio_extract.specs.VerdictLines.{verdict_lines}
 
 -- the texts of these folios
 abbrev pub folio_texts : List Receipt → (Key → List Entry) → List ℕ → List ℕ
-folio_texts journal at folios = flat_map (λ folio. extract_text journal at folio ++ rank_table_text journal at folio) folios
+folio_texts journal at folios = flat_map (λ folio. extract_text at folio ++ rank_table_text journal at folio) folios
 
 -- the line that ends the report
 abbrev pub end_line : ℕ → ℕ → List ℕ

@@ -5,7 +5,7 @@ ghost use Rattle.gb_base.specs.declared.keys.Key.TheVariants.{Right};
 ghost use Rattle.folio_sections.specs.Held.{entries_at};
 ghost use Rattle.folio_extract.specs.Exchanges.{counted_at, in_turn, is_cancellation_by_consent, keeps_cents, rise_by};
 
-use crate::folio_reads::{is_live, right_entries};
+use crate::folio_reads::{is_live, right_entries, was_created};
 use crate::placed_rights::CreatedRight;
 use folio_sections::{Entry, What};
 use gb_base::{FolioId, NoMemory, ReceiptNo, RightId};
@@ -91,11 +91,13 @@ fn rise_by(right: RightId, entry: &Entry) -> Option<Exchange>
 }
 
 /// Whether the cents of a right stay for those that rose into its rank: it is live, or it was
-/// cancelled without a proof that it expired.
+/// created and cancelled without a proof that it expired (BGB § 880(4)).
 fn keeps_cents(register: &Register, folio: FolioId, id: RightId) -> bool
     ensures { result ≡ keeps_cents (entries_at register.now.parts (Right folio id)) }
 {
-    is_live(register, folio, id) || was_cancelled_by_consent(right_entries(register, folio, id))
+    is_live(register, folio, id)
+        || (was_created(register, folio, id)
+            && was_cancelled_by_consent(right_entries(register, folio, id)))
 }
 
 /// Whether an entry cancels the right by consent.

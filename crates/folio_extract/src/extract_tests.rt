@@ -7,7 +7,7 @@ use crate::testing::{
     assignment, by_owners, cents, consent, creation, day, docs, filing, folio, opened, person,
     plain, receipt, receive, right, spec,
 };
-use act_model::{Act, Acts, Doc, Filing, Item, Journal, RightKind};
+use act_model::{Act, Acts, Doc, Filing, Item, Journal, RightKind, RightSpec};
 use arrayvec::ArrayVec;
 use folio_sections::{CasePart, Created, Entry, RightForm, RightPart, What};
 use gb_base::{FolioId, Key, NoMemory};
@@ -19,7 +19,7 @@ use std::test::Fail;
 /// The extract of a folio of the register of a journal; empty where the folio is not open.
 fn extract_of(alloc: Global, journal: &Journal, folio: FolioId) -> Result<Vec<u8>, NoMemory> {
     let register = alone(alloc, journal)?;
-    match extract(alloc, &register, journal, folio)? {
+    match extract(alloc, &register, folio)? {
         Some(text) => Ok(text),
         None => Ok(Vec::new(alloc)),
     }
@@ -139,6 +139,60 @@ fn a_cured_filing_waits_no_longer(rt: HostRuntime) -> Result<(), Fail> {
         right 2.1 II right usufruct 10.00 holder 27 placed 2024-03-05\n";
     assert_eq!(&rt; cured.as_slice(), wanted.as_slice());
     assert_eq!(&rt; extract_of(alloc, &journal, folio(&rt, 8))?.len(), 0);
+    Ok(())
+}
+
+/// Act 1 creates a right of group 2, and act 2 one of group 1.
+fn later_group_first(rt: &impl Abort) -> Item {
+    let behind = RightSpec {
+        group: 2,
+        ..spec(rt, RightKind::Usufruct, 1_000, 21)
+    };
+    let mut acts = ArrayVec::new();
+    acts.push(creation(rt, behind));
+    acts.push(creation(rt, spec(rt, RightKind::PersonalEasement, 500, 22)));
+    let list = [
+        consent(rt, 1, 10),
+        consent(rt, 1, 11),
+        consent(rt, 2, 10),
+        consent(rt, 2, 11),
+    ];
+    Item::Filing(Filing {
+        applicant: person(rt, 10),
+        conditional: false,
+        acts: Acts::new(acts),
+        docs: docs(list.as_slice()),
+    })
+}
+
+#[test]
+fn rights_of_a_filing_stand_by_group(rt: HostRuntime) -> Result<(), Fail> {
+    let alloc = rt.alloc();
+    let mut journal = opened(&rt, alloc);
+    receive(&rt, &mut journal, 4, &later_group_first(&rt));
+    let text = extract_of(alloc, &journal, folio(&rt, 7))?;
+    let wanted = b"folio 7\ninventory district 12 parcel 345/6 area 800\nowners 11 10\n\
+        right 2.2 II right personal-easement 5.00 holder 22 placed 2024-03-04\n\
+        right 2.1 II right usufruct 10.00 holder 21 placed 2024-03-04\n";
+    assert_eq!(&rt; text.as_slice(), wanted.as_slice());
+    Ok(())
+}
+
+#[test]
+fn a_right_that_is_held_but_not_created_is_not_listed(rt: HostRuntime) -> Result<(), Fail> {
+    let alloc = rt.alloc();
+    let mut journal = opened(&rt, alloc);
+    let act = creation(&rt, spec(&rt, RightKind::Usufruct, 1_000, 27));
+    let half = [consent(&rt, 1, 10), plain(&rt, 1, 11)];
+    let waiting = filing(&rt, 10, act, docs(half.as_slice()));
+    receive(&rt, &mut journal, 4, &waiting);
+    let register = alone(alloc, &journal)?;
+    let held = register.rights_in(alloc, folio(&rt, 7))?;
+    assert_eq!(&rt; held.as_slice(), [right(&rt, 2, 1)].as_slice());
+    let text = extract(alloc, &register, folio(&rt, 7))?.ok_or("an extract")?;
+    let wanted = b"folio 7\ninventory district 12 parcel 345/6 area 800\nowners 11 10\n\
+        pending 2 title until 2024-04-03\n";
+    assert_eq!(&rt; text.as_slice(), wanted.as_slice());
     Ok(())
 }
 

@@ -4,17 +4,15 @@ ghost use Rattle.std.specs.Fmt.{decimal};
 ghost use Rattle.std.specs.String.{string_bytes};
 ghost use Rattle.gb_base.specs.declared.keys.Key.TheVariants.{Case, Right, Title};
 ghost use Rattle.folio_sections.specs.Held.{entries_at, is_held};
-ghost use Rattle.folio_sections.specs.Kept.{Kept};
 ghost use Rattle.folio_sections.specs.Titles.{inventory, owners};
 ghost use Rattle.folio_extract.specs.Extracts.{extract, extract_text, heading_line, inventory_line, owners_line, right_lines, sale_line, waiting_lines};
-ghost use Rattle.folio_extract.specs.inner.Waits.{WaitsInJournal};
 
 use crate::folio_reads::{has_sale_note, inventory_of, is_open, owners_of, title_entries};
 use crate::placed_rights::{CreatedRight, live_rights};
 use crate::right_lines::add_right_line;
 use crate::waiting::waiting_filings;
 use crate::waiting_lines::{WaitsAt, add_waiting_lines};
-use act_model::{Inventory, Journal, Owners};
+use act_model::{Inventory, Owners};
 use folio_sections::{Parts, RightPart};
 use gb_base::{FolioId, NoMemory, Person};
 use registrar::Register;
@@ -24,17 +22,15 @@ use std::alloc::Global;
 pub fn extract(
     alloc: Global,
     register: &Register,
-    journal: &Journal,
     folio: FolioId,
 ) -> Result<Option<Vec<u8>>, NoMemory>
-    requires { Kept journal.now.receipts (entries_at register.now.parts) }
-    ensures { IfOk result (λ text. option_map (λ t. t.items) text ≡ extract journal.now.receipts (entries_at register.now.parts) folio) }
+    ensures text { IfOk result (λ text. option_map (λ t. t.items) text ≡ extract (entries_at register.now.parts) folio) }
 {
     if !is_open(register, folio) {
         return Ok(None);
     }
     let mut text = String::new(alloc);
-    add_extract(alloc, &mut text, register, journal, folio)?;
+    add_extract(alloc, &mut text, register, folio)?;
     Ok(Some(text.into_bytes()))
 }
 
@@ -43,16 +39,14 @@ pub(crate) fn add_extract(
     alloc: Global,
     text: &mut String,
     register: &Register,
-    journal: &Journal,
     folio: FolioId,
 ) -> Result<(), NoMemory>
-    requires { Kept journal.now.receipts (entries_at register.now.parts) }
-    ensures { OnOk result (string_bytes text.new ≡ string_bytes text.old ++ extract_text journal.now.receipts (entries_at register.now.parts) folio) }
+    ensures { OnOk result (string_bytes text.new ≡ string_bytes text.old ++ extract_text (entries_at register.now.parts) folio) }
 {
     add_folio(text, register, folio)?;
-    add_title_filings(alloc, text, register, journal, folio)?;
-    let rights = live_rights(alloc, register, journal, folio)?;
-    add_rights(alloc, text, register, journal, folio, &rights)
+    add_title_filings(alloc, text, register, folio)?;
+    let rights = live_rights(alloc, register, folio)?;
+    add_rights(alloc, text, register, folio, &rights)
 }
 
 /// Adds what the extract says of the folio itself.
@@ -121,14 +115,12 @@ fn add_title_filings(
     alloc: Global,
     text: &mut String,
     register: &Register,
-    journal: &Journal,
     folio: FolioId,
 ) -> Result<(), NoMemory>
-    requires { Kept journal.now.receipts (entries_at register.now.parts) }
     ensures { OnOk result (string_bytes text.new ≡ string_bytes text.old
-        ++ waiting_lines journal.now.receipts (codes "title") (entries_at register.now.parts (Title folio))) }
+        ++ waiting_lines (codes "title") (entries_at register.now.parts (Title folio))) }
 {
-    let filings = waiting_filings(alloc, journal, title_entries(register, folio))?;
+    let filings = waiting_filings(alloc, title_entries(register, folio))?;
     add_waiting_lines(text, &WaitsAt::Title, &filings)
 }
 
@@ -137,18 +129,16 @@ fn add_rights(
     alloc: Global,
     text: &mut String,
     register: &Register,
-    journal: &Journal,
     folio: FolioId,
     rights: &[CreatedRight],
 ) -> Result<(), NoMemory>
-    requires kept { Kept journal.now.receipts (entries_at register.now.parts) }
-    requires held { All (λ x. IsTrue (is_held register.now.parts (Right folio x.id))) rights.now }
+    requires { All (λ x. IsTrue (is_held register.now.parts (Right folio x.id))) rights.now }
     ensures { OnOk result (string_bytes text.new ≡ string_bytes text.old
-        ++ flat_map (λ x. right_lines journal.now.receipts (entries_at register.now.parts (Right folio x.id)) x) rights.now) }
+        ++ flat_map (λ x. right_lines (entries_at register.now.parts (Right folio x.id)) x) rights.now) }
 {
     for right in rights {
         let part = register.right(folio, right.id).unwrap();
-        add_right(alloc, text, journal, part, right)?;
+        add_right(alloc, text, part, right)?;
     }
     Ok(())
 }
@@ -157,14 +147,12 @@ fn add_rights(
 fn add_right(
     alloc: Global,
     text: &mut String,
-    journal: &Journal,
     part: &RightPart,
     right: &CreatedRight,
 ) -> Result<(), NoMemory>
-    requires { All (λ e. WaitsInJournal journal.now.receipts e.what) part.now.entries }
-    ensures { OnOk result (string_bytes text.new ≡ string_bytes text.old ++ right_lines journal.now.receipts part.now.entries right.now) }
+    ensures { OnOk result (string_bytes text.new ≡ string_bytes text.old ++ right_lines part.now.entries right.now) }
 {
     add_right_line(text, part, right)?;
-    let filings = waiting_filings(alloc, journal, part.entries())?;
+    let filings = waiting_filings(alloc, part.entries())?;
     add_waiting_lines(text, &WaitsAt::Right(right.id), &filings)
 }

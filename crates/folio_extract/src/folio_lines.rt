@@ -24,10 +24,13 @@ pub(crate) fn folio_slots(
     exchanges: &[Exchange],
 ) -> Result<Slots, NoMemory>
     requires kept { Kept journal.now.receipts (entries_at register.now.parts) }
-    requires counted { exchanges.now ≡ counted_exchanges journal.now.receipts (entries_at register.now.parts) folio }
-    ensures { IfOk result (λ slots. slots.filled ≡ filled_by exchanges.now journal.now.receipts (entries_at register.now.parts) folio) }
+    requires counted { exchanges.now ≡ counted_exchanges (entries_at register.now.parts) folio }
+    ensures { IfOk result (λ slots. slots.filled ≡ filled_by exchanges.now (entries_at register.now.parts) folio) }
 {
-    let rights = placed_rights(alloc, register, journal, folio, exchanges)?;
+    // The contract of `len` says that this is a journal.
+    let receipts = journal.len() as usize;
+    prove!(receipts <= Journal::MAX);
+    let rights = placed_rights(alloc, register, folio, exchanges)?;
     let places = places_of(alloc, register, folio, &rights)?;
     let swaps = swaps_of(alloc, exchanges)?;
     let mut slots = Slots::with_room(alloc, places.len(), swaps.len())?;

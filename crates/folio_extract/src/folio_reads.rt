@@ -1,10 +1,10 @@
 // What stands in a folio of a register; nothing where the register does not hold the part.
-ghost use Rattle.std.specs.Prelude.{◌≡◌, ◌≤◌, ◌&&◌, is_none};
+ghost use Rattle.std.specs.Prelude.{◌≡◌, ◌≤◌, ◌&&◌, is_none, is_some};
 ghost use Rattle.gb_base.specs.Limits.{most_cents};
 ghost use Rattle.gb_base.specs.declared.keys.Key.TheVariants.{Case, Right, Title};
 ghost use Rattle.folio_sections.specs.Cases.{award, is_running};
 ghost use Rattle.folio_sections.specs.Held.{entries_at};
-ghost use Rattle.folio_sections.specs.Rights.{is_live};
+ghost use Rattle.folio_sections.specs.Rights.{created, is_live};
 ghost use Rattle.folio_sections.specs.Titles.{inventory, is_open, owners};
 ghost use Rattle.folio_extract.specs.FolioLines.{capital_at};
 
@@ -65,6 +65,17 @@ pub(crate) fn right_entries(register: &Register, folio: FolioId, id: RightId) ->
     match register.right(folio, id) {
         Some(part) => part.entries(),
         None => &[],
+    }
+}
+
+/// Whether a right of the folio was ever created.
+#[tactic(auto, using(crate::proofs::NotHeld::not_held))]
+pub(crate) fn was_created(register: &Register, folio: FolioId, id: RightId) -> bool
+    ensures { result ≡ is_some (created (entries_at register.now.parts (Right folio id))) }
+{
+    match register.right(folio, id) {
+        Some(part) => part.created().is_some(),
+        None => false,
     }
 }
 

@@ -3,12 +3,10 @@ ghost use Rattle.std.specs.Prelude.{◌≡◌, ◌&&◌, IfOk, filter_map};
 ghost use Rattle.std.specs.List.{list_any};
 ghost use Rattle.gb_base.specs.declared.keys.Key.TheVariants.{Right};
 ghost use Rattle.folio_sections.specs.Held.{entries_at};
-ghost use Rattle.folio_sections.specs.Kept.{Kept};
 ghost use Rattle.folio_extract.specs.Exchanges.{counted_knots, is_spent_on, knot_behind, knot_of};
 
 use crate::folio_reads::{is_live, right_entries};
 use crate::placed_rights::{CreatedRight, placed_by_act};
-use act_model::Journal;
 use folio_sections::{Entry, What};
 use gb_base::{FolioId, NoMemory, RightId};
 use rank_slots::Knot;
@@ -19,13 +17,11 @@ use std::alloc::Global;
 pub(crate) fn counted_knots(
     alloc: Global,
     register: &Register,
-    journal: &Journal,
     folio: FolioId,
 ) -> Result<Vec<Knot>, NoMemory>
-    requires { Kept journal.now.receipts (entries_at register.now.parts) }
-    ensures { IfOk result (λ knots. knots.items ≡ counted_knots journal.now.receipts (entries_at register.now.parts) folio) }
+    ensures { IfOk result (λ knots. knots.items ≡ counted_knots (entries_at register.now.parts) folio) }
 {
-    let live = placed_by_act(alloc, register, journal, folio, &[])?;
+    let live = placed_by_act(alloc, register, folio, &[])?;
     knots_of(alloc, register, folio, &live)
 }
 

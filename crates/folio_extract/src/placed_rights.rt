@@ -1,16 +1,14 @@
 // The rights of a folio in order: those that are live, and those that give their rank away.
-ghost use Rattle.std.specs.Prelude.{◌≡◌, ◌++◌, ◌≤◌, ◌*◌, ◌||◌, IfOk, OnOk, [], filter, filter_map, length};
+ghost use Rattle.std.specs.Prelude.{◌≡◌, ◌++◌, ◌≤◌, if◌then◌else◌, IfOk, None, OnOk, filter, filter_map, flat_map, length};
 ghost use Rattle.std.specs.List.{prefix_len};
-ghost use Rattle.act_model.specs.Creations.{creations_in};
-ghost use Rattle.act_model.specs.Limits.{most_receipts};
-ghost use Rattle.act_model.specs.Receiving.{IsJournal};
 ghost use Rattle.folio_sections.specs.Held.{entries_at};
-ghost use Rattle.folio_sections.specs.Kept.{Kept};
-ghost use Rattle.folio_extract.specs.PlacedRights.{by_group, has_same_place, is_of_group, live_rights, placed_at, placed_right, placed_rights, recedes};
+ghost use Rattle.folio_sections.specs.HeldRights.{receipt_numbers};
+ghost use Rattle.folio_sections.specs.Rights.{created};
+ghost use Rattle.folio_extract.specs.FolioLines.{recedes, stands_on_line};
+ghost use Rattle.folio_extract.specs.PlacedRights.{by_group, has_same_place, is_of_group, live_rights, right_where, rights_of, rights_where};
 ghost use Rattle.folio_extract.specs.inner.FilingRuns.{is_of_filing};
 
 use crate::exchanges::Exchange;
-use act_model::Journal;
 use folio_sections::{Created, Parts, RightPart};
 use gb_base::{FolioId, NoMemory, ReceiptNo, RightId};
 use registrar::Register;
@@ -28,15 +26,11 @@ pub struct CreatedRight {
 pub(crate) fn live_rights(
     alloc: Global,
     register: &Register,
-    journal: &Journal,
     folio: FolioId,
 ) -> Result<Vec<CreatedRight>, NoMemory>
-    requires { Kept journal.now.receipts (entries_at register.now.parts) }
-    ensures value { IfOk result (λ rights. rights.items ≡ live_rights journal.now.receipts (entries_at register.now.parts) folio) }
-    ensures few { IfOk result (λ rights. length rights.items ≤ 8 * most_receipts) }
-    ensures journal { IsJournal journal.now.receipts }
+    ensures { IfOk result (λ rights. rights.items ≡ live_rights (entries_at register.now.parts) folio) }
 {
-    placed_rights(alloc, register, journal, folio, &[])
+    placed_rights(alloc, register, folio, &[])
 }
 
 /// The rights that are live in a folio, and those that recede in these exchanges, in order of
@@ -44,16 +38,12 @@ pub(crate) fn live_rights(
 pub(crate) fn placed_rights(
     alloc: Global,
     register: &Register,
-    journal: &Journal,
     folio: FolioId,
     exchanges: &[Exchange],
 ) -> Result<Vec<CreatedRight>, NoMemory>
-    requires { Kept journal.now.receipts (entries_at register.now.parts) }
-    ensures value { IfOk result (λ rights. rights.items ≡ placed_rights exchanges.now journal.now.receipts (entries_at register.now.parts) folio) }
-    ensures few { IfOk result (λ rights. length rights.items ≤ 8 * most_receipts) }
-    ensures journal { IsJournal journal.now.receipts }
+    ensures { IfOk result (λ rights. rights.items ≡ rights_where (stands_on_line exchanges.now) (entries_at register.now.parts) folio) }
 {
-    let placed = placed_by_act(alloc, register, journal, folio, exchanges)?;
+    let placed = placed_by_act(alloc, register, folio, exchanges)?;
     let mut rights = Vec::new(alloc);
     let mut rest = placed.as_slice();
     while let Some(first) = rest.first() {
@@ -69,20 +59,26 @@ pub(crate) fn placed_rights(
 pub(crate) fn placed_by_act(
     alloc: Global,
     register: &Register,
-    journal: &Journal,
     folio: FolioId,
     exchanges: &[Exchange],
 ) -> Result<Vec<CreatedRight>, NoMemory>
-    ensures value { IfOk result (λ rights. rights.items ≡ filter_map (placed_at exchanges.now (entries_at register.now.parts) folio) (creations_in journal.now.receipts folio)) }
-    ensures few { length (creations_in journal.now.receipts folio) ≤ 8 * most_receipts }
-    ensures journal { IsJournal journal.now.receipts }
+    ensures { IfOk result (λ rights. rights.items ≡ flat_map (rights_of (stands_on_line exchanges.now) (entries_at register.now.parts) folio) receipt_numbers) }
 {
-    // The contract of `len` says that this is a journal; its filings have at most eight acts each.
-    let receipts = journal.len() as usize;
-    prove!(receipts <= Journal::MAX);
-    journal
-        .creations_in(folio)
-        .iter()
+    let held = register.rights_in(alloc, folio)?;
+    placed_among(alloc, register, folio, exchanges, &held)
+}
+
+/// Those of these rights that are live in the folio or recede in one of these exchanges.
+fn placed_among(
+    alloc: Global,
+    register: &Register,
+    folio: FolioId,
+    exchanges: &[Exchange],
+    ids: &[RightId],
+) -> Result<Vec<CreatedRight>, NoMemory>
+    ensures { IfOk result (λ rights. rights.items ≡ filter_map (right_where (stands_on_line exchanges.now) (entries_at register.now.parts) folio) ids.now) }
+{
+    ids.iter()
         .filter_map(|id| placed_at(register, folio, exchanges, *id))
         .collect(alloc)
 }
@@ -94,7 +90,7 @@ fn placed_at(
     exchanges: &[Exchange],
     id: RightId,
 ) -> Option<CreatedRight>
-    ensures { result ≡ placed_at exchanges.now (entries_at register.now.parts) folio id }
+    ensures { result ≡ right_where (stands_on_line exchanges.now) (entries_at register.now.parts) folio id }
 {
     let made = placed_right(exchanges, id, register.right(folio, id)?)?;
     Some(CreatedRight { id, made })
@@ -102,7 +98,7 @@ fn placed_at(
 
 /// The right of this part as it was created, where it is live or recedes.
 fn placed_right(exchanges: &[Exchange], id: RightId, part: &RightPart) -> Option<Created>
-    ensures { result ≡ placed_right exchanges.now id part.now.entries }
+    ensures { result ≡ (if stands_on_line exchanges.now id part.now.entries then created part.now.entries else None) }
 {
     if part.live() || recedes(exchanges, id) {
         part.created()

@@ -31,8 +31,8 @@ pub fn rank_table(
     journal: &Journal,
     folio: FolioId,
 ) -> Result<Option<Vec<u8>>, NoMemory>
-    requires { Kept journal.now.receipts (entries_at register.now.parts) }
-    ensures { IfOk result (λ text. option_map (λ t. t.items) text ≡ rank_table journal.now.receipts (entries_at register.now.parts) folio) }
+    requires kept { Kept journal.now.receipts (entries_at register.now.parts) }
+    ensures text { IfOk result (λ text. option_map (λ t. t.items) text ≡ rank_table journal.now.receipts (entries_at register.now.parts) folio) }
 {
     if !is_open(register, folio) {
         return Ok(None);
@@ -53,11 +53,14 @@ pub(crate) fn add_rank_table(
     requires { Kept journal.now.receipts (entries_at register.now.parts) }
     ensures { OnOk result (string_bytes text.new ≡ string_bytes text.old ++ rank_table_text journal.now.receipts (entries_at register.now.parts) folio) }
 {
-    let rights = live_rights(alloc, register, journal, folio)?;
+    // The contract of `len` says that this is a journal.
+    let receipts = journal.len() as usize;
+    prove!(receipts <= Journal::MAX);
+    let rights = live_rights(alloc, register, folio)?;
     add_ranks(text, folio, &rights)?;
     let exchanges = counted_exchanges(alloc, register, folio, &rights)?;
     add_exchange_lines(text, &exchanges)?;
-    add_exercises(alloc, text, register, journal, folio)?;
+    add_exercises(alloc, text, register, folio)?;
     add_cents(alloc, text, register, journal, folio, &exchanges)
 }
 
@@ -75,14 +78,12 @@ fn add_exercises(
     alloc: Global,
     text: &mut String,
     register: &Register,
-    journal: &Journal,
     folio: FolioId,
 ) -> Result<(), NoMemory>
-    requires { Kept journal.now.receipts (entries_at register.now.parts) }
     ensures { OnOk result (string_bytes text.new ≡ string_bytes text.old
-        ++ flat_map exercise_line (counted_knots journal.now.receipts (entries_at register.now.parts) folio)) }
+        ++ flat_map exercise_line (counted_knots (entries_at register.now.parts) folio)) }
 {
-    let knots = counted_knots(alloc, register, journal, folio)?;
+    let knots = counted_knots(alloc, register, folio)?;
     add_exercise_lines(text, &knots)
 }
 
@@ -96,9 +97,9 @@ fn add_cents(
     exchanges: &[Exchange],
 ) -> Result<(), NoMemory>
     requires kept { Kept journal.now.receipts (entries_at register.now.parts) }
-    requires counted { exchanges.now ≡ counted_exchanges journal.now.receipts (entries_at register.now.parts) folio }
+    requires counted { exchanges.now ≡ counted_exchanges (entries_at register.now.parts) folio }
     ensures { OnOk result (string_bytes text.new ≡ string_bytes text.old
-        ++ line_text (filled_by exchanges.now journal.now.receipts (entries_at register.now.parts) folio)) }
+        ++ line_text (filled_by exchanges.now (entries_at register.now.parts) folio)) }
 {
     let slots = folio_slots(alloc, register, journal, folio, exchanges)?;
     add_cent_lines(text, &slots)

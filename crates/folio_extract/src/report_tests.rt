@@ -1,6 +1,6 @@
 // Reports written down by hand from the rules.
 use crate::testing::{by_owner, folio, opening_by, receipt, receive, spec};
-use crate::{report, verdict_line};
+use crate::{extract, report, verdict_line};
 use act_model::{Act, Journal, RightKind};
 use gb_base::NoMemory;
 use registrar::alone;
@@ -53,6 +53,22 @@ fn folios_stand_in_ascending_order(rt: HostRuntime) -> Result<(), NoMemory> {
         cents 1-10000 3.1\n\
         end receipts 3 folios 2\n";
     assert_eq!(rt; text.as_slice(), wanted.as_bytes());
+    Ok(())
+}
+
+#[test]
+fn the_register_alone_gives_the_extract_of_the_report(rt: HostRuntime) -> Result<(), NoMemory> {
+    let alloc = rt.alloc();
+    let journal = two_folios(&rt, alloc);
+    let register = alone(alloc, &journal)?;
+    let whole = report(alloc, &register, &journal)?;
+    let text = extract(alloc, &register, folio(&rt, 7))?.expect(&rt, "an extract");
+    let mut before = Vec::new(alloc);
+    before.extend_from_slice(b"receipt 1 entered\nreceipt 2 entered\nreceipt 3 entered\n")?;
+    before.extend_from_slice(text.as_slice())?;
+    before.extend_from_slice(b"ranks 7\n")?;
+    assert!(rt; whole.as_slice().starts_with(before.as_slice()));
+    assert!(rt; text.as_slice().starts_with(b"folio 7\ninventory "));
     Ok(())
 }
 

@@ -17,7 +17,7 @@ use std::alloc::Global;
 /// The report of a register: what became of each receipt, the extract and the rank table of each
 /// open folio, ascending, and a line that ends it.
 pub fn report(alloc: Global, register: &Register, journal: &Journal) -> Result<Vec<u8>, NoMemory>
-    requires { Kept journal.now.receipts (entries_at register.now.parts) }
+    requires kept { Kept journal.now.receipts (entries_at register.now.parts) }
     ensures text { IfOk result (λ text. text.items ≡ report_text journal.now.receipts register.now.verdicts (entries_at register.now.parts) register.now.folios) }
     ensures report { (settled : Settled) → Tells register.now settled → IfOk result (λ text. text.items ≡ report journal.now.receipts settled) }
 {
@@ -47,7 +47,7 @@ fn add_folios(
     ensures { OnOk result (string_bytes text.new ≡ string_bytes text.old ++ folio_texts journal.now.receipts (entries_at register.now.parts) register.now.folios) }
 {
     for folio in register.folios() {
-        add_extract(alloc, text, register, journal, *folio)?;
+        add_extract(alloc, text, register, *folio)?;
         add_rank_table(alloc, text, register, journal, *folio)?;
     }
     Ok(())

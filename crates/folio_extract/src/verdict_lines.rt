@@ -16,7 +16,7 @@ pub fn verdict_line(
     register: &Register,
     n: ReceiptNo,
 ) -> Result<Option<Vec<u8>>, NoMemory>
-    ensures { IfOk result (λ text. option_map (λ t. t.items) text ≡ option_map (verdict_line n) (verdict_among register.now.verdicts n)) }
+    ensures text { IfOk result (λ text. option_map (λ t. t.items) text ≡ option_map (verdict_line n) (verdict_among register.now.verdicts n)) }
 {
     match register.verdict(n) {
         Some(verdict) => {

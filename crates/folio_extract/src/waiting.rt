@@ -1,12 +1,12 @@
 // The filings that wait at a key.
-ghost use Rattle.std.specs.Prelude.{◌≡◌, ◌<◌, ℕ, All, IfOk, OnOk, None, map};
+ghost use Rattle.std.specs.Prelude.{◌≡◌, ◌<◌, ◌≤◌, ℕ, IfOk, OnOk, map};
 ghost use Rattle.std.specs.BTreeMap.{get, IsOrdered};
 ghost use Rattle.std.specs.Ordering.{nat_cmp};
+ghost use Rattle.folio_sections.specs.HeldRights.{last_number};
 ghost use Rattle.folio_sections.specs.Waiting.{pending, until_by};
 ghost use Rattle.folio_extract.specs.WaitingFilings.{waiting_filings};
-ghost use Rattle.folio_extract.specs.inner.Waits.{WaitsInJournal, notice_by, first_notice, with_notice};
+ghost use Rattle.folio_extract.specs.inner.Waits.{AreReceipts, notice_by, first_notice, with_notice};
 
-use act_model::Journal;
 use folio_sections::{Entry, What};
 use gb_base::{Day, NoMemory, ReceiptNo};
 use std::alloc::Global;
@@ -26,11 +26,9 @@ pub struct WaitingFiling {
 /// however many wait.
 pub(crate) fn waiting_filings(
     alloc: Global,
-    journal: &Journal,
     entries: &[Entry],
 ) -> Result<Vec<WaitingFiling>, NoMemory>
-    requires { All (λ e. WaitsInJournal journal.now.receipts e.what) entries.now }
-    ensures { IfOk result (λ filings. filings.items ≡ waiting_filings journal.now.receipts entries.now) }
+    ensures { IfOk result (λ filings. filings.items ≡ waiting_filings entries.now) }
 {
     let waiting = deadlines(alloc, entries)?;
     let notices = days_of_notice(alloc, entries)?;
@@ -40,7 +38,7 @@ pub(crate) fn waiting_filings(
 /// The deadline of each filing that waits.
 fn deadlines(alloc: Global, entries: &[Entry]) -> Result<BTreeMap<ReceiptNo, Day>, NoMemory>
     ensures value { IfOk result (λ days. (n : ℕ) → get nat_cmp days n ≡ pending n entries.now) }
-    ensures from_one { IfOk result (λ days. get nat_cmp days 0 ≡ None) }
+    ensures receipts { IfOk result (λ days. AreReceipts (get nat_cmp days)) }
 {
     let mut days = BTreeMap::new(alloc);
     for entry in entries {
@@ -52,12 +50,12 @@ fn deadlines(alloc: Global, entries: &[Entry]) -> Result<BTreeMap<ReceiptNo, Day
 /// Notes what a content says of a filing that waits.
 fn note_waiting(days: &mut BTreeMap<ReceiptNo, Day>, what: &What) -> Result<(), NoMemory>
     ensures value { OnOk result ((n : ℕ) → get nat_cmp days.new n ≡ until_by n (get nat_cmp days.old n) what.now) }
-    ensures from_one { get nat_cmp days.old 0 ≡ None → OnOk result (get nat_cmp days.new 0 ≡ None) }
+    ensures receipts { AreReceipts (get nat_cmp days.old) → OnOk result (AreReceipts (get nat_cmp days.new)) }
 {
     match what {
         What::Pending { filing, until } => {
-            // So nothing waits under 0.
-            prove!(filing.get() > 0);
+            // So nothing waits under a number that no receipt has.
+            prove!(number_of(*filing) > 0);
             days.insert(*filing, *until)?;
         }
         What::Settled { filing } => {
@@ -66,6 +64,15 @@ fn note_waiting(days: &mut BTreeMap<ReceiptNo, Day>, what: &What) -> Result<(), 
         _ => {}
     }
     Ok(())
+}
+
+/// The number of a receipt, with what its type says of it.
+fn number_of(receipt: ReceiptNo) -> u32
+    ensures value { result ≡ receipt }
+    ensures from_one { 0 < receipt }
+    ensures to_last { receipt ≤ last_number }
+{
+    receipt.get()
 }
 
 /// The day of the first official notice of each filing that has one.

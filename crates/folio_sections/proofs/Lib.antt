@@ -2,7 +2,10 @@
 pub mod Additions
 pub mod Below
 pub mod Cures
+pub mod DistinctLists
+pub mod FilteredLists
 pub mod HeldParts
+pub mod HeldRights
 pub mod Indexes
 pub mod KeptOrder
 pub mod ListLemmas
@@ -10,5 +13,6 @@ pub mod PlaceDays
 pub mod PlaceOrder
 pub mod Progress
 pub mod RankOrder
+pub mod ReceiptNumbers
 pub mod Unchanged
 pub mod Unnoticed

@@ -4,9 +4,7 @@ use Rattle.std.specs.Option.{option_map_or}
 use Rattle.gb_base.specs.RightNo.{RightNo, same_right}
 use Rattle.gb_base.specs.declared.keys.Key.{Key}
 use Rattle.gb_base.specs.declared.keys.Key.TheVariants.{Title, Right, Case}
-use Rattle.act_model.specs.declared.auctions.Basis.{Basis}
 use Rattle.act_model.specs.declared.auctions.Basis.TheVariants as basis
-use Rattle.act_model.specs.declared.auctions.Registration.{Registration}
 use Rattle.act_model.specs.declared.auctions.Registration.TheVariants as registration
 use Rattle.act_model.specs.declared.items.Item.{Item}
 use Rattle.act_model.specs.declared.items.Item.TheVariants as item

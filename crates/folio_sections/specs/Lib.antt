@@ -6,6 +6,7 @@ pub mod Entering
 pub mod Entries
 pub mod Groups
 pub mod Held
+pub mod HeldRights
 pub mod Judging
 pub mod Kept
 pub mod KeptCases

@@ -1,16 +1,23 @@
 // Parts over keys that are given, found by key in logarithmic time.
-ghost use Rattle.std.specs.Prelude.{◌≡◌, ◌||◌, ℕ, ◌≤◌, [], All, List, IsTrue, IfOk, IsOk, OnOk, OnErr, IfSome, is_some, length, find, position};
+ghost use Rattle.std.specs.Prelude.{◌≡◌, ◌||◌, ℕ, ◌≤◌, [], All, List, IsTrue, IfOk, IsOk, OnOk, OnErr, IfSome, filter_map, is_some, length, find, position};
+ghost use Rattle.std.specs.BTreeMap.{IsOrdered};
+ghost use Rattle.std.specs.BTreeMap.Range.{IsEntryInRange, IsLeBy};
+ghost use Rattle.std.specs.declared.ops.Bound.TheVariants.{Included};
 ghost use Rattle.std.specs.Option.{option_copied};
 ghost use Rattle.std.specs.List.{AllZip};
-ghost use Rattle.gb_base.specs.Keys.{same_key};
+ghost use Rattle.gb_base.specs.Keys.{key_cmp, same_key};
+ghost use Rattle.gb_base.specs.Limits.{most_acts};
 ghost use Rattle.gb_base.specs.declared.keys.Key.{Key};
+ghost use Rattle.act_model.specs.Touches.{new_right};
 ghost use Rattle.folio_sections.specs.Held.{is_held, entries_at, room_at, is_given};
+ghost use Rattle.folio_sections.specs.HeldRights.{held_rights, last_number};
 ghost use Rattle.folio_sections.specs.Limits.{most_at_a_key};
 ghost use Rattle.folio_sections.specs.inner.PartIndex.{Grows, IsIndexOf};
+ghost use Rattle.folio_sections.specs.inner.RightsInKeys.{entries_from_to, right_in};
 
 use crate::any_part::AnyPart;
 use crate::{CasePart, Entry, Parts, RightPart, TitlePart};
-use gb_base::{FolioId, Key, NoMemory, RightId};
+use gb_base::{FolioId, Key, NoMemory, ReceiptNo, RightId};
 use std::alloc::Global;
 use std::collections::BTreeMap;
 use std::marker::Model;
@@ -93,6 +100,16 @@ impl MapParts {
         }
     }
 
+    /// The rights of a folio whose parts are held, by receipt and act. However many parts are
+    /// held elsewhere, it looks at those of the folio's rights alone.
+    pub fn rights_in(&self, alloc: Global, folio: FolioId) -> Result<Vec<RightId>, NoMemory>
+        ensures rights { IfOk result (λ rights. rights.items ≡ held_rights self.now folio) }
+    {
+        let first = Key::Right(folio, first_right());
+        let last = Key::Right(folio, last_right());
+        rights_between(alloc, &self.index, first, last)
+    }
+
     /// Where the part of a key stands; None where it is not held.
     fn index_of(&self, key: Key) -> Option<usize>
         ensures { result ≡ position (λ p. same_key p.key key) self.now }
@@ -109,6 +126,62 @@ impl MapParts {
             None => None,
         }
     }
+}
+
+/// The rights of an index's keys from the first to the last of these two.
+fn rights_between(
+    alloc: Global,
+    index: &BTreeMap<Key, usize>,
+    first: Key,
+    last: Key,
+) -> Result<Vec<RightId>, NoMemory>
+    requires { IsLeBy key_cmp first last }
+    ensures rights { IfOk result (λ rights. rights.items ≡ filter_map (λ e. right_in e.0) (entries_from_to first last index.now.entries)) }
+    ensures found { All (IsEntryInRange key_cmp (Included first) (Included last) index.now) (entries_from_to first last index.now.entries) }
+    ensures ordered { IsOrdered key_cmp index.now }
+{
+    index
+        .range(first..=last)
+        .filter_map(|(key, _)| right_in(key))
+        .collect(alloc)
+}
+
+/// The first right that there may be.
+fn first_right() -> RightId
+    ensures { result ≡ new_right 1 1 }
+{
+    RightId::new(ReceiptNo::new(1).unwrap(), 1).unwrap()
+}
+
+/// The last right that there may be.
+fn last_right() -> RightId
+    ensures { result ≡ new_right last_number most_acts }
+{
+    RightId::new(ReceiptNo::new(u32::MAX).unwrap(), 8).unwrap()
+}
+
+/// The right of a key, where it is of one.
+fn right_in(key: &Key) -> Option<RightId>
+    ensures { result ≡ right_in key.now }
+{
+    match key {
+        Key::Right(_, id) => Some(numbered(*id)),
+        _ => None,
+    }
+}
+
+/// The right itself, with what its type says of its number.
+fn numbered(id: RightId) -> RightId
+    ensures value { result ≡ id }
+    ensures receipt_from { 1 ≤ id.receipt }
+    ensures receipt_to { id.receipt ≤ last_number }
+    ensures act_from { 1 ≤ id.act }
+    ensures act_to { id.act ≤ most_acts }
+{
+    let receipt = id.receipt().get();
+    let act = id.act();
+    prove!(1 <= receipt && 1 <= act && act <= 8);
+    id
 }
 
 /// Adds the empty part of a key, unless there is one.

@@ -74,3 +74,24 @@ fn no_room_is_kept_at_a_key_that_is_not_held(rt: HostRuntime) -> Result<(), Fail
     assert!(rt; parts.reserve(Key::Case(folio(&rt, 7)), usize::MAX).is_ok());
     Ok(())
 }
+
+#[test]
+fn the_rights_of_a_folio_by_receipt_and_act(rt: HostRuntime) -> Result<(), Fail> {
+    let seven = folio(&rt, 7);
+    let keys = [
+        Key::Right(seven, right(&rt, 10, 2)),
+        Key::Right(folio(&rt, 6), right(&rt, 1, 1)),
+        Key::Title(seven),
+        Key::Right(seven, right(&rt, 10, 1)),
+        Key::Right(folio(&rt, 8), right(&rt, 2, 1)),
+        Key::Right(seven, right(&rt, 9, 8)),
+        Key::Case(seven),
+    ];
+    let parts = MapParts::new(rt.alloc(), &keys)?;
+    let rights = parts.rights_in(rt.alloc(), seven)?;
+    let wanted = [right(&rt, 9, 8), right(&rt, 10, 1), right(&rt, 10, 2)];
+    assert_eq!(&rt; rights.as_slice(), wanted.as_slice());
+    let title = MapParts::new(rt.alloc(), &[Key::Title(seven)])?;
+    assert!(rt; title.rights_in(rt.alloc(), seven)?.is_empty());
+    Ok(())
+}

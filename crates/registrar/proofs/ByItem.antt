@@ -25,11 +25,12 @@ use Rattle.folio_sections.specs.declared.entries.What.{What}
 use Rattle.folio_sections.specs.declared.entries.What.TheVariants as what
 use Rattle.folio_sections.specs.declared.title_places.TitlePlace.{TitlePlace}
 use Rattle.folio_sections.specs.inner.Unnoticed.{lacks_notice}
+use Rattle.folio_sections.proofs.FilteredLists.{all_filtered}
 use Rattle.folio_sections.proofs.Unchanged.{all_both, all_weaker}
 use Rattle.folio_sections.proofs.Unnoticed.{unnoticed_is}
 use Rattle.entry_rules.proofs.Entered.{keys_are}
 use Rattle.interim_orders.specs.Orders.{deadline_of, end_brought, order_brought}
-use Rattle.registrar.proofs.ContainedParts.{all_contained, all_filtered, all_flat_mapped, all_in_range, all_mapped}
+use Rattle.registrar.proofs.ContainedParts.{all_contained, all_flat_mapped, all_in_range, all_mapped}
 use Rattle.registrar.proofs.Dealing.{Deals, IsBrought, Turn, is_it, finds}
 
 -- ---- one entry

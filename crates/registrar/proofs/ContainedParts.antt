@@ -17,14 +17,6 @@ pub all_flat_mapped : {X Y : Type 0} (P : Y → Type 0) (f : X → List Y) (xs :
 all_flat_mapped P f [] all = tt
 all_flat_mapped P f (x ∷ xs) all = all_both P (f x) (flat_map f xs) all.0 (all_flat_mapped P f xs all.1)
 
-pub all_filtered : {X : Type 0} (P : X → Type 0) (p : X → Bool) (xs : List X) → AllByRecursion P xs → AllByRecursion P (filter p xs)
-all_filtered P p [] all = tt
-all_filtered P p (x ∷ xs) all =
-    elim (p x) as (λ b. AllByRecursion P (cond b (x ∷ filter p xs) (filter p xs))) [
-      | true ↦ (all.0, all_filtered P p xs all.1)
-      | false ↦ all_filtered P p xs all.1
-    ]
-
 pub each_so : {X : Type 0} (P : X → Type 0) (xs : List X) → ((x : X) → P x) → AllByRecursion P xs
 each_so P [] each = tt
 each_so P (x ∷ xs) each = (each x, each_so P xs each)

@@ -17,8 +17,8 @@ use Rattle.act_model.specs.declared.items.Item.{Item}
 use Rattle.act_model.specs.declared.items.Item.TheVariants as item
 use Rattle.act_model.specs.declared.receipts.Receipt.{Receipt}
 use Rattle.folio_sections.specs.Limits.{most_creations}
+use Rattle.folio_sections.proofs.FilteredLists.{all_filtered}
 use Rattle.folio_sections.proofs.Unchanged.{all_both}
-use Rattle.registrar.proofs.ContainedParts.{all_filtered}
 use Rattle.registrar.specs.ItemKeys.{earlier_rights}
 
 -- ---- an act

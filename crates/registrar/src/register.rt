@@ -1,12 +1,14 @@
 // The register that the one registrar leaves.
-ghost use Rattle.std.specs.Prelude.{◌≡◌, ◌-◌, ◌<◌, slice_get};
+ghost use Rattle.std.specs.Prelude.{◌≡◌, ◌-◌, ◌<◌, IfOk, slice_get};
 ghost use Rattle.std.specs.List.{enumerate_from};
 ghost use Rattle.std.specs.Option.{option_copied};
+ghost use Rattle.folio_sections.specs.HeldRights.{held_rights};
 ghost use Rattle.registrar.specs.RegisterState.{verdict_among};
 
 use crate::Verdict;
 use folio_sections::{CasePart, Entry, MapParts, Parts, RightPart, TitlePart};
-use gb_base::{FolioId, ReceiptNo, RightId};
+use gb_base::{FolioId, NoMemory, ReceiptNo, RightId};
+use std::alloc::Global;
 use std::marker::Model;
 
 /// The register of a journal: its parts at the keys of all filings and at no other, what became of
@@ -63,6 +65,14 @@ impl Register {
         ensures value { result.now ≡ self.now.folios }
     {
         self.folios.as_slice()
+    }
+
+    /// The rights of a folio whose parts are held, by receipt and act. However many parts are
+    /// held elsewhere, it looks at those of the folio's rights alone.
+    pub fn rights_in(&self, alloc: Global, folio: FolioId) -> Result<Vec<RightId>, NoMemory>
+        ensures rights { IfOk result (λ rights. rights.items ≡ held_rights self.now.parts folio) }
+    {
+        self.parts.rights_in(alloc, folio)
     }
 }
 

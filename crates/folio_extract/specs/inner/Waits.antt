@@ -1,16 +1,14 @@
 -- The filings that wait at a key, found in one walk over its entries.
-use Rattle.std.specs.Prelude.{ℕ, ◌≤◌, List, fold, if◌then◌else◌, ◌&&◌, is_none, length, Option, Some, None}
-use Rattle.act_model.specs.declared.receipts.Receipt.{Receipt}
+use Rattle.std.specs.Prelude.{◌≡◌, ℕ, ◌<◌, List, fold, if◌then◌else◌, ◌&&◌, is_none, Option, Some, None}
+use Rattle.folio_sections.specs.HeldRights.{last_number}
 use Rattle.folio_sections.specs.Waiting.{is_notice_of}
 use Rattle.folio_sections.specs.declared.entries.Entry.{Entry}
-use Rattle.folio_sections.specs.declared.entries.What.{What}
-use Rattle.folio_sections.specs.declared.entries.What.TheVariants as what
 use Rattle.folio_extract.specs.declared.waiting.WaitingFiling.{WaitingFiling}
 
--- the filing that a content sets to wait is a receipt of the journal
-abbrev pub WaitsInJournal : List Receipt → What → Type 0
-WaitsInJournal journal (what.Pending filing until) = filing ≤ length journal
-WaitsInJournal journal other = Unit {0}
+-- nothing stands under 0, nor under a number beyond those of receipts
+pub record AreReceipts (days : ℕ → Option ℕ) : Type 0 where
+  pub from_one : days 0 ≡ None
+  pub to_last : (n : ℕ) → last_number < n → days n ≡ None
 
 -- the day of the first official notice of filing n behind an entry
 abbrev pub notice_by : ℕ → Option ℕ → Entry → Option ℕ

@@ -1,21 +1,21 @@
-use Rattle.std.proofs.Common.{All, IsTrue, List, [], sym, subst, ◌∙◌}
+use Rattle.std.proofs.Common.{All, IsTrue, List, sym, subst, ◌∙◌}
 use Rattle.std.proofs.lemmas.Result.{on_ok_weaker}
 use Rattle.std.specs.String.{string_bytes}
 use Rattle.gb_base.specs.declared.keys.Key.TheVariants.{Right}
 use Rattle.folio_sections.specs.Held.{entries_at, is_held}
 use Rattle.folio_extract.specs.declared.placed_rights.CreatedRight.{CreatedRight}
 use Rattle.folio_extract.proofs.ExtractText.{extract_is}
-use Rattle.folio_extract.proofs.HeldRights.{placed_are_held}
+use Rattle.folio_extract.proofs.HeldRights.{live_are_held}
 use Rattle.folio_extract.proofs.extracts.add_extract.Goals as goal
 
-pub add_rights-requires-clause-held : goal.add_rights-requires-clause-held
-add_rights-requires-clause-held c =
+pub add_rights-requires : goal.add_rights-requires
+add_rights-requires c =
     subst (λ (rights : List CreatedRight). All (λ x. IsTrue (is_held c.args.register.now.parts (Right c.args.folio x.id))) rights)
-    (sym (c.deref.ensures.value ∙ c.in_ok-rights.ensures.value)) (placed_are_held [] c.args.journal.now.receipts c.args.register.now.parts c.args.folio)
+    (sym (c.deref.ensures.value ∙ c.in_ok-rights.ensures)) (live_are_held c.args.register.now.parts c.args.folio)
 
 pub returns : goal.returns
 returns c =
     on_ok_weaker c.add_rights.result
-    (extract_is c.args.journal.now.receipts (entries_at c.args.register.now.parts) c.args.folio
+    (extract_is (entries_at c.args.register.now.parts) c.args.folio
     (string_bytes c.args.text.now) (string_bytes c.add_folio.new.text) (string_bytes c.add_title_filings.new.text) (string_bytes c.add_rights.new.text) c.deref.result.now
-    (c.deref.ensures.value ∙ c.in_ok-rights.ensures.value) c.in_ok-add_folio.ensures c.in_ok-add_title_filings.ensures) c.add_rights.ensures
+    (c.deref.ensures.value ∙ c.in_ok-rights.ensures) c.in_ok-add_folio.ensures c.in_ok-add_title_filings.ensures) c.add_rights.ensures

@@ -8,5 +8,5 @@ use Rattle.folio_extract.proofs.extracts.add_rights.Given as goal
 
 abbrev pub invariant-loop-right : goal.invariant-loop-right
 invariant-loop-right l =
-    string_bytes l.text ++ flat_map (λ x. right_lines l.journal.receipts (entries_at l.register.parts (Right l.folio x.id)) x) (drop l.right-index l.rights)
-    ≡ string_bytes l.fn.text ++ flat_map (λ x. right_lines l.journal.receipts (entries_at l.register.parts (Right l.folio x.id)) x) l.rights
+    string_bytes l.text ++ flat_map (λ x. right_lines (entries_at l.register.parts (Right l.folio x.id)) x) (drop l.right-index l.rights)
+    ≡ string_bytes l.fn.text ++ flat_map (λ x. right_lines (entries_at l.register.parts (Right l.folio x.id)) x) l.rights

@@ -9,6 +9,6 @@ use Rattle.folio_extract.proofs.folio_lines.folio_slots.Goals as goal
 pub fill-requires-clause-fits : goal.fill-requires-clause-fits
 fill-requires-clause-fits c =
     let at = entries_at c.args.register.now.parts in
-    can_fill c.args.journal.now.receipts at c.args.folio c.args.exchanges.now c.deref-2.result.now c.deref-3.result.now c.requires.kept c.in_ok-rights.ensures.journal c.requires.counted
-    (c.deref-2.ensures.value ∙ c.in_ok-places.ensures.value ∙ ap (places_behind at c.args.folio None) (c.deref.ensures.value ∙ c.in_ok-rights.ensures.value))
+    can_fill c.args.journal.now.receipts at c.args.folio c.args.exchanges.now c.deref-2.result.now c.deref-3.result.now c.requires.kept c.len-receipts.ensures.journal c.requires.counted
+    (c.deref-2.ensures.value ∙ c.in_ok-places.ensures.value ∙ ap (places_behind at c.args.folio None) (c.deref.ensures.value ∙ c.in_ok-rights.ensures))
     (c.deref-3.ensures.value ∙ c.in_ok-swaps.ensures) (subst (All (λ (p : Place). p.claim ≤ most_cents)) (sym c.deref-2.ensures.value) c.in_ok-places.ensures.bound)

@@ -1,12 +1,13 @@
-use Rattle.std.proofs.Common.{[], filter_map, subst, ap, ◌≡◌, ◌∙◌, IfOk}
+use Rattle.std.proofs.Common.{filter_map, flat_map, subst, ap, ◌≡◌, ◌∙◌, IfOk}
 use Rattle.folio_sections.specs.Held.{entries_at}
+use Rattle.folio_sections.specs.HeldRights.{receipt_numbers}
 use Rattle.folio_extract.specs.Exchanges.{knot_of}
-use Rattle.folio_extract.proofs.FiledRights.{placed_creations}
+use Rattle.folio_extract.specs.PlacedRights.{rights_of}
+use Rattle.folio_extract.proofs.LiveRights.{none_recedes}
 use Rattle.folio_extract.proofs.knots.counted_knots.Goals as goal
 
 pub returns : goal.returns
 returns c =
     let at = entries_at c.args.register.now.parts in
-    let journal = c.args.journal.now.receipts in
-    let live = c.deref.ensures.value ∙ c.in_ok-live.ensures.value ∙ placed_creations [] journal at c.args.folio c.requires c.in_ok-live.ensures.journal in
+    let live = c.deref.ensures.value ∙ c.in_ok-live.ensures ∙ ap (λ holds. flat_map (rights_of holds at c.args.folio) receipt_numbers) none_recedes in
     subst (λ knots. IfOk c.knots_of.result (λ found. found.items ≡ knots)) (ap (filter_map (knot_of at c.args.folio)) live) c.knots_of.ensures

@@ -7,16 +7,16 @@ use Rattle.folio_extract.proofs.rank_tables.add_rank_table.Goals as goal
 
 pub add_cents-requires-clause-counted : goal.add_cents-requires-clause-counted
 add_cents-requires-clause-counted c =
-    counted_of c.args.journal.now.receipts (entries_at c.args.register.now.parts) c.args.folio c.deref-2.result.now c.deref-4.result.now
-    (c.deref-2.ensures.value ∙ c.in_ok-rights.ensures.value) (c.deref-4.ensures.value ∙ c.in_ok-exchanges.ensures)
+    counted_of (entries_at c.args.register.now.parts) c.args.folio c.deref-2.result.now c.deref-4.result.now
+    (c.deref-2.ensures.value ∙ c.in_ok-rights.ensures) (c.deref-4.ensures.value ∙ c.in_ok-exchanges.ensures)
 
 pub returns : goal.returns
 returns c =
     let at = entries_at c.args.register.now.parts in
     let journal = c.args.journal.now.receipts in
-    let live = c.deref-2.ensures.value ∙ c.in_ok-rights.ensures.value in
-    table_added journal at c.args.folio c.deref.result.now c.deref-4.result.now c.live_rights.ensures.journal c.requires (c.deref.ensures.value ∙ c.in_ok-rights.ensures.value)
-    (counted_of journal at c.args.folio c.deref-2.result.now c.deref-4.result.now live (c.deref-4.ensures.value ∙ c.in_ok-exchanges.ensures))
+    let live = c.deref-2.ensures.value ∙ c.in_ok-rights.ensures in
+    table_added journal at c.args.folio c.deref.result.now c.deref-4.result.now c.len-receipts.ensures.journal c.requires (c.deref.ensures.value ∙ c.in_ok-rights.ensures)
+    (counted_of at c.args.folio c.deref-2.result.now c.deref-4.result.now live (c.deref-4.ensures.value ∙ c.in_ok-exchanges.ensures))
     _ _ _ _ _ c.add_cents.result c.in_ok-add_ranks.ensures
     (c.in_ok-add_exchange_lines.ensures ∙ ap (λ xs. string_bytes c.add_ranks.new.text ++ flat_map exchange_line xs) (c.deref-3.ensures.value ∙ sym c.deref-4.ensures.value))
     c.in_ok-add_exercises.ensures c.add_cents.ensures
