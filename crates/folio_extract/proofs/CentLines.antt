@@ -7,13 +7,13 @@ use Rattle.std.proofs.lemmas.List.Elements.{All-from_recursion, recursion_from_A
 use Rattle.rank_slots.specs.declared.places.Piece.{Piece}
 use Rattle.rank_slots.specs.declared.places.Place.{Place}
 use Rattle.rank_slots.specs.Groups.{group_of}
-use Rattle.folio_extract.specs.CentTexts.{by_owner, piece_line, piece_lines}
+use Rattle.folio_extract.specs.CentTexts.{joined_groups, piece_line, piece_lines}
 use Rattle.folio_extract.specs.inner.PieceRuns.{run_len}
 use Rattle.folio_extract.proofs.PieceRuns.{cents_of, first_run}
 
 -- What was written and the lines of the pieces that are left are the whole; their numbers keep within a bound, and each piece has cents.
 pub record WritesOn (places : List Place) (text whole : List ℕ) (from : ℕ) (rest : List Piece) : Type 0 where
-  pub written : text ++ piece_lines places from (by_owner places rest) ≡ whole
+  pub written : text ++ piece_lines places from (joined_groups places rest) ≡ whole
   pub begun : 1 ≤ from
   pub bound : from + cents_of rest ≤ 1000000000000000000
   pub some : All (λ p. 1 ≤ p.cents) rest
@@ -51,16 +51,16 @@ goes_on places text new whole from cents [] p n first some run took added on = a
 goes_on places text new whole from cents (q ∷ qs) p n first some run took added on =
     let rest = q ∷ qs in
     let same : q ≡ p = grind arith in
-    let owner = first_run places q qs ∙ ap (λ k. record { right = q.right; cents = cents_of (take k rest) } ∷ by_owner places (drop k rest)) (sym run) in
+    let owner = first_run places q qs ∙ ap (λ k. record { right = q.right; cents = cents_of (take k rest) } ∷ joined_groups places (drop k rest)) (sym run) in
     let lines = ap (λ ps. text ++ piece_lines places from ps) owner in
-    let behind = piece_lines places (from + cents) (by_owner places (drop n rest)) in
+    let behind = piece_lines places (from + cents) (joined_groups places (drop n rest)) in
     let parts = sum_by-take-drop (λ (x : Piece). x.cents) rest n in
     let bound = on.bound in
     let begun = on.begun in
     record {
       written =
           ap (λ t. t ++ behind) added ∙ append_assoc text (piece_line from cents (group_of places p.right)) behind
-          ∙ (λ i. text ++ (piece_line from (took i) (group_of places ((sym same) i).right) ++ piece_lines places (from + took i) (by_owner places (drop n rest))))
+          ∙ (λ i. text ++ (piece_line from (took i) (group_of places ((sym same) i).right) ++ piece_lines places (from + took i) (joined_groups places (drop n rest))))
           ∙ sym lines ∙ on.written;
       begun = omega (arith, begun);
       bound = omega (arith, parts, bound, took);

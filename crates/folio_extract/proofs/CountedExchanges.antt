@@ -16,7 +16,7 @@ use Rattle.folio_sections.specs.declared.entries.What.{What}
 use Rattle.folio_sections.specs.declared.entries.What.TheVariants as what
 use Rattle.folio_sections.proofs.FilteredLists.{in_all, of_filter, of_filter_map}
 use Rattle.folio_extract.specs.Exchanges.{counted_at, counted_exchanges, in_turn, in_turn_with, is_earlier, keeps_cents, rise_by}
-use Rattle.folio_extract.specs.PlacedRights.{live_rights, lives}
+use Rattle.folio_extract.specs.FolioRights.{live_rights, lives}
 use Rattle.folio_extract.specs.declared.exchanges.Exchange.{Exchange}
 use Rattle.folio_extract.proofs.PlacedOrder.{of_placed_rights}
 

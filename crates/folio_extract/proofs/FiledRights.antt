@@ -23,8 +23,8 @@ use Rattle.folio_sections.specs.KeptRights.{IsAsFiled, act_of_right}
 use Rattle.folio_sections.specs.declared.entries.Created.{Created}
 use Rattle.folio_sections.specs.declared.entries.Entry.{Entry}
 use Rattle.folio_sections.proofs.ReceiptNumbers.{numbers_up_to}
-use Rattle.folio_extract.specs.PlacedRights.{right_where, rights_of}
-use Rattle.folio_extract.specs.declared.placed_rights.CreatedRight.{CreatedRight}
+use Rattle.folio_extract.specs.FolioRights.{right_where, rights_of}
+use Rattle.folio_extract.specs.declared.folio_rights.CreatedRight.{CreatedRight}
 use Rattle.folio_extract.proofs.CreatedRights.{few_acts, is_created_here, numbered}
 use Rattle.folio_extract.proofs.PlacedOrder.{placed_at_made}
 

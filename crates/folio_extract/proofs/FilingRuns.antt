@@ -15,8 +15,8 @@ use Rattle.folio_sections.specs.declared.entries.Created.{Created}
 use Rattle.folio_sections.specs.declared.entries.Entry.{Entry}
 use Rattle.folio_sections.proofs.ReceiptNumbers.{numbers_are}
 use Rattle.folio_sections.proofs.Unchanged.{all_both, all_weaker}
-use Rattle.folio_extract.specs.PlacedRights.{by_group, right_where, rights_of}
-use Rattle.folio_extract.specs.declared.placed_rights.CreatedRight.{CreatedRight}
+use Rattle.folio_extract.specs.FolioRights.{by_group, right_where, rights_of}
+use Rattle.folio_extract.specs.declared.folio_rights.CreatedRight.{CreatedRight}
 use Rattle.folio_extract.specs.inner.FilingRuns.{is_of_filing}
 
 -- ---- runs

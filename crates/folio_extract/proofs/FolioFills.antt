@@ -26,10 +26,10 @@ use Rattle.rank_slots.specs.Limits.{most_places}
 use Rattle.rank_slots.specs.declared.places.Place.{Place}
 use Rattle.rank_slots.specs.declared.places.Swap.{Swap}
 use Rattle.folio_extract.specs.Exchanges.{counted_exchanges}
-use Rattle.folio_extract.specs.FolioLines.{capital_at, recedes, stands_on_line, swap_of}
-use Rattle.folio_extract.specs.PlacedRights.{rights_where}
+use Rattle.folio_extract.specs.FolioSlots.{capital_at, recedes, stands_on_line, swap_of}
+use Rattle.folio_extract.specs.FolioRights.{rights_where}
 use Rattle.folio_extract.specs.declared.exchanges.Exchange.{Exchange}
-use Rattle.folio_extract.specs.declared.placed_rights.CreatedRight.{CreatedRight}
+use Rattle.folio_extract.specs.declared.folio_rights.CreatedRight.{CreatedRight}
 use Rattle.folio_extract.proofs.CountedExchanges.{is_counted}
 use Rattle.folio_extract.proofs.CreatedRights.{is_created_here, is_in_ranges}
 use Rattle.folio_extract.proofs.PlacedDistinct.{placed_distinct}

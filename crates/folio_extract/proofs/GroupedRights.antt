@@ -3,28 +3,28 @@ use Rattle.std.proofs.Common.{◌≡◌, ℕ, zero, suc, ◌+◌, ◌<◌, ◌�
 use Rattle.std.specs.List.{range_with_len}
 use Rattle.std.proofs.lemmas.List.{length-append}
 use Rattle.std.proofs.lemmas.Bool.Decides.{nat_tests}
-use Rattle.folio_extract.specs.PlacedRights.{by_group, is_of_group}
-use Rattle.folio_extract.specs.declared.placed_rights.CreatedRight.{CreatedRight}
+use Rattle.folio_extract.specs.FolioRights.{by_group, has_group}
+use Rattle.folio_extract.specs.declared.folio_rights.CreatedRight.{CreatedRight}
 
 -- these rights by the groups from one on
 abbrev grouped : List CreatedRight → ℕ → ℕ → List CreatedRight
-grouped xs from many = flat_map (λ group. filter (is_of_group group) xs) (range_with_len from many)
+grouped xs from many = flat_map (λ group. filter (has_group group) xs) (range_with_len from many)
 
 -- a right of an earlier group adds nothing
 passed_group : (x : CreatedRight) (xs : List CreatedRight) (from many : ℕ) → x.made.spec.group < from → grouped (x ∷ xs) from many ≡ grouped xs from many
 passed_group x xs from zero below = refl
 passed_group x xs from (suc many) below =
-    let other : is_of_group from x ≡ false = grind (arith, nat_tests, below) in
-    λ i. cond (other i) (x ∷ filter (is_of_group from) xs) (filter (is_of_group from) xs) ++ passed_group x xs (from + 1) many (omega (arith, below)) i
+    let other : has_group from x ≡ false = grind (arith, nat_tests, below) in
+    λ i. cond (other i) (x ∷ filter (has_group from) xs) (filter (has_group from) xs) ++ passed_group x xs (from + 1) many (omega (arith, below)) i
 
 -- a right adds at most one
 one_more : (x : CreatedRight) (xs : List CreatedRight) (from many : ℕ) → length (grouped (x ∷ xs) from many) ≤ 1 + length (grouped xs from many)
 one_more x xs from zero = omega arith
 one_more x xs from (suc many) =
-    let here = filter (is_of_group from) xs in
+    let here = filter (has_group from) xs in
     let rest = grouped xs (from + 1) many in
     let next = grouped (x ∷ xs) (from + 1) many in
-    elim (is_of_group from x) as (λ b. is_of_group from x ≡ b → length (cond b (x ∷ here) here ++ next) ≤ 1 + length (here ++ rest)) [
+    elim (has_group from x) as (λ b. has_group from x ≡ b → length (cond b (x ∷ here) here ++ next) ≤ 1 + length (here ++ rest)) [
       | true ↦ λ is.
           let same = passed_group x xs (from + 1) many (grind (arith, nat_tests, is)) in
           subst (λ ys. length (x ∷ here ++ ys) ≤ 1 + length (here ++ rest)) (sym same) (omega arith)

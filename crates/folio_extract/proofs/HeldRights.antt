@@ -13,8 +13,8 @@ use Rattle.folio_sections.specs.Rights.{created}
 use Rattle.folio_sections.specs.declared.entries.Created.{Created}
 use Rattle.folio_sections.specs.declared.entries.Entry.{Entry}
 use Rattle.folio_sections.proofs.FilteredLists.{all_in, filter_skips, filter_takes}
-use Rattle.folio_extract.specs.PlacedRights.{live_rights, lives, right_where, rights_of}
-use Rattle.folio_extract.specs.declared.placed_rights.CreatedRight.{CreatedRight}
+use Rattle.folio_extract.specs.FolioRights.{live_rights, lives, right_where, rights_of}
+use Rattle.folio_extract.specs.declared.folio_rights.CreatedRight.{CreatedRight}
 use Rattle.folio_extract.proofs.NotHeld.{not_held}
 use Rattle.folio_extract.proofs.PlacedOrder.{of_placed_rights, the_right}
 

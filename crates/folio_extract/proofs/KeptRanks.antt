@@ -9,7 +9,7 @@ use Rattle.folio_sections.specs.Places.{places}
 use Rattle.folio_sections.specs.declared.entries.Entry.{Entry}
 use Rattle.folio_sections.proofs.FilteredLists.{all_in}
 use Rattle.folio_sections.proofs.KeptOrder.{kept_is_order}
-use Rattle.folio_extract.specs.PlacedRights.{live_rights, lives}
+use Rattle.folio_extract.specs.FolioRights.{live_rights, lives}
 use Rattle.folio_extract.specs.RankTables.{rank_lines, stands_ahead}
 use Rattle.folio_extract.specs.inner.RankWalk.{is_filed_before, ranked_lines}
 use Rattle.folio_extract.proofs.PlacedOrder.{of_placed_rights, placed_rights_ascend}

@@ -1,8 +1,8 @@
 -- The rights of a line behind no exchange are the live ones.
 use Rattle.std.proofs.Common.{◌≡◌, Bool, true, false, ◌||◌, [], refl}
 use Rattle.folio_sections.specs.Rights.{is_live}
-use Rattle.folio_extract.specs.FolioLines.{stands_on_line}
-use Rattle.folio_extract.specs.PlacedRights.{lives}
+use Rattle.folio_extract.specs.FolioSlots.{stands_on_line}
+use Rattle.folio_extract.specs.FolioRights.{lives}
 
 alone : (b : Bool) → (b || false) ≡ b
 alone true = refl

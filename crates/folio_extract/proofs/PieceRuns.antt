@@ -3,7 +3,8 @@ use Rattle.std.proofs.Common.{◌≡◌, ℕ, zero, suc, ◌+◌, ◌-◌, ◌�
 use Rattle.std.proofs.lemmas.List.Sums.{sum_by-cons}
 use Rattle.rank_slots.specs.declared.places.Piece.{Piece}
 use Rattle.rank_slots.specs.declared.places.Place.{Place}
-use Rattle.folio_extract.specs.CentTexts.{by_owner, shares_group, with_piece}
+use Rattle.rank_slots.specs.Groups.{shares_group}
+use Rattle.folio_extract.specs.CentTexts.{joined_groups, with_piece}
 use Rattle.folio_extract.specs.inner.PieceRuns.{run_len}
 
 -- how many cents these pieces have
@@ -12,7 +13,7 @@ cents_of ps = sum_by (λ p. p.cents) ps
 
 -- the first so many pieces as one, of the first one's right, and the others by owner
 abbrev joined_to : List Place → Piece → List Piece → ℕ → List Piece
-joined_to places p ps n = record { right = p.right; cents = cents_of (take n (p ∷ ps)) } ∷ by_owner places (drop n (p ∷ ps))
+joined_to places p ps n = record { right = p.right; cents = cents_of (take n (p ∷ ps)) } ∷ joined_groups places (drop n (p ∷ ps))
 
 -- a piece is one of its own cents
 alone : (p : Piece) (ps : List Piece) → p ∷ ps ≡ record { right = p.right; cents = cents_of (take 1 (p ∷ ps)) } ∷ ps
@@ -20,16 +21,16 @@ alone p ps =
     let own : p.cents ≡ 0 + p.cents = omega arith in
     ap (λ n. record { right = p.right; cents = n } ∷ ps) own
 
-pub first_run : (places : List Place) (p : Piece) (ps : List Piece) → by_owner places (p ∷ ps) ≡ joined_to places p ps (run_len places (p ∷ ps))
+pub first_run : (places : List Place) (p : Piece) (ps : List Piece) → joined_groups places (p ∷ ps) ≡ joined_to places p ps (run_len places (p ∷ ps))
 first_run places p [] = alone p []
 first_run places p (q ∷ qs) =
     let next = run_len places (q ∷ qs) in
     ap (with_piece places p) (first_run places q qs)
     ∙ elim (shares_group places p.right q.right)
-    as (λ b. cond b (record { right = p.right; cents = p.cents + cents_of (take next (q ∷ qs)) } ∷ by_owner places (drop next (q ∷ qs)))
+    as (λ b. cond b (record { right = p.right; cents = p.cents + cents_of (take next (q ∷ qs)) } ∷ joined_groups places (drop next (q ∷ qs)))
     (p ∷ joined_to places q qs next) ≡ joined_to places p (q ∷ qs) (cond b (suc next) 1)) [
-      | true ↦ ap (λ n. record { right = p.right; cents = n } ∷ by_owner places (drop next (q ∷ qs))) (sym (sum_by-cons (λ (x : Piece). x.cents) p (take next (q ∷ qs))))
-      | false ↦ ap (λ xs. p ∷ xs) (sym (first_run places q qs)) ∙ alone p (by_owner places (q ∷ qs))
+      | true ↦ ap (λ n. record { right = p.right; cents = n } ∷ joined_groups places (drop next (q ∷ qs))) (sym (sum_by-cons (λ (x : Piece). x.cents) p (take next (q ∷ qs))))
+      | false ↦ ap (λ xs. p ∷ xs) (sym (first_run places q qs)) ∙ alone p (joined_groups places (q ∷ qs))
     ]
 
 -- ---- how long the run is, piece by piece
@@ -55,10 +56,10 @@ pub record RunsOn (places : List Place) (ps : List Piece) (len : ℕ) : Type 0 w
   pub within : len ≤ length ps
   pub whole : len - 1 + run_len places (drop (len - 1) ps) ≡ run_len places ps
 
--- it is what was to be shown of the next pieces
 after_one : (n : ℕ) → 1 ≤ n → suc (n - 1) ≡ n
 after_one n some = omega (arith, some)
 
+-- the run at the last piece that is counted goes by the test of the next pair
 next_pair : (places : List Place) (ps : List Piece) (len : ℕ) (a b : Piece) → RunsOn places ps len → len < length ps → a ≡ get_or ps (len - 1) a → b ≡ get_or ps len b
     → run_len places (drop (len - 1) ps) ≡ cond (shares_group places a.right b.right) (suc (run_len places (drop len ps))) 1
 next_pair places ps len a b runs more first second =

@@ -17,8 +17,8 @@ use Rattle.folio_sections.specs.declared.entries.Entry.{Entry}
 use Rattle.folio_sections.proofs.DistinctLists.{distinct_filter, distinct_flat, distinct_row}
 use Rattle.folio_sections.proofs.FilteredLists.{of_filter}
 use Rattle.folio_sections.proofs.ReceiptNumbers.{distinct_over_numbers}
-use Rattle.folio_extract.specs.PlacedRights.{by_group, is_of_group, right_where, rights_of, rights_where}
-use Rattle.folio_extract.specs.declared.placed_rights.CreatedRight.{CreatedRight}
+use Rattle.folio_extract.specs.FolioRights.{by_group, has_group, right_where, rights_of, rights_where}
+use Rattle.folio_extract.specs.declared.folio_rights.CreatedRight.{CreatedRight}
 use Rattle.folio_extract.proofs.PlacedOrder.{of_filing, of_filing_by_group, placed_at_number}
 
 -- both are of one number
@@ -46,7 +46,7 @@ pub one_right : (at : Key → List Entry) (folio : ℕ) (x y : CreatedRight) →
 one_right at folio x y first second same =
     same_Some x.made y.made (sym first ∙ ap (λ id. created (at (Right folio id))) (right_is x.id y.id same) ∙ second)
 
-one_group : (x y : CreatedRight) (k l : ℕ) → is_of_group k x ≡ true → is_of_group l y ≡ true → k < l → x.made ≡ y.made → ⊥
+one_group : (x y : CreatedRight) (k l : ℕ) → has_group k x ≡ true → has_group l y ≡ true → k < l → x.made ≡ y.made → ⊥
 one_group x y k l first second less same =
     let group = ap (λ (made : Created). made.spec.group) same in
     grind (arith, nat_tests, first, second, less, group)
@@ -54,11 +54,11 @@ one_group x y k l first second less same =
 groups_distinct : (holds : RightNo → List Entry → Bool) (at : Key → List Entry) (folio m : ℕ) → IsDistinct has_same_number (by_group (rights_of holds at folio m))
 groups_distinct holds at folio m =
     let rights = rights_of holds at folio m in
-    distinct_flat has_same_number (λ group. filter (is_of_group group) rights)
-    (λ k. distinct_filter has_same_number (is_of_group k) rights (acts_distinct holds at folio m))
+    distinct_flat has_same_number (λ group. filter (has_group group) rights)
+    (λ k. distinct_filter has_same_number (has_group k) rights (acts_distinct holds at folio m))
     (λ k l x y less here there.
-    let first = of_filter (is_of_group k) rights x here in
-    let second = of_filter (is_of_group l) rights y there in
+    let first = of_filter (has_group k) rights x here in
+    let second = of_filter (has_group l) rights y there in
     ⊎_elim
     (λ same. absurd (one_group x y k l first.1 second.1 less (one_right at folio x y (of_filing holds at folio m x first.0).made (of_filing holds at folio m y second.0).made same)))
     (λ other. other)

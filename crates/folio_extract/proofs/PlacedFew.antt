@@ -29,7 +29,7 @@ use Rattle.folio_sections.specs.declared.entries.Entry.{Entry}
 use Rattle.folio_sections.proofs.FilteredLists.{in_filter, in_filter_map}
 use Rattle.folio_sections.proofs.ReceiptNumbers.{in_receipt_numbers}
 use Rattle.rank_slots.specs.Limits.{most_places}
-use Rattle.folio_extract.specs.PlacedRights.{by_group, is_of_group, right_where, rights_of, rights_where}
+use Rattle.folio_extract.specs.FolioRights.{by_group, has_group, right_where, rights_of, rights_where}
 use Rattle.folio_extract.proofs.CreatedRights.{IsCreatedHere, IsInRanges, is_created_here}
 use Rattle.folio_extract.proofs.FiledRights.{placed_creations}
 use Rattle.folio_extract.proofs.GroupedRights.{all_by_group_few}
@@ -50,7 +50,7 @@ is_placed holds journal at folio id made stands ranges is passes =
     let group = in_range 1 most_groups made.spec.group ranges.group_from (omega (arith, ranges.group_to)) in
     let of_filing : In x rights = in_filter_map (right_where holds at folio) (rights_of_filing id.receipt) id x (in_map (new_right id.receipt) (range_with_len 1 most_acts) id.act act) placed in
     let grouped : In x (by_group rights) =
-    in_flat_map (λ group. filter (is_of_group group) rights) (range_with_len 1 most_groups) made.spec.group x group (in_filter (is_of_group made.spec.group) rights x of_filing (eq-eqb made.spec.group made.spec.group refl)) in
+    in_flat_map (λ group. filter (has_group group) rights) (range_with_len 1 most_groups) made.spec.group x group (in_filter (has_group made.spec.group) rights x of_filing (eq-eqb made.spec.group made.spec.group refl)) in
     in_flat_map (λ m. by_group (rights_of holds at folio m)) receipt_numbers id.receipt x receipt grouped
 
 -- ---- few

@@ -18,9 +18,9 @@ use Rattle.folio_sections.specs.declared.entries.Entry.{Entry}
 use Rattle.folio_sections.proofs.DistinctLists.{distinct_by, distinct_flat}
 use Rattle.folio_sections.proofs.FilteredLists.{of_filter, of_filter_map}
 use Rattle.folio_sections.proofs.ReceiptNumbers.{distinct_over_numbers}
-use Rattle.folio_extract.specs.PlacedRights.{by_group, is_of_group, right_where, rights_of, rights_where}
+use Rattle.folio_extract.specs.FolioRights.{by_group, has_group, right_where, rights_of, rights_where}
 use Rattle.folio_extract.specs.inner.RankWalk.{Ascends, is_filed_before}
-use Rattle.folio_extract.specs.declared.placed_rights.CreatedRight.{CreatedRight}
+use Rattle.folio_extract.specs.declared.folio_rights.CreatedRight.{CreatedRight}
 
 -- ---- each as it was created
 
@@ -69,8 +69,8 @@ of_filing holds at folio m x there =
 -- the rights of a filing by group
 of_group : (rights : List CreatedRight) (x : CreatedRight) → In x (by_group rights) → In x rights
 of_group rights x there =
-    let from = of_flat_map (λ group. filter (is_of_group group) rights) (range_with_len 1 most_groups) x there in
-    (of_filter (is_of_group from.0) rights x from.2).0
+    let from = of_flat_map (λ group. filter (has_group group) rights) (range_with_len 1 most_groups) x there in
+    (of_filter (has_group from.0) rights x from.2).0
 
 pub of_filing_by_group : (holds : RightNo → List Entry → Bool) (at : Key → List Entry) (folio m : ℕ) (x : CreatedRight) → In x (by_group (rights_of holds at folio m)) → IsPlacedOf holds at folio m x
 of_filing_by_group holds at folio m x there = of_filing holds at folio m x (of_group (rights_of holds at folio m) x there)
@@ -90,7 +90,7 @@ ascends_of [] up = tt
 ascends_of (x ∷ xs) up = (up.0, ascends_of xs up.1)
 
 -- rights of one filing go by group
-not_before : (x y : CreatedRight) (m k l : ℕ) → x.id.receipt ≡ m → y.id.receipt ≡ m → is_of_group k x ≡ true → is_of_group l y ≡ true → k ≤ l → is_filed_before y x ≡ false
+not_before : (x y : CreatedRight) (m k l : ℕ) → x.id.receipt ≡ m → y.id.receipt ≡ m → has_group k x ≡ true → has_group l y ≡ true → k ≤ l → is_filed_before y x ≡ false
 not_before x y m k l first second here there on = grind (arith, nat_tests)
 
 -- rights of a later filing stand behind
@@ -99,10 +99,10 @@ filed_later x y m n first second less = grind (arith, nat_tests)
 
 groups_ascend : (m : ℕ) (rights : List CreatedRight) → ((x : CreatedRight) → In x rights → x.id.receipt ≡ m) → IsDistinct (λ x y. is_filed_before y x) (by_group rights)
 groups_ascend m rights filing =
-    let f : ℕ → List CreatedRight = λ group. filter (is_of_group group) rights in
+    let f : ℕ → List CreatedRight = λ group. filter (has_group group) rights in
     let on : (k l : ℕ) (x y : CreatedRight) → k ≤ l → In x (f k) → In y (f l) → is_filed_before y x ≡ false = λ k l x y le here there.
-    let first = of_filter (is_of_group k) rights x here in
-    let second = of_filter (is_of_group l) rights y there in
+    let first = of_filter (has_group k) rights x here in
+    let second = of_filter (has_group l) rights y there in
     not_before x y m k l (filing x first.0) (filing y second.0) first.1 second.1 le in
     distinct_flat (λ x y. is_filed_before y x) f (λ k. distinct_by (λ x y. is_filed_before y x) (f k) (λ x y here there. on k k x y (omega arith) here there))
     (λ k l x y less here there. on k l x y (omega (arith, less)) here there) 1 most_groups

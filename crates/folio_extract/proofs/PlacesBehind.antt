@@ -9,9 +9,9 @@ use Rattle.folio_sections.specs.declared.entries.Entry.{Entry}
 use Rattle.rank_slots.specs.Groups.{joins}
 use Rattle.rank_slots.specs.declared.places.Place.{Place}
 use Rattle.rank_slots.proofs.PlaceLines.{is_listed}
-use Rattle.folio_extract.specs.FolioLines.{place_behind, places_behind}
-use Rattle.folio_extract.specs.PlacedRights.{has_same_place}
-use Rattle.folio_extract.specs.declared.placed_rights.CreatedRight.{CreatedRight}
+use Rattle.folio_extract.specs.FolioSlots.{place_behind, places_behind}
+use Rattle.folio_extract.specs.FolioRights.{has_same_place}
+use Rattle.folio_extract.specs.declared.folio_rights.CreatedRight.{CreatedRight}
 use Rattle.folio_extract.proofs.LoneGroups.{NoneJoins}
 use Rattle.folio_extract.proofs.PlacedDistinct.{has_same_number}
 

@@ -16,10 +16,10 @@ use Rattle.folio_sections.specs.declared.entries.Entry.{Entry}
 use Rattle.folio_sections.proofs.DistinctLists.{distinct_weaker}
 use Rattle.rank_slots.specs.CanFill.{StandsAlone}
 use Rattle.rank_slots.specs.declared.places.Place.{Place}
-use Rattle.folio_extract.specs.FolioLines.{places_behind, recedes, stands_on_line}
-use Rattle.folio_extract.specs.PlacedRights.{has_same_place, rights_where}
+use Rattle.folio_extract.specs.FolioSlots.{places_behind, recedes, stands_on_line}
+use Rattle.folio_extract.specs.FolioRights.{has_same_place, rights_where}
 use Rattle.folio_extract.specs.declared.exchanges.Exchange.{Exchange}
-use Rattle.folio_extract.specs.declared.placed_rights.CreatedRight.{CreatedRight}
+use Rattle.folio_extract.specs.declared.folio_rights.CreatedRight.{CreatedRight}
 use Rattle.folio_extract.proofs.CreatedRights.{is_created_here, is_in_ranges}
 use Rattle.folio_extract.proofs.LoneGroups.{stands_alone}
 use Rattle.folio_extract.proofs.PlacedDistinct.{has_same_number, placed_distinct}

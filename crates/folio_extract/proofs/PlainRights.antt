@@ -14,8 +14,8 @@ use Rattle.act_model.specs.declared.receipts.Receipt.{Receipt}
 use Rattle.folio_sections.specs.Groups.{has_equal, shares_its_group}
 use Rattle.folio_sections.specs.KeptRights.{IsAsFiled}
 use Rattle.folio_sections.specs.declared.entries.Created.{Created}
-use Rattle.folio_extract.specs.PlacedRights.{has_same_place}
-use Rattle.folio_extract.specs.declared.placed_rights.CreatedRight.{CreatedRight}
+use Rattle.folio_extract.specs.FolioRights.{has_same_place}
+use Rattle.folio_extract.specs.declared.folio_rights.CreatedRight.{CreatedRight}
 use Rattle.folio_extract.proofs.CreatedRights.{IsCreatedHere, IsNumbered, numbered}
 use Rattle.folio_extract.proofs.PlacedDistinct.{has_same_number}
 

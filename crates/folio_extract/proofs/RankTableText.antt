@@ -10,11 +10,11 @@ use Rattle.folio_sections.specs.Places.{places}
 use Rattle.folio_sections.specs.declared.entries.Entry.{Entry}
 use Rattle.folio_extract.specs.CentTexts.{line_text}
 use Rattle.folio_extract.specs.Exchanges.{counted_at, counted_exchanges, counted_knots, in_turn}
-use Rattle.folio_extract.specs.FolioLines.{filled_by}
-use Rattle.folio_extract.specs.PlacedRights.{live_rights}
+use Rattle.folio_extract.specs.FolioSlots.{filled_by}
+use Rattle.folio_extract.specs.FolioRights.{live_rights}
 use Rattle.folio_extract.specs.RankTables.{exchange_line, exercise_line, rank_lines, rank_table_text}
 use Rattle.folio_extract.specs.declared.exchanges.Exchange.{Exchange}
-use Rattle.folio_extract.specs.declared.placed_rights.CreatedRight.{CreatedRight}
+use Rattle.folio_extract.specs.declared.folio_rights.CreatedRight.{CreatedRight}
 use Rattle.folio_extract.specs.inner.RankWalk.{ranked_lines}
 use Rattle.folio_extract.proofs.KeptRanks.{kept_ranks}
 

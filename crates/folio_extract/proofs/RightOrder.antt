@@ -1,9 +1,9 @@
 -- Rights in order of filing and group: which stand before which, and which have one place.
 use Rattle.std.proofs.Common.{◌≡◌, true, false, arith}
 use Rattle.std.proofs.lemmas.Bool.Decides.{nat_tests}
-use Rattle.folio_extract.specs.PlacedRights.{has_same_place}
+use Rattle.folio_extract.specs.FolioRights.{has_same_place}
 use Rattle.folio_extract.specs.inner.RankWalk.{is_filed_before}
-use Rattle.folio_extract.specs.declared.placed_rights.CreatedRight.{CreatedRight}
+use Rattle.folio_extract.specs.declared.folio_rights.CreatedRight.{CreatedRight}
 
 -- rights of one place
 pub same_self : (x : CreatedRight) → has_same_place x x ≡ true

@@ -9,9 +9,9 @@ use Rattle.folio_sections.specs.declared.entries.Entry.{Entry}
 use Rattle.folio_sections.specs.declared.entries.What.{What}
 use Rattle.folio_sections.specs.declared.entries.What.TheVariants as what
 use Rattle.rank_slots.specs.declared.places.Knot.{Knot}
-use Rattle.folio_extract.specs.PlacedRights.{live_by_act, live_rights}
+use Rattle.folio_extract.specs.FolioRights.{live_by_act, live_rights}
 use Rattle.folio_extract.specs.declared.exchanges.Exchange.{Exchange}
-use Rattle.folio_extract.specs.declared.placed_rights.CreatedRight.{CreatedRight}
+use Rattle.folio_extract.specs.declared.folio_rights.CreatedRight.{CreatedRight}
 
 -- ---- exchanges
 
@@ -50,7 +50,8 @@ abbrev pub in_turn : List Exchange → List Exchange
 in_turn [] = []
 in_turn (x ∷ xs) = in_turn_with x (in_turn xs)
 
--- The exchanges of a folio that count, by item and act: the right that rises is live, and the cents of the other stay (BGB § 880).
+-- The exchanges of a folio that count, by item and act: the right that rose is live, and the one that receded is live or was cancelled
+-- by consent (BGB § 880).
 abbrev pub counted_exchanges : (Key → List Entry) → ℕ → List Exchange
 counted_exchanges at folio = in_turn (flat_map (counted_at at folio) (live_rights at folio))
 

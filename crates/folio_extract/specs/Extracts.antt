@@ -13,9 +13,9 @@ use Rattle.folio_sections.specs.Rights.{capital, holder, is_full, is_spent}
 use Rattle.folio_sections.specs.Titles.{inventory, is_open, owners}
 use Rattle.folio_sections.specs.declared.entries.Created.{Created}
 use Rattle.folio_sections.specs.declared.entries.Entry.{Entry}
-use Rattle.folio_extract.specs.PlacedRights.{live_rights}
+use Rattle.folio_extract.specs.FolioRights.{live_rights}
 use Rattle.folio_extract.specs.WaitingFilings.{waiting_filings}
-use Rattle.folio_extract.specs.declared.placed_rights.CreatedRight.{CreatedRight}
+use Rattle.folio_extract.specs.declared.folio_rights.CreatedRight.{CreatedRight}
 use Rattle.folio_extract.specs.declared.waiting.WaitingFiling.{WaitingFiling}
 
 -- ---- the folio
@@ -87,16 +87,16 @@ word_part word text None = []
 word_part word text (Some x) = word ++ text x
 
 -- a word, where this holds
-abbrev pub mark : List ℕ → Bool → List ℕ
-mark word false = []
-mark word true = word
+abbrev pub word_if : List ℕ → Bool → List ℕ
+word_if word false = []
+word_if word true = word
 
 -- what holds of some rights alone: the filing that it stands behind, equal rank, a reservation, that it is spent, and the right
 -- ahead of which it stands
 abbrev pub notes : List Entry → Created → List ℕ
 notes entries made =
-    word_part (codes " behind ") decimal made.behind ++ (mark (codes " equal") made.equal ++ (word_part (codes " reserve ") euro made.reserve
-    ++ (mark (codes " spent") (is_spent entries) ++ word_part (codes " ahead-of ") right_text made.ahead_of)))
+    word_part (codes " behind ") decimal made.behind ++ (word_if (codes " equal") made.equal ++ (word_part (codes " reserve ") euro made.reserve
+    ++ (word_if (codes " spent") (is_spent entries) ++ word_part (codes " ahead-of ") right_text made.ahead_of)))
 
 -- a right, as it stands by the entries at it
 abbrev pub right_line : List Entry → CreatedRight → List ℕ

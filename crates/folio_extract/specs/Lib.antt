@@ -2,8 +2,8 @@
 pub mod CentTexts
 pub mod Exchanges
 pub mod Extracts
-pub mod FolioLines
-pub mod PlacedRights
+pub mod FolioRights
+pub mod FolioSlots
 pub mod RankTables
 pub mod Reports
 pub mod VerdictLines

@@ -1,4 +1,4 @@
--- The rank table of a folio: the ranks of its rights, the exchanges and exercised reservations that count, and the cents behind the exchanges.
+-- The rank table of a folio: the ranks of its rights, the exchanges and exercised reservations that count, and the cents after the exchanges.
 use Rattle.std.specs.Prelude.{ℕ, ◌+◌, Bool, if◌then◌else◌, List, [], ◌∷◌, ◌++◌, codes, filter, flat_map, Option, Some, None}
 use Rattle.std.specs.List.{list_any}
 use Rattle.std.specs.Fmt.{decimal}
@@ -15,10 +15,10 @@ use Rattle.folio_sections.specs.declared.title_places.TitlePlace.{TitlePlace}
 use Rattle.rank_slots.specs.declared.places.Knot.{Knot}
 use Rattle.folio_extract.specs.CentTexts.{line_text}
 use Rattle.folio_extract.specs.Exchanges.{counted_exchanges, counted_knots}
-use Rattle.folio_extract.specs.FolioLines.{folio_line}
-use Rattle.folio_extract.specs.PlacedRights.{has_same_place, live_rights}
+use Rattle.folio_extract.specs.FolioSlots.{folio_filled}
+use Rattle.folio_extract.specs.FolioRights.{has_same_place, live_rights}
 use Rattle.folio_extract.specs.declared.exchanges.Exchange.{Exchange}
-use Rattle.folio_extract.specs.declared.placed_rights.CreatedRight.{CreatedRight}
+use Rattle.folio_extract.specs.declared.folio_rights.CreatedRight.{CreatedRight}
 
 -- ---- ranks
 
@@ -64,7 +64,7 @@ unfoldable pub rank_table_text : List Receipt → (Key → List Entry) → ℕ �
 rank_table_text journal at folio =
     codes "ranks " ++ (decimal folio ++ (codes "\n" ++ (rank_lines (places journal at folio) (live_rights at folio)
     ++ (flat_map exchange_line (counted_exchanges at folio) ++ (flat_map exercise_line (counted_knots at folio)
-    ++ line_text (folio_line at folio))))))
+    ++ line_text (folio_filled at folio))))))
 
 -- the same, where the folio is open
 abbrev pub rank_table : List Receipt → (Key → List Entry) → ℕ → Option (List ℕ)

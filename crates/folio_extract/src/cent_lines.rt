@@ -3,7 +3,8 @@ ghost use Rattle.std.specs.Prelude.{◌≡◌, ◌+◌, ◌<◌, ◌≤◌, ◌^
 ghost use Rattle.std.specs.String.{string_bytes};
 ghost use Rattle.gb_base.specs.Texts.{right_text};
 ghost use Rattle.gb_base.specs.Limits.{most_sum};
-ghost use Rattle.folio_extract.specs.CentTexts.{line_text, owner_text, piece_line, shares_group};
+ghost use Rattle.rank_slots.specs.Groups.{shares_group};
+ghost use Rattle.folio_extract.specs.CentTexts.{group_text, line_text, piece_line};
 ghost use Rattle.folio_extract.specs.inner.PieceRuns.{run_len};
 
 use gb_base::NoMemory;
@@ -68,13 +69,13 @@ fn add_piece(text: &mut String, from: u64, cents: u64, group: &[Place]) -> Resul
     ensures { OnOk result (string_bytes text.new ≡ string_bytes text.old ++ piece_line from cents group.now) }
 {
     write!(text, "cents {from}-{} ", from + cents - 1)?;
-    add_owner(text, group)?;
+    add_group_text(text, group)?;
     text.push_str("\n")
 }
 
 /// Adds a right by its number, and rights of equal rank as a group.
-fn add_owner(text: &mut String, group: &[Place]) -> Result<(), NoMemory>
-    ensures { OnOk result (string_bytes text.new ≡ string_bytes text.old ++ owner_text group.now) }
+fn add_group_text(text: &mut String, group: &[Place]) -> Result<(), NoMemory>
+    ensures { OnOk result (string_bytes text.new ≡ string_bytes text.old ++ group_text group.now) }
 {
     match group {
         [] => Ok(()),

@@ -63,7 +63,7 @@ fn with_exchange(rt: &impl Abort, alloc: Global) -> Journal {
 
 // ---- tables
 
-/// The ranks stay those of the places, and the right between gets nothing later than before.
+/// The ranks stay those of the places, and the right between keeps its cents.
 #[test]
 fn the_right_between_keeps_its_cents(rt: HostRuntime) -> Result<(), NoMemory> {
     let alloc = rt.alloc();
@@ -74,7 +74,7 @@ fn the_right_between_keeps_its_cents(rt: HostRuntime) -> Result<(), NoMemory> {
     Ok(())
 }
 
-/// The room of a right that was cancelled by consent stays for the one that rose into it.
+/// The cents of a receding right that was cancelled by consent stay for the one that rose.
 #[test]
 fn a_receding_right_cancelled_by_consent(rt: HostRuntime) -> Result<(), NoMemory> {
     let alloc = rt.alloc();

@@ -6,7 +6,7 @@ ghost use Rattle.folio_sections.specs.Held.{entries_at};
 ghost use Rattle.folio_extract.specs.Exchanges.{counted_at, in_turn, is_cancellation_by_consent, keeps_cents, rise_by};
 
 use crate::folio_reads::{is_live, right_entries, was_created};
-use crate::placed_rights::CreatedRight;
+use crate::folio_rights::CreatedRight;
 use folio_sections::{Entry, What};
 use gb_base::{FolioId, NoMemory, ReceiptNo, RightId};
 use registrar::Register;
@@ -19,14 +19,15 @@ pub struct Exchange {
     pub item: ReceiptNo,
     /// The act of the filing.
     pub act: u8,
-    /// The right that steps back.
+    /// The right that recedes.
     pub recede: RightId,
-    /// The right that takes its rank.
+    /// The right that rises: it gets the first of both rights' cents.
     pub rise: RightId,
 }
 
 /// The exchanges by which these live rights rise and that count, by item and act: the cents of the
-/// right that recedes stay.
+/// right that recedes stay. An exchange stands at both of its rights, and is read at the one that
+/// rises.
 pub(crate) fn counted_exchanges(
     alloc: Global,
     register: &Register,

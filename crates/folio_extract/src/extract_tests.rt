@@ -1,7 +1,7 @@
 // Extracts, each part of each line present and absent.
 use crate::extract;
 use crate::folio_reads::awaits_award;
-use crate::placed_rights::CreatedRight;
+use crate::folio_rights::CreatedRight;
 use crate::right_lines::add_right_line;
 use crate::testing::{
     assignment, by_owners, cents, consent, creation, day, docs, filing, folio, opened, person,

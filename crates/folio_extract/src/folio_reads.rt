@@ -6,7 +6,7 @@ ghost use Rattle.folio_sections.specs.Cases.{award, is_running};
 ghost use Rattle.folio_sections.specs.Held.{entries_at};
 ghost use Rattle.folio_sections.specs.Rights.{created, is_live};
 ghost use Rattle.folio_sections.specs.Titles.{inventory, is_open, owners};
-ghost use Rattle.folio_extract.specs.FolioLines.{capital_at};
+ghost use Rattle.folio_extract.specs.FolioSlots.{capital_at};
 
 use act_model::{Inventory, Owners};
 use folio_sections::{CasePart, Entry, Parts};

@@ -6,7 +6,7 @@ ghost use Rattle.folio_sections.specs.Held.{entries_at};
 ghost use Rattle.folio_extract.specs.Exchanges.{counted_knots, is_spent_on, knot_behind, knot_of};
 
 use crate::folio_reads::{is_live, right_entries};
-use crate::placed_rights::{CreatedRight, placed_by_act};
+use crate::folio_rights::{CreatedRight, on_line_by_act};
 use folio_sections::{Entry, What};
 use gb_base::{FolioId, NoMemory, RightId};
 use rank_slots::Knot;
@@ -21,7 +21,7 @@ pub(crate) fn counted_knots(
 ) -> Result<Vec<Knot>, NoMemory>
     ensures { IfOk result (λ knots. knots.items ≡ counted_knots (entries_at register.now.parts) folio) }
 {
-    let live = placed_by_act(alloc, register, folio, &[])?;
+    let live = on_line_by_act(alloc, register, folio, &[])?;
     knots_of(alloc, register, folio, &live)
 }
 

@@ -9,10 +9,10 @@ mod exchanges;
 #[cfg(test)]
 mod extract_tests;
 mod extracts;
-mod folio_lines;
 mod folio_reads;
+mod folio_rights;
+mod folio_slots;
 mod knots;
-mod placed_rights;
 mod rank_lines;
 #[cfg(test)]
 mod rank_table_tests;

@@ -1,5 +1,5 @@
 // The rank table of a folio: the ranks of its rights, the exchanges and exercised reservations that
-// count, and the cents behind the exchanges.
+// count, and the cents after the exchanges.
 ghost use Rattle.std.specs.Prelude.{◌≡◌, ◌++◌, IfOk, None, OnOk, codes, flat_map, option_map};
 ghost use Rattle.std.specs.Fmt.{decimal};
 ghost use Rattle.std.specs.String.{string_bytes};
@@ -7,17 +7,17 @@ ghost use Rattle.folio_sections.specs.Held.{entries_at};
 ghost use Rattle.folio_sections.specs.Kept.{Kept};
 ghost use Rattle.folio_extract.specs.CentTexts.{line_text};
 ghost use Rattle.folio_extract.specs.Exchanges.{counted_exchanges, counted_knots};
-ghost use Rattle.folio_extract.specs.FolioLines.{filled_by};
+ghost use Rattle.folio_extract.specs.FolioSlots.{filled_by};
 ghost use Rattle.folio_extract.specs.RankTables.{exercise_line, rank_table, rank_table_text};
 ghost use Rattle.folio_extract.specs.inner.RankWalk.{ranked_lines};
 
 use crate::cent_lines::add_cent_lines;
 use crate::exchange_lines::{add_exchange_lines, add_exercise_lines};
 use crate::exchanges::{Exchange, counted_exchanges};
-use crate::folio_lines::folio_slots;
 use crate::folio_reads::is_open;
+use crate::folio_rights::{CreatedRight, live_rights};
+use crate::folio_slots::folio_slots;
 use crate::knots::counted_knots;
-use crate::placed_rights::{CreatedRight, live_rights};
 use crate::rank_lines::add_rank_lines;
 use act_model::Journal;
 use gb_base::{FolioId, NoMemory};
@@ -87,7 +87,7 @@ fn add_exercises(
     add_exercise_lines(text, &knots)
 }
 
-/// Adds the cents of the folio's line behind the exchanges that count.
+/// Adds the cents of the folio's line after the exchanges that count.
 fn add_cents(
     alloc: Global,
     text: &mut String,

@@ -4,9 +4,9 @@ ghost use Rattle.std.specs.Fmt.{decimal};
 ghost use Rattle.std.specs.String.{string_bytes};
 ghost use Rattle.gb_base.specs.Texts.{date_text, euro, right_text};
 ghost use Rattle.folio_sections.specs.Rights.{capital, form_of, holder, is_full, is_spent};
-ghost use Rattle.folio_extract.specs.Extracts.{division_text, form_text, kind_text, mark, notes, rate_part, right_line, word_part};
+ghost use Rattle.folio_extract.specs.Extracts.{division_text, form_text, kind_text, notes, rate_part, right_line, word_if, word_part};
 
-use crate::placed_rights::CreatedRight;
+use crate::folio_rights::CreatedRight;
 use act_model::RightKind;
 use folio_sections::{Created, RightPart};
 use gb_base::{Cents, NoMemory, Person, ReceiptNo, RightId};
@@ -133,7 +133,7 @@ fn add_behind(text: &mut String, behind: &Option<ReceiptNo>) -> Result<(), NoMem
 
 /// Adds a word where something holds.
 fn add_mark(text: &mut String, word: &str, holds: bool) -> Result<(), NoMemory>
-    ensures { OnOk result (string_bytes text.new ≡ string_bytes text.old ++ mark word.now holds) }
+    ensures { OnOk result (string_bytes text.new ≡ string_bytes text.old ++ word_if word.now holds) }
 {
     if holds { text.push_str(word) } else { Ok(()) }
 }

@@ -1,4 +1,4 @@
--- Rights of equal rank: creating acts of one filing, folio and group (GBO § 45(3)), as they were filed.
+-- Rights of equal rank: creating acts of one filing, folio and group (GBO § 45(1), (3)), as they were filed.
 use Rattle.std.specs.Prelude.{ℕ, Bool, false, not, ◌&&◌, ◌==◌, List}
 use Rattle.std.specs.Option.{option_map_or}
 use Rattle.std.specs.List.{list_any, enumerate_from}

@@ -24,7 +24,7 @@ pub struct Created {
     pub placed: Day,
     /// The filing of the last earlier place of the other division on that day (GBO § 45(2)).
     pub behind: Option<ReceiptNo>,
-    /// Whether another creating act of the filing and folio has the same group (GBO § 45(3)).
+    /// Whether another creating act of the filing and folio has the same group (GBO § 45(1), (3)).
     pub equal: bool,
 }
 

@@ -36,7 +36,7 @@ members_are (p ∷ ps) =
 
 -- ---- what holds of the group that is found
 
--- either it is one of the groups, or there is none
+-- it has the right where some group has it
 in_holds : (gs : List (List Place)) (r : RightNo) → list_any (is_of r) (members gs) ≡ true → list_any (is_of r) (group_in gs r) ≡ true
 in_holds [] r there = there
 in_holds (g ∷ gs) r there =

@@ -9,7 +9,7 @@ use Rattle.rank_slots.specs.CanFill.{CanFill, CanKnot, CanSwap, StandsAlone, is_
 use Rattle.rank_slots.specs.CentLine.{cent_line, cents_of, exchange, exchange_all, is_dropped, is_of_either, written}
 use Rattle.rank_slots.specs.Filled.{Filled, line, with_swap}
 use Rattle.rank_slots.specs.Groups.{group_of, keeps_place}
-use Rattle.rank_slots.specs.Payments.{claim_of, is_of_group, knot_of, part_of, pay, pay_by, plain_pay}
+use Rattle.rank_slots.specs.Payments.{claim_of, is_of_group, knot_of, share_in_group, pay, pay_by, plain_pay}
 use Rattle.rank_slots.specs.declared.places.Knot.{Knot}
 use Rattle.rank_slots.specs.declared.places.Place.{Place}
 use Rattle.rank_slots.specs.declared.places.Swap.{Swap}
@@ -42,7 +42,7 @@ third_plain filled s r t further third =
     let test = is_of_group (group_of filled.places r) in
     let neither : PassesNeither test s =
     record { recede = apart_from_alone filled.places s.recede r further.differ further.recede parts.0; rise = apart_from_alone filled.places s.rise r further.differ further.rise parts.1 } in
-    ap (part_of (group_of filled.places r) r)
+    ap (share_in_group (group_of filled.places r) r)
     (counted_is test (take t (line (with_swap filled s)))
     ∙ (further_front filled.places filled.swaps s test t further neither
     ∙ sym (counted_is test (take t (line filled)))))

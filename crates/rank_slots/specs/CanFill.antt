@@ -15,7 +15,7 @@ use Rattle.rank_slots.specs.declared.places.Swap.{Swap}
 abbrev pub StandsAlone : List Place → RightNo → Type 0
 StandsAlone places right = length (group_of places right) ≡ 1
 
--- The places are few, of different rights, each with a claim; none is dropped out of a group.
+-- At most 256 places of different rights, the first joining none, each with a claim, in all below 10^18; a dropped one stands alone.
 pub record ArePlaces (places : List Place) : Type 0 where
   pub few : length places ≤ most_places
   pub distinct : IsDistinct (λ p q. same_right p.right q.right) places

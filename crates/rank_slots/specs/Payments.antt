@@ -14,14 +14,14 @@ abbrev pub is_of_group : List Place → RightNo → Bool
 is_of_group group c = list_any (is_of c) group
 
 -- what a right gets of the cents of its group: all where it stands alone, else its share
-abbrev pub part_of : List Place → RightNo → ℕ → ℕ
-part_of (p ∷ []) right cents = cents
-part_of group right cents = share cents (map (λ p. p.claim) group) (position_or_len (is_of right) group)
+abbrev pub share_in_group : List Place → RightNo → ℕ → ℕ
+share_in_group (p ∷ []) right cents = cents
+share_in_group group right cents = share cents (map (λ p. p.claim) group) (position_or_len (is_of right) group)
 
 -- what a right gets of the first t cents of the line, knots apart
 abbrev pub plain_pay : Filled → RightNo → ℕ → ℕ
 plain_pay filled right t =
-    part_of (group_of filled.places right) right (count_by (is_of_group (group_of filled.places right)) (take t (line filled)))
+    share_in_group (group_of filled.places right) right (count_by (is_of_group (group_of filled.places right)) (take t (line filled)))
 
 -- the claim of a right
 abbrev pub claim_of : List Place → RightNo → ℕ
@@ -48,7 +48,7 @@ pay_by (Some k) filled right t = if same_right k.reserved right then pay_reserve
 abbrev pub pay : Filled → RightNo → ℕ → ℕ
 pay filled right t = pay_by (knot_of filled.knots right) filled right t
 
--- what all rights get together of the first t cents
+-- what all rights that are not dropped get together of the first t cents
 abbrev pub paid_out : Filled → ℕ → ℕ
 paid_out filled t = sum_by (λ p. pay filled p.right t) (filter (λ p. not p.dropped) filled.places)
 

@@ -66,7 +66,7 @@ impl Draws {
         })
     }
 
-    /// Up to six places with claims of 1 to 9 cents. Every other list may have groups.
+    /// Up to six places with claims of 1 to 9 cents. About every other list may have groups.
     fn places(&mut self, rt: &impl Abort, alloc: Global) -> Result<Vec<Place>, NoMemory> {
         let count = self.right().max(self.right());
         let has_groups = self.one_in(2);

@@ -6,7 +6,7 @@ ghost use Rattle.gb_base.specs.RightNo.{same_right};
 ghost use Rattle.rank_slots.specs.CanFill.{ArePlaces, CanFill, CanKnot, CanSwap, CanTie, StandsAlone, is_swapped, knotted};
 ghost use Rattle.rank_slots.specs.Groups.{group_of, joins, keeps_place};
 
-use crate::groups::{group_of, holds, is_ahead};
+use crate::groups::{group_of, holds, is_listed_ahead};
 use crate::paying::MOST_PLACES;
 use crate::{Knot, Place, Swap};
 use gb_base::RightId;
@@ -112,7 +112,7 @@ pub fn can_knot(places: &[Place], swaps: &[Swap], knot: Knot) -> bool
 {
     can_tie(places, swaps, knot.reserved)
         && can_tie(places, swaps, knot.exercised)
-        && is_ahead(places, knot.reserved, knot.exercised)
+        && is_listed_ahead(places, knot.reserved, knot.exercised)
 }
 
 fn can_tie(places: &[Place], swaps: &[Swap], right: RightId) -> bool

@@ -1,4 +1,4 @@
-// The groups of equal rank among the places of a line (GBO § 45(3)).
+// The groups of equal rank among the places of a line (GBO § 45(1), (3)).
 ghost use Rattle.std.specs.Prelude.{◌≡◌, ◌≤◌, length};
 ghost use Rattle.std.specs.List.{list_any, position_or_len, prefix_len};
 ghost use Rattle.rank_slots.specs.Groups.{group_of, is_listed_ahead, is_of};
@@ -51,7 +51,7 @@ pub(crate) fn places_ahead(places: &[Place], right: RightId) -> usize
 }
 
 /// Whether right x has a place ahead of right y's.
-pub(crate) fn is_ahead(places: &[Place], x: RightId, y: RightId) -> bool
+pub(crate) fn is_listed_ahead(places: &[Place], x: RightId, y: RightId) -> bool
     ensures { result ≡ is_listed_ahead places.now x y }
 {
     holds(&places[..places_ahead(places, y)], x)

@@ -6,7 +6,7 @@ ghost use Rattle.rank_slots.specs.CanFill.{CanFill, CanKnot, StandsAlone};
 ghost use Rattle.rank_slots.specs.Groups.{is_of, keeps_place};
 ghost use Rattle.gb_base.specs.Limits.{most_sum};
 ghost use Rattle.rank_slots.specs.Limits.{most_places};
-ghost use Rattle.rank_slots.specs.Payments.{claim_of, knot_of, part_of, pay, pay_exercised, pay_reserved, plain_pay};
+ghost use Rattle.rank_slots.specs.Payments.{claim_of, knot_of, share_in_group, pay, pay_exercised, pay_reserved, plain_pay};
 
 use crate::groups::{group_of, places_ahead};
 use crate::pieces::cents_within;
@@ -81,17 +81,17 @@ impl Slots {
         ensures bound { StandsAlone self.now.filled.places right → result < most_sum }
     {
         let group = group_of(&self.places, right);
-        part_of(group, right, cents_within(&self.pieces, group, t))
+        share_in_group(group, right, cents_within(&self.pieces, group, t))
     }
 }
 
 /// What a right gets of the cents of its group.
-fn part_of(group: &[Place], right: RightId, cents: u64) -> u64
+fn share_in_group(group: &[Place], right: RightId, cents: u64) -> u64
     requires there { list_any (is_of right) group.now ≡ true }
     requires few { length group.now ≤ most_places }
     requires claims { All (λ p. 1 ≤ p.claim) group.now }
     requires sum { sum_by (λ p. p.claim) group.now < most_sum }
-    ensures { result ≡ part_of group.now right cents }
+    ensures { result ≡ share_in_group group.now right cents }
 {
     match group {
         [_] => cents,

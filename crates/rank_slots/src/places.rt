@@ -8,7 +8,7 @@ pub struct Place {
     pub right: RightId,
     /// In cents, from 1.
     pub claim: u64,
-    /// Whether it joins the place before it in one group of equal rank (GBO § 45(3)).
+    /// Whether it joins the place before it in one group of equal rank (GBO § 45(1), (3)).
     pub with_previous: bool,
     /// Whether its cents are taken out once all exchanges are made.
     pub dropped: bool,
@@ -17,7 +17,7 @@ pub struct Place {
 /// An exchange of rank (BGB § 880).
 #[derive(Clone, Copy, Debug, PartialEq, Eq)]
 pub struct Swap {
-    /// The right that steps back.
+    /// The right that recedes.
     pub recede: RightId,
     /// The right that gets the first of both rights' cents.
     pub rise: RightId,

@@ -4,7 +4,7 @@ ghost use Rattle.std.specs.List.{list_any};
 ghost use Rattle.rank_slots.specs.Groups.{group_of, is_of, keeps_place};
 ghost use Rattle.rank_slots.specs.Relations.{is_exercised_over, last_between, relation, relation_by, swaps_both};
 
-use crate::groups::{group_of, holds, is_ahead};
+use crate::groups::{group_of, holds, is_listed_ahead};
 use crate::{Knot, Place, Slots, Swap};
 use gb_base::RightId;
 
@@ -72,7 +72,7 @@ fn relation_by(last: Option<Swap>, places: &[Place], x: RightId, y: RightId) -> 
         Some(swap) if swap.rise == x => Relation::Ahead,
         Some(_) => Relation::Behind,
         None if holds(group_of(places, x), y) => Relation::Equal,
-        None if is_ahead(places, x, y) => Relation::Ahead,
+        None if is_listed_ahead(places, x, y) => Relation::Ahead,
         None => Relation::Behind,
     }
 }

@@ -40,7 +40,7 @@ pub fn dropped(rt: &impl Abort, n: u32, claim: u64) -> Place {
     }
 }
 
-/// Right `recede` steps back behind right `rise`.
+/// Right `recede` recedes behind right `rise`.
 pub fn swap(rt: &impl Abort, recede: u32, rise: u32) -> Swap {
     Swap {
         recede: right(rt, recede),

@@ -1,6 +1,6 @@
 -- The rights of one filing.
 use Rattle.std.specs.Prelude.{ℕ, Bool, ◌==◌}
-use Rattle.folio_extract.specs.declared.placed_rights.CreatedRight.{CreatedRight}
+use Rattle.folio_extract.specs.declared.folio_rights.CreatedRight.{CreatedRight}
 
 -- the right is of this filing
 abbrev pub is_of_filing : ℕ → CreatedRight → Bool

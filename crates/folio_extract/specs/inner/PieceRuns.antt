@@ -2,7 +2,7 @@
 use Rattle.std.specs.Prelude.{ℕ, suc, if◌then◌else◌, List, [], ◌∷◌}
 use Rattle.rank_slots.specs.declared.places.Piece.{Piece}
 use Rattle.rank_slots.specs.declared.places.Place.{Place}
-use Rattle.folio_extract.specs.CentTexts.{shares_group}
+use Rattle.rank_slots.specs.Groups.{shares_group}
 
 -- how many pieces at the front each share the group of the one before
 abbrev pub run_len : List Place → List Piece → ℕ

@@ -2,9 +2,9 @@
 use Rattle.std.specs.Prelude.{◌≡◌, ℕ, ◌+◌, Bool, false, if◌then◌else◌, List, [], ◌∷◌, ◌++◌, Option, Some, None}
 use Rattle.std.specs.List.{AllByRecursion}
 use Rattle.folio_sections.specs.Ranks.{is_filed_ahead, ranked}
-use Rattle.folio_extract.specs.PlacedRights.{has_same_place}
+use Rattle.folio_extract.specs.FolioRights.{has_same_place}
 use Rattle.folio_extract.specs.RankTables.{rank_line}
-use Rattle.folio_extract.specs.declared.placed_rights.CreatedRight.{CreatedRight}
+use Rattle.folio_extract.specs.declared.folio_rights.CreatedRight.{CreatedRight}
 
 -- right x stands before right y, by filing and group
 abbrev pub is_filed_before : CreatedRight → CreatedRight → Bool

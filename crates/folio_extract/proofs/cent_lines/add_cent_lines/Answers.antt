@@ -1,7 +1,7 @@
 use Rattle.std.proofs.Common.{◌++◌, ◌+◌, ◌<◌, ap, subst, sym, ◌∙◌, arith}
 use Rattle.std.specs.Option.{option_copied}
 use Rattle.std.specs.String.{string_bytes}
-use Rattle.folio_extract.specs.CentTexts.{by_owner, line_text, piece_line, piece_lines}
+use Rattle.folio_extract.specs.CentTexts.{joined_groups, line_text, piece_line, piece_lines}
 use Rattle.folio_extract.proofs.CentLines.{WritesOn, goes_on, takes}
 use Rattle.folio_extract.proofs.PieceRuns.{cents_of}
 use Rattle.folio_extract.proofs.cent_lines.add_cent_lines.Goals as goal
@@ -21,7 +21,7 @@ loop-first-init c =
     let places = c.args.slots.now.filled.places in
     let sum = c.pieces-rest.ensures.sum in
     record {
-      written = ap (λ ps. string_bytes c.args.text.now ++ piece_lines places 1 (by_owner places ps)) c.pieces-rest.ensures.value;
+      written = ap (λ ps. string_bytes c.args.text.now ++ piece_lines places 1 (joined_groups places ps)) c.pieces-rest.ensures.value;
       begun = omega arith;
       bound = omega (arith, sum);
       some = c.pieces-rest.ensures.some;

@@ -3,7 +3,7 @@ use Rattle.std.proofs.lemmas.Result.{on_ok_weaker}
 use Rattle.std.specs.String.{string_bytes}
 use Rattle.gb_base.specs.declared.keys.Key.TheVariants.{Right}
 use Rattle.folio_sections.specs.Held.{entries_at, is_held}
-use Rattle.folio_extract.specs.declared.placed_rights.CreatedRight.{CreatedRight}
+use Rattle.folio_extract.specs.declared.folio_rights.CreatedRight.{CreatedRight}
 use Rattle.folio_extract.proofs.ExtractText.{extract_is}
 use Rattle.folio_extract.proofs.HeldRights.{live_are_held}
 use Rattle.folio_extract.proofs.extracts.add_extract.Goals as goal

@@ -2,7 +2,7 @@ use Rattle.std.proofs.Common.{filter_map, flat_map, subst, ap, ◌≡◌, ◌∙
 use Rattle.folio_sections.specs.Held.{entries_at}
 use Rattle.folio_sections.specs.HeldRights.{receipt_numbers}
 use Rattle.folio_extract.specs.Exchanges.{knot_of}
-use Rattle.folio_extract.specs.PlacedRights.{rights_of}
+use Rattle.folio_extract.specs.FolioRights.{rights_of}
 use Rattle.folio_extract.proofs.LiveRights.{none_recedes}
 use Rattle.folio_extract.proofs.knots.counted_knots.Goals as goal
 

@@ -4,7 +4,7 @@ use Rattle.std.proofs.lemmas.List.Elements.{All-map}
 use Rattle.rank_slots.specs.Groups.{is_of}
 use Rattle.rank_slots.specs.declared.places.Place.{Place}
 use Rattle.rank_slots.proofs.LineCounts.{first_within, some_counted}
-use Rattle.rank_slots.proofs.paying.part_of.Goals as goal
+use Rattle.rank_slots.proofs.paying.share_in_group.Goals as goal
 
 pub share-requires-clause-index : goal.share-requires-clause-index
 share-requires-clause-index c =

@@ -16,14 +16,14 @@ part_of-requires c =
 pub returns-clause-value : goal.returns-clause-value
 returns-clause-value c =
     let is : IsFilled c.args.self.now.filled c.self.inside.pieces.items = subst (λ s. IsFilled s.filled c.self.inside.pieces.items) c.self.view_is c.self.invariant.0 in
-    read_pay c.args.self.now.filled c.deref.result.now c.group_of-group.result.now c.deref-2.result.now c.args.right c.args.t c.cents_within.result c.part_of.result
+    read_pay c.args.self.now.filled c.deref.result.now c.group_of-group.result.now c.deref-2.result.now c.args.right c.args.t c.cents_within.result c.share_in_group.result
     (c.deref.ensures.value ∙ ap (λ (s : SlotsState). s.filled.places) c.self.view_is) c.group_of-group.ensures
-    (ap line_of c.deref-2.ensures.value ∙ is.line) c.cents_within.ensures.value c.part_of.ensures
+    (ap line_of c.deref-2.ensures.value ∙ is.line) c.cents_within.ensures.value c.share_in_group.ensures
 
 pub returns-clause-bound : goal.returns-clause-bound
 returns-clause-bound c alone =
     let all =
-    read_alone c.args.self.now.filled c.deref.result.now c.group_of-group.result.now c.args.right c.cents_within.result c.part_of.result
-    (c.deref.ensures.value ∙ ap (λ (s : SlotsState). s.filled.places) c.self.view_is) c.group_of-group.ensures c.part_of.ensures alone in
+    read_alone c.args.self.now.filled c.deref.result.now c.group_of-group.result.now c.args.right c.cents_within.result c.share_in_group.result
+    (c.deref.ensures.value ∙ ap (λ (s : SlotsState). s.filled.places) c.self.view_is) c.group_of-group.ensures c.share_in_group.ensures alone in
     let few = c.cents_within.ensures.bound in
     omega arith

@@ -2,9 +2,9 @@ use Rattle.std.proofs.Common.{◌≤◌, All, None, sym, ap, subst, ◌∙◌}
 use Rattle.gb_base.specs.Limits.{most_cents}
 use Rattle.folio_sections.specs.Held.{entries_at}
 use Rattle.rank_slots.specs.declared.places.Place.{Place}
-use Rattle.folio_extract.specs.FolioLines.{places_behind}
+use Rattle.folio_extract.specs.FolioSlots.{places_behind}
 use Rattle.folio_extract.proofs.FolioFills.{can_fill}
-use Rattle.folio_extract.proofs.folio_lines.folio_slots.Goals as goal
+use Rattle.folio_extract.proofs.folio_slots.folio_slots.Goals as goal
 
 pub fill-requires-clause-fits : goal.fill-requires-clause-fits
 fill-requires-clause-fits c =

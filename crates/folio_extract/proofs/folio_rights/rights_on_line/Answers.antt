@@ -2,11 +2,11 @@ use Rattle.std.proofs.Common.{◌++◌, take, drop, sym, ap, subst, ◌∙◌}
 use Rattle.std.specs.List.{prefix_len}
 use Rattle.std.specs.Option.{option_copied}
 use Rattle.folio_sections.specs.Held.{entries_at}
-use Rattle.folio_extract.specs.FolioLines.{stands_on_line}
-use Rattle.folio_extract.specs.PlacedRights.{by_group, rights_of, rights_where}
+use Rattle.folio_extract.specs.FolioSlots.{stands_on_line}
+use Rattle.folio_extract.specs.FolioRights.{by_group, rights_of, rights_where}
 use Rattle.folio_extract.specs.inner.FilingRuns.{is_of_filing}
 use Rattle.folio_extract.proofs.FilingRuns.{Left, begins, ends, goes_on, placed_of_filings, run_of}
-use Rattle.folio_extract.proofs.placed_rights.placed_rights.Goals as goal
+use Rattle.folio_extract.proofs.folio_rights.rights_on_line.Goals as goal
 
 pub loop-first-init : goal.loop-first-init
 loop-first-init c =

@@ -1,11 +1,11 @@
-// The rights of a folio in order: those that are live, and those that give their rank away.
+// The rights of a folio in order: those that are live, and those that recede in exchanges.
 ghost use Rattle.std.specs.Prelude.{◌≡◌, ◌++◌, ◌≤◌, if◌then◌else◌, IfOk, None, OnOk, filter, filter_map, flat_map, length};
 ghost use Rattle.std.specs.List.{prefix_len};
 ghost use Rattle.folio_sections.specs.Held.{entries_at};
 ghost use Rattle.folio_sections.specs.HeldRights.{receipt_numbers};
 ghost use Rattle.folio_sections.specs.Rights.{created};
-ghost use Rattle.folio_extract.specs.FolioLines.{recedes, stands_on_line};
-ghost use Rattle.folio_extract.specs.PlacedRights.{by_group, has_same_place, is_of_group, live_rights, right_where, rights_of, rights_where};
+ghost use Rattle.folio_extract.specs.FolioSlots.{recedes, stands_on_line};
+ghost use Rattle.folio_extract.specs.FolioRights.{by_group, has_group, has_same_place, live_rights, right_where, rights_of, rights_where};
 ghost use Rattle.folio_extract.specs.inner.FilingRuns.{is_of_filing};
 
 use crate::exchanges::Exchange;
@@ -30,12 +30,12 @@ pub(crate) fn live_rights(
 ) -> Result<Vec<CreatedRight>, NoMemory>
     ensures { IfOk result (λ rights. rights.items ≡ live_rights (entries_at register.now.parts) folio) }
 {
-    placed_rights(alloc, register, folio, &[])
+    rights_on_line(alloc, register, folio, &[])
 }
 
 /// The rights that are live in a folio, and those that recede in these exchanges, in order of
 /// filing, group and act.
-pub(crate) fn placed_rights(
+pub(crate) fn rights_on_line(
     alloc: Global,
     register: &Register,
     folio: FolioId,
@@ -43,7 +43,7 @@ pub(crate) fn placed_rights(
 ) -> Result<Vec<CreatedRight>, NoMemory>
     ensures { IfOk result (λ rights. rights.items ≡ rights_where (stands_on_line exchanges.now) (entries_at register.now.parts) folio) }
 {
-    let placed = placed_by_act(alloc, register, folio, exchanges)?;
+    let placed = on_line_by_act(alloc, register, folio, exchanges)?;
     let mut rights = Vec::new(alloc);
     let mut rest = placed.as_slice();
     while let Some(first) = rest.first() {
@@ -56,7 +56,7 @@ pub(crate) fn placed_rights(
 
 /// The rights that are live in a folio, and those that recede in these exchanges, by filing and
 /// act.
-pub(crate) fn placed_by_act(
+pub(crate) fn on_line_by_act(
     alloc: Global,
     register: &Register,
     folio: FolioId,
@@ -65,11 +65,11 @@ pub(crate) fn placed_by_act(
     ensures { IfOk result (λ rights. rights.items ≡ flat_map (rights_of (stands_on_line exchanges.now) (entries_at register.now.parts) folio) receipt_numbers) }
 {
     let held = register.rights_in(alloc, folio)?;
-    placed_among(alloc, register, folio, exchanges, &held)
+    on_line_among(alloc, register, folio, exchanges, &held)
 }
 
 /// Those of these rights that are live in the folio or recede in one of these exchanges.
-fn placed_among(
+fn on_line_among(
     alloc: Global,
     register: &Register,
     folio: FolioId,
@@ -79,12 +79,12 @@ fn placed_among(
     ensures { IfOk result (λ rights. rights.items ≡ filter_map (right_where (stands_on_line exchanges.now) (entries_at register.now.parts) folio) ids.now) }
 {
     ids.iter()
-        .filter_map(|id| placed_at(register, folio, exchanges, *id))
+        .filter_map(|id| right_on_line(register, folio, exchanges, *id))
         .collect(alloc)
 }
 
 /// The right of this number, where it is live in the folio or recedes in one of these exchanges.
-fn placed_at(
+fn right_on_line(
     register: &Register,
     folio: FolioId,
     exchanges: &[Exchange],
@@ -92,12 +92,12 @@ fn placed_at(
 ) -> Option<CreatedRight>
     ensures { result ≡ right_where (stands_on_line exchanges.now) (entries_at register.now.parts) folio id }
 {
-    let made = placed_right(exchanges, id, register.right(folio, id)?)?;
+    let made = created_on_line(exchanges, id, register.right(folio, id)?)?;
     Some(CreatedRight { id, made })
 }
 
 /// The right of this part as it was created, where it is live or recedes.
-fn placed_right(exchanges: &[Exchange], id: RightId, part: &RightPart) -> Option<Created>
+fn created_on_line(exchanges: &[Exchange], id: RightId, part: &RightPart) -> Option<Created>
     ensures { result ≡ (if stands_on_line exchanges.now id part.now.entries then created part.now.entries else None) }
 {
     if part.live() || recedes(exchanges, id) {
@@ -141,7 +141,7 @@ fn add_group(
     of_filing: &[CreatedRight],
     group: u8,
 ) -> Result<(), NoMemory>
-    ensures { OnOk result (rights.new.items ≡ rights.old.items ++ filter (is_of_group group) of_filing.now) }
+    ensures { OnOk result (rights.new.items ≡ rights.old.items ++ filter (has_group group) of_filing.now) }
 {
     for right in of_filing {
         if right.made.spec.group == group {
@@ -151,7 +151,7 @@ fn add_group(
     Ok(())
 }
 
-/// Whether two rights of a folio have one place: they are of one filing and group (GBO § 45(3)).
+/// Whether two rights of a folio have one place: they are of one filing and group (GBO § 45(1), (3)).
 pub(crate) fn has_same_place(a: &CreatedRight, b: &CreatedRight) -> bool
     ensures { result ≡ has_same_place a.now b.now }
 {

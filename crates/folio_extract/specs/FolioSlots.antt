@@ -1,4 +1,4 @@
--- The line of a folio: its rights in order, with their capitals, and the exchanges among them.
+-- What the cent line of a folio is filled with: its rights in order, with their capitals, and the exchanges among them.
 use Rattle.std.specs.Prelude.{ℕ, Bool, false, not, ◌||◌, List, [], ◌∷◌, map, Option, Some, None}
 use Rattle.std.specs.List.{list_any}
 use Rattle.std.specs.Option.{option_map_or}
@@ -11,9 +11,9 @@ use Rattle.rank_slots.specs.Filled.{Filled}
 use Rattle.rank_slots.specs.declared.places.Place.{Place}
 use Rattle.rank_slots.specs.declared.places.Swap.{Swap}
 use Rattle.folio_extract.specs.Exchanges.{counted_exchanges}
-use Rattle.folio_extract.specs.PlacedRights.{has_same_place, rights_where}
+use Rattle.folio_extract.specs.FolioRights.{has_same_place, rights_where}
 use Rattle.folio_extract.specs.declared.exchanges.Exchange.{Exchange}
-use Rattle.folio_extract.specs.declared.placed_rights.CreatedRight.{CreatedRight}
+use Rattle.folio_extract.specs.declared.folio_rights.CreatedRight.{CreatedRight}
 
 -- the capital of a right, in cents
 abbrev pub capital_at : (Key → List Entry) → ℕ → RightNo → ℕ
@@ -42,15 +42,15 @@ swap_of x = record { recede = x.recede; rise = x.rise }
 abbrev pub recedes : List Exchange → RightNo → Bool
 recedes exchanges id = list_any (λ x. same_right x.recede id) exchanges
 
--- the right with these entries has a place on the line behind these exchanges: it is live, or it gives its rank away
+-- the right with these entries has a place on the line of these exchanges: it is live, or it recedes in one of them
 abbrev pub stands_on_line : List Exchange → RightNo → List Entry → Bool
 stands_on_line exchanges id entries = is_live entries || recedes exchanges id
 
--- the line of a folio behind these exchanges
+-- what the line of a folio is filled with where these exchanges count
 abbrev pub filled_by : List Exchange → (Key → List Entry) → ℕ → Filled
 filled_by exchanges at folio =
     record { places = places_behind at folio None (rights_where (stands_on_line exchanges) at folio); swaps = map swap_of exchanges; knots = [] }
 
--- the line of a folio, of the capitals behind all exchanges that count
-abbrev pub folio_line : (Key → List Entry) → ℕ → Filled
-folio_line at folio = filled_by (counted_exchanges at folio) at folio
+-- what the line of a folio is filled with: the capitals, and the exchanges that count
+abbrev pub folio_filled : (Key → List Entry) → ℕ → Filled
+folio_filled at folio = filled_by (counted_exchanges at folio) at folio

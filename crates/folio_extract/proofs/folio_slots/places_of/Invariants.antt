@@ -1,8 +1,8 @@
 use Rattle.std.proofs.Common.{◌≡◌, ◌≤◌, ◌++◌, All, None, drop}
 use Rattle.gb_base.specs.Limits.{most_cents}
 use Rattle.folio_sections.specs.Held.{entries_at}
-use Rattle.folio_extract.specs.FolioLines.{places_behind}
-use Rattle.folio_extract.proofs.folio_lines.places_of.Given as goal
+use Rattle.folio_extract.specs.FolioSlots.{places_behind}
+use Rattle.folio_extract.proofs.folio_slots.places_of.Given as goal
 
 abbrev pub invariant-loop-right : goal.invariant-loop-right
 invariant-loop-right l = record {

@@ -8,7 +8,7 @@ use Rattle.act_model.specs.Limits.{most_groups}
 use Rattle.folio_sections.specs.HeldRights.{receipt_numbers, rights_of_filing}
 use Rattle.folio_sections.specs.Rights.{created, is_live}
 use Rattle.folio_sections.specs.declared.entries.Entry.{Entry}
-use Rattle.folio_extract.specs.declared.placed_rights.CreatedRight.{CreatedRight}
+use Rattle.folio_extract.specs.declared.folio_rights.CreatedRight.{CreatedRight}
 
 -- the right of this number in the folio as it was created, where the test holds of it and of the entries at it
 abbrev pub right_where : (RightNo → List Entry → Bool) → (Key → List Entry) → ℕ → RightNo → Option CreatedRight
@@ -20,12 +20,12 @@ abbrev pub rights_of : (RightNo → List Entry → Bool) → (Key → List Entry
 rights_of holds at folio m = filter_map (right_where holds at folio) (rights_of_filing m)
 
 -- the right is of this group
-abbrev pub is_of_group : ℕ → CreatedRight → Bool
-is_of_group group x = x.made.spec.group == group
+abbrev pub has_group : ℕ → CreatedRight → Bool
+has_group group x = x.made.spec.group == group
 
 -- these rights by group
 abbrev pub by_group : List CreatedRight → List CreatedRight
-by_group rights = flat_map (λ group. filter (is_of_group group) rights) (range_with_len 1 most_groups)
+by_group rights = flat_map (λ group. filter (has_group group) rights) (range_with_len 1 most_groups)
 
 -- the rights of a folio of which the test holds, by filing, group and act
 abbrev pub rights_where : (RightNo → List Entry → Bool) → (Key → List Entry) → ℕ → List CreatedRight
@@ -43,6 +43,6 @@ live_rights at folio = rights_where lives at folio
 abbrev pub live_by_act : (Key → List Entry) → ℕ → List CreatedRight
 live_by_act at folio = flat_map (rights_of lives at folio) receipt_numbers
 
--- rights of one filing and group have one place (GBO § 45(3))
+-- rights of one filing and group have one place (GBO § 45(1), (3))
 abbrev pub has_same_place : CreatedRight → CreatedRight → Bool
 has_same_place x y = x.id.receipt == y.id.receipt && x.made.spec.group == y.made.spec.group

@@ -1,21 +1,21 @@
-// The line of a folio: its rights in order, with their capitals, and the exchanges among them.
+// The cent line of a folio: its rights in order, with their capitals, and the exchanges among them.
 ghost use Rattle.std.specs.Prelude.{◌≡◌, ◌≤◌, All, IfOk, None, map};
 ghost use Rattle.gb_base.specs.Limits.{most_cents};
 ghost use Rattle.folio_sections.specs.Held.{entries_at};
 ghost use Rattle.folio_sections.specs.Kept.{Kept};
 ghost use Rattle.folio_extract.specs.Exchanges.{counted_exchanges};
-ghost use Rattle.folio_extract.specs.FolioLines.{filled_by, joins_place, place_behind, places_behind, swap_of};
+ghost use Rattle.folio_extract.specs.FolioSlots.{filled_by, joins_place, place_behind, places_behind, swap_of};
 
 use crate::exchanges::Exchange;
 use crate::folio_reads::{capital_of, is_live};
-use crate::placed_rights::{CreatedRight, has_same_place, placed_rights};
+use crate::folio_rights::{CreatedRight, has_same_place, rights_on_line};
 use act_model::Journal;
 use gb_base::{FolioId, NoMemory};
 use rank_slots::{Place, Slots, Swap};
 use registrar::Register;
 use std::alloc::Global;
 
-/// The line of a folio behind the exchanges that count.
+/// The line of a folio after the exchanges that count.
 pub(crate) fn folio_slots(
     alloc: Global,
     register: &Register,
@@ -30,10 +30,11 @@ pub(crate) fn folio_slots(
     // The contract of `len` says that this is a journal.
     let receipts = journal.len() as usize;
     prove!(receipts <= Journal::MAX);
-    let rights = placed_rights(alloc, register, folio, exchanges)?;
+    let rights = rights_on_line(alloc, register, folio, exchanges)?;
     let places = places_of(alloc, register, folio, &rights)?;
     let swaps = swaps_of(alloc, exchanges)?;
     let mut slots = Slots::with_room(alloc, places.len(), swaps.len())?;
+    // A knot moves no cents.
     slots.fill(&places, &swaps, &[]);
     Ok(slots)
 }

@@ -1,9 +1,9 @@
 use Rattle.std.proofs.Common.{length}
 use Rattle.folio_sections.specs.Held.{entries_at}
-use Rattle.folio_extract.specs.FolioLines.{stands_on_line}
-use Rattle.folio_extract.specs.PlacedRights.{rights_of, rights_where}
+use Rattle.folio_extract.specs.FolioSlots.{stands_on_line}
+use Rattle.folio_extract.specs.FolioRights.{rights_of, rights_where}
 use Rattle.folio_extract.proofs.FilingRuns.{Left}
-use Rattle.folio_extract.proofs.placed_rights.placed_rights.Given as goal
+use Rattle.folio_extract.proofs.folio_rights.rights_on_line.Given as goal
 
 abbrev pub invariant-loop-first : goal.invariant-loop-first
 invariant-loop-first l =
