@@ -5,8 +5,8 @@ use Rattle.rank_slots.specs.inner.Slots.{IsFilled}
 use Rattle.rank_slots.proofs.GroupShares.{read_alone, read_group, read_pay}
 use Rattle.rank_slots.proofs.slots.Slots.plain_pay.Goals as goal
 
-pub part_of-requires : goal.part_of-requires
-part_of-requires c =
+pub share_in_group-requires : goal.share_in_group-requires
+share_in_group-requires c =
     let is : IsFilled c.args.self.now.filled c.self.inside.pieces.items = subst (λ s. IsFilled s.filled c.self.inside.pieces.items) c.self.view_is c.self.invariant.0 in
     let fit =
     read_group c.args.self.now.filled c.deref.result.now c.group_of-group.result.now c.args.right
