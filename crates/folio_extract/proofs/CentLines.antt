@@ -1,7 +1,6 @@
 -- The cents of a line, as they are written run by run.
-use Rattle.std.proofs.Common.{◌≡◌, ℕ, zero, suc, ◌+◌, ◌≤◌, All, List, [], ◌∷◌, ◌++◌, None, Some, drop, slice_get, take, sym, ap, ◌∙◌, append_assoc, arith}
+use Rattle.std.proofs.Common.{◌≡◌, ℕ, zero, suc, ◌+◌, ◌≤◌, All, List, [], ◌∷◌, ◌++◌, Some, drop, slice_get, take, sym, ap, ◌∙◌, append_assoc, arith}
 use Rattle.std.specs.List.{AllByRecursion}
-use Rattle.std.proofs.lemmas.List.{append-nil}
 use Rattle.std.proofs.lemmas.List.Sums.{sum_by-cons, sum_by-take-drop}
 use Rattle.std.proofs.lemmas.List.Elements.{All-from_recursion, recursion_from_All}
 use Rattle.rank_slots.specs.declared.places.Piece.{Piece}
@@ -66,8 +65,3 @@ goes_on places text new whole from cents (q ∷ qs) p n first some run took adde
       bound = omega (arith, parts, bound, took);
       some = All-from_recursion (λ (x : Piece). 1 ≤ x.cents) (drop n rest) (all_behind n rest (recursion_from_All (λ (x : Piece). 1 ≤ x.cents) rest on.some));
     }
-
--- nothing is left
-pub ends : (places : List Place) (text whole : List ℕ) (from : ℕ) (rest : List Piece) → slice_get rest 0 ≡ None → WritesOn places text whole from rest → text ≡ whole
-ends places text whole from [] none on = sym (append-nil text) ∙ on.written
-ends places text whole from (q ∷ qs) none on = absurd (grind arith)
