@@ -1,7 +1,6 @@
 // What a right gets of a sum that is paid along the line.
-ghost use Rattle.std.specs.Prelude.{◌≡◌, ◌+◌, ◌<◌, ◌≤◌, true, All, find, length, map, sum_by};
-ghost use Rattle.std.specs.List.{list_any, position_or_len};
-ghost use Rattle.std.specs.Option.{option_copied};
+ghost use Rattle.std.specs.Prelude.{◌≡◌, ◌<◌, ◌≤◌, true, All, length, map, sum_by};
+ghost use Rattle.std.specs.List.{list_any};
 ghost use Rattle.rank_slots.specs.CanFill.{CanFill, CanKnot, StandsAlone};
 ghost use Rattle.rank_slots.specs.Groups.{is_of, keeps_place};
 ghost use Rattle.gb_base.specs.Limits.{most_sum};
