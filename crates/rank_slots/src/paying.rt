@@ -9,12 +9,10 @@ ghost use Rattle.rank_slots.specs.Payments.{claim_of, knot_of, share_in_group, p
 
 use crate::groups::{group_of, places_ahead};
 use crate::pieces::cents_within;
+use crate::places::MOST_PLACES;
 use crate::{Knot, Place, Slots};
 use arrayvec::ArrayVec;
 use gb_base::{RightId, share};
-
-/// The most places of a line.
-pub(crate) const MOST_PLACES: usize = 256;
 
 impl Slots {
     /// How many of the first t cents the right gets. One of a group gets its share of the group's
