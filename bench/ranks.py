@@ -88,4 +88,5 @@ def main():
                 measure(peer, random_pairs, count)
 
 
-main()
+if __name__ == "__main__":
+    main()

@@ -1,9 +1,7 @@
 -- Lemmas on tests over lists, and on loops that go along them.
-use Rattle.std.proofs.Common.{◌≡◌, ℕ, ◌+◌, ◌<◌, Bool, true, false, ◌&&◌, ◌||◌, cond, List, [], ◌∷◌, ◌++◌, length, get_or, drop, filter, filter_map, flat_map, find, Option, Some, None, inl, inr, refl, ap, ◌∙◌, add-one, drop-cons, append_assoc, suc, ⊎_elim}
+use Rattle.std.proofs.Common.{◌≡◌, ℕ, ◌+◌, ◌<◌, Bool, true, false, ◌&&◌, ◌||◌, cond, List, [], ◌∷◌, ◌++◌, length, get_or, drop, filter, filter_map, flat_map, find, Option, Some, None, refl, ap, add-one, drop-cons, append_assoc, suc}
 use Rattle.std.specs.List.{list_any, cons_option}
 use Rattle.std.specs.Option.{option_map_or}
-use Rattle.std.proofs.lemmas.Bool.{false≢true, or_cases, or_left, or_right}
-use Rattle.gb_base.proofs.Members.{In}
 
 -- an element that does not pass is passed over by a search for the first that does
 pub find_past : {X : Type 0} (p : X → Bool) (xs : List X) (i : ℕ) (x : X) → i < length xs → p (get_or xs i x) ≡ false
@@ -14,18 +12,6 @@ find_past p xs i x lt fails = rw (add-one, drop-cons xs i x) (rw fails refl)
 pub brought_step : {X Y : Type 0} (f : X → List Y) (xs : List X) (i : ℕ) (x : X) (done : List Y) → i < length xs
     → (done ++ f (get_or xs i x)) ++ flat_map f (drop (i + 1) xs) ≡ done ++ flat_map f (drop i xs)
 brought_step f xs i x done lt = rw (add-one, drop-cons xs i x) (append_assoc done (f (get_or xs i x)) (flat_map f (drop (suc i) xs)))
-
--- one of these passes where an element does
-pub any_of_member : {X : Type 0} (p : X → Bool) (xs : List X) (x : X) → In x xs → p x ≡ true → list_any p xs ≡ true
-any_of_member p [] x there passes = absurd there
-any_of_member p (y ∷ xs) x there passes =
-    ⊎_elim (λ e. or_left (p y) (list_any p xs) (ap p e ∙ passes)) (λ more. or_right (p y) (list_any p xs) (any_of_member p xs x more passes)) there
-
--- and then an element does
-pub member_of_any : {X : Type 0} (p : X → Bool) (xs : List X) → list_any p xs ≡ true → (x : X) × In x xs × (p x ≡ true)
-member_of_any p [] some = absurd (false≢true some)
-member_of_any p (y ∷ xs) some =
-    ⊎_elim (λ here. (y, inl refl, here)) (λ later. let found = member_of_any p xs later in (found.0, inr found.1, found.2)) (or_cases (p y) (list_any p xs) some)
 
 -- a test of one more element that may be passed over
 any_step : {X : Type 0} (p : X → Bool) (x : X) (c : Bool) (xs : List X) (r : Bool) → list_any p xs ≡ r

@@ -12,8 +12,9 @@ use Rattle.folio_sections.specs.Waiting.{is_pending, until_by, waiting_before}
 use Rattle.folio_sections.specs.declared.entries.Entry.{Entry}
 use Rattle.folio_sections.specs.declared.entries.What.{What}
 use Rattle.folio_sections.specs.declared.entries.What.TheVariants as what
+use Rattle.folio_sections.proofs.FilteredLists.{any_in, of_any}
 use Rattle.consent_rules.specs.inner.WaitingAt.{applicant_at, waiting_by}
-use Rattle.consent_rules.proofs.ListLemmas.{any_filtered, any_mapped, any_of_member, member_of_any}
+use Rattle.consent_rules.proofs.ListLemmas.{any_filtered, any_mapped}
 
 -- an earlier filing than m waits, and passes a test
 record Waits (r : ℕ → Bool) (m : ℕ) (entries : List Entry) : Type 0 where
@@ -32,13 +33,13 @@ by_number : (r : ℕ → Bool) (m : ℕ) (entries : List Entry) → r 0 ≡ fals
 by_number r m entries none =
     let filtered = any_filtered r (λ n. is_pending n entries) (range_with_len 1 (m - 1)) in (
       λ some.
-          let found = member_of_any (λ n. is_pending n entries && r n) (range_with_len 1 (m - 1)) (sym filtered ∙ some) in
+          let found = of_any (λ n. is_pending n entries && r n) (range_with_len 1 (m - 1)) (sym filtered ∙ some) in
           let within = of_range 1 (m - 1) found.0 found.1 in
           let passes = and_parts _ _ found.2 in
           record { filing = found.0; earlier = omega (arith, within.0, within.1); pending = passes.0; passes = passes.1 },
       λ waits.
           let one = from_one r waits.filing none waits.passes in
-          filtered ∙ any_of_member (λ n. is_pending n entries && r n) (range_with_len 1 (m - 1)) waits.filing
+          filtered ∙ any_in (λ n. is_pending n entries && r n) (range_with_len 1 (m - 1)) waits.filing
           (in_range 1 (m - 1) waits.filing one (omega (arith, waits.earlier, one))) (and_from _ _ waits.pending waits.passes),
     )
 
@@ -77,7 +78,7 @@ by_entry : (r : ℕ → Bool) (m : ℕ) (entries : List Entry)
     → Decides (list_any (λ e. option_map_or (λ n. (is_pending n entries && nat_lt n m) && r n) (waiting_by e.what) false) entries) (Waits r m entries)
 by_entry r m entries = (
   λ some.
-      let entry = member_of_any (λ e. option_map_or (λ n. (is_pending n entries && nat_lt n m) && r n) (waiting_by e.what) false) entries some in
+      let entry = of_any (λ e. option_map_or (λ n. (is_pending n entries && nat_lt n m) && r n) (waiting_by e.what) false) entries some in
       let found = given (λ n. (is_pending n entries && nat_lt n m) && r n) (waiting_by entry.0.what) entry.2 in
       let passes = and_parts _ _ found.1 in
       let waits = and_parts _ _ passes.0 in

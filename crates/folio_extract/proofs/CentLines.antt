@@ -1,9 +1,9 @@
 -- The cents of a line, as they are written run by run.
-use Rattle.std.proofs.Common.{◌≡◌, ℕ, zero, suc, ◌+◌, ◌≤◌, All, List, [], ◌∷◌, ◌++◌, None, Some, drop, slice_get, take, sym, ap, ◌∙◌, append_assoc, arith}
+use Rattle.std.proofs.Common.{◌≡◌, ℕ, zero, suc, ◌+◌, ◌≤◌, All, List, [], ◌∷◌, ◌++◌, Some, drop, slice_get, take, sym, ap, ◌∙◌, append_assoc, arith}
 use Rattle.std.specs.List.{AllByRecursion}
-use Rattle.std.proofs.lemmas.List.{append-nil}
 use Rattle.std.proofs.lemmas.List.Sums.{sum_by-cons, sum_by-take-drop}
 use Rattle.std.proofs.lemmas.List.Elements.{All-from_recursion, recursion_from_All}
+use Rattle.gb_base.specs.Limits.{most_sum}
 use Rattle.rank_slots.specs.declared.places.Piece.{Piece}
 use Rattle.rank_slots.specs.declared.places.Place.{Place}
 use Rattle.rank_slots.specs.Groups.{group_of}
@@ -15,7 +15,7 @@ use Rattle.folio_extract.proofs.PieceRuns.{cents_of, first_run}
 pub record WritesOn (places : List Place) (text whole : List ℕ) (from : ℕ) (rest : List Piece) : Type 0 where
   pub written : text ++ piece_lines places from (joined_groups places rest) ≡ whole
   pub begun : 1 ≤ from
-  pub bound : from + cents_of rest ≤ 1000000000000000000
+  pub bound : from + cents_of rest ≤ most_sum
   pub some : All (λ p. 1 ≤ p.cents) rest
 
 -- each of the pieces behind has cents
@@ -32,7 +32,7 @@ some_cents (suc n) p ps some own = (let sum = sum_by-cons (λ (q : Piece). q.cen
 -- What a run takes: within the bounds, and some.
 pub record Takes (from cents : ℕ) : Type 0 where
   pub some : 1 ≤ cents
-  pub below : from + cents ≤ 1000000000000000000
+  pub below : from + cents ≤ most_sum
 
 pub takes : (places : List Place) (text whole : List ℕ) (from : ℕ) (rest : List Piece) (p : Piece) (n : ℕ) → slice_get rest 0 ≡ Some p → 1 ≤ n
     → WritesOn places text whole from rest → Takes from (cents_of (take n rest))
@@ -66,8 +66,3 @@ goes_on places text new whole from cents (q ∷ qs) p n first some run took adde
       bound = omega (arith, parts, bound, took);
       some = All-from_recursion (λ (x : Piece). 1 ≤ x.cents) (drop n rest) (all_behind n rest (recursion_from_All (λ (x : Piece). 1 ≤ x.cents) rest on.some));
     }
-
--- nothing is left
-pub ends : (places : List Place) (text whole : List ℕ) (from : ℕ) (rest : List Piece) → slice_get rest 0 ≡ None → WritesOn places text whole from rest → text ≡ whole
-ends places text whole from [] none on = sym (append-nil text) ∙ on.written
-ends places text whole from (q ∷ qs) none on = absurd (grind arith)

@@ -30,8 +30,8 @@ use Rattle.folio_sections.specs.declared.entries.Entry.{Entry}
 use Rattle.folio_sections.specs.declared.entries.What.{What}
 use Rattle.folio_sections.specs.declared.entries.What.TheVariants as what
 use Rattle.folio_sections.proofs.Unchanged.{all_weaker}
+use Rattle.folio_sections.proofs.KeptOrder.{OfCreation, created_has}
 use Rattle.registrar.proofs.ItemsKeep.{well_filed}
-use Rattle.registrar.proofs.RightReads.{IfCreates, created_has}
 
 -- ---- its act
 
@@ -40,7 +40,7 @@ pub record IsCreatedHere (journal : List Receipt) (folio : ℕ) (id : RightNo) (
   pub filed : IsSomeAnd (act_of_right journal id) (IsAsFiled folio made)
   pub rank : IsSomeAnd (creating_rank journal id) (λ n. n ≤ most_creations)
 
-enters_here : (journal : List Receipt) (at : Key → List Entry) (folio : ℕ) (id : RightNo) (receipt : ℕ) (w : What) → EntersAsFiled journal at folio id receipt w → IfCreates (IsCreatedHere journal folio id) w
+enters_here : (journal : List Receipt) (at : Key → List Entry) (folio : ℕ) (id : RightNo) (receipt : ℕ) (w : What) → EntersAsFiled journal at folio id receipt w → OfCreation (IsCreatedHere journal folio id) w
 enters_here journal at folio id receipt (what.Created made) enters = record { filed = enters.filed; rank = enters.rank }
 enters_here journal at folio id receipt other enters = tt
 
@@ -48,7 +48,7 @@ pub is_created_here : (journal : List Receipt) (at : Key → List Entry) (folio 
 is_created_here journal at folio id made kept is =
     let entries = at (Right folio id) in
     let all = recursion_from_All (λ (e : Entry). EntersAsFiled journal at folio id e.receipt e.what) entries (kept.created_as_filed.filed folio id) in
-    let creates = all_weaker (λ (e : Entry). EntersAsFiled journal at folio id e.receipt e.what) (λ e. IfCreates (IsCreatedHere journal folio id) e.what) entries
+    let creates = all_weaker (λ (e : Entry). EntersAsFiled journal at folio id e.receipt e.what) (λ e. OfCreation (IsCreatedHere journal folio id) e.what) entries
     (λ e enters. enters_here journal at folio id e.receipt e.what enters) all in
     subst (λ o. IfSome o (IsCreatedHere journal folio id)) is (created_has (IsCreatedHere journal folio id) entries creates)
 

@@ -105,14 +105,6 @@ goes_on f done rest all first own is left = by left.from left.many left.ahead le
         (λ none. by (from + 1) many (ahead ∙ ap (λ xs. xs ++ flat_map f (range_with_len (from + 1) many)) none)
         (ap (λ xs. done ++ (by_group xs ++ flat_map (λ m. by_group (f m)) (range_with_len (from + 1) many))) (sym none) ∙ whole))
 
--- the run is not empty
-pub run_is_some : (rest : List CreatedRight) (first : CreatedRight) → slice_get rest 0 ≡ Some first → 0 < run_of first rest
-run_is_some [] first is = absurd (cc is)
-run_is_some (x ∷ rest) first is =
-    let same : x ≡ first = cc is in
-    let own : is_of_filing first.id.receipt x ≡ true = eq-eqb x.id.receipt first.id.receipt (ap (λ (y : CreatedRight). y.id.receipt) same) in
-    subst (λ b. 0 < cond b (1 + prefix_len (is_of_filing first.id.receipt) rest) 0) (sym own) (omega arith)
-
 -- ---- all of them
 
 begins_row : (f : ℕ → List CreatedRight) (n : ℕ) (ms : List ℕ) (rest : List CreatedRight) → ms ≡ range_with_len 1 n → rest ≡ flat_map f ms → Left f [] rest (flat_map (λ m. by_group (f m)) ms)

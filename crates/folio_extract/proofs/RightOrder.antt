@@ -5,22 +5,12 @@ use Rattle.folio_extract.specs.FolioRights.{has_same_place}
 use Rattle.folio_extract.specs.inner.RankWalk.{is_filed_before}
 use Rattle.folio_extract.specs.declared.folio_rights.CreatedRight.{CreatedRight}
 
--- rights of one place
-pub same_self : (x : CreatedRight) → has_same_place x x ≡ true
-same_self x = grind (arith, nat_tests)
-
-pub same_like : (x y z : CreatedRight) → has_same_place x y ≡ true → has_same_place x z ≡ has_same_place y z
-same_like x y z same = grind (arith, nat_tests)
-
 pub before_like : (x y z : CreatedRight) → has_same_place x y ≡ true → is_filed_before x z ≡ is_filed_before y z
 before_like x y z same = grind (arith, nat_tests)
 
 -- none stands before one of its place
 pub before_self : (x : CreatedRight) → is_filed_before x x ≡ false
 before_self x = grind (arith, nat_tests)
-
-pub same_not_before : (x y : CreatedRight) → has_same_place x y ≡ true → is_filed_before x y ≡ false
-same_not_before x y same = grind (arith, nat_tests)
 
 pub before_not_same : (x y : CreatedRight) → is_filed_before x y ≡ true → has_same_place x y ≡ false
 before_not_same x y before = grind (arith, nat_tests)
@@ -32,7 +22,3 @@ before_later x y up other = grind (arith, nat_tests)
 -- and before all that do not stand before that one
 pub before_on : (x y z : CreatedRight) → is_filed_before x y ≡ true → is_filed_before z y ≡ false → is_filed_before x z ≡ true
 before_on x y z before up = grind (arith, nat_tests)
-
--- a right of another place has that of no right of the first one's
-pub same_apart : (x y z : CreatedRight) → has_same_place x y ≡ true → has_same_place x z ≡ false → has_same_place z y ≡ false
-same_apart x y z same other = grind (arith, nat_tests)

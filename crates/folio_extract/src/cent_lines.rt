@@ -84,6 +84,7 @@ fn add_group_text(text: &mut String, group: &[Place]) -> Result<(), NoMemory>
     }
 }
 
+/// Adds the word `group`, and the numbers of its rights.
 fn add_group(text: &mut String, group: &[Place]) -> Result<(), NoMemory>
     ensures { OnOk result (string_bytes text.new
         ≡ string_bytes text.old ++ (codes "group" ++ flat_map (λ p. codes " " ++ right_text p.right) group.now)) }

@@ -1,7 +1,7 @@
 // Rank tables with exchanges and exercised reservations, written down by hand from the rules.
-use crate::rank_table_tests::{charge, create, has_table, opened};
 use crate::testing::{
-    by_owner, consent, docs, filing, folio, plain, receipt, receive, right, spec,
+    by_owner, charge, consent, create, docs, filing, folio, has_table, opened_by_one, plain,
+    receipt, receive, right, spec,
 };
 use act_model::{Act, Doc, Item, Journal, RightKind};
 use gb_base::{Cents, NoMemory};
@@ -47,7 +47,7 @@ fn cancelled(rt: &impl Abort, of: u32, list: &[Doc; 2]) -> Item {
 
 /// Receipts 2 to 4 create charges of 100, 50 and 80 euros.
 fn three_charges(rt: &impl Abort, alloc: Global) -> Journal {
-    let mut journal = opened(rt, alloc);
+    let mut journal = opened_by_one(rt, alloc);
     create(rt, &mut journal, 4, charge(rt, 10_000, 1));
     create(rt, &mut journal, 4, charge(rt, 5_000, 1));
     create(rt, &mut journal, 4, charge(rt, 8_000, 1));
@@ -149,7 +149,7 @@ fn a_cured_exchange(rt: HostRuntime) -> Result<(), NoMemory> {
 #[test]
 fn an_exercised_reservation(rt: HostRuntime) -> Result<(), NoMemory> {
     let alloc = rt.alloc();
-    let mut journal = opened(&rt, alloc);
+    let mut journal = opened_by_one(&rt, alloc);
     let kind = RightKind::LandCharge { rate_bp: 500 };
     let reserving = Act::Create {
         folio: folio(&rt, 7),

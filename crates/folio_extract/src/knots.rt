@@ -1,7 +1,6 @@
 // The exercised reservations of a folio that count (BGB § 881).
-ghost use Rattle.std.specs.Prelude.{◌≡◌, ◌&&◌, IfOk, filter_map};
+ghost use Rattle.std.specs.Prelude.{◌≡◌, IfOk, filter_map};
 ghost use Rattle.std.specs.List.{list_any};
-ghost use Rattle.gb_base.specs.declared.keys.Key.TheVariants.{Right};
 ghost use Rattle.folio_sections.specs.Held.{entries_at};
 ghost use Rattle.folio_extract.specs.Exchanges.{counted_knots, is_spent_on, knot_behind, knot_of};
 

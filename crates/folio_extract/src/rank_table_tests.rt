@@ -1,29 +1,19 @@
 // Rank tables written down by hand from the rules.
 use crate::rank_table;
 use crate::testing::{
-    by_owner, consent, creation, docs, filing, folio, opening_by, person, receive, right, spec,
+    charge, consent, create, creation_in_group, docs, filing, folio, has_table, opened_by_one,
+    person, receive, right,
 };
-use act_model::{Act, Acts, Doc, Filing, Item, Journal, RightKind, RightSpec};
+use act_model::{Act, Acts, Doc, Filing, Item, RightKind};
 use arrayvec::ArrayVec;
 use gb_base::NoMemory;
 use registrar::alone;
-use std::alloc::Global;
 use std::process::Abort;
 
 // ---- acts in folio 7
 
-/// The creation of a right of 20 with this capital.
-fn created(rt: &impl Abort, kind: RightKind, cents: u64, group: u8) -> Act {
-    let spec = spec(rt, kind, cents, 20);
-    creation(rt, RightSpec { group, ..spec })
-}
-
-pub fn charge(rt: &impl Abort, cents: u64, group: u8) -> Act {
-    created(rt, RightKind::LandCharge { rate_bp: 500 }, cents, group)
-}
-
 fn usufruct(rt: &impl Abort, cents: u64, group: u8) -> Act {
-    created(rt, RightKind::Usufruct, cents, group)
+    creation_in_group(rt, RightKind::Usufruct, cents, group)
 }
 
 // ---- items
@@ -53,42 +43,13 @@ fn cancellation(rt: &impl Abort, of: u32) -> Item {
     filing(rt, 10, act, docs(proof.as_slice()))
 }
 
-// ---- journals
-
-/// Receipt 1 opens folio 7 for owner 10 on March 1.
-pub fn opened(rt: &impl Abort, alloc: Global) -> Journal {
-    let mut journal = Journal::new(alloc);
-    let item = by_owner(rt, 10, opening_by(rt, 7, 10));
-    receive(rt, &mut journal, 1, &item);
-    journal
-}
-
-/// The owner files the creation of a right, on this day of March 2024.
-pub fn create(rt: &impl Abort, journal: &mut Journal, day: u8, act: Act) {
-    receive(rt, journal, day, &by_owner(rt, 10, act));
-}
-
-/// Whether this is the rank table of folio 7 in the register of the journal.
-pub fn has_table(
-    rt: &impl Abort,
-    alloc: Global,
-    journal: &Journal,
-    wanted: &str,
-) -> Result<bool, NoMemory> {
-    let register = alone(alloc, journal)?;
-    match rank_table(alloc, &register, journal, folio(rt, 7))? {
-        Some(text) => Ok(text.as_slice() == wanted.as_bytes()),
-        None => Ok(false),
-    }
-}
-
 // ---- tables
 
 /// A usufruct and a land charge of two days: the earlier day is ahead.
 #[test]
 fn two_divisions_on_two_days(rt: HostRuntime) -> Result<(), NoMemory> {
     let alloc = rt.alloc();
-    let mut journal = opened(&rt, alloc);
+    let mut journal = opened_by_one(&rt, alloc);
     create(&rt, &mut journal, 4, usufruct(&rt, 5_000, 1));
     create(&rt, &mut journal, 5, charge(&rt, 10_000, 1));
     let wanted = "ranks 7\nrank 1 2.1\nrank 2 3.1\ncents 1-5000 2.1\ncents 5001-15000 3.1\n";
@@ -100,7 +61,7 @@ fn two_divisions_on_two_days(rt: HostRuntime) -> Result<(), NoMemory> {
 #[test]
 fn two_divisions_on_one_day(rt: HostRuntime) -> Result<(), NoMemory> {
     let alloc = rt.alloc();
-    let mut journal = opened(&rt, alloc);
+    let mut journal = opened_by_one(&rt, alloc);
     create(&rt, &mut journal, 4, charge(&rt, 10_000, 1));
     create(&rt, &mut journal, 4, usufruct(&rt, 5_000, 1));
     let wanted = "ranks 7\nrank 1 2.1\nrank 2 3.1\ncents 1-10000 2.1\ncents 10001-15000 3.1\n";
@@ -113,7 +74,7 @@ fn two_divisions_on_one_day(rt: HostRuntime) -> Result<(), NoMemory> {
 #[test]
 fn a_group_of_equal_rank(rt: HostRuntime) -> Result<(), NoMemory> {
     let alloc = rt.alloc();
-    let mut journal = opened(&rt, alloc);
+    let mut journal = opened_by_one(&rt, alloc);
     receive(&rt, &mut journal, 4, &three_rights(&rt));
     let wanted =
         "ranks 7\nrank 1 2.2\nrank 1 2.3\nrank 2 2.1\ncents 1-25000 group 2.2 2.3\ncents 25001-35000 2.1\n";
@@ -125,7 +86,7 @@ fn a_group_of_equal_rank(rt: HostRuntime) -> Result<(), NoMemory> {
 #[test]
 fn a_right_that_is_gone(rt: HostRuntime) -> Result<(), NoMemory> {
     let alloc = rt.alloc();
-    let mut journal = opened(&rt, alloc);
+    let mut journal = opened_by_one(&rt, alloc);
     create(&rt, &mut journal, 4, usufruct(&rt, 5_000, 1));
     create(&rt, &mut journal, 5, charge(&rt, 10_000, 1));
     receive(&rt, &mut journal, 6, &cancellation(&rt, 2));
@@ -138,7 +99,7 @@ fn a_right_that_is_gone(rt: HostRuntime) -> Result<(), NoMemory> {
 #[test]
 fn no_rights_and_no_folio(rt: HostRuntime) -> Result<(), NoMemory> {
     let alloc = rt.alloc();
-    let journal = opened(&rt, alloc);
+    let journal = opened_by_one(&rt, alloc);
     assert!(rt; has_table(&rt, alloc, &journal, "ranks 7\n")?);
     let register = alone(alloc, &journal)?;
     let other = rank_table(alloc, &register, &journal, folio(&rt, 8))?;

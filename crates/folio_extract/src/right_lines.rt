@@ -2,8 +2,8 @@
 ghost use Rattle.std.specs.Prelude.{◌≡◌, ◌++◌, OnOk, codes};
 ghost use Rattle.std.specs.Fmt.{decimal};
 ghost use Rattle.std.specs.String.{string_bytes};
-ghost use Rattle.gb_base.specs.Texts.{date_text, euro, right_text};
-ghost use Rattle.folio_sections.specs.Rights.{capital, form_of, holder, is_full, is_spent};
+ghost use Rattle.gb_base.specs.Texts.{euro, right_text};
+ghost use Rattle.folio_sections.specs.Rights.{capital, holder, is_full};
 ghost use Rattle.folio_extract.specs.Extracts.{division_text, form_text, kind_text, notes, rate_part, right_line, word_if, word_part};
 
 use crate::folio_rights::CreatedRight;

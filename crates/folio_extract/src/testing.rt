@@ -1,12 +1,14 @@
 // Journals for the tests.
 ghost use Rattle.std.specs.Prelude.{◌≤◌, length};
 
+use crate::rank_table;
 use act_model::{
     Act, Acts, Added, Doc, Docs, Filing, Form, Inventory, Item, Journal, Owners, RightKind,
     RightSpec, well_formed,
 };
 use arrayvec::ArrayVec;
-use gb_base::{Cents, Day, FolioId, Person, ReceiptNo, RightId, Stamp};
+use gb_base::{Cents, Day, FolioId, NoMemory, Person, ReceiptNo, RightId, Stamp};
+use registrar::alone;
 use std::alloc::Global;
 use std::process::Abort;
 
@@ -83,6 +85,17 @@ pub fn creation(rt: &impl Abort, spec: RightSpec) -> Act {
     }
 }
 
+/// The creation of a right of 20 with this capital, in this group.
+pub fn creation_in_group(rt: &impl Abort, kind: RightKind, capital: u64, group: u8) -> Act {
+    let spec = spec(rt, kind, capital, 20);
+    creation(rt, RightSpec { group, ..spec })
+}
+
+/// The creation of a land charge of 20.
+pub fn charge(rt: &impl Abort, capital: u64, group: u8) -> Act {
+    creation_in_group(rt, RightKind::LandCharge { rate_bp: 500 }, capital, group)
+}
+
 /// The assignment of 2.1.
 pub fn assignment(rt: &impl Abort, holder: u32) -> Act {
     Act::Assign {
@@ -157,4 +170,33 @@ pub fn opened(rt: &impl Abort, alloc: Global) -> Journal {
     let mut journal = Journal::new(alloc);
     receive(rt, &mut journal, 1, &by_owners(rt, opening(rt)));
     journal
+}
+
+/// Receipt 1 opens folio 7 for owner 10 on 1 March.
+pub fn opened_by_one(rt: &impl Abort, alloc: Global) -> Journal {
+    let mut journal = Journal::new(alloc);
+    let item = by_owner(rt, 10, opening_by(rt, 7, 10));
+    receive(rt, &mut journal, 1, &item);
+    journal
+}
+
+/// The owner files the creation of a right, on this day of March 2024.
+pub fn create(rt: &impl Abort, journal: &mut Journal, day: u8, act: Act) {
+    receive(rt, journal, day, &by_owner(rt, 10, act));
+}
+
+// ---- tables
+
+/// Whether this is the rank table of folio 7 in the register of the journal.
+pub fn has_table(
+    rt: &impl Abort,
+    alloc: Global,
+    journal: &Journal,
+    wanted: &str,
+) -> Result<bool, NoMemory> {
+    let register = alone(alloc, journal)?;
+    match rank_table(alloc, &register, journal, folio(rt, 7))? {
+        Some(text) => Ok(text.as_slice() == wanted.as_bytes()),
+        None => Ok(false),
+    }
 }

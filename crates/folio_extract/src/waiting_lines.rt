@@ -1,5 +1,5 @@
 // The lines of the filings that wait at a title or at a right.
-ghost use Rattle.std.specs.Prelude.{◌≡◌, ◌++◌, OnOk, Some, codes, flat_map};
+ghost use Rattle.std.specs.Prelude.{◌≡◌, ◌++◌, OnOk, Some, flat_map};
 ghost use Rattle.std.specs.String.{string_bytes};
 ghost use Rattle.folio_extract.specs.Extracts.{notice_part, waiting_line};
 ghost use Rattle.folio_extract.specs.inner.WaitsAt.{waits_at_text};

@@ -1,13 +1,12 @@
 -- What lists of entries add to the parts, one after the other.
-use Rattle.std.proofs.Common.{◌≡◌, ℕ, ◌+◌, ◌≤◌, true, false, cond, List, [], ◌∷◌, ◌++◌, length, refl, sym, ap, subst, ◌∙◌, append_assoc, length-append, arith}
+use Rattle.std.proofs.Common.{◌≡◌, ℕ, ◌+◌, ◌≤◌, false, List, [], ◌∷◌, ◌++◌, length, refl, sym, ap, subst, ◌∙◌, append_assoc, length-append, arith}
 use Rattle.std.proofs.lemmas.List.{append-nil}
 use Rattle.std.specs.List.{AllByRecursion}
 use Rattle.std.proofs.lemmas.List.Elements.{filter-append}
 use Rattle.std.proofs.lemmas.List.Sums.{count_by-le-length, length-filter}
 use Rattle.gb_base.specs.Keys.{same_key}
 use Rattle.gb_base.specs.declared.keys.Key.{Key}
-use Rattle.act_model.proofs.KeyOrder.{same_is}
-use Rattle.folio_sections.specs.Adding.{Adds, AddsList, HasRoom}
+use Rattle.folio_sections.specs.Adding.{AddsList, HasRoom}
 use Rattle.folio_sections.specs.Entries.{at}
 use Rattle.folio_sections.specs.declared.entries.Entry.{Entry}
 
@@ -29,19 +28,6 @@ at_few es k = omega (arith, length-filter (λ e. same_key e.key k) es, count_by-
 -- no entry
 pub adds_none : (at0 : Key → List Entry) (room0 : Key → ℕ) → AddsList at0 at0 room0 room0 []
 adds_none at0 room0 = record { there = λ k. sym (append-nil (at0 k)); room = λ k. omega arith }
-
--- one entry
-pub adds_one : (at0 at1 : Key → List Entry) (room0 room1 : Key → ℕ) (e : Entry) → Adds at0 at1 room0 room1 e → AddsList at0 at1 room0 room1 (e ∷ [])
-adds_one at0 at1 room0 room1 e adds = record {
-  there = λ k. elim (same_key e.key k) as (λ b. same_key e.key k ≡ b → at1 k ≡ at0 k ++ cond b (e ∷ []) []) [
-    | true ↦ λ h. subst (λ j. at1 j ≡ at0 j ++ e ∷ []) (same_is e.key k h) adds.there
-    | false ↦ λ h. ap (λ f. f) (adds.others k h) ∙ sym (append-nil (at0 k))
-  ] refl;
-  room = λ k. elim (same_key e.key k) as (λ b. same_key e.key k ≡ b → room1 k + length (cond b (e ∷ []) []) ≡ room0 k) [
-    | true ↦ λ h. subst (λ j. room1 j + 1 ≡ room0 j) (same_is e.key k h) adds.room
-    | false ↦ λ h. let same = adds.others_room k h in omega arith
-  ] refl;
-}
 
 -- a list, and then another
 pub adds_then : (at0 at1 at2 : Key → List Entry) (room0 room1 room2 : Key → ℕ) (xs ys : List Entry) → AddsList at0 at1 room0 room1 xs → AddsList at1 at2 room1 room2 ys → AddsList at0 at2 room0 room2 (xs ++ ys)

@@ -19,7 +19,7 @@ use Rattle.folio_sections.specs.Held.{entries_at, is_held, room_at}
 use Rattle.folio_sections.specs.PartState.{PartState}
 use Rattle.folio_sections.specs.declared.entries.Entry.{Entry}
 use Rattle.folio_sections.specs.inner.PartIndex.{Grows, IsIndexOf}
-use Rattle.folio_sections.proofs.Indexes.{find_passes, find-position, is_some-find, is_some-position, position-at, position-set, position_push, is_none}
+use Rattle.folio_sections.proofs.Indexes.{find_passes, find-position, is_some-find, is_some-position, position-at, position-set, position_push, is_none_of}
 
 -- whether a part is of the key
 abbrev pub is_at : Key → PartState → Bool
@@ -205,7 +205,7 @@ index_with index index' parts key new indexed updates own apart k =
     elim (same_key key k) as (λ b. same_key key k ≡ b → get key_cmp index' k ≡ position (is_at k) (parts ++ new ∷ [])) [
       | true ↦ λ same.
           let none : position (is_at k) parts ≡ None =
-          is_none (position (is_at k) parts) (is_some-position (is_at k) parts ∙ subst (λ x. is_held parts x ≡ false) (same_is key k same) apart) in
+          is_none_of (position (is_at k) parts) (is_some-position (is_at k) parts ∙ subst (λ x. is_held parts x ≡ false) (same_is key k same) apart) in
           updates.0 k ∙ ap (λ b. cond b (Some (length parts)) (get key_cmp index k)) (sym tie ∙ same)
           ∙ sym (pushed ∙ ap (λ o. option_or o (cond (is_at k new) (Some (length parts)) None)) none ∙ ap (λ b. cond b (Some (length parts)) None) (here ∙ same))
       | false ↦ λ other.

@@ -11,9 +11,9 @@ is_some-mapped : (o : Option ℕ) → is_some (option_map (λ n. 1 + n) o) ≡ i
 is_some-mapped None = refl
 is_some-mapped (Some n) = refl
 
-pub is_none : {X : Type 0} (o : Option X) → is_some o ≡ false → o ≡ None
-is_none None h = refl
-is_none (Some x) h = absurd (false≢true (sym h))
+pub is_none_of : {X : Type 0} (o : Option X) → is_some o ≡ false → o ≡ None
+is_none_of None h = refl
+is_none_of (Some x) h = absurd (false≢true (sym h))
 
 -- the element that is found passes
 pub find_passes : {X : Type 0} (p : X → Bool) (xs : List X) (x : X) → find p xs ≡ Some x → p x ≡ true
@@ -65,7 +65,7 @@ is_some-position p (y ∷ ys) =
 
 -- what has no index is not found
 pub find-none : {X : Type 0} (p : X → Bool) (xs : List X) → position p xs ≡ None → find p xs ≡ None
-find-none p xs h = is_none (find p xs) (is_some-find p xs ∙ sym (is_some-position p xs) ∙ ap is_some h)
+find-none p xs h = is_none_of (find p xs) (is_some-find p xs ∙ sym (is_some-position p xs) ∙ ap is_some h)
 
 -- a write of an element that passes as the one before leaves the index
 pub position-set : {X : Type 0} (p : X → Bool) (xs : List X) (i : ℕ) (y d : X) → p y ≡ p (get_or xs i d) → position p (set xs i y) ≡ position p xs

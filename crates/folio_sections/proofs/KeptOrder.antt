@@ -31,7 +31,7 @@ use Rattle.folio_sections.proofs.RankOrder.{is_of_own, rank_is_order}
 
 -- ---- the filing of a right creates in its division
 
-own_division : (third : Bool) (spec : RightSpec) → is_in_division_three spec.kind ≡ third → is_of_division third spec ≡ true
+pub own_division : (third : Bool) (spec : RightSpec) → is_in_division_three spec.kind ≡ third → is_of_division third spec ≡ true
 own_division true spec division = division
 own_division false spec division = rw division refl
 
@@ -108,7 +108,7 @@ stands_at journal folio m third ps (Some p) own has names creates =
 -- ---- the right as it was created
 
 -- the right that a content creates has this
-abbrev OfCreation : (Created → Type 0) → What → Type 0
+abbrev pub OfCreation : (Created → Type 0) → What → Type 0
 OfCreation P (what.Created made) = P made
 OfCreation P other = Unit {0}
 
@@ -120,6 +120,9 @@ next_has P before other old new = old
 last_has : (P : Created → Type 0) (before : Option Created) (es : List Entry) → IfSome before P → AllByRecursion (λ e. OfCreation P e.what) es → IfSome (fold (λ b e. created_by b e.what) before es) P
 last_has P before [] old all = old
 last_has P before (e ∷ es) old all = last_has P (created_by before e.what) es (next_has P before e.what old all.0) all.1
+
+pub created_has : (P : Created → Type 0) (es : List Entry) → AllByRecursion (λ e. OfCreation P e.what) es → IfSome (created es) P
+created_has P es all = last_has P None es tt all
 
 -- the right stands at a place of its filing, which names its division
 abbrev StandsPlaced : List Receipt → (Key → List Entry) → ℕ → RightNo → Created → Type 0
@@ -145,7 +148,7 @@ right_stands journal at folio right made kept is =
     let entries = at (Right folio right) in
     let P = StandsPlaced journal at folio right in
     let all = recursion_from_All (λ (e : Entry). EntersAsFiled journal at folio right e.receipt e.what) entries (kept.created_as_filed.filed folio right) in
-    subst (λ o. IfSome o P) is (last_has P None entries tt (contents_stand journal at folio right entries kept all))
+    subst (λ o. IfSome o P) is (created_has P entries (contents_stand journal at folio right entries kept all))
 
 -- ---- the order of two rights
 

@@ -1,5 +1,5 @@
 -- Tests of places, exchanges and knots, one by one.
-use Rattle.std.proofs.Common.{◌≡◌, Bool, true, false, not, ◌||◌, MatchBool, List, [], ◌∷◌, All, length, refl, arith}
+use Rattle.std.proofs.Common.{◌≡◌, Bool, true, false, ◌||◌, MatchBool, List, [], ◌∷◌, All, length, arith}
 use Rattle.std.specs.List.{AllByRecursion, AllWithin, IsDistinct, list_any}
 use Rattle.std.proofs.lemmas.Bool.{false≢true, or_parts}
 use Rattle.std.proofs.lemmas.List.Elements.{All-from_all_within}
@@ -16,10 +16,6 @@ use Rattle.gb_base.proofs.SameRights.{others_turned}
 pub all_if_true : {X : Type 0} (P : X → Type 0) (Q : Type 0) (r : Bool) (xs : List X) → MatchBool r (AllWithin P xs 0 (length xs)) Q → r ≡ true → All P xs
 all_if_true P Q true xs each is = All-from_all_within P xs each
 all_if_true P Q false xs each is = absurd (false≢true is)
-
-pub not_false : (b : Bool) → not b ≡ true → b ≡ false
-not_false true not_so = absurd (false≢true not_so)
-not_false false not_so = refl
 
 -- ---- elements that differ
 
@@ -47,14 +43,14 @@ distinct_first p ps none rest = IsDistinct-cons (λ p q. same_right p.right q.ri
 
 -- ---- knots of different rights
 
--- the knot ties the right
-abbrev ties : RightNo → Knot → Bool
-ties r k = same_right r k.reserved || same_right r k.exercised
+-- the knot ties the right, which is compared with its two
+abbrev is_tied_by : RightNo → Knot → Bool
+is_tied_by r k = same_right r k.reserved || same_right r k.exercised
 
-untied : (r : RightNo) (ks : List Knot) → list_any (ties r) ks ≡ false → AllByRecursion (λ y. same_right r y ≡ false) (knotted ks)
+untied : (r : RightNo) (ks : List Knot) → list_any (is_tied_by r) ks ≡ false → AllByRecursion (λ y. same_right r y ≡ false) (knotted ks)
 untied r [] none = tt
 untied r (k ∷ ks) none =
-    let parts = or_parts (ties r k) (list_any (ties r) ks) none in
+    let parts = or_parts (is_tied_by r k) (list_any (is_tied_by r) ks) none in
     let two = or_parts (same_right r k.reserved) (same_right r k.exercised) parts.0 in
     (two.0, (two.1, untied r ks parts.1))
 

@@ -56,15 +56,6 @@ counted_within p (x ∷ xs) =
       | false ↦ omega (arith, counted_within p xs)
     ]
 
-pub counted_front_within : {X : Type 0} (p : X → Bool) (t : ℕ) (xs : List X) → counted p (take t xs) ≤ t
-counted_front_within p zero xs = omega arith
-counted_front_within p (suc t) [] = omega arith
-counted_front_within p (suc t) (x ∷ xs) =
-    elim (p x) as (λ b. tally b + counted p (take t xs) ≤ suc t) [
-      | true ↦ omega (arith, counted_front_within p t xs)
-      | false ↦ omega (arith, counted_front_within p t xs)
-    ]
-
 -- ---- a filter
 
 pub counted_filter : {X : Type 0} (k p : X → Bool) (xs : List X) → counted p (filter k xs) ≤ counted p xs

@@ -7,13 +7,14 @@ ghost use Rattle.rank_slots.specs.CanFill.{ArePlaces, CanFill, CanKnot, CanSwap,
 ghost use Rattle.rank_slots.specs.Groups.{group_of, joins, keeps_place};
 
 use crate::groups::{group_of, holds, is_listed_ahead};
-use crate::paying::MOST_PLACES;
+use crate::places::MOST_PLACES;
 use crate::{Knot, Place, Swap};
 use gb_base::RightId;
 
 /// Sums of cents stay below this.
 const MOST_SUM: u64 = 1_000_000_000_000_000_000;
 
+/// Whether a line can be filled with these.
 pub fn can_fill(places: &[Place], swaps: &[Swap], knots: &[Knot]) -> bool
     ensures { result ≡ true → CanFill (record { places = places.now; swaps = swaps.now; knots = knots.now }) }
 {
@@ -25,6 +26,7 @@ pub fn can_fill(places: &[Place], swaps: &[Swap], knots: &[Knot]) -> bool
 
 // ---- places
 
+/// Whether these can be the places of a line.
 fn are_places(places: &[Place]) -> bool
     ensures { result ≡ true → ArePlaces places.now }
 {
@@ -36,6 +38,7 @@ fn are_places(places: &[Place]) -> bool
         && claims_fit(places)
 }
 
+/// Whether each place is of another right.
 fn are_distinct(places: &[Place]) -> bool
     ensures { result ≡ true → IsDistinct (λ p q. same_right p.right q.right) places.now }
 {
@@ -55,24 +58,28 @@ fn first_begins(places: &[Place]) -> bool
     }
 }
 
+/// Whether no dropped right has others in its group.
 fn dropped_stand_alone(places: &[Place]) -> bool
     ensures { result ≡ true → All (λ p. p.dropped ≡ true → StandsAlone places.now p.right) places.now }
 {
     places.iter().all(|place| !place.dropped || stands_alone(places, place.right))
 }
 
+/// Whether the right is the only one of its group.
 pub fn stands_alone(places: &[Place], right: RightId) -> bool
     ensures { result ≡ (length (group_of places.now right) == 1) }
 {
     group_of(places, right).len() == 1
 }
 
+/// Whether each place has a claim.
 fn have_claims(places: &[Place]) -> bool
     ensures { result ≡ true → All (λ p. 1 ≤ p.claim) places.now }
 {
     places.iter().all(|place| 1 <= place.claim)
 }
 
+/// Whether the claims together are below the bound of sums.
 fn claims_fit(places: &[Place]) -> bool
     ensures { result ≡ true → sum_by (λ p. p.claim) places.now < most_sum }
 {
@@ -88,6 +95,7 @@ fn claims_fit(places: &[Place]) -> bool
 
 // ---- exchanges and knots
 
+/// Whether each of the exchanges can be made.
 fn can_swap_all(places: &[Place], swaps: &[Swap]) -> bool
     ensures { result ≡ true → All (CanSwap places.now) swaps.now }
 {
@@ -101,12 +109,14 @@ pub fn can_swap(places: &[Place], swap: Swap) -> bool
     stands_alone(places, swap.recede) && stands_alone(places, swap.rise)
 }
 
+/// Whether each of the knots can be tied.
 fn can_knot_all(places: &[Place], swaps: &[Swap], knots: &[Knot]) -> bool
     ensures { result ≡ true → All (CanKnot places.now swaps.now) knots.now }
 {
     knots.iter().all(|knot| can_knot(places, swaps, *knot))
 }
 
+/// Whether both rights can be tied, the reserved one ahead of the exercised one.
 pub fn can_knot(places: &[Place], swaps: &[Swap], knot: Knot) -> bool
     ensures { result ≡ true → CanKnot places.now swaps.now knot }
 {
@@ -115,6 +125,7 @@ pub fn can_knot(places: &[Place], swaps: &[Swap], knot: Knot) -> bool
         && is_listed_ahead(places, knot.reserved, knot.exercised)
 }
 
+/// Whether the right stands alone, keeps its place, and is in no exchange.
 fn can_tie(places: &[Place], swaps: &[Swap], right: RightId) -> bool
     ensures { result ≡ true → CanTie places.now swaps.now right }
 {
@@ -130,6 +141,7 @@ pub fn keeps_place(places: &[Place], right: RightId) -> bool
         .any(|place| place.right == right && !place.dropped)
 }
 
+/// Whether the right is in one of these exchanges.
 fn is_swapped(swaps: &[Swap], right: RightId) -> bool
     ensures { result ≡ is_swapped swaps.now right }
 {

@@ -1,7 +1,6 @@
 // What a right gets of a sum that is paid along the line.
-ghost use Rattle.std.specs.Prelude.{◌≡◌, ◌+◌, ◌<◌, ◌≤◌, true, All, find, length, map, sum_by};
-ghost use Rattle.std.specs.List.{list_any, position_or_len};
-ghost use Rattle.std.specs.Option.{option_copied};
+ghost use Rattle.std.specs.Prelude.{◌≡◌, ◌<◌, ◌≤◌, true, All, length, map, sum_by};
+ghost use Rattle.std.specs.List.{list_any};
 ghost use Rattle.rank_slots.specs.CanFill.{CanFill, CanKnot, StandsAlone};
 ghost use Rattle.rank_slots.specs.Groups.{is_of, keeps_place};
 ghost use Rattle.gb_base.specs.Limits.{most_sum};
@@ -10,12 +9,10 @@ ghost use Rattle.rank_slots.specs.Payments.{claim_of, knot_of, share_in_group, p
 
 use crate::groups::{group_of, places_ahead};
 use crate::pieces::cents_within;
+use crate::places::MOST_PLACES;
 use crate::{Knot, Place, Slots};
 use arrayvec::ArrayVec;
 use gb_base::{RightId, share};
-
-/// The most places of a line.
-pub(crate) const MOST_PLACES: usize = 256;
 
 impl Slots {
     /// How many of the first t cents the right gets. One of a group gets its share of the group's

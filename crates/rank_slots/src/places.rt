@@ -2,6 +2,9 @@
 
 use gb_base::RightId;
 
+/// The most places of a line.
+pub(crate) const MOST_PLACES: usize = 256;
+
 /// The place of a right in a line, with its claim.
 #[derive(Clone, Copy, Debug, PartialEq, Eq)]
 pub struct Place {

@@ -1,7 +1,6 @@
 // Which of two rights stands ahead.
-ghost use Rattle.std.specs.Prelude.{◌≡◌, ◌&&◌, ◌||◌, true, Option};
-ghost use Rattle.std.specs.List.{list_any};
-ghost use Rattle.rank_slots.specs.Groups.{group_of, is_of, keeps_place};
+ghost use Rattle.std.specs.Prelude.{◌≡◌, true};
+ghost use Rattle.rank_slots.specs.Groups.{keeps_place};
 ghost use Rattle.rank_slots.specs.Relations.{is_exercised_over, last_between, relation, relation_by, swaps_both};
 
 use crate::groups::{group_of, holds, is_listed_ahead};

@@ -1,5 +1,5 @@
 -- Two registers that agree at some keys, and what is read of both along a list.
-use Rattle.std.proofs.Common.{◌≡◌, Bool, true, false, ◌||◌, cond, List, [], ◌∷◌, ◌++◌, filter, flat_map, Contains, refl, ap, ◌∙◌}
+use Rattle.std.proofs.Common.{◌≡◌, Bool, true, false, ◌||◌, cond, List, [], ◌∷◌, ◌++◌, Contains, refl, ap, ◌∙◌}
 use Rattle.std.specs.List.{AllByRecursion, list_any}
 use Rattle.std.proofs.lemmas.List.Elements.{Contains-append_left, Contains-append_right}
 use Rattle.gb_base.specs.declared.keys.Key.{Key}
@@ -22,17 +22,9 @@ added_agree keys at0 at1 es0 es1 same agrees k there = λ j. agrees k there j ++
 
 -- ---- two functions that are equal on the members of a list
 
-pub flat_map_same : {X Y : Type 0} (f g : X → List Y) (xs : List X) → AllByRecursion (λ x. f x ≡ g x) xs → flat_map f xs ≡ flat_map g xs
-flat_map_same f g [] all = refl
-flat_map_same f g (x ∷ xs) all = λ j. all.0 j ++ flat_map_same f g xs all.1 j
-
 pub any_same : {X : Type 0} (p q : X → Bool) (xs : List X) → AllByRecursion (λ x. p x ≡ q x) xs → list_any p xs ≡ list_any q xs
 any_same p q [] all = refl
 any_same p q (x ∷ xs) all = λ j. all.0 j || any_same p q xs all.1 j
-
-pub filter_same : {X : Type 0} (p q : X → Bool) (xs : List X) → AllByRecursion (λ x. p x ≡ q x) xs → filter p xs ≡ filter q xs
-filter_same p q [] all = refl
-filter_same p q (x ∷ xs) all = λ j. cond (all.0 j) (x ∷ filter_same p q xs all.1 j) (filter_same p q xs all.1 j)
 
 -- one of two, by tests that are equal, where the first are equal as far as it is chosen
 pub chosen_same : {X : Type 0} (b c : Bool) (x y none : X) → b ≡ c → (c ≡ true → x ≡ y) → cond b x none ≡ cond c y none

@@ -73,10 +73,6 @@ pub first_of_both : {X : Type 0} (P : X → Type 0) (xs ys : List X) → AllByRe
 first_of_both P [] ys all = tt
 first_of_both P (x ∷ xs) ys all = (all.0, first_of_both P xs ys all.1)
 
-pub second_of_both : {X : Type 0} (P : X → Type 0) (xs ys : List X) → AllByRecursion P (xs ++ ys) → AllByRecursion P ys
-second_of_both P [] ys all = all
-second_of_both P (x ∷ xs) ys all = second_of_both P xs ys all.1
-
 -- each element is one of them
 pub all_themselves : {X : Type 0} (xs : List X) → AllByRecursion (Contains xs) xs
 all_themselves xs = recursion_from_All (Contains xs) xs (All-contains_itself xs)
@@ -126,13 +122,6 @@ contains_kept {X = X} p xs x passes among = by xs among.0 among.1 among.2
         subst (λ b. Contains (cond b (z ∷ filter p zs) (filter p zs)) x) (sym (ap p is ∙ passes))
         (subst (λ w. Contains (w ∷ filter p zs) x) (sym is) (contains_first x (filter p zs)))
     by (z ∷ zs) (suc k) within is = behind (p z) z (filter p zs) (by zs k (omega arith) is)
-
-pub contains_at : {X : Type 0} (xs : List X) (k : ℕ) (x : X) → slice_get xs k ≡ Some x → Contains xs x
-contains_at [] k x is = absurd (cc is)
-contains_at (y ∷ xs) zero x is =
-    let same : y ≡ x = cc is in
-    subst (λ z. Contains (z ∷ xs) x) (sym same) (contains_first x xs)
-contains_at (y ∷ xs) (suc k) x is = contains_later y xs x (contains_at xs k x is)
 
 -- some element has what one of them has
 pub any_of : {X : Type 0} (P : X → Type 0) (xs : List X) (x : X) → Contains xs x → P x → Any P xs

@@ -27,11 +27,12 @@ use Rattle.folio_sections.specs.declared.entries.What.{What}
 use Rattle.folio_sections.specs.declared.entries.What.TheVariants as what
 use Rattle.folio_sections.specs.declared.title_places.TitlePlace.{TitlePlace}
 use Rattle.folio_sections.proofs.Unchanged.{all_at, all_weaker}
+use Rattle.registrar.proofs.Added.{all_here}
 use Rattle.interim_orders.specs.Orders.{end_brought}
 use Rattle.registrar.proofs.ContainedParts.{any_in_first}
 use Rattle.registrar.proofs.Dealing.{Deals, IsFit}
 use Rattle.registrar.proofs.LeavingRights.{LeavesRights, end_leaves_rights}
-use Rattle.registrar.proofs.NewContents.{IsActOf, act_of_new_right, all_at_key, all_brought, all_contents, contents_last, key_touched, standing, with_both}
+use Rattle.registrar.proofs.NewContents.{IsActOf, act_of_new_right, all_brought, all_contents, contents_last, key_touched, standing, with_both}
 use Rattle.registrar.proofs.PlaceStands.{filing_creates, place_stands}
 
 -- an entry that entered a right as it was filed still does, since the place of its filing stays
@@ -150,7 +151,7 @@ created_entered journal m f i at0 deals fit =
     fit.few in
     let all = all_brought (λ e. EntersAt journal at1 e.key e) journal m f i at0 deals.filing (λ e leaves. leaves_at journal at1 e.key e leaves) contents in
     created_by_new journal at0 (enters journal m i at0)
-    (λ folio right. all_at_key (EntersAt journal at1) (enters journal m i at0) (Right folio right) all) deals.kept.created_as_filed
+    (λ folio right. all_here (EntersAt journal at1) (enters journal m i at0) (Right folio right) all) deals.kept.created_as_filed
 
 pub created_cured : (journal : List Receipt) (m : ℕ) (f : Filing) (i : ℕ) (at : Key → List Entry) → Deals journal m f i at → IsFit journal m f at → CreatedAsFiled journal (with_entries at (enters journal m i at ++ end_brought journal m i))
 created_cured journal m f i at0 deals fit =

@@ -1,5 +1,5 @@
 -- What a cure or a lapse brings leaves a kept register.
-use Rattle.std.proofs.Common.{◌≡◌, ℕ, ◌<◌, true, false, cond, nat_lt, List, [], All, Contains, IsSome, Option, Some, None, is_some, option_and_then, option_map, refl, sym, ap, subst, ◌∙◌}
+use Rattle.std.proofs.Common.{◌≡◌, ℕ, ◌<◌, true, false, cond, nat_lt, List, [], All, Contains, IsSome, Option, Some, None, is_some, option_map, refl, sym, ap, subst, ◌∙◌}
 use Rattle.std.specs.Option.{option_map_or}
 use Rattle.std.proofs.lemmas.Bool.{false≢true}
 use Rattle.gb_base.specs.declared.keys.Key.{Key}
@@ -21,7 +21,7 @@ use Rattle.interim_orders.specs.declared.states.FilingState.{FilingState}
 use Rattle.interim_orders.specs.declared.states.FilingState.TheVariants.{NotPending, Pending}
 use Rattle.registrar.proofs.Dealing.{Deals}
 use Rattle.registrar.proofs.Dealing.Turn.{finds, is_it}
-use Rattle.registrar.proofs.ItemRooms.{lapse_names, named}
+use Rattle.registrar.proofs.ItemRooms.{lapse_names, named, read_of_item}
 use Rattle.registrar.proofs.ItemsKeep.{filing_leaves, fit_as_judged, well_filed}
 use Rattle.registrar.proofs.Keeping.{Leaves, cure_leaves, end_leaves, none_leave}
 use Rattle.registrar.proofs.WaitingStates.{found_waiting, waiting_is_a_filing}
@@ -113,13 +113,9 @@ lapse_leaves journal i m at stands kept before is =
 
 -- ---- an item
 
-filing_of_item : (o : Option Receipt) (w : Item) → option_map (λ r. r.item) o ≡ Some w → option_and_then (λ r. filing_in r.item) o ≡ filing_in w
-filing_of_item (Some r) w is = ap (λ x. option_and_then filing_in x) is
-filing_of_item None w is = ap (λ x. option_and_then filing_in x) is
-
 filing_deals : (journal : List Receipt) (i : ℕ) (f : Filing) (at : Key → List Entry) → IsJournal journal → Kept journal at → AreEarlier i at (keys_of_filing journal i) → option_map (λ r. r.item) (receipt_at journal i) ≡ Some (item.Filing f) → Deals journal i f i at
 filing_deals journal i f at stands kept before is =
-    let filing : filing_at journal i ≡ Some f = filing_of_item (receipt_at journal i) (item.Filing f) is in
+    let filing : filing_at journal i ≡ Some f = read_of_item filing_in (receipt_at journal i) (item.Filing f) is in
     record { received = there_is (receipt_at journal i) (item.Filing f) is; kept = kept; filing = filing; well = well_filed journal i f stands filing; earlier = before; turn = is_it refl }
 
 pub item_leaves : (journal : List Receipt) (i : ℕ) (at : Key → List Entry) (w : Item) → IsJournal journal → Kept journal at → option_map (λ r. r.item) (receipt_at journal i) ≡ Some w → AreEarlier i at (keys_by_item journal i w)

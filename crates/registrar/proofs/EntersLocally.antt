@@ -17,14 +17,15 @@ use Rattle.folio_sections.specs.Places.{create_in_division, creates_there, place
 use Rattle.folio_sections.specs.Waiting.{notice}
 use Rattle.folio_sections.specs.declared.entries.Entry.{Entry}
 use Rattle.folio_sections.specs.declared.entries.What.TheVariants as what
+use Rattle.folio_sections.proofs.FilteredLists.{flat_map_alike}
 use Rattle.registrar.proofs.ContainedParts.{all_contained}
-use Rattle.registrar.proofs.Agreeing.{AgreesAt, added_agree, agrees_before, agrees_behind, flat_map_same}
+use Rattle.registrar.proofs.Agreeing.{AgreesAt, added_agree, agrees_before, agrees_behind}
 
 -- ---- official notices and places
 
 notices_locally : (journal : List Receipt) (m i : ℕ) (at0 at1 : Key → List Entry) → AgreesAt (keys_of_filing journal m) at0 at1 → notices_brought journal m i at1 ≡ notices_brought journal m i at0
 notices_locally journal m i at0 at1 agrees =
-    flat_map_same (notices_at journal m i at1) (notices_at journal m i at0) (keys_in_order journal m)
+    flat_map_alike (notices_at journal m i at1) (notices_at journal m i at0) (keys_in_order journal m)
     (all_contained (λ k. notices_at journal m i at1 k ≡ notices_at journal m i at0 k) (keys_in_order journal m)
     (λ k there. ap (λ es. map (λ n. entry_by journal i k (what.Notice n)) (waiting_unnoticed m es))
     (agrees k ((in_key_order_members (keys_of_filing journal m) k).0 there))))
@@ -38,7 +39,7 @@ place_locally journal m i at0 at1 (Case folio) same = refl
 
 places_locally : (journal : List Receipt) (m i : ℕ) (at0 at1 : Key → List Entry) → AgreesAt (keys_of_filing journal m) at0 at1 → places_brought journal m i at1 ≡ places_brought journal m i at0
 places_locally journal m i at0 at1 agrees =
-    flat_map_same (placed_at journal m i at1) (placed_at journal m i at0) (keys_in_order journal m)
+    flat_map_alike (placed_at journal m i at1) (placed_at journal m i at0) (keys_in_order journal m)
     (all_contained (λ k. placed_at journal m i at1 k ≡ placed_at journal m i at0 k) (keys_in_order journal m)
     (λ k there. place_locally journal m i at0 at1 k (agrees k ((in_key_order_members (keys_of_filing journal m) k).0 there))))
 

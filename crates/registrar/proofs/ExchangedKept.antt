@@ -13,13 +13,14 @@ use Rattle.folio_sections.specs.KeptRights.{ActsOnItsKind, ExchangedArePlain}
 use Rattle.folio_sections.specs.Rights.{created}
 use Rattle.folio_sections.specs.declared.entries.Entry.{Entry}
 use Rattle.folio_sections.proofs.Unchanged.{all_at, all_weaker}
+use Rattle.registrar.proofs.Added.{all_here}
 use Rattle.interim_orders.specs.Orders.{end_brought}
 use Rattle.registrar.proofs.CreatedKept.{created_entered}
 use Rattle.registrar.proofs.Dealing.{Deals, IsFit}
 use Rattle.registrar.proofs.ExchangesStand.{ActsAt, ReadOn, exercises, exercises_both, kind_stays, leaves_acts, none_exercised}
 use Rattle.registrar.proofs.ExercisedOnce.{exercised_once}
 use Rattle.registrar.proofs.LeavingRights.{LeavesRights, end_leaves_rights}
-use Rattle.registrar.proofs.NewContents.{all_at_key, with_both}
+use Rattle.registrar.proofs.NewContents.{with_both}
 use Rattle.registrar.proofs.NewExchanges.{all_act, read_on}
 use Rattle.registrar.proofs.RightReads.{SameReads, created_left, same_itself}
 
@@ -58,7 +59,7 @@ exchanged_entered journal m f i at0 deals fit =
     let at1 = with_entries at0 brought in
     let filed = created_entered journal m f i at0 deals fit in
     exchanged_by_new journal at0 brought (read_on journal at0 brought filed)
-    (λ folio right. all_at_key (ActsAt journal at1) brought (Right folio right) (all_act journal m f i at0 deals fit filed))
+    (λ folio right. all_here (ActsAt journal at1) brought (Right folio right) (all_act journal m f i at0 deals fit filed))
     (λ folio right. exercised_once journal m f i at0 folio right deals.filing deals.well fit.reserved (deals.kept.exchanged_are_plain.once folio right))
     deals.kept.exchanged_are_plain
 

@@ -2,7 +2,7 @@
 use Rattle.std.proofs.Common.{◌≡◌, ℕ, ◌+◌, ◌≤◌, Bool, true, false, cond, not, eqb, ◌&&◌, List, [], ◌∷◌, ◌++◌, IsTrue, Some, length, flat_map, refl, sym, ap, subst, ◌∙◌, arith}
 use Rattle.std.specs.List.{AllByRecursion, enumerate_from, list_all, list_any}
 use Rattle.std.specs.Option.{option_map_or}
-use Rattle.std.proofs.lemmas.Bool.{and_parts, false≢true, or_parts}
+use Rattle.std.proofs.lemmas.Bool.{and_parts, or_parts, not-true}
 use Rattle.std.proofs.lemmas.List.Concat.{flat_map-cons}
 use Rattle.gb_base.specs.Keys.{same_key}
 use Rattle.gb_base.specs.Limits.{is_between, most_acts}
@@ -50,17 +50,13 @@ none_named r (s ∷ rs) none =
     let rest = none_named r rs parts.1 in
     omega arith
 
-of_not_true : (b : Bool) → not b ≡ true → b ≡ false
-of_not_true true h = absurd (false≢true h)
-of_not_true false h = refl
-
 named_once : (r : RightNo) (rs : List RightNo) → are_different rs ≡ true → named r rs ≤ 1
 named_once r [] differ = omega arith
 named_once r (s ∷ rs) differ =
     let parts = and_parts (not (list_any (same_right s) rs)) (are_different rs) differ in
     elim (same_right r s) as (λ b. same_right r s ≡ b → tally b + named r rs ≤ 1) [
       | true ↦ λ same.
-          let none = none_named r rs (subst (λ t. list_any (same_right t) rs ≡ false) (sym (right_is r s same)) (of_not_true (list_any (same_right s) rs) parts.0)) in
+          let none = none_named r rs (subst (λ t. list_any (same_right t) rs ≡ false) (sym (right_is r s same)) (not-true (list_any (same_right s) rs) parts.0)) in
           omega arith
       | false ↦ λ other. let rest = named_once r rs parts.1 in omega arith
     ] refl

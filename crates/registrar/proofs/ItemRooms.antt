@@ -52,14 +52,14 @@ cure_in_state_fits journal m i at room (Pending until) is stands roomy =
     waiting_fits journal m i at room (judged journal m i at) stands (λ k there. roomy k (named journal i m k earlier there))
 cure_in_state_fits journal m i at room NotPending is stands roomy = no_entry room
 
--- the item of receipt i says which lapse it is
-lapse_of_item : (o : Option Receipt) (what : Item) → option_map (λ r. r.item) o ≡ Some what → option_and_then (λ r. lapse_in r.item) o ≡ lapse_in what
-lapse_of_item (Some r) what is = ap (λ x. option_and_then lapse_in x) is
-lapse_of_item None what is = ap (λ x. option_and_then lapse_in x) is
+-- what is read of a receipt's item, by the item
+pub read_of_item : {X : Type 0} (f : Item → Option X) (o : Option Receipt) (what : Item) → option_map (λ r. r.item) o ≡ Some what → option_and_then (λ r. f r.item) o ≡ f what
+read_of_item f (Some r) what is = ap (λ x. option_and_then f x) is
+read_of_item f None what is = ap (λ x. option_and_then f x) is
 
 pub lapse_names : (journal : List Receipt) (i m n : ℕ) → option_map (λ r. r.item) (receipt_at journal i) ≡ Some (item.Lapse m) → lapse_at journal i ≡ Some n → m ≡ n
 lapse_names journal i m n is names =
-    let same : Some m ≡ Some n = sym (lapse_of_item (receipt_at journal i) (item.Lapse m) is) ∙ names in
+    let same : Some m ≡ Some n = sym (read_of_item lapse_in (receipt_at journal i) (item.Lapse m) is) ∙ names in
     ap (λ o. option_map_or (λ x. x) o 0) same
 
 pub item_fits : (journal : List Receipt) (i : ℕ) (at : Key → List Entry) (room : Key → ℕ) (what : Item) → IsJournal journal → option_map (λ r. r.item) (receipt_at journal i) ≡ Some what

@@ -22,9 +22,10 @@ use Rattle.folio_sections.specs.Persons.{number_behind}
 use Rattle.folio_sections.specs.declared.entries.Entry.{Entry}
 use Rattle.folio_sections.specs.declared.judgements.Defect.{Defect}
 use Rattle.folio_sections.proofs.Unchanged.{all_weaker}
+use Rattle.folio_sections.proofs.FilteredLists.{filter_alike}
 use Rattle.registrar.proofs.ActReads.{affected_locally, applicants_locally, assignment_locally, conversion_locally, exchange_locally, folio_locally, needed_locally, others_locally, owner_side_locally, reservation_locally, right_locally, ReadsSame}
 pub use Rattle.registrar.proofs.Agreeing.{AgreesAt}
-use Rattle.registrar.proofs.Agreeing.{any_same, filter_same}
+use Rattle.registrar.proofs.Agreeing.{any_same}
 
 -- ---- an act
 
@@ -124,7 +125,7 @@ defects_locally : (journal : List Receipt) (m : ℕ) (f : Filing) (docs : List D
     → defects_under journal m f docs at1 s ≡ defects_under journal m f docs at0 s
 defects_locally journal m f docs at0 at1 s same =
     ap (λ found. map {B = Defect} (λ p. record { section = s; act = number_behind p.0 }) found)
-    (filter_same (λ (p : List Act × Act). is_defective journal m docs at1 s p.0 p.1) (λ (p : List Act × Act). is_defective journal m docs at0 s p.0 p.1) (with_before f.acts)
+    (filter_alike (λ (p : List Act × Act). is_defective journal m docs at1 s p.0 p.1) (λ (p : List Act × Act). is_defective journal m docs at0 s p.0 p.1) (with_before f.acts)
     (all_weaker (λ (p : List Act × Act). ReadsSame at0 at1 p.1) (λ (p : List Act × Act). is_defective journal m docs at1 s p.0 p.1 ≡ is_defective journal m docs at0 s p.0 p.1) (with_before f.acts)
     (λ p here. defective_locally journal m docs at0 at1 s p.0 p.1 here) same))
 

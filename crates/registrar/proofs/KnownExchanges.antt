@@ -23,9 +23,9 @@ use Rattle.folio_sections.specs.declared.entries.Created.{Created}
 use Rattle.folio_sections.specs.declared.entries.Entry.{Entry}
 use Rattle.folio_sections.specs.declared.entries.What.{What}
 use Rattle.folio_sections.specs.declared.entries.What.TheVariants as what
-use Rattle.registrar.proofs.RightReads.{IfCreates, created_has}
+use Rattle.folio_sections.proofs.KeptOrder.{OfCreation, created_has}
 
-live_created : (F : Created → Type 0) (es : List Entry) → AllByRecursion (λ e. IfCreates F e.what) es → IfSome (live_right es) F
+live_created : (F : Created → Type 0) (es : List Entry) → AllByRecursion (λ e. OfCreation F e.what) es → IfSome (live_right es) F
 live_created F es all =
     elim (is_live es) as (λ b. IfSome (cond b (created es) None) F) [
       | true ↦ created_has F es all
@@ -52,40 +52,40 @@ known_by_act journal m folio right made earlier filed =
     subst (λ b. cond b (option_and_then (created_in folio) (act_of_right journal right)) None ≡ Some made.spec) (sym less) there
 
 -- each Created at a right is of an earlier filing than m
-abbrev AreEarlier : ℕ → RightNo → List Entry → Type 0
-AreEarlier m right es = AllByRecursion (λ e. IfCreates (λ made. right.receipt < m) e.what) es
+abbrev CreatesEarlier : ℕ → RightNo → List Entry → Type 0
+CreatesEarlier m right es = AllByRecursion (λ e. OfCreation (λ made. right.receipt < m) e.what) es
 
-known_here : (journal : List Receipt) (at : Key → List Entry) (m folio : ℕ) (right : RightNo) (w : What) (receipt : ℕ) → EntersAsFiled journal at folio right receipt w → IfCreates (λ made. right.receipt < m) w → IfCreates (IsKnown journal m folio right) w
+known_here : (journal : List Receipt) (at : Key → List Entry) (m folio : ℕ) (right : RightNo) (w : What) (receipt : ℕ) → EntersAsFiled journal at folio right receipt w → OfCreation (λ made. right.receipt < m) w → OfCreation (IsKnown journal m folio right) w
 known_here journal at m folio right (what.Created made) receipt filed earlier = known_by_act journal m folio right made earlier filed.filed
 known_here journal at m folio right other receipt filed earlier = tt
 
 all_known : (journal : List Receipt) (at : Key → List Entry) (m folio : ℕ) (right : RightNo) (es : List Entry) → AllByRecursion (λ e. EntersAsFiled journal at folio right e.receipt e.what) es
-    → AreEarlier m right es → AllByRecursion (λ e. IfCreates (IsKnown journal m folio right) e.what) es
+    → CreatesEarlier m right es → AllByRecursion (λ e. OfCreation (IsKnown journal m folio right) e.what) es
 all_known journal at m folio right [] filed earlier = tt
 all_known journal at m folio right (e ∷ es) filed earlier =
     (known_here journal at m folio right e.what e.receipt filed.0 earlier.0, all_known journal at m folio right es filed.1 earlier.1)
 
 -- so the receding right is known, where it is live
-known_at : (journal : List Receipt) (at : Key → List Entry) (m folio : ℕ) (right : RightNo) → Kept journal at → AreEarlier m right (at (Right folio right)) → IfSome (live_right (at (Right folio right))) (IsKnown journal m folio right)
+known_at : (journal : List Receipt) (at : Key → List Entry) (m folio : ℕ) (right : RightNo) → Kept journal at → CreatesEarlier m right (at (Right folio right)) → IfSome (live_right (at (Right folio right))) (IsKnown journal m folio right)
 known_at journal at m folio right kept earlier =
     live_created (IsKnown journal m folio right) (at (Right folio right))
     (all_known journal at m folio right (at (Right folio right)) (recursion_from_All _ (at (Right folio right)) (kept.created_as_filed.filed folio right)) earlier)
 
 -- ---- all Created are of earlier filings
 
-by_number : (m : ℕ) (right : RightNo) (w : What) → right.receipt < m → IfCreates (λ made. right.receipt < m) w
+by_number : (m : ℕ) (right : RightNo) (w : What) → right.receipt < m → OfCreation (λ made. right.receipt < m) w
 by_number m right (what.Created made) earlier = earlier
 by_number m right other earlier = tt
 
-all_by_number : (m : ℕ) (right : RightNo) (es : List Entry) → right.receipt < m → AreEarlier m right es
+all_by_number : (m : ℕ) (right : RightNo) (es : List Entry) → right.receipt < m → CreatesEarlier m right es
 all_by_number m right [] earlier = tt
 all_by_number m right (e ∷ es) earlier = (by_number m right e.what earlier, all_by_number m right es earlier)
 
-by_receipt : (m folio receipt : ℕ) (right : RightNo) (w : What) → receipt < m → IsCreatedInTime receipt (Right folio right) w → IfCreates (λ made. right.receipt < m) w
+by_receipt : (m folio receipt : ℕ) (right : RightNo) (w : What) → receipt < m → IsCreatedInTime receipt (Right folio right) w → OfCreation (λ made. right.receipt < m) w
 by_receipt m folio receipt right (what.Created made) earlier created = omega arith
 by_receipt m folio receipt right other earlier created = tt
 
-all_by_receipt : (m folio : ℕ) (right : RightNo) (es : List Entry) → AllByRecursion (λ e. e.receipt < m) es → AllByRecursion (λ e. IsCreatedInTime e.receipt (Right folio right) e.what) es → AreEarlier m right es
+all_by_receipt : (m folio : ℕ) (right : RightNo) (es : List Entry) → AllByRecursion (λ e. e.receipt < m) es → AllByRecursion (λ e. IsCreatedInTime e.receipt (Right folio right) e.what) es → CreatesEarlier m right es
 all_by_receipt m folio right [] earlier created = tt
 all_by_receipt m folio right (e ∷ es) earlier created = (by_receipt m folio e.receipt right e.what earlier.0 created.0, all_by_receipt m folio right es earlier.1 created.1)
 
@@ -93,7 +93,7 @@ all_by_receipt m folio right (e ∷ es) earlier created = (by_receipt m folio e.
 
 -- what makes the receding right of an act one of earlier filings
 abbrev RecedesEarlier : ℕ → (Key → List Entry) → Act → Type 0
-RecedesEarlier m at (Exchange folio recede rise) = AreEarlier m recede (at (Right folio recede))
+RecedesEarlier m at (Exchange folio recede rise) = CreatesEarlier m recede (at (Right folio recede))
 RecedesEarlier m at other = Unit {0}
 
 act_known : (journal : List Receipt) (at : Key → List Entry) (m : ℕ) (act : Act) → Kept journal at → RecedesEarlier m at act → IsKnownExchange journal m at act

@@ -17,7 +17,6 @@ pub mod EntriesKept
 pub mod ExchangedKept
 pub mod ExchangesStand
 pub mod ExercisedOnce
-pub mod ItemKeysHeld
 pub mod ItemKeysStay
 pub mod ItemRooms
 pub mod ItemsKeep

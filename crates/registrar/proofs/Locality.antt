@@ -1,5 +1,5 @@
 -- What an item brings follows from what stands at its keys.
-use Rattle.std.proofs.Common.{◌≡◌, ℕ, ◌<◌, true, false, cond, nat_lt, List, [], ◌∷◌, ◌++◌, Contains, Option, Some, None, is_some, option_and_then, option_map, refl, ap, subst, ◌∙◌, arith}
+use Rattle.std.proofs.Common.{◌≡◌, ℕ, ◌<◌, true, false, cond, nat_lt, List, [], ◌∷◌, ◌++◌, Contains, Some, None, is_some, option_and_then, option_map, refl, ap, subst, ◌∙◌, arith}
 use Rattle.std.specs.List.{slice_get}
 use Rattle.std.specs.Option.{option_map_or}
 use Rattle.gb_base.specs.declared.keys.Key.{Key}
@@ -23,7 +23,7 @@ use Rattle.interim_orders.specs.declared.states.FilingState.TheVariants.{NotPend
 use Rattle.registrar.proofs.Agreeing.{AgreesAt}
 use Rattle.registrar.proofs.CuresKeep.{AreEarlier}
 use Rattle.registrar.proofs.EntersLocally.{enters_locally}
-use Rattle.registrar.proofs.ItemRooms.{lapse_names, named}
+use Rattle.registrar.proofs.ItemRooms.{lapse_names, named, read_of_item}
 use Rattle.registrar.proofs.JudgedLocally.{judged_locally}
 use Rattle.registrar.proofs.KnownExchanges.{known_when_filed, known_while_waiting}
 use Rattle.registrar.proofs.WaitingStates.{found_waiting}
@@ -52,10 +52,6 @@ filing_locally : (journal : List Receipt) (i : ℕ) (at0 at1 : Key → List Entr
 filing_locally journal i at0 at1 Enter agrees = ap {B = Brought} (λ es. record { entries = es; verdict = verdict.Entered }) (enters_locally journal i i at0 at1 agrees)
 filing_locally journal i at0 at1 (Reject section) agrees = refl
 filing_locally journal i at0 at1 (Interim defects) agrees = refl
-
-filing_of_item : (o : Option Receipt) (w : Item) → option_map (λ r. r.item) o ≡ Some w → option_and_then (λ r. filing_in r.item) o ≡ filing_in w
-filing_of_item (Some r) w is = ap (λ x. option_and_then filing_in x) is
-filing_of_item None w is = ap (λ x. option_and_then filing_in x) is
 
 -- ---- cures
 
@@ -103,7 +99,7 @@ lapse_locally journal i m at0 at1 is agrees =
 item_locally : (journal : List Receipt) (i : ℕ) (at0 at1 : Key → List Entry) (w : Item) → Kept journal at0 → option_map (λ r. r.item) (receipt_at journal i) ≡ Some w → AreEarlier i at0 (keys_by_item journal i w) → AgreesAt (keys_by_item journal i w) at0 at1
     → brought_by_item journal i at1 w ≡ brought_by_item journal i at0 w
 item_locally journal i at0 at1 (item.Filing f) kept is before agrees =
-    let filed : filing_at journal i ≡ Some f = filing_of_item (receipt_at journal i) (item.Filing f) is in
+    let filed : filing_at journal i ≡ Some f = read_of_item filing_in (receipt_at journal i) (item.Filing f) is in
     ap (λ judgement. brought_by_filing journal i at1 judgement) (judged_locally journal i f i at0 at1 filed (known_when_filed journal at0 i kept before) agrees)
     ∙ filing_locally journal i at0 at1 (judged_filing journal i f i at0) agrees
 item_locally journal i at0 at1 (item.Cure m docs) kept is before agrees =

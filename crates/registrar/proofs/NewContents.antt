@@ -1,12 +1,10 @@
 -- What the entry of a filing brings, act by act.
-use Rattle.std.proofs.Common.{◌≡◌, ℕ, suc, zero, ◌+◌, ◌-◌, true, false, cond, eqb, List, [], ◌∷◌, ◌++◌, Contains, Some, None, option_and_then, slice_get, refl, sym, ap, subst, ◌∙◌, append_assoc, arith}
+use Rattle.std.proofs.Common.{◌≡◌, ℕ, suc, zero, ◌+◌, ◌-◌, cond, eqb, List, [], ◌∷◌, ◌++◌, Contains, Some, None, option_and_then, slice_get, refl, sym, ap, subst, ◌∙◌, append_assoc, arith}
 use Rattle.std.specs.List.{AllByRecursion, enumerate_from}
 use Rattle.std.specs.Option.{option_map_or}
 use Rattle.std.proofs.lemmas.Bool.{cond-false, ne_eqb}
 use Rattle.std.proofs.lemmas.List.Elements.{Contains-append_left, Contains-append_right}
-use Rattle.gb_base.specs.Keys.{same_key}
 use Rattle.gb_base.specs.declared.keys.Key.{Key}
-use Rattle.act_model.proofs.KeyOrder.{same_is}
 use Rattle.act_model.specs.Touches.{act_at, filing_at, keys_of_act, keys_of_acts, keys_of_filing, new_right}
 use Rattle.act_model.specs.declared.filing_acts.Act.{Act}
 use Rattle.act_model.specs.declared.items.Filing.{Filing}
@@ -60,15 +58,6 @@ all_brought P journal m f i at0 is leaving contents =
     subst (AllByRecursion P) (sym (brought_is journal m f i at0 is))
     (all_both P (notices_brought journal m i at0) (places_brought journal m i before ++ contents_brought journal m i (standing journal m i at0) f) notices
     (all_both P (places_brought journal m i before) (contents_brought journal m i (standing journal m i at0) f) places contents))
-
--- what holds of each entry at its own key holds of those at a key
-pub all_at_key : (P : Key → Entry → Type 0) (es : List Entry) (k : Key) → AllByRecursion (λ e. P e.key e) es → AllByRecursion (P k) (at es k)
-all_at_key P [] k all = tt
-all_at_key P (e ∷ es) k all =
-    elim (same_key e.key k) as (λ b. same_key e.key k ≡ b → AllByRecursion (P k) (cond b (e ∷ at es k) (at es k))) [
-      | true ↦ λ here. (subst (λ j. P j e) (same_is e.key k here) all.0, all_at_key P es k all.1)
-      | false ↦ λ other. all_at_key P es k all.1
-    ] refl
 
 -- ---- the acts of a filing
 

@@ -2,7 +2,7 @@
 use Rattle.std.proofs.Common.{◌≡◌, ℕ, ◌<◌, Bool, true, false, cond, not, ◌||◌, List, [], ◌++◌, Contains, IfSome, IsSome, IsSomeAnd, Option, Some, None, is_some, refl, sym, subst, arith}
 use Rattle.std.specs.List.{AllByRecursion, enumerate_from}
 use Rattle.std.specs.Option.{option_map_or}
-use Rattle.std.proofs.lemmas.Bool.{false≢true, or_parts}
+use Rattle.std.proofs.lemmas.Bool.{false≢true, or_parts, not-false}
 use Rattle.std.proofs.lemmas.List.Elements.{All-head, Contains-append_right, recursion_from_All}
 use Rattle.gb_base.specs.Keys.{same_key}
 use Rattle.gb_base.specs.RightNo.{RightNo}
@@ -29,22 +29,24 @@ use Rattle.folio_sections.specs.declared.entries.Created.{Created}
 use Rattle.folio_sections.specs.declared.entries.Entry.{Entry}
 use Rattle.folio_sections.specs.declared.entries.What.{What}
 use Rattle.folio_sections.specs.declared.entries.What.TheVariants as what
+use Rattle.folio_sections.proofs.Indexes.{is_none_of}
 use Rattle.folio_sections.proofs.Unchanged.{all_weaker}
+use Rattle.folio_sections.proofs.KeptOrder.{OfCreation, created_has}
 use Rattle.registrar.proofs.ContainedParts.{all_numbered, all_paired, contains_kept, contains_part}
 use Rattle.registrar.proofs.Dealing.{Deals, IsFit}
 use Rattle.registrar.proofs.ExchangesStand.{ActsAt, ReadOn, leaves_acts, plain_stays, reserved_by}
 use Rattle.registrar.proofs.NewContents.{IsActOf, act_of_new_right, all_brought, all_contents, brought_is, standing}
-use Rattle.registrar.proofs.RightReads.{AsItsAct, IfCreates, created_has, created_where, live_is_created, live_right_is, same_reads}
+use Rattle.registrar.proofs.RightReads.{AsItsAct, created_where, live_is_created, live_right_is, same_reads}
 
 -- ---- rights that are as filed
 
-as_its_act : (journal : List Receipt) (at0 : Key → List Entry) (folio : ℕ) (right : RightNo) (receipt : ℕ) (w : What) → EntersAsFiled journal at0 folio right receipt w → IfCreates (AsItsAct journal folio right) w
+as_its_act : (journal : List Receipt) (at0 : Key → List Entry) (folio : ℕ) (right : RightNo) (receipt : ℕ) (w : What) → EntersAsFiled journal at0 folio right receipt w → OfCreation (AsItsAct journal folio right) w
 as_its_act journal at0 folio right receipt (what.Created made) is = is.filed
 as_its_act journal at0 folio right receipt other is = tt
 
-as_acts : (journal : List Receipt) (at0 : Key → List Entry) (folio : ℕ) (right : RightNo) → CreatedAsFiled journal at0 → AllByRecursion (λ e. IfCreates (AsItsAct journal folio right) e.what) (at0 (Right folio right))
+as_acts : (journal : List Receipt) (at0 : Key → List Entry) (folio : ℕ) (right : RightNo) → CreatedAsFiled journal at0 → AllByRecursion (λ e. OfCreation (AsItsAct journal folio right) e.what) (at0 (Right folio right))
 as_acts journal at0 folio right filed =
-    all_weaker (λ (e : Entry). EntersAsFiled journal at0 folio right e.receipt e.what) (λ (e : Entry). IfCreates (AsItsAct journal folio right) e.what) (at0 (Right folio right))
+    all_weaker (λ (e : Entry). EntersAsFiled journal at0 folio right e.receipt e.what) (λ (e : Entry). OfCreation (AsItsAct journal folio right) e.what) (at0 (Right folio right))
     (λ e is. as_its_act journal at0 folio right e.receipt e.what is)
     (recursion_from_All (λ (e : Entry). EntersAsFiled journal at0 folio right e.receipt e.what) (at0 (Right folio right)) (filed.filed folio right))
 
@@ -55,24 +57,16 @@ read_on journal at0 es filed = λ folio right.
 
 -- ---- rights that are exchanged
 
-is_none_of : {X : Type 0} (o : Option X) → is_some o ≡ false → o ≡ None
-is_none_of None h = refl
-is_none_of (Some x) h = absurd (false≢true (sym h))
-
 plain_of : (journal : List Receipt) (right : RightNo) (o : Option Created) → is_some o ≡ true → shares_its_group journal right ≡ false → option_map_or (λ made. is_some made.reserve || is_some made.ahead_of) o false ≡ false → IsSomeAnd o (IsPlain journal right)
 plain_of journal right None some alone h = absurd (false≢true some)
 plain_of journal right (Some made) some alone h =
     let neither = or_parts (is_some made.reserve) (is_some made.ahead_of) h in
     record { alone = alone; no_reserve = is_none_of made.reserve neither.0; no_exercise = is_none_of made.ahead_of neither.1 }
 
-of_not : (b : Bool) → not b ≡ false → b ≡ true
-of_not true h = refl
-of_not false h = absurd (false≢true (sym h))
-
 plain_here : (journal : List Receipt) (at0 : Key → List Entry) (folio : ℕ) (right : RightNo) → not (lives at0 folio right) ≡ false → is_barred_from_exchange journal at0 folio right ≡ false → StandsPlain journal at0 folio right
 plain_here journal at0 folio right lives_here fit =
     let es = at0 (Right folio right) in
-    let live = of_not (is_live es) lives_here in
+    let live = not-false (is_live es) lives_here in
     let barred : Option Created → Bool = λ o. option_map_or (λ made. is_some made.reserve || is_some made.ahead_of) o false in
     let parts = or_parts (not (is_full es) || shares_its_group journal right) (barred (live_right es)) fit in
     plain_of journal right (created es) (live_is_created es live) (or_parts (not (is_full es)) (shares_its_group journal right) parts.0).1

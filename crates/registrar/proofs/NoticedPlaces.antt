@@ -1,7 +1,7 @@
 -- The official notices that the entry of filing m brings at a title, and the places that they set.
-use Rattle.std.proofs.Common.{◌≡◌, ℕ, zero, suc, ◌+◌, ◌-◌, ◌<◌, ◌≤◌, Bool, true, false, cond, eqb, not, ◌||◌, List, [], ◌∷◌, ◌++◌, filter, map, Some, None, is_none, refl, sym, ap, subst, ◌∙◌, ⊎_elim, inl, inr, append_assoc, arith}
+use Rattle.std.proofs.Common.{◌≡◌, ℕ, zero, suc, ◌+◌, ◌-◌, ◌<◌, ◌≤◌, Bool, true, false, cond, eqb, ◌||◌, List, [], ◌∷◌, ◌++◌, filter, map, Some, None, is_none, refl, sym, ap, subst, ◌∙◌, ⊎_elim, inl, inr, append_assoc, arith}
 use Rattle.std.specs.List.{AllByRecursion, cons_option, range_with_len}
-use Rattle.std.proofs.lemmas.Bool.{cases_Bool, false≢true, not_from_false, or_from, or_parts}
+use Rattle.std.proofs.lemmas.Bool.{cases_Bool, false≢true, not_from_false, or_from, or_parts, not-true}
 use Rattle.std.proofs.lemmas.Bool.Decides.{nat_tests}
 use Rattle.std.proofs.lemmas.List.{append-nil}
 use Rattle.std.proofs.lemmas.List.Folds.{list_any-append}
@@ -76,10 +76,6 @@ in_all P (y ∷ ys) x there all = ⊎_elim (λ same. subst P same all.0) (λ lat
 abbrev pub LacksNotice : List Entry → ℕ → Type 0
 LacksNotice entries n = (is_pending n entries ≡ true) × (is_noticed n entries ≡ false)
 
-pub not_false : (b : Bool) → not b ≡ true → b ≡ false
-not_false true h = absurd (false≢true h)
-not_false false h = refl
-
 pub unnoticed_rise : (m : ℕ) (entries : List Entry) → Rises (waiting_unnoticed m entries)
 unnoticed_rise m entries =
     rises_filtered (λ n. is_none (notice n entries)) (waiting_before m entries)
@@ -88,7 +84,7 @@ unnoticed_rise m entries =
 pub unnoticed_lack : (m : ℕ) (entries : List Entry) → AllByRecursion (λ n. (n < m) × LacksNotice entries n) (waiting_unnoticed m entries)
 unnoticed_lack m entries =
     all_weaker (λ n. ((n < m) × (is_pending n entries ≡ true)) × (is_none (notice n entries) ≡ true)) (λ n. (n < m) × LacksNotice entries n) (waiting_unnoticed m entries)
-    (λ n all. (all.0.0, (all.0.1, not_false (is_noticed n entries) (sym (lacks_is n entries all.0.1) ∙ all.1))))
+    (λ n all. (all.0.0, (all.0.1, not-true (is_noticed n entries) (sym (lacks_is n entries all.0.1) ∙ all.1))))
     (all_that_pass (λ n. (n < m) × (is_pending n entries ≡ true)) (λ n. is_none (notice n entries)) (waiting_before m entries)
     (all_that_pass (λ n. n < m) (λ n. is_pending n entries) (below m) (below_less m)))
 

@@ -18,6 +18,7 @@ use Rattle.folio_sections.specs.declared.entries.What.TheVariants as what
 use Rattle.folio_sections.specs.declared.title_places.TitlePlace.{TitlePlace}
 use Rattle.folio_sections.proofs.Indexes.{is_some-find}
 use Rattle.registrar.proofs.Dealing.{KeepsWaiting}
+use Rattle.registrar.proofs.WaitingReads.{pending_kept}
 
 -- ---- which filings have a place
 
@@ -104,21 +105,9 @@ lacks_is n es waits =
 
 -- ---- who waits
 
--- a content that neither sets a filing to wait nor ends its waiting
-keeps_one : (n : ℕ) (before : Option ℕ) (w : What) → KeepsWaiting w → until_by n before w ≡ before
-keeps_one n before (what.Pending f until) keeps = absurd keeps
-keeps_one n before (what.Settled f) keeps = absurd keeps
-keeps_one n before other keeps = refl
-
-keeps_each : (n : ℕ) (before : Option ℕ) (es : List Entry) → AllByRecursion (λ e. KeepsWaiting e.what) es → fold (λ b e. until_by n b e.what) before es ≡ before
-keeps_each n before [] keeps = refl
-keeps_each n before (e ∷ es) keeps =
-    ap (λ b. fold (λ b e. until_by n b e.what) b es) (keeps_one n before e.what keeps.0) ∙ keeps_each n before es keeps.1
-
 -- with such contents alone each filing waits as before
 pub waits_as_before : (n : ℕ) (xs ys : List Entry) → AllByRecursion (λ e. KeepsWaiting e.what) ys → is_pending n (xs ++ ys) ≡ is_pending n xs
-waits_as_before n xs ys keeps =
-    ap is_some (fold-append (λ b e. until_by n b e.what) None xs ys ∙ keeps_each n (pending n xs) ys keeps)
+waits_as_before n xs ys keeps = ap is_some (pending_kept n xs ys keeps)
 
 -- what one entry at the end makes of it
 pub waits_behind : (n : ℕ) (xs : List Entry) (e : Entry) → pending n (xs ++ e ∷ []) ≡ until_by n (pending n xs) e.what

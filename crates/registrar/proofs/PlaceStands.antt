@@ -22,21 +22,18 @@ use Rattle.folio_sections.specs.Waiting.{is_notice_of, is_pending, notice}
 use Rattle.folio_sections.specs.declared.entries.Entry.{Entry}
 use Rattle.folio_sections.specs.declared.entries.What.{What}
 use Rattle.folio_sections.specs.declared.entries.What.TheVariants as what
+use Rattle.folio_sections.proofs.KeptOrder.{own_division}
 use Rattle.folio_sections.proofs.Unchanged.{all_at, all_both, all_weaker}
 use Rattle.registrar.proofs.ContainedParts.{each_mapped, all_parts, any_in_first, any_in_second, any_of, contains_first, contains_kept, contains_part, list_any_of}
 use Rattle.registrar.proofs.NewContents.{IsActOf, standing}
 
 -- ---- a filing with a creating act creates in the act's folio
 
-of_its_division : (third : Bool) (spec : RightSpec) → is_in_division_three spec.kind ≡ third → is_of_division third spec ≡ true
-of_its_division true spec division = division
-of_its_division false spec division = rw division refl
-
 in_its_division : (third : Bool) (act : Act) (spec : RightSpec) → right_created act ≡ Some spec → is_in_division_three spec.kind ≡ third → creates_in_division third (folio_of act) act ≡ true
 in_its_division third act spec is division =
     let there : eqb (folio_of act) (folio_of act) ≡ true = eq-eqb (folio_of act) (folio_of act) refl in
     let here : option_map_or (is_of_division third) (right_created act) false ≡ true =
-    ap (λ o. option_map_or (is_of_division third) o false) is ∙ of_its_division third spec division in
+    ap (λ o. option_map_or (is_of_division third) o false) is ∙ own_division third spec division in
     λ i. there i && here i
 
 one_creates : (third : Bool) (f : Filing) (a : ℕ) (act : Act) (spec : RightSpec) → IsActOf f a act → right_created act ≡ Some spec → is_in_division_three spec.kind ≡ third → create_in_division third (folio_of act) f.acts ≡ true

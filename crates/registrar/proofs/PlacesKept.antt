@@ -1,6 +1,7 @@
 -- What an item brings for a filing leaves the places of each folio in order (BGB § 879, GBO § 18).
 use Rattle.std.proofs.Common.{◌≡◌, ℕ, ◌<◌, true, false, cond, List, [], ◌∷◌, ◌++◌, map, All, Contains, is_some, refl, sym, ap, subst, ◌∙◌, append_assoc, arith}
 use Rattle.std.specs.List.{AllByRecursion}
+use Rattle.std.proofs.lemmas.Bool.{not-true}
 use Rattle.std.proofs.lemmas.List.{append-nil}
 use Rattle.std.proofs.lemmas.List.Elements.{All-from_recursion, recursion_from_All}
 use Rattle.gb_base.specs.declared.keys.Key.{Key}
@@ -25,7 +26,7 @@ use Rattle.interim_orders.specs.Orders.{deadline_of, end_brought, order_brought}
 use Rattle.registrar.proofs.Dealing.{Deals, KeepsWaiting, Turn, finds, is_it}
 use Rattle.registrar.proofs.EnteredTitles.{IsReady, title_cured, title_ended, title_entered, title_ordered, title_quiet}
 use Rattle.registrar.proofs.NewAtTitles.{contents_at, contents_quiet, entered_elsewhere, entered_there, is_key, marked_at, noticed_title}
-use Rattle.registrar.proofs.NoticedPlaces.{all_notices_ranked, not_false, notice_entry, notices_before}
+use Rattle.registrar.proofs.NoticedPlaces.{all_notices_ranked, notice_entry, notices_before}
 use Rattle.registrar.proofs.PlaceReads.{is_noticed, lacks_is, never_waits_before, places_before, places_both, unplaced_before, waits_as_before}
 use Rattle.registrar.proofs.RankedTitles.{InOrder, IsUnplaced, of_titles, title_of, all_before_unnoticed}
 
@@ -119,7 +120,7 @@ ready_for_cure journal m i at0 folio kept waits =
     record {
       noticing = noticing;
       before = λ creates lacks.
-          all_before_unnoticed journal folio mid m noticing.order waits_on creates (not_false (is_noticed m mid) (sym (lacks_is m mid waits_on) ∙ lacks));
+          all_before_unnoticed journal folio mid m noticing.order waits_on creates (not-true (is_noticed m mid) (sym (lacks_is m mid waits_on) ∙ lacks));
     }
 
 -- a title that is no key of filing m gets quiet contents at most

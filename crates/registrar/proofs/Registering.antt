@@ -1,14 +1,10 @@
 -- The one registrar goes on by one item.
-use Rattle.std.proofs.Common.{◌≡◌, ℕ, zero, suc, ◌+◌, ◌-◌, ◌<◌, List, [], ◌∷◌, ◌++◌, length, All, Some, None, is_some, refl, sym, ap, subst, ◌∙◌, length-append, arith}
+use Rattle.std.proofs.Common.{◌≡◌, ℕ, zero, suc, ◌+◌, ◌-◌, ◌<◌, List, [], ◌∷◌, ◌++◌, length, All, refl, sym, ap, subst, ◌∙◌, length-append, arith}
 use Rattle.std.specs.List.{AllByRecursion, enumerate_from, range_with_len}
-use Rattle.std.proofs.lemmas.Bool.{false≢true}
-use Rattle.std.proofs.lemmas.List.{append-nil}
 use Rattle.std.proofs.lemmas.List.Elements.{All-append, All-from_recursion, All-nil}
 use Rattle.std.proofs.lemmas.List.Sums.{fold-append}
 use Rattle.gb_base.specs.declared.keys.Key.{Key}
-use Rattle.act_model.specs.Receiving.{IsJournal, receipt_at}
-use Rattle.act_model.specs.declared.items.Item.{Item}
-use Rattle.act_model.specs.declared.items.Item.TheVariants as item
+use Rattle.act_model.specs.Receiving.{IsJournal}
 use Rattle.act_model.specs.declared.receipts.Receipt.{Receipt}
 use Rattle.folio_sections.specs.Adding.{AddsAll}
 use Rattle.folio_sections.specs.Entries.{at, with_entries}
@@ -19,11 +15,10 @@ use Rattle.folio_sections.specs.declared.entries.Entry.{Entry}
 use Rattle.folio_sections.proofs.Additions.{at-append}
 use Rattle.folio_sections.proofs.HeldParts.{nothing_at}
 use Rattle.folio_sections.proofs.Unchanged.{all_at, all_weaker}
-use Rattle.registrar.proofs.StepLemmas.{brings_is, brings_leaves}
-use Rattle.registrar.specs.Brings.{Brought, brings, brought_by_item, nothing_pending}
+use Rattle.registrar.proofs.StepLemmas.{brings_leaves}
+use Rattle.registrar.specs.Brings.{Brought, brings}
 use Rattle.registrar.specs.Settling.{Settled, nothing_settled, registrar, settled_in_order, settled_next}
 use Rattle.registrar.specs.declared.verdicts.Verdict.{Verdict}
-use Rattle.registrar.specs.inner.Named.{filing_named}
 use Rattle.registrar.specs.inner.SettledTo.{SettledTo}
 
 -- ---- one step
@@ -33,21 +28,6 @@ pub added_to : (journal : List Receipt) (i : ℕ) (at0 at1 at2 : Key → List En
 added_to journal i at0 at1 at2 same added =
     let there : at2 ≡ with_entries at1 (brings journal i at1).entries = λ j k. added k j in
     there ∙ ap (λ stands. with_entries stands (brings journal i stands).entries) same
-
--- an item that is about no filing brings nothing
-nothing_by_item : (journal : List Receipt) (i : ℕ) (stands : Key → List Entry) (w : Item) → filing_named i w ≡ None → brought_by_item journal i stands w ≡ nothing_pending
-nothing_by_item journal i stands (item.Filing f) none = absurd (false≢true (sym (ap is_some none)))
-nothing_by_item journal i stands (item.Cure m docs) none = absurd (false≢true (sym (ap is_some none)))
-nothing_by_item journal i stands (item.Lapse m) none = absurd (false≢true (sym (ap is_some none)))
-nothing_by_item journal i stands other none = refl
-
-pub brings_nothing : (journal : List Receipt) (i : ℕ) (stands : Key → List Entry) (r : Receipt) → receipt_at journal i ≡ Some r → filing_named i r.item ≡ None → brings journal i stands ≡ nothing_pending
-brings_nothing journal i stands r is none = brings_is journal i stands r is ∙ nothing_by_item journal i stands r.item none
-
-pub unchanged : (journal : List Receipt) (i : ℕ) (stands : Key → List Entry) (r : Receipt) → receipt_at journal i ≡ Some r → filing_named i r.item ≡ None → stands ≡ with_entries stands (brings journal i stands).entries
-unchanged journal i stands r is none =
-    let same : stands ≡ with_entries stands [] = λ j k. sym (append-nil (stands k)) j in
-    same ∙ ap (λ (b : Brought). with_entries stands b.entries) (sym (brings_nothing journal i stands r is none))
 
 -- ---- the fold
 

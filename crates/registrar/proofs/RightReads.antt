@@ -12,27 +12,11 @@ use Rattle.folio_sections.specs.declared.entries.Created.{Created}
 use Rattle.folio_sections.specs.declared.entries.Entry.{Entry}
 use Rattle.folio_sections.specs.declared.entries.What.{What}
 use Rattle.folio_sections.specs.declared.entries.What.TheVariants as what
+use Rattle.folio_sections.proofs.KeptOrder.{OfCreation, created_has}
 use Rattle.registrar.proofs.ContainedParts.{first_of_both}
 use Rattle.registrar.proofs.LeavingRights.{LeavesRights}
 
 -- ---- the right as created
-
--- the right that a content creates has this
-abbrev pub IfCreates : (Created → Type 0) → What → Type 0
-IfCreates P (what.Created made) = P made
-IfCreates P other = Unit {0}
-
-created_next : (P : Created → Type 0) (before : Option Created) (w : What) → IfSome before P → IfCreates P w → IfSome (created_by before w) P
-created_next P before (what.Created made) old new = new
-created_next P before other old new = old
-
-created_from : (P : Created → Type 0) (before : Option Created) (es : List Entry) → IfSome before P → AllByRecursion (λ e. IfCreates P e.what) es → IfSome (fold (λ b e. created_by b e.what) before es) P
-created_from P before [] old all = old
-created_from P before (e ∷ es) old all = created_from P (created_by before e.what) es (created_next P before e.what old all.0) all.1
-
--- what each creation has, the right has as it was created
-pub created_has : (P : Created → Type 0) (es : List Entry) → AllByRecursion (λ e. IfCreates P e.what) es → IfSome (created es) P
-created_has P es all = created_from P None es tt all
 
 -- once created, it stays created
 some_next : (before : Option Created) (w : What) → is_some before ≡ true → is_some (created_by before w) ≡ true
@@ -118,7 +102,7 @@ both_filed folio (Some act) (Some made) (Some again) some old new =
     (new.reserve ∙ sym old.reserve, new.ahead_of ∙ sym old.ahead_of)
 
 -- where each creation is as its act, the first one tells what the last one does
-pub same_reads : (journal : List Receipt) (folio : ℕ) (right : RightNo) (xs ys : List Entry) → AllByRecursion (λ e. IfCreates (AsItsAct journal folio right) e.what) (xs ++ ys) → SameReads (created xs) (created (xs ++ ys))
+pub same_reads : (journal : List Receipt) (folio : ℕ) (right : RightNo) (xs ys : List Entry) → AllByRecursion (λ e. OfCreation (AsItsAct journal folio right) e.what) (xs ++ ys) → SameReads (created xs) (created (xs ++ ys))
 same_reads journal folio right xs ys all =
     by (created xs) refl
   where
@@ -127,5 +111,5 @@ same_reads journal folio right xs ys all =
     by (Some made) is =
         both_filed folio (act_of_right journal right) (Some made) (created (xs ++ ys))
         (subst (λ o. is_some o ≡ true) (sym (fold-append (λ b e. created_by b e.what) None xs ys)) (some_from (created xs) ys (ap is_some is)))
-        (subst (λ o. IfSome o (AsItsAct journal folio right)) is (created_has (AsItsAct journal folio right) xs (first_of_both (λ e. IfCreates (AsItsAct journal folio right) e.what) xs ys all)))
+        (subst (λ o. IfSome o (AsItsAct journal folio right)) is (created_has (AsItsAct journal folio right) xs (first_of_both (λ e. OfCreation (AsItsAct journal folio right) e.what) xs ys all)))
         (created_has (AsItsAct journal folio right) (xs ++ ys) all)

@@ -2,7 +2,7 @@
 use Rattle.std.proofs.Common.{◌≡◌, ℕ, ◌+◌, ◌<◌, ◌≤◌, Bool, true, false, not, cond, nat_lt, List, [], ◌∷◌, take, length, map, find, fold, All, Contains, IsTrue, IfSome, Option, Some, None, refl, sym, ap, subst, length-take-le, arith}
 use Rattle.std.specs.List.{AllByRecursion, enumerate_from, list_any}
 use Rattle.std.specs.Option.{option_map_or}
-use Rattle.std.proofs.lemmas.Bool.{false≢true, or_parts}
+use Rattle.std.proofs.lemmas.Bool.{false≢true, or_parts, not-false}
 use Rattle.std.proofs.lemmas.Bool.Decides.{nat_tests}
 use Rattle.std.proofs.lemmas.List.Elements.{All-cons, All-nil, Contains-append_left, Contains-append_right, recursion_from_All}
 use Rattle.gb_base.specs.RightNo.{RightNo}
@@ -98,11 +98,7 @@ live_older journal m f i at deals folio right there is =
     older_from folio i right false (at (Right folio right))
     (recursion_from_All (λ e. IsCreatedInTime e.receipt (Right folio right) e.what) (at (Right folio right)) (deals.kept.receipts_rise.created (Right folio right)))
     (recursion_from_All (λ e. e.receipt < i) (at (Right folio right)) (deals.earlier (Right folio right) there))
-    (λ never. absurd (false≢true never)) (not_false (is_live (at (Right folio right))) is)
-  where
-    not_false : (b : Bool) → not b ≡ false → b ≡ true
-    not_false true h = refl
-    not_false false h = absurd (false≢true (sym h))
+    (λ never. absurd (false≢true never)) (not-false (is_live (at (Right folio right))) is)
 
 one_named : (i : ℕ) (right : RightNo) → right.receipt < i → All (λ r. r.receipt < i) (right ∷ [])
 one_named i right older = All-cons (λ r. r.receipt < i) right [] older (All-nil (λ r. r.receipt < i))

@@ -1,5 +1,5 @@
 // The room that the keys of an item keep for what it brings.
-ghost use Rattle.std.specs.Prelude.{◌≡◌, ◌+◌, ◌≤◌, Contains, IsTrue, OnOk, length};
+ghost use Rattle.std.specs.Prelude.{◌≡◌, Contains, IsTrue, OnOk};
 ghost use Rattle.gb_base.specs.declared.keys.Key.{Key};
 ghost use Rattle.act_model.specs.Touches.{keys_of_filing};
 ghost use Rattle.folio_sections.specs.Held.{entries_at, is_held, room_at};

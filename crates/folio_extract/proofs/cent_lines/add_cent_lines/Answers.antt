@@ -1,6 +1,7 @@
 use Rattle.std.proofs.Common.{◌++◌, ◌+◌, ◌<◌, ap, subst, sym, ◌∙◌, arith}
 use Rattle.std.specs.Option.{option_copied}
 use Rattle.std.specs.String.{string_bytes}
+use Rattle.gb_base.specs.Limits.{most_sum}
 use Rattle.folio_extract.specs.CentTexts.{joined_groups, line_text, piece_line, piece_lines}
 use Rattle.folio_extract.proofs.CentLines.{WritesOn, goes_on, takes}
 use Rattle.folio_extract.proofs.PieceRuns.{cents_of}
@@ -14,7 +15,7 @@ total-cents-requires c =
     let run = takes places (string_bytes c.loop-first.text) whole c.loop-first.from c.loop-first.rest.now c.in-Some.first.now c.run_len.result first c.run_len.ensures.some c.loop-first.invariant in
     let below = run.below in
     let begun = c.loop-first.invariant.begun in
-    subst (λ ps. cents_of ps < 1000000000000000000) (sym c.split_at.ensures.front) (omega (arith, below, begun))
+    subst (λ ps. cents_of ps < most_sum) (sym c.split_at.ensures.front) (omega (arith, below, begun))
 
 pub loop-first-init : goal.loop-first-init
 loop-first-init c =
