@@ -100,3 +100,13 @@ fn created_in(folio: FolioId, act: &Act) -> Option<RightSpec>
         None
     }
 }
+
+/// The applicant of filing n; None where receipt n is no filing.
+pub fn applicant_of(journal: &Journal, n: ReceiptNo) -> Option<Person>
+    ensures { result ≡ applicant_of journal.now.receipts n }
+{
+    match filing_at(journal, n) {
+        Some(filing) => Some(filing.applicant),
+        None => None,
+    }
+}

@@ -14,7 +14,7 @@ use Rattle.act_model.specs.declared.filing_acts.Act.TheVariants.{Open, Transfer,
 use Rattle.act_model.specs.declared.items.Filing.{Filing}
 use Rattle.act_model.specs.declared.receipts.Receipt.{Receipt}
 use Rattle.folio_sections.specs.Judging.{defects, judged, judged_filing, judgement_by, rejection, IsKnownExchange, KnowsExchanges}
-use Rattle.folio_sections.specs.Documents.{documents}
+use Rattle.act_model.specs.Documents.{documents}
 use Rattle.folio_sections.specs.Rights.{live_right}
 use Rattle.folio_sections.specs.declared.entries.Created.{Created}
 use Rattle.folio_sections.specs.declared.entries.Entry.{Entry}

@@ -83,7 +83,7 @@ pub struct Stranger<'a> {
 }
 
 impl<'a> DocFilter for Stranger<'a> {
-    ghost use Rattle.folio_sections.specs.Documents.{is_strangers_consent};
+    ghost use Rattle.act_model.specs.Documents.{is_strangers_consent};
     ghost use Rattle.consent_rules.specs.inner.Needed.{everyone};
 
     ghost test = { λ s d. is_strangers_consent s.act (everyone s.needed.now) d };

@@ -2,9 +2,9 @@
 ghost use Rattle.std.specs.Prelude.{◌≡◌, ◌≤◌, length, IsTrue};
 ghost use Rattle.gb_base.specs.Limits.{most_acts};
 ghost use Rattle.gb_base.specs.declared.keys.Key.TheVariants.{Title, Right};
-ghost use Rattle.act_model.specs.Acts.{folio_of};
+ghost use Rattle.act_model.specs.Acts.{folio_of, reserve_of, right_behind};
 ghost use Rattle.act_model.specs.Touches.{new_right};
-ghost use Rattle.folio_sections.specs.Entering.{as_entered, day_placed, entry_by, form_created, reserve_of, right_behind};
+ghost use Rattle.folio_sections.specs.Entering.{as_entered, day_placed, entry_by, form_created};
 ghost use Rattle.folio_sections.specs.Places.{places, places_among};
 ghost use Rattle.folio_sections.specs.declared.entries.What.TheVariants as what;
 

@@ -14,7 +14,7 @@ use Rattle.act_model.specs.Acts.{is_in_division_three, right_created}
 use Rattle.act_model.specs.Creations.{creating_rank}
 use Rattle.act_model.specs.Limits.{most_groups}
 use Rattle.act_model.specs.Receiving.{IsJournal, receipt_at}
-use Rattle.act_model.specs.Touches.{act_at, filing_at, filing_in}
+use Rattle.act_model.specs.Touches.{act_at, filing_at, filing_in, act_of_right}
 use Rattle.act_model.specs.WellFormed.{is_act, is_amount, is_doc, is_filing, is_reserve, is_right_kind, is_right_spec, keeps_rules}
 use Rattle.act_model.specs.declared.filing_acts.Act.{Act}
 use Rattle.act_model.specs.declared.filing_acts.Act.TheVariants.{Create, Exercise, NoticeFor}
@@ -22,7 +22,7 @@ use Rattle.act_model.specs.declared.items.Filing.{Filing}
 use Rattle.act_model.specs.declared.receipts.Receipt.{Receipt}
 use Rattle.act_model.specs.declared.rights.RightSpec.{RightSpec}
 use Rattle.folio_sections.specs.Kept.{Kept}
-use Rattle.folio_sections.specs.KeptRights.{EntersAsFiled, IsAsFiled, act_of_right}
+use Rattle.folio_sections.specs.KeptRights.{EntersAsFiled, IsAsFiled}
 use Rattle.folio_sections.specs.Limits.{most_creations}
 use Rattle.folio_sections.specs.Rights.{created}
 use Rattle.folio_sections.specs.declared.entries.Created.{Created}

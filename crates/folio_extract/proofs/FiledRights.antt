@@ -10,7 +10,7 @@ use Rattle.gb_base.specs.declared.keys.Key.{Key}
 use Rattle.act_model.specs.Acts.{folio_of}
 use Rattle.act_model.specs.Creations.{creates_in, creation_in, creations_in, creations_of_item}
 use Rattle.act_model.specs.Receiving.{IsJournal, receipt_at}
-use Rattle.act_model.specs.Touches.{act_at, filing_at, filing_in, new_right}
+use Rattle.act_model.specs.Touches.{act_at, filing_at, filing_in, new_right, act_of_right}
 use Rattle.act_model.specs.WellFormed.{well_formed}
 use Rattle.act_model.specs.declared.filing_acts.Act.{Act}
 use Rattle.act_model.specs.declared.items.Filing.{Filing}
@@ -19,7 +19,7 @@ use Rattle.act_model.specs.declared.items.Item.TheVariants as item
 use Rattle.act_model.specs.declared.receipts.Receipt.{Receipt}
 use Rattle.folio_sections.specs.HeldRights.{receipt_numbers, rights_of_filing}
 use Rattle.folio_sections.specs.Kept.{Kept}
-use Rattle.folio_sections.specs.KeptRights.{IsAsFiled, act_of_right}
+use Rattle.folio_sections.specs.KeptRights.{IsAsFiled}
 use Rattle.folio_sections.specs.declared.entries.Created.{Created}
 use Rattle.folio_sections.specs.declared.entries.Entry.{Entry}
 use Rattle.folio_sections.proofs.ReceiptNumbers.{numbers_up_to}

@@ -15,13 +15,13 @@ use Rattle.act_model.specs.Acts.{folio_of}
 use Rattle.act_model.specs.Creations.{creations_in, folio_of_creation}
 use Rattle.act_model.specs.Limits.{most_groups}
 use Rattle.act_model.specs.Receiving.{IsJournal}
-use Rattle.act_model.specs.Touches.{new_right}
+use Rattle.act_model.specs.Touches.{new_right, act_of_right}
 use Rattle.act_model.specs.declared.filing_acts.Act.{Act}
 use Rattle.act_model.specs.declared.receipts.Receipt.{Receipt}
 use Rattle.act_model.proofs.CreationOrder.{creations_rise, place_found}
 use Rattle.folio_sections.specs.HeldRights.{receipt_numbers, rights_of_filing}
 use Rattle.folio_sections.specs.Kept.{Kept}
-use Rattle.folio_sections.specs.KeptRights.{IsAsFiled, act_of_right}
+use Rattle.folio_sections.specs.KeptRights.{IsAsFiled}
 use Rattle.folio_sections.specs.Limits.{most_creations}
 use Rattle.folio_sections.specs.Rights.{created}
 use Rattle.folio_sections.specs.declared.entries.Created.{Created}

@@ -8,7 +8,7 @@ use Rattle.gb_base.proofs.Members.{In}
 use Rattle.gb_base.proofs.SameRights.{right_is, right_self}
 use Rattle.act_model.specs.Receiving.{IsJournal}
 use Rattle.act_model.specs.declared.receipts.Receipt.{Receipt}
-use Rattle.folio_sections.specs.Groups.{shares_its_group}
+use Rattle.act_model.specs.Groups.{shares_its_group}
 use Rattle.folio_sections.specs.Kept.{Kept}
 use Rattle.folio_sections.specs.KeptRights.{IsPlain, StandsPlain}
 use Rattle.folio_sections.specs.Rights.{created, is_live}

@@ -13,10 +13,11 @@ use Rattle.act_model.specs.declared.receipts.Receipt.{Receipt}
 use Rattle.act_model.specs.declared.rights.RightSpec.{RightSpec}
 use Rattle.act_model.specs.Acts.{folio_of, is_in_division_three, right_created}
 use Rattle.act_model.specs.Receiving.{IsJournal}
-use Rattle.act_model.specs.Touches.{act_at, acts_of, filing_at}
+use Rattle.act_model.specs.Touches.{act_at, acts_of, filing_at, act_of_right}
 use Rattle.folio_sections.specs.Kept.{Kept}
-use Rattle.folio_sections.specs.KeptRights.{EntersAsFiled, IsAsFiled, SetsPlace, act_of_right}
-use Rattle.folio_sections.specs.Places.{create_in_division, creates_in_division, is_of_division, own_place, place_by, places, places_among}
+use Rattle.folio_sections.specs.KeptRights.{EntersAsFiled, IsAsFiled, SetsPlace}
+use Rattle.act_model.specs.Divisions.{create_in_division, creates_in_division, is_of_division}
+use Rattle.folio_sections.specs.Places.{own_place, place_by, places, places_among}
 use Rattle.folio_sections.specs.Ranks.{is_ahead, is_filed_ahead, ranked}
 use Rattle.folio_sections.specs.Rights.{created, created_by}
 use Rattle.folio_sections.specs.declared.entries.Created.{Created}

@@ -1,7 +1,6 @@
 -- Lemmas.
 pub mod Additions
 pub mod Below
-pub mod Cures
 pub mod DistinctLists
 pub mod FilteredLists
 pub mod HeldParts

@@ -13,7 +13,8 @@ use Rattle.act_model.specs.Receiving.{IsJournal, is_before, receipt_at}
 use Rattle.act_model.specs.Touches.{acts_of}
 use Rattle.folio_sections.specs.Kept.{Kept}
 use Rattle.folio_sections.specs.KeptPlaces.{SaysDivisions}
-use Rattle.folio_sections.specs.Places.{create_in_division, creates_there, place_by, place_of, places, places_among}
+use Rattle.act_model.specs.Divisions.{create_in_division, creates_there}
+use Rattle.folio_sections.specs.Places.{place_by, place_of, places, places_among}
 use Rattle.folio_sections.specs.declared.entries.Entry.{Entry}
 use Rattle.folio_sections.specs.declared.entries.What.{What}
 use Rattle.folio_sections.specs.declared.entries.What.TheVariants as what

@@ -1,5 +1,5 @@
 -- What the entry of filing m by item i brings: official notices, places, and the contents of its acts (GBO §§ 16(2), 18(2), 45).
-use Rattle.std.specs.Prelude.{ℕ, false, true, ◌&&◌, if◌then◌else◌, List, [], ◌∷◌, ◌++◌, filter, flat_map, map, Option, Some, None, is_none, option_to_list}
+use Rattle.std.specs.Prelude.{ℕ, false, true, ◌&&◌, if◌then◌else◌, List, [], ◌∷◌, ◌++◌, filter, flat_map, map, is_none, option_to_list}
 use Rattle.std.specs.Option.{option_map_or}
 use Rattle.std.specs.List.{enumerate_from}
 use Rattle.gb_base.specs.declared.keys.Key.{Key}
@@ -12,20 +12,20 @@ use Rattle.act_model.specs.declared.receipts.Receipt.{Receipt}
 use Rattle.act_model.specs.declared.rights.RightSpec.{RightSpec}
 use Rattle.act_model.specs.Receiving.{day_of}
 use Rattle.act_model.specs.Touches.{acts_of, filing_at, keys_in_order, new_right}
-use Rattle.act_model.specs.Acts.{folio_of, is_in_division_three, right_created}
-use Rattle.gb_base.specs.RightNo.{RightNo}
-use Rattle.folio_sections.specs.Documents.{documents, has_proof}
+use Rattle.act_model.specs.Acts.{folio_of, is_in_division_three, right_created, reserve_of, right_behind}
+use Rattle.act_model.specs.Documents.{documents, has_proof}
 use Rattle.folio_sections.specs.Entries.{with_entries}
-use Rattle.folio_sections.specs.Groups.{has_equal}
-use Rattle.folio_sections.specs.Places.{behind, create_in_division, creates_there, own_place, places}
+use Rattle.act_model.specs.Groups.{has_equal}
+use Rattle.folio_sections.specs.Places.{behind, own_place, places}
+use Rattle.act_model.specs.Divisions.{create_in_division, creates_there}
 use Rattle.folio_sections.specs.Waiting.{notice, waiting_before}
 use Rattle.folio_sections.specs.declared.entries.Created.{Created}
 use Rattle.folio_sections.specs.declared.entries.Entry.{Entry}
 use Rattle.folio_sections.specs.declared.entries.RightForm.{RightForm}
-use Rattle.folio_sections.specs.declared.entries.RightForm.TheVariants as form
 use Rattle.folio_sections.specs.declared.entries.What.{What}
-use Rattle.folio_sections.specs.declared.entries.What.TheVariants as what
 use Rattle.folio_sections.specs.declared.title_places.TitlePlace.{TitlePlace}
+use Rattle.folio_sections.specs.declared.entries.RightForm.TheVariants as form
+use Rattle.folio_sections.specs.declared.entries.What.TheVariants as what
 
 -- an entry by item i
 abbrev pub entry_by : List Receipt → ℕ → Key → What → Entry
@@ -67,20 +67,10 @@ places_brought journal m i at = flat_map (placed_at journal m i at) (keys_in_ord
 
 -- ---- the contents of the acts, once the places stand
 
--- up to which capital a creating act keeps the rank ahead of its right for a later one (BGB § 881)
-abbrev pub reserve_of : Act → Option ℕ
-reserve_of (Create folio spec reserve) = reserve
-reserve_of other = None
-
 -- the form in which a creating act enters its right (BGB § 883)
 abbrev pub form_created : Act → RightForm
 form_created (NoticeFor folio spec) = form.Notice
 form_created other = form.Full
-
--- the right whose reservation a creating act takes up (BGB § 881)
-abbrev pub right_behind : Act → Option RightNo
-right_behind (Exercise folio behind spec) = Some behind
-right_behind other = None
 
 -- the day of filing m's own among these places; that of item i where it has none
 abbrev pub day_placed : List Receipt → ℕ → ℕ → List TitlePlace → ℕ

@@ -16,8 +16,8 @@ use Rattle.act_model.specs.declared.receipts.Receipt.{Receipt}
 use Rattle.act_model.specs.Acts.{is_in_division_three}
 use Rattle.act_model.specs.Creations.{creating_rank}
 use Rattle.act_model.specs.Touches.{acts_of, created_before, filing_at, new_right}
-use Rattle.folio_sections.specs.Documents.{documents, given, is_agreement, is_clearance, is_plain, is_strangers_consent}
-use Rattle.folio_sections.specs.Groups.{shares_its_group}
+use Rattle.act_model.specs.Documents.{documents, given, is_agreement, is_clearance, is_plain, is_strangers_consent}
+use Rattle.act_model.specs.Groups.{shares_its_group}
 use Rattle.folio_sections.specs.Limits.{most_creations}
 use Rattle.folio_sections.specs.Persons.{affected, applicants, needed, number_behind, others, owner_side}
 use Rattle.folio_sections.specs.Rights.{is_full, is_live, is_spent, live_right}

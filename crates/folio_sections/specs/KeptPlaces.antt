@@ -6,7 +6,8 @@ use Rattle.act_model.specs.declared.filing_acts.Act.{Act}
 use Rattle.act_model.specs.declared.receipts.Receipt.{Receipt}
 use Rattle.act_model.specs.Touches.{acts_of, keys_of_filing}
 use Rattle.act_model.specs.WellFormed.{rights_named}
-use Rattle.folio_sections.specs.Places.{create_in_division, creates_there, own_place, places}
+use Rattle.act_model.specs.Divisions.{create_in_division, creates_there}
+use Rattle.folio_sections.specs.Places.{own_place, places}
 use Rattle.folio_sections.specs.Waiting.{is_pending, pending}
 use Rattle.folio_sections.specs.declared.entries.Entry.{Entry}
 use Rattle.folio_sections.specs.declared.entries.What.{What}

@@ -1,15 +1,14 @@
 -- What holds of the rights of a register that comes about: they are as they were filed, and what is exchanged or exercised may be.
-use Rattle.std.specs.Prelude.{◌≡◌, ℕ, ◌<◌, ◌≤◌, false, List, All, Any, count_by, IsSome, IsSomeAnd, Option, Some, None, option_and_then}
+use Rattle.std.specs.Prelude.{◌≡◌, ℕ, ◌<◌, ◌≤◌, false, List, All, Any, count_by, IsSome, IsSomeAnd, Some, None}
 use Rattle.gb_base.specs.RightNo.{RightNo}
 use Rattle.gb_base.specs.declared.keys.Key.{Key}
 use Rattle.gb_base.specs.declared.keys.Key.TheVariants.{Title, Right}
 use Rattle.act_model.specs.declared.filing_acts.Act.{Act}
 use Rattle.act_model.specs.declared.receipts.Receipt.{Receipt}
-use Rattle.act_model.specs.Acts.{folio_of, right_created}
+use Rattle.act_model.specs.Acts.{folio_of, right_created, reserve_of, right_behind}
 use Rattle.act_model.specs.Creations.{creating_rank}
-use Rattle.act_model.specs.Touches.{act_at, filing_at}
-use Rattle.folio_sections.specs.Entering.{reserve_of, right_behind}
-use Rattle.folio_sections.specs.Groups.{shares_its_group}
+use Rattle.act_model.specs.Touches.{act_of_right}
+use Rattle.act_model.specs.Groups.{shares_its_group}
 use Rattle.folio_sections.specs.Limits.{most_creations}
 use Rattle.folio_sections.specs.Places.{place_by}
 use Rattle.folio_sections.specs.Rights.{created, is_exercise}
@@ -17,10 +16,6 @@ use Rattle.folio_sections.specs.declared.entries.Created.{Created}
 use Rattle.folio_sections.specs.declared.entries.Entry.{Entry}
 use Rattle.folio_sections.specs.declared.entries.What.{What}
 use Rattle.folio_sections.specs.declared.entries.What.TheVariants as what
-
--- the act of this right's number in its filing
-abbrev pub act_of_right : List Receipt → RightNo → Option Act
-act_of_right journal right = option_and_then (λ f. act_at f right.act) (filing_at journal right.receipt)
 
 -- the right is as this act creates it in the folio
 pub record IsAsFiled (folio : ℕ) (made : Created) (act : Act) : Type 0 where

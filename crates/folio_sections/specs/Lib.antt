@@ -1,10 +1,8 @@
 -- What contracts cite.
 pub mod Adding
 pub mod Cases
-pub mod Documents
 pub mod Entering
 pub mod Entries
-pub mod Groups
 pub mod Held
 pub mod HeldRights
 pub mod Judging
@@ -19,7 +17,6 @@ pub mod Persons
 pub mod Places
 pub mod Ranks
 pub mod Rights
-pub mod Sought
 pub mod Titles
 pub mod Waiting
 pub mod inner

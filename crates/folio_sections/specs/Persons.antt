@@ -1,6 +1,6 @@
 -- Whom an act concerns, who must consent to it, and who may apply for it (GBO §§ 13, 19, 22, 27; BGB §§ 876, 880(2)).
 -- An act is judged with the acts before it in its filing; `m` is the filing, `at` the entries at each key.
-use Rattle.std.specs.Prelude.{ℕ, ◌+◌, Bool, false, not, ◌&&◌, ◌==◌, if◌then◌else◌, List, [], ◌∷◌, ◌++◌, filter_map, fold, length, Option, Some, None, option_map, option_to_list}
+use Rattle.std.specs.Prelude.{ℕ, ◌+◌, Bool, false, not, ◌&&◌, ◌==◌, if◌then◌else◌, List, [], ◌∷◌, ◌++◌, filter_map, fold, length, Option, Some, None, option_to_list}
 use Rattle.std.specs.Option.{option_map_or}
 use Rattle.gb_base.specs.RightNo.{RightNo}
 use Rattle.gb_base.specs.declared.keys.Key.{Key}
@@ -10,8 +10,8 @@ use Rattle.act_model.specs.declared.filing_acts.Act.{Act}
 use Rattle.act_model.specs.declared.filing_acts.Act.TheVariants.{Open, Transfer, Create, NoticeFor, Convert, Assign, Cancel, Exchange, Exercise}
 use Rattle.act_model.specs.declared.receipts.Receipt.{Receipt}
 use Rattle.act_model.specs.Acts.{is_in_division_three}
-use Rattle.act_model.specs.Touches.{filing_at}
-use Rattle.folio_sections.specs.Documents.{has_proof}
+use Rattle.act_model.specs.Touches.{applicant_of}
+use Rattle.act_model.specs.Documents.{has_proof}
 use Rattle.folio_sections.specs.Rights.{holder_for, live_right}
 use Rattle.folio_sections.specs.Titles.{owners_for}
 use Rattle.folio_sections.specs.Waiting.{waiting_before}
@@ -85,10 +85,6 @@ applicants m at before (Exchange folio recede rise) =
     holder_then m at folio recede ++ (holder_then m at folio rise
     ++ (if stands_in_division_three at folio recede then owners_then m at before folio else []))
 applicants m at before (Exercise folio behind spec) = owners_then m at before folio ++ spec.holder ∷ []
-
--- the applicant of filing n; none where receipt n is no filing
-abbrev pub applicant_of : List Receipt → ℕ → Option ℕ
-applicant_of journal n = option_map (λ f. f.applicant) (filing_at journal n)
 
 -- the applicants of the earlier filings that wait at the right
 abbrev pub waiting_applicants : List Receipt → ℕ → List Entry → List ℕ

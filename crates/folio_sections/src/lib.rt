@@ -8,11 +8,8 @@ mod any_part;
 mod case_part;
 #[cfg(test)]
 mod case_tests;
-mod documents;
 mod entries;
 mod entry_list;
-mod filings;
-mod groups;
 mod judgements;
 pub mod laws;
 mod map_parts;
@@ -22,7 +19,6 @@ mod parts;
 mod right_part;
 #[cfg(test)]
 mod right_tests;
-mod sought;
 #[cfg(test)]
 mod tests;
 mod title_part;
@@ -33,14 +29,10 @@ mod waiting;
 
 pub use adding::{add, day_of, entry_by};
 pub use case_part::CasePart;
-pub use documents::Documents;
 pub use entries::{Created, Entry, RightForm, What};
-pub use filings::applicant_of;
-pub use groups::{has_equal, shares_its_group};
 pub use judgements::{Defect, Defects, Judgement};
 pub use map_parts::MapParts;
 pub use parts::Parts;
 pub use right_part::RightPart;
-pub use sought::{DocFilter, Sought};
 pub use title_part::TitlePart;
-pub use title_places::{TitlePlace, behind, creates_in_division, own_place};
+pub use title_places::{TitlePlace, behind, own_place};

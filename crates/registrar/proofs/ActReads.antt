@@ -10,8 +10,8 @@ use Rattle.act_model.specs.declared.documents.Doc.{Doc}
 use Rattle.act_model.specs.declared.filing_acts.Act.{Act}
 use Rattle.act_model.specs.declared.filing_acts.Act.TheVariants.{Open, Transfer, Create, NoticeFor, Convert, Assign, Cancel, Exchange, Exercise}
 use Rattle.act_model.specs.declared.receipts.Receipt.{Receipt}
-use Rattle.folio_sections.specs.Documents.{has_proof}
-use Rattle.folio_sections.specs.Groups.{shares_its_group}
+use Rattle.act_model.specs.Documents.{has_proof}
+use Rattle.act_model.specs.Groups.{shares_its_group}
 use Rattle.folio_sections.specs.Judging.{assigns_division_two, converts_full_right, exchanges_unfit_right, is_barred_from_exchange, is_open_as_of, lacks_folio, lacks_reservation, lacks_right, lives, opens, reserves_less}
 use Rattle.folio_sections.specs.Persons.{affected, applicants, holder_then, needed, number_behind, others, owner_side, owners_named, owners_then, persons, stands_in_division_three, waiting_applicants}
 use Rattle.folio_sections.specs.Rights.{holder_for, is_full, is_live, is_spent, live_right}

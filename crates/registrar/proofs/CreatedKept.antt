@@ -10,7 +10,7 @@ use Rattle.gb_base.specs.declared.keys.Key.TheVariants.{Title, Right, Case}
 use Rattle.act_model.proofs.CreationRanks.{has_rank}
 use Rattle.act_model.specs.Acts.{folio_of, right_created}
 use Rattle.act_model.specs.Creations.{creating_rank, folio_of_creation}
-use Rattle.act_model.specs.Touches.{keys_of_act, new_right}
+use Rattle.act_model.specs.Touches.{keys_of_act, new_right, act_of_right}
 use Rattle.act_model.specs.declared.documents.Doc.{Doc}
 use Rattle.act_model.specs.declared.filing_acts.Act.{Act}
 use Rattle.act_model.specs.declared.filing_acts.Act.TheVariants.{Open, Transfer, Create, NoticeFor, Convert, Assign, Cancel, Exchange, Exercise}
@@ -18,9 +18,9 @@ use Rattle.act_model.specs.declared.items.Filing.{Filing}
 use Rattle.act_model.specs.declared.receipts.Receipt.{Receipt}
 use Rattle.act_model.specs.declared.rights.RightSpec.{RightSpec}
 use Rattle.folio_sections.specs.Entries.{at, with_entries}
-use Rattle.folio_sections.specs.Documents.{documents}
+use Rattle.act_model.specs.Documents.{documents}
 use Rattle.folio_sections.specs.Entering.{as_entered, content, contents_brought, enters}
-use Rattle.folio_sections.specs.KeptRights.{CreatedAsFiled, EntersAsFiled, IsAsFiled, IsCreatedAsFiled, SetsPlace, act_of_right}
+use Rattle.folio_sections.specs.KeptRights.{CreatedAsFiled, EntersAsFiled, IsAsFiled, IsCreatedAsFiled, SetsPlace}
 use Rattle.folio_sections.specs.Limits.{most_creations}
 use Rattle.folio_sections.specs.declared.entries.Entry.{Entry}
 use Rattle.folio_sections.specs.declared.entries.What.{What}

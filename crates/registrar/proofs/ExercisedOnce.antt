@@ -18,7 +18,7 @@ use Rattle.act_model.specs.declared.filing_acts.Act.{Act}
 use Rattle.act_model.specs.declared.filing_acts.Act.TheVariants.{Open, Transfer, Create, NoticeFor, Convert, Assign, Cancel, Exchange, Exercise}
 use Rattle.act_model.specs.declared.items.Filing.{Filing}
 use Rattle.act_model.specs.declared.receipts.Receipt.{Receipt}
-use Rattle.folio_sections.specs.Documents.{documents}
+use Rattle.act_model.specs.Documents.{documents}
 use Rattle.folio_sections.specs.Entering.{content, contents_brought, creation, enters, entry_by, notices_brought, places_brought, with_notices}
 use Rattle.folio_sections.specs.Entries.{at}
 use Rattle.folio_sections.specs.Judging.{lacks_reservation, reserves_less}

@@ -15,7 +15,7 @@ use Rattle.act_model.specs.declared.items.Filing.{Filing}
 use Rattle.act_model.specs.declared.receipts.Receipt.{Receipt}
 use Rattle.consent_rules.proofs.HeldLemmas.{parts_of_filing}
 use Rattle.consent_rules.specs.inner.Held.{HasParts}
-use Rattle.folio_sections.specs.Documents.{documents, is_strangers_consent}
+use Rattle.act_model.specs.Documents.{documents, is_strangers_consent}
 use Rattle.folio_sections.specs.Held.{is_given}
 use Rattle.folio_sections.specs.Judging.{curables, defects_under, grounds, holds, is_defective, is_plain_among, is_rejected_under, is_silent_among, judged_filing, judgement_by, lacks_owner, lacks_owner_of_exchange, with_before, KnowsExchanges}
 use Rattle.folio_sections.specs.Persons.{number_behind}

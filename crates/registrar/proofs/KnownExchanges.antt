@@ -8,7 +8,7 @@ use Rattle.gb_base.specs.RightNo.{RightNo}
 use Rattle.gb_base.specs.declared.keys.Key.{Key}
 use Rattle.gb_base.specs.declared.keys.Key.TheVariants.{Right}
 use Rattle.act_model.specs.Acts.{folio_of, right_created}
-use Rattle.act_model.specs.Touches.{acts_of, created_before, created_in, filing_at, keys_of_act, keys_of_acts, keys_of_filing}
+use Rattle.act_model.specs.Touches.{acts_of, created_before, created_in, filing_at, keys_of_act, keys_of_acts, keys_of_filing, act_of_right}
 use Rattle.act_model.specs.declared.filing_acts.Act.{Act}
 use Rattle.act_model.specs.declared.filing_acts.Act.TheVariants.{Exchange}
 use Rattle.act_model.specs.declared.receipts.Receipt.{Receipt}
@@ -16,7 +16,7 @@ use Rattle.folio_sections.specs.Judging.{IsKnownExchange, KnowsExchanges}
 use Rattle.folio_sections.specs.Kept.{Kept}
 use Rattle.folio_sections.specs.KeptEntries.{IsCreatedInTime}
 use Rattle.folio_sections.specs.KeptPlaces.{NamesEarlier}
-use Rattle.folio_sections.specs.KeptRights.{EntersAsFiled, IsAsFiled, act_of_right}
+use Rattle.folio_sections.specs.KeptRights.{EntersAsFiled, IsAsFiled}
 use Rattle.folio_sections.specs.Rights.{created, is_live, live_right}
 use Rattle.folio_sections.specs.Waiting.{is_pending}
 use Rattle.folio_sections.specs.declared.entries.Created.{Created}

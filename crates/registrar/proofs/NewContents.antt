@@ -5,15 +5,14 @@ use Rattle.std.specs.Option.{option_map_or}
 use Rattle.std.proofs.lemmas.Bool.{cond-false, ne_eqb}
 use Rattle.std.proofs.lemmas.List.Elements.{Contains-append_left, Contains-append_right}
 use Rattle.gb_base.specs.declared.keys.Key.{Key}
-use Rattle.act_model.specs.Touches.{act_at, filing_at, keys_of_act, keys_of_acts, keys_of_filing, new_right}
+use Rattle.act_model.specs.Touches.{act_at, filing_at, keys_of_act, keys_of_acts, keys_of_filing, new_right, act_of_right}
 use Rattle.act_model.specs.declared.filing_acts.Act.{Act}
 use Rattle.act_model.specs.declared.items.Filing.{Filing}
 use Rattle.act_model.specs.declared.receipts.Receipt.{Receipt}
-use Rattle.folio_sections.specs.Documents.{documents}
+use Rattle.act_model.specs.Documents.{documents}
 use Rattle.folio_sections.specs.Entering.{content, contents_brought, enters, notices_brought, places_brought, with_notices, with_places}
 use Rattle.folio_sections.specs.Entries.{at, with_entries}
 use Rattle.folio_sections.proofs.Additions.{at-append}
-use Rattle.folio_sections.specs.KeptRights.{act_of_right}
 use Rattle.folio_sections.specs.declared.entries.Entry.{Entry}
 use Rattle.folio_sections.proofs.Unchanged.{all_both, all_weaker}
 use Rattle.registrar.proofs.ContainedParts.{all_at_numbers, all_joined, all_paired, all_themselves}

@@ -9,20 +9,21 @@ use Rattle.gb_base.specs.RightNo.{RightNo}
 use Rattle.gb_base.specs.declared.keys.Key.{Key}
 use Rattle.gb_base.specs.declared.keys.Key.TheVariants.{Right}
 use Rattle.act_model.proofs.KeyOrder.{itself}
-use Rattle.act_model.specs.Touches.{filing_at, new_right}
+use Rattle.act_model.specs.Touches.{filing_at, new_right, act_of_right}
 use Rattle.act_model.specs.declared.documents.Doc.{Doc}
 use Rattle.act_model.specs.declared.filing_acts.Act.{Act}
 use Rattle.act_model.specs.declared.filing_acts.Act.TheVariants.{Open, Transfer, Create, NoticeFor, Convert, Assign, Cancel, Exchange, Exercise}
 use Rattle.act_model.specs.declared.items.Filing.{Filing}
 use Rattle.act_model.specs.declared.receipts.Receipt.{Receipt}
 use Rattle.act_model.specs.declared.rights.RightSpec.{RightSpec}
-use Rattle.folio_sections.specs.Documents.{documents}
-use Rattle.folio_sections.specs.Entering.{as_entered, content, contents_brought, enters, entry_by, notices_brought, places_brought, right_behind, with_notices}
+use Rattle.act_model.specs.Documents.{documents}
+use Rattle.folio_sections.specs.Entering.{as_entered, content, contents_brought, enters, entry_by, notices_brought, places_brought, with_notices}
+use Rattle.act_model.specs.Acts.{right_behind}
 use Rattle.folio_sections.specs.Entries.{at, with_entries}
-use Rattle.folio_sections.specs.Groups.{shares_its_group}
+use Rattle.act_model.specs.Groups.{shares_its_group}
 use Rattle.folio_sections.specs.Judging.{exchanges_unfit_right, is_barred_from_exchange, lacks_reservation, lacks_right, lives, reserves_less}
 use Rattle.folio_sections.specs.KeptPlaces.{NamesEarlier}
-use Rattle.folio_sections.specs.KeptRights.{ActsOnItsKind, CreatedAsFiled, EntersAsFiled, IsAsFiled, IsPlain, StandsAhead, StandsPlain, act_of_right}
+use Rattle.folio_sections.specs.KeptRights.{ActsOnItsKind, CreatedAsFiled, EntersAsFiled, IsAsFiled, IsPlain, StandsAhead, StandsPlain}
 use Rattle.folio_sections.specs.Places.{places}
 use Rattle.folio_sections.specs.Rights.{created, is_full, is_live, is_spent, live_right}
 use Rattle.folio_sections.specs.declared.entries.Created.{Created}

@@ -17,7 +17,8 @@ use Rattle.act_model.specs.declared.rights.RightSpec.{RightSpec}
 use Rattle.folio_sections.specs.Entering.{entry_by, notices_at, notices_brought, placed_at, places_brought, waiting_unnoticed, with_notices}
 use Rattle.folio_sections.specs.Entries.{at}
 use Rattle.folio_sections.specs.KeptRights.{SetsPlace}
-use Rattle.folio_sections.specs.Places.{create_in_division, creates_in_division, creates_there, is_of_division, place_by, place_of}
+use Rattle.act_model.specs.Divisions.{create_in_division, creates_in_division, creates_there, is_of_division}
+use Rattle.folio_sections.specs.Places.{place_by, place_of}
 use Rattle.folio_sections.specs.Waiting.{is_notice_of, is_pending, notice}
 use Rattle.folio_sections.specs.declared.entries.Entry.{Entry}
 use Rattle.folio_sections.specs.declared.entries.What.{What}

@@ -1,9 +1,9 @@
 -- What is looked for among documents.
 use Rattle.std.specs.Prelude.{Bool}
 use Rattle.act_model.specs.declared.documents.Doc.{Doc}
-use Rattle.folio_sections.specs.Documents.{is_agreement, is_certified_consent_of, is_clearance, is_consent_of, is_proof}
-use Rattle.folio_sections.specs.declared.sought.Sought.{Sought}
-use Rattle.folio_sections.specs.declared.sought.Sought.TheVariants as sought
+use Rattle.act_model.specs.Documents.{is_agreement, is_certified_consent_of, is_clearance, is_consent_of, is_proof}
+use Rattle.act_model.specs.declared.sought.Sought.{Sought}
+use Rattle.act_model.specs.declared.sought.Sought.TheVariants as sought
 
 -- the document is what is looked for
 abbrev pub is_sought : Sought → Doc → Bool

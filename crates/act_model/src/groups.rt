@@ -1,8 +1,8 @@
 // Rights of equal rank: creating acts of one filing, folio and group (GBO § 45(1), (3)).
 ghost use Rattle.std.specs.Prelude.{◌≡◌};
-ghost use Rattle.folio_sections.specs.Groups.{has_equal, shares_its_group};
+ghost use Rattle.act_model.specs.Groups.{has_equal, shares_its_group};
 
-use act_model::{Act, Journal, act_at, filing_at, share_group};
+use crate::{Act, Journal, act_at, filing_at, share_group};
 use gb_base::RightId;
 
 /// Whether another act of the right's filing creates a right of the same group in the folio.

@@ -1,8 +1,8 @@
 // What is looked for among documents.
 ghost use Rattle.std.specs.Prelude.{◌≡◌};
-ghost use Rattle.folio_sections.specs.Documents.{is_agreement, is_certified_consent_of, is_clearance, is_consent_of, is_proof};
+ghost use Rattle.act_model.specs.Documents.{is_agreement, is_certified_consent_of, is_clearance, is_consent_of, is_proof};
 
-use act_model::{Doc, Form};
+use crate::{Doc, Form};
 use gb_base::Person;
 
 /// A test of a document.
@@ -34,7 +34,7 @@ pub enum Sought {
 }
 
 impl DocFilter for Sought {
-    ghost use Rattle.folio_sections.specs.Sought.{is_sought};
+    ghost use Rattle.act_model.specs.Sought.{is_sought};
 
     ghost test = { is_sought };
 

@@ -2,7 +2,7 @@ use Rattle.std.proofs.Common.{◌≡◌, ◌&&◌, nat_le, drop, filter, flat_ma
 use Rattle.std.specs.List.{list_any}
 use Rattle.gb_base.specs.Limits.{is_between}
 use Rattle.act_model.specs.Cures.{cures_of}
-use Rattle.folio_sections.specs.Documents.{act_of_doc, docs_by_cure}
+use Rattle.act_model.specs.Documents.{act_of_doc, docs_by_cure}
 use Rattle.folio_sections.proofs.documents.cures_have.Given as goal
 
 abbrev pub invariant-loop-number : goal.invariant-loop-number

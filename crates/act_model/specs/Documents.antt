@@ -4,15 +4,15 @@ use Rattle.std.specs.Option.{option_map_or}
 use Rattle.std.specs.List.{list_any}
 use Rattle.gb_base.specs.Limits.{is_between}
 use Rattle.act_model.specs.declared.documents.Doc.{Doc}
-use Rattle.act_model.specs.declared.documents.Doc.TheVariants as doc
 use Rattle.act_model.specs.declared.documents.Form.{Form}
-use Rattle.act_model.specs.declared.documents.Form.TheVariants as form
 use Rattle.act_model.specs.declared.items.Filing.{Filing}
 use Rattle.act_model.specs.declared.items.Item.{Item}
-use Rattle.act_model.specs.declared.items.Item.TheVariants as item
 use Rattle.act_model.specs.declared.receipts.Receipt.{Receipt}
 use Rattle.act_model.specs.Cures.{cures_of}
 use Rattle.act_model.specs.Receiving.{receipt_at}
+use Rattle.act_model.specs.declared.documents.Doc.TheVariants as doc
+use Rattle.act_model.specs.declared.documents.Form.TheVariants as form
+use Rattle.act_model.specs.declared.items.Item.TheVariants as item
 
 -- the documents that a cure brings
 abbrev pub docs_of_cure : Item → List Doc

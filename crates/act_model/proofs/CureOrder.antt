@@ -1,8 +1,10 @@
 -- Lemmas on the cures of a filing, which ascend.
-use Rattle.std.proofs.Common.{◌≡◌, ℕ, zero, suc, ◌+◌, ◌<◌, Bool, true, false, ◌&&◌, if◌then◌else◌, nat_le, nat_lt, List, [], ◌∷◌, length, get_or, drop, Some, None, refl, sym, subst, arith}
+use Rattle.std.proofs.Common.{◌≡◌, ℕ, zero, suc, ◌+◌, ◌<◌, Bool, true, false, ◌&&◌, if◌then◌else◌, nat_le, nat_lt, List, [], ◌∷◌, length, get_or, drop, Some, None, refl, sym, subst, arith, ◌||◌, cond, filter, flat_map, ap, ◌∙◌, add-one, drop-cons}
 use Rattle.std.specs.List.{cons_option, enumerate_from, filter_map, list_any}
 use Rattle.act_model.specs.Cures.{cure_of, cures, cures_of}
 use Rattle.act_model.specs.declared.receipts.Receipt.{Receipt}
+use Rattle.std.proofs.lemmas.List.Elements.{filter-append}
+use Rattle.std.proofs.lemmas.List.Folds.{list_any-append}
 
 -- none of these numbers, which may pass a test, is up to a receipt
 abbrev NoneUpTo : (ℕ → Bool) → ℕ → List ℕ → Type 0
@@ -49,3 +51,23 @@ none_behind p upto m journal cures is = subst (NoneFrom p upto) (sym is) (none_f
 pub passes_not_both : (b c : Bool) → c ≡ false → (b && c) ≡ false
 passes_not_both true c fails = fails
 passes_not_both false c fails = refl
+
+-- whether one of these passes a test, as one of what some of the others bring
+any_of_parts : {X Y : Type 0} (p q : Y → Bool) (d : X → List Y) → (x : X) (xs : List X) (b r : Bool)
+    → list_any p (filter q (flat_map d xs)) ≡ r
+    → list_any p (filter q (flat_map d (cond b (x ∷ xs) xs))) ≡ ((b && list_any p (filter q (d x))) || r)
+any_of_parts p q d x xs true r rest =
+    ap (list_any p) (filter-append q (d x) (flat_map d xs)) ∙ list_any-append p (filter q (d x)) (filter q (flat_map d xs))
+    ∙ ap (λ s. list_any p (filter q (d x)) || s) rest
+any_of_parts p q d x xs false r rest = rest
+
+-- a test of what those that pass another bring, one after the other
+pub any_brought : {X Y : Type 0} (p q : Y → Bool) (t : X → Bool) (d : X → List Y) → (xs : List X)
+    → list_any p (filter q (flat_map d (filter t xs))) ≡ list_any (λ x. t x && list_any p (filter q (d x))) xs
+any_brought p q t d [] = refl
+any_brought p q t d (x ∷ xs) = any_of_parts p q d x (filter t xs) (t x) _ (any_brought p q t d xs)
+
+-- one that does not pass is passed over
+pub any_past : {X : Type 0} (p : X → Bool) (xs : List X) (i : ℕ) (x : X) → i < length xs → p (get_or xs i x) ≡ false
+    → list_any p (drop (i + 1) xs) ≡ list_any p (drop i xs)
+any_past p xs i x lt fails = rw (add-one, drop-cons xs i x) (rw fails refl)

@@ -1,9 +1,8 @@
 use Rattle.std.proofs.Common.{ap, arith, subst, sym, ◌∙◌, ◌&&◌, ◌<◌, nat_le, filter}
 use Rattle.std.specs.List.{list_any}
 use Rattle.gb_base.specs.Limits.{is_between}
-use Rattle.folio_sections.specs.Documents.{act_of_doc, docs_by_cure}
-use Rattle.folio_sections.proofs.Cures.{none_behind, passes_not_both}
-use Rattle.folio_sections.proofs.ListLemmas.{any_past}
+use Rattle.act_model.specs.Documents.{act_of_doc, docs_by_cure}
+use Rattle.act_model.proofs.CureOrder.{any_past, none_behind, passes_not_both}
 use Rattle.folio_sections.proofs.documents.cures_have.Goals as goal
 
 pub loop-number-preserved : goal.loop-number-preserved

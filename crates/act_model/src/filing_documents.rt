@@ -3,10 +3,10 @@ ghost use Rattle.std.specs.Prelude.{◌≡◌, ◌&&◌, nat_le, filter, flat_ma
 ghost use Rattle.act_model.specs.Cures.{cures_of};
 ghost use Rattle.std.specs.List.{list_any};
 ghost use Rattle.gb_base.specs.Limits.{is_between};
-ghost use Rattle.folio_sections.specs.Documents.{act_of_doc, docs_by_cure, docs_of_cure};
+ghost use Rattle.act_model.specs.Documents.{act_of_doc, docs_by_cure, docs_of_cure};
 
 use crate::sought::{DocFilter, Sought};
-use act_model::{Doc, Filing, Form, Item, Journal};
+use crate::{Doc, Filing, Form, Item, Journal};
 use gb_base::{Person, ReceiptNo};
 use std::marker::Model;
 
@@ -23,7 +23,7 @@ pub struct Documents<'a> {
 impl<'a> Model for Documents<'a> {
     ghost use Rattle.std.specs.Prelude.{List};
     ghost use Rattle.act_model.specs.declared.documents.Doc.{Doc};
-    ghost use Rattle.folio_sections.specs.Documents.{documents};
+    ghost use Rattle.act_model.specs.Documents.{documents};
 
     ghost Value = { List Doc };
 
@@ -31,7 +31,7 @@ impl<'a> Model for Documents<'a> {
 }
 
 impl<'a> Documents<'a> {
-    ghost use Rattle.folio_sections.specs.Documents.{documents, given, has_proof};
+    ghost use Rattle.act_model.specs.Documents.{documents, given, has_proof};
 
     /// The documents of filing `number`, with those of its cures up to receipt `upto`.
     pub fn new(
@@ -83,7 +83,7 @@ impl<'a> Documents<'a> {
 }
 
 /// Whether a cure of the filing, up to a receipt, brings such a document for one of so many acts.
-#[tactic(auto, using(crate::proofs::ListLemmas::any_brought))]
+#[tactic(auto, using(crate::proofs::CureOrder::any_brought))]
 fn cures_have<T: DocFilter>(
     journal: &Journal,
     filing: ReceiptNo,
