@@ -4,10 +4,10 @@ ghost use Rattle.std.specs.Option.{option_copied};
 ghost use Rattle.gb_base.specs.Limits.{most_acts};
 ghost use Rattle.act_model.specs.Creations.{folio_of_right};
 ghost use Rattle.act_model.specs.WellFormed.{is_filing, well_formed};
-ghost use Rattle.act_model.specs.Touches.{filing_in, filing_at, acts_of, act_at, created_in, created_before, new_right};
+ghost use Rattle.act_model.specs.Touches.{applicant_of, filing_in, filing_at, acts_of, act_at, created_in, created_before, new_right};
 
 use crate::{Act, Filing, Item, Journal, RightSpec};
-use gb_base::{FolioId, ReceiptNo, RightId};
+use gb_base::{FolioId, Person, ReceiptNo, RightId};
 
 /// Filing m; None where receipt m is no filing.
 pub fn filing_at(journal: &Journal, m: ReceiptNo) -> Option<&Filing>

@@ -2,8 +2,8 @@
 ghost use Rattle.std.specs.Prelude.{◌≡◌, ◌==◌, if◌then◌else◌, [], ◌++◌, true, IsTrue};
 ghost use Rattle.std.specs.List.{list_any};
 ghost use Rattle.gb_base.specs.declared.keys.Key.TheVariants.{Title, Right};
-ghost use Rattle.folio_sections.specs.Judging.{may_not_apply};
-ghost use Rattle.folio_sections.specs.Persons.{applicants, holder_then, owners_then, stands_in_division_three};
+ghost use Rattle.consent_rules.specs.Judging.{may_not_apply};
+ghost use Rattle.consent_rules.specs.Persons.{applicants, holder_then, owners_then, stands_in_division_three};
 ghost use Rattle.consent_rules.specs.inner.Held.{HasParts};
 
 use crate::parts_read::stands_in_division_three;

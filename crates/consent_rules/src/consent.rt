@@ -1,15 +1,15 @@
 // Whether those whose consent an act needs have given it (GBO §§ 19, 29).
 ghost use Rattle.std.specs.Prelude.{◌≡◌, ◌<◌, length};
-ghost use Rattle.folio_sections.specs.Judging.{has_stranger, is_plain_among, is_silent_among, lacks_agreement, lacks_clearance, lacks_consent, lacks_owner, lacks_owner_of_exchange};
-ghost use Rattle.folio_sections.specs.Persons.{needed, number_behind, others, owner_side};
+ghost use Rattle.consent_rules.specs.Judging.{has_stranger, is_plain_among, is_silent_among, lacks_agreement, lacks_clearance, lacks_consent, lacks_owner, lacks_owner_of_exchange};
+ghost use Rattle.consent_rules.specs.Persons.{needed, number_behind, others, owner_side};
 ghost use Rattle.consent_rules.specs.inner.Held.{HasParts};
 
 use crate::consenters::Stranger;
 use crate::lacks::Lack;
 use crate::matters::Matter;
 use crate::needed::{needed, number_behind};
-use act_model::Act;
-use folio_sections::{Documents, Parts, Sought};
+use act_model::{Act, Documents, Sought};
+use folio_sections::Parts;
 
 /// Whether somebody affected has given no consent for the act (GBO § 19).
 pub fn lacks_consent<P: Parts>(parts: &P, matter: &Matter, before: &[Act], act: &Act) -> bool

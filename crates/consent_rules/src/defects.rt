@@ -1,6 +1,6 @@
 // The curable defects, of which all that hold are listed (GBO § 18).
 ghost use Rattle.std.specs.Prelude.{◌≡◌, ◌+◌, ◌≤◌, ◌<◌, ◌++◌, length, All};
-ghost use Rattle.folio_sections.specs.Judging.{defects, defects_under, is_defective};
+ghost use Rattle.consent_rules.specs.Judging.{defects, defects_under, is_defective};
 ghost use Rattle.consent_rules.specs.inner.Held.{HasParts};
 
 use crate::consent::{
@@ -9,9 +9,10 @@ use crate::consent::{
 };
 use crate::matters::Matter;
 use crate::needed::number_behind;
+use crate::Defect;
 use act_model::Act;
 use arrayvec::ArrayVec;
-use folio_sections::{Defect, Parts};
+use folio_sections::Parts;
 use gb_base::Section;
 
 /// The sections of the defects, in the order in which they are listed.

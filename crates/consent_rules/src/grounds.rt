@@ -1,7 +1,7 @@
 // The grounds for rejection, of which the first that holds is named (GBO § 18).
 ghost use Rattle.std.specs.Prelude.{◌≡◌, ◌<◌, length, find, All};
 ghost use Rattle.std.specs.List.{list_any};
-ghost use Rattle.folio_sections.specs.Judging.{holds, is_rejected_under, rejection, with_before};
+ghost use Rattle.consent_rules.specs.Judging.{holds, is_rejected_under, rejection, with_before};
 ghost use Rattle.consent_rules.specs.inner.Held.{HasParts};
 
 use crate::applying::may_not_apply;

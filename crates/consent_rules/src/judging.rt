@@ -2,15 +2,16 @@
 ghost use Rattle.std.specs.Prelude.{◌≡◌, ◌≤◌, Some, length, IsSome, IsTrue, All, Contains};
 ghost use Rattle.gb_base.specs.declared.keys.Key.{Key};
 ghost use Rattle.act_model.specs.Touches.{filing_at, keys_of_filing};
-ghost use Rattle.folio_sections.specs.Judging.{defects, interim_or_enter, judged, judgement_by, rejection, KnowsExchanges};
+ghost use Rattle.consent_rules.specs.Judging.{defects, interim_or_enter, judged, judgement_by, rejection, KnowsExchanges};
 ghost use Rattle.consent_rules.specs.inner.Held.{HasParts};
 
 use crate::defects::defects;
 use crate::grounds::rejection;
 use crate::matters::Matter;
-use act_model::{Journal, filing_at};
+use crate::{Defect, Defects, Judgement};
+use act_model::{Documents, Journal, filing_at};
 use arrayvec::ArrayVec;
-use folio_sections::{Defect, Defects, Documents, Judgement, Parts};
+use folio_sections::Parts;
 use gb_base::ReceiptNo;
 
 /// Filing `filing`, judged on the register as it stands, with its documents and those of its cures

@@ -3,8 +3,7 @@ ghost use Rattle.std.specs.Prelude.{◌≡◌};
 ghost use Rattle.std.specs.List.{list_any};
 ghost use Rattle.consent_rules.specs.inner.Lacks.{is_lacking};
 
-use act_model::Form;
-use folio_sections::Documents;
+use act_model::{Documents, Form};
 use gb_base::Person;
 
 /// What somebody's consent to an act may lack.

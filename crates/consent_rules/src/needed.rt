@@ -1,7 +1,7 @@
 // Whose consent each act needs (GBO §§ 19, 22, 27; BGB §§ 876, 880(2)).
 ghost use Rattle.std.specs.Prelude.{◌≡◌, ◌≤◌, ◌<◌, ◌&&◌, not, if◌then◌else◌, [], length, IsTrue};
 ghost use Rattle.gb_base.specs.declared.keys.Key.TheVariants.{Title, Right};
-ghost use Rattle.folio_sections.specs.Persons.{affected, holder_then, number_behind, others, owner_side, owners_then, persons, stands_in_division_three, waiting_applicants};
+ghost use Rattle.consent_rules.specs.Persons.{affected, holder_then, number_behind, others, owner_side, owners_then, persons, stands_in_division_three, waiting_applicants};
 ghost use Rattle.consent_rules.specs.inner.Held.{HasParts};
 
 use crate::consenters::Consenters;
@@ -9,9 +9,9 @@ use crate::matters::Matter;
 use crate::parts_read::{right_part, stands_in_division_three};
 use crate::persons::{holder_then, owners_then, people};
 use crate::waiting::Waiting;
-use act_model::{Act, Journal};
+use act_model::{Act, Documents, Journal};
 use arrayvec::ArrayVec;
-use folio_sections::{Documents, Parts, RightPart};
+use folio_sections::{Parts, RightPart};
 use gb_base::{FolioId, Person, ReceiptNo, RightId};
 
 /// The number of an act behind these.

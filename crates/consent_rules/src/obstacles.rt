@@ -3,13 +3,13 @@ ghost use Rattle.std.specs.Prelude.{◌≡◌, ◌<◌, ◌||◌, length, is_som
 ghost use Rattle.std.specs.List.{list_any};
 ghost use Rattle.std.specs.Option.{option_map_or};
 ghost use Rattle.gb_base.specs.declared.keys.Key.TheVariants.{Title, Right};
-ghost use Rattle.folio_sections.specs.Judging.{assigns_division_two, converts_full_right, exchanges_unfit_right, is_barred_from_exchange, is_beyond_limit, is_open_as_of, lacks_folio, lacks_reservation, lacks_right, opens, reserves_less};
+ghost use Rattle.consent_rules.specs.Judging.{assigns_division_two, converts_full_right, exchanges_unfit_right, is_barred_from_exchange, is_beyond_limit, is_open_as_of, lacks_folio, lacks_reservation, lacks_right, opens, reserves_less};
 ghost use Rattle.consent_rules.specs.inner.Held.{HasParts};
 
 use crate::needed::number_behind;
 use crate::parts_read::{live_right, lives, right_part, title_part};
-use act_model::{Act, Journal};
-use folio_sections::{Created, Parts, shares_its_group};
+use act_model::{Act, Journal, shares_its_group};
+use folio_sections::{Created, Parts};
 use gb_base::{Cents, FolioId, ReceiptNo, RightId};
 
 /// How many creating acts a folio has at most, whatever became of their filings.

@@ -1,7 +1,7 @@
 // Whom an act concerns: the owners as of the act, and the holder of a right (GBO §§ 18(2), 19).
 ghost use Rattle.std.specs.Prelude.{◌≡◌, fold, IsTrue};
 ghost use Rattle.gb_base.specs.declared.keys.Key.TheVariants.{Title, Right};
-ghost use Rattle.folio_sections.specs.Persons.{holder_then, owners_as_of, owners_named, owners_then};
+ghost use Rattle.consent_rules.specs.Persons.{holder_then, owners_as_of, owners_named, owners_then};
 
 use crate::parts_read::{right_part, title_part};
 use act_model::{Act, Owners};

@@ -3,7 +3,7 @@ ghost use Rattle.std.specs.Prelude.{◌≡◌, true, All, IsSome, IsTrue, Contai
 ghost use Rattle.std.specs.List.{list_all};
 ghost use Rattle.gb_base.specs.declared.keys.Key.{Key};
 ghost use Rattle.act_model.specs.Touches.{created_before, filing_at, keys_of_filing};
-ghost use Rattle.folio_sections.specs.Judging.{IsKnownExchange, KnowsExchanges};
+ghost use Rattle.consent_rules.specs.Judging.{IsKnownExchange, KnowsExchanges};
 ghost use Rattle.consent_rules.specs.inner.Held.{HasParts};
 
 use crate::parts_read::live_right;

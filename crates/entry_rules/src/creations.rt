@@ -4,13 +4,14 @@ ghost use Rattle.gb_base.specs.Limits.{most_acts};
 ghost use Rattle.gb_base.specs.declared.keys.Key.TheVariants.{Title, Right};
 ghost use Rattle.act_model.specs.Acts.{folio_of, reserve_of, right_behind};
 ghost use Rattle.act_model.specs.Touches.{new_right};
-ghost use Rattle.folio_sections.specs.Entering.{as_entered, day_placed, entry_by, form_created};
+ghost use Rattle.entry_rules.specs.Entering.{as_entered, day_placed, form_created};
+ghost use Rattle.folio_sections.specs.Entries.{entry_by};
 ghost use Rattle.folio_sections.specs.Places.{places, places_among};
 ghost use Rattle.folio_sections.specs.declared.entries.What.TheVariants as what;
 
 use crate::adding::Entering;
-use act_model::{Act, RightSpec, new_right};
-use folio_sections::{Created, Entry, Parts, RightForm, What, behind, has_equal, own_place};
+use act_model::{Act, RightSpec, has_equal, new_right};
+use folio_sections::{Created, Entry, Parts, RightForm, What, behind, own_place};
 use gb_base::{Cents, Day, FolioId, Key, RightId};
 
 /// The entry of the right of this description that act a creates, on the places that stand at the

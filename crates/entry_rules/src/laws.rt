@@ -5,7 +5,7 @@ ghost use Rattle.act_model.specs.Receiving.{IsJournal};
 ghost use Rattle.act_model.specs.Touches.{keys_of_filing};
 ghost use Rattle.act_model.specs.declared.receipts.Receipt.{Receipt};
 ghost use Rattle.folio_sections.specs.Adding.{HasRoom};
-ghost use Rattle.folio_sections.specs.Entering.{entered};
+ghost use Rattle.entry_rules.specs.Entering.{entered};
 ghost use Rattle.folio_sections.specs.declared.entries.Entry.{Entry};
 ghost use Rattle.entry_rules.specs.Limits.{most_entered};
 

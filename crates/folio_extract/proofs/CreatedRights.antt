@@ -21,8 +21,8 @@ use Rattle.act_model.specs.declared.filing_acts.Act.TheVariants.{Create, Exercis
 use Rattle.act_model.specs.declared.items.Filing.{Filing}
 use Rattle.act_model.specs.declared.receipts.Receipt.{Receipt}
 use Rattle.act_model.specs.declared.rights.RightSpec.{RightSpec}
-use Rattle.folio_sections.specs.Kept.{Kept}
-use Rattle.folio_sections.specs.KeptRights.{EntersAsFiled, IsAsFiled}
+use Rattle.kept_registers.specs.Kept.{Kept}
+use Rattle.kept_registers.specs.KeptRights.{EntersAsFiled, IsAsFiled}
 use Rattle.folio_sections.specs.Limits.{most_creations}
 use Rattle.folio_sections.specs.Rights.{created}
 use Rattle.folio_sections.specs.declared.entries.Created.{Created}
@@ -30,7 +30,7 @@ use Rattle.folio_sections.specs.declared.entries.Entry.{Entry}
 use Rattle.folio_sections.specs.declared.entries.What.{What}
 use Rattle.folio_sections.specs.declared.entries.What.TheVariants as what
 use Rattle.folio_sections.proofs.Unchanged.{all_weaker}
-use Rattle.folio_sections.proofs.KeptOrder.{OfCreation, created_has}
+use Rattle.kept_registers.proofs.KeptOrder.{OfCreation, created_has}
 use Rattle.registrar.proofs.ItemsKeep.{well_filed}
 
 -- ---- its act

@@ -18,8 +18,8 @@ use Rattle.act_model.specs.declared.items.Item.{Item}
 use Rattle.act_model.specs.declared.items.Item.TheVariants as item
 use Rattle.act_model.specs.declared.receipts.Receipt.{Receipt}
 use Rattle.folio_sections.specs.HeldRights.{receipt_numbers, rights_of_filing}
-use Rattle.folio_sections.specs.Kept.{Kept}
-use Rattle.folio_sections.specs.KeptRights.{IsAsFiled}
+use Rattle.kept_registers.specs.Kept.{Kept}
+use Rattle.kept_registers.specs.KeptRights.{IsAsFiled}
 use Rattle.folio_sections.specs.declared.entries.Created.{Created}
 use Rattle.folio_sections.specs.declared.entries.Entry.{Entry}
 use Rattle.folio_sections.proofs.ReceiptNumbers.{numbers_up_to}

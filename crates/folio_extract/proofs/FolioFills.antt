@@ -13,8 +13,8 @@ use Rattle.gb_base.proofs.Members.{In}
 use Rattle.gb_base.proofs.SameRights.{right_is, right_self}
 use Rattle.act_model.specs.Receiving.{IsJournal}
 use Rattle.act_model.specs.declared.receipts.Receipt.{Receipt}
-use Rattle.folio_sections.specs.Kept.{Kept}
-use Rattle.folio_sections.specs.KeptCases.{LeavesCents}
+use Rattle.kept_registers.specs.Kept.{Kept}
+use Rattle.kept_registers.specs.KeptCases.{LeavesCents}
 use Rattle.folio_sections.specs.Rights.{created, is_live, remaining_by}
 use Rattle.folio_sections.specs.declared.entries.Created.{Created}
 use Rattle.folio_sections.specs.declared.entries.Entry.{Entry}

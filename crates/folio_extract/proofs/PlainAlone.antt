@@ -9,8 +9,8 @@ use Rattle.gb_base.proofs.SameRights.{right_is, right_self}
 use Rattle.act_model.specs.Receiving.{IsJournal}
 use Rattle.act_model.specs.declared.receipts.Receipt.{Receipt}
 use Rattle.act_model.specs.Groups.{shares_its_group}
-use Rattle.folio_sections.specs.Kept.{Kept}
-use Rattle.folio_sections.specs.KeptRights.{IsPlain, StandsPlain}
+use Rattle.kept_registers.specs.Kept.{Kept}
+use Rattle.kept_registers.specs.KeptRights.{IsPlain, StandsPlain}
 use Rattle.folio_sections.specs.Rights.{created, is_live}
 use Rattle.folio_sections.specs.declared.entries.Entry.{Entry}
 use Rattle.folio_sections.proofs.DistinctLists.{distinct_weaker}

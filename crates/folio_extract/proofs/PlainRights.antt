@@ -12,7 +12,7 @@ use Rattle.act_model.specs.declared.filing_acts.Act.{Act}
 use Rattle.act_model.specs.declared.items.Filing.{Filing}
 use Rattle.act_model.specs.declared.receipts.Receipt.{Receipt}
 use Rattle.act_model.specs.Groups.{has_equal, shares_its_group}
-use Rattle.folio_sections.specs.KeptRights.{IsAsFiled}
+use Rattle.kept_registers.specs.KeptRights.{IsAsFiled}
 use Rattle.folio_sections.specs.declared.entries.Created.{Created}
 use Rattle.folio_extract.specs.FolioRights.{has_same_place}
 use Rattle.folio_extract.specs.declared.folio_rights.CreatedRight.{CreatedRight}

@@ -8,7 +8,7 @@ use Rattle.gb_base.specs.declared.keys.Key.{Key}
 use Rattle.gb_base.specs.declared.keys.Key.TheVariants.{Title}
 use Rattle.act_model.specs.declared.receipts.Receipt.{Receipt}
 use Rattle.folio_sections.specs.Places.{places}
-use Rattle.folio_sections.specs.Ranks.{is_ahead, ranked}
+use Rattle.kept_registers.specs.Ranks.{is_ahead, ranked}
 use Rattle.folio_sections.specs.Titles.{is_open}
 use Rattle.folio_sections.specs.declared.entries.Entry.{Entry}
 use Rattle.folio_sections.specs.declared.title_places.TitlePlace.{TitlePlace}

@@ -2,7 +2,7 @@
 ghost use Rattle.std.specs.Prelude.{◌≡◌, ◌≤◌, All, IfOk, None, map};
 ghost use Rattle.gb_base.specs.Limits.{most_cents};
 ghost use Rattle.folio_sections.specs.Held.{entries_at};
-ghost use Rattle.folio_sections.specs.Kept.{Kept};
+ghost use Rattle.kept_registers.specs.Kept.{Kept};
 ghost use Rattle.folio_extract.specs.Exchanges.{counted_exchanges};
 ghost use Rattle.folio_extract.specs.FolioSlots.{filled_by, joins_place, place_behind, places_behind, swap_of};
 

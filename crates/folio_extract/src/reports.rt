@@ -2,7 +2,7 @@
 ghost use Rattle.std.specs.Prelude.{◌≡◌, ◌++◌, IfOk, OnOk, length};
 ghost use Rattle.std.specs.String.{string_bytes};
 ghost use Rattle.folio_sections.specs.Held.{entries_at};
-ghost use Rattle.folio_sections.specs.Kept.{Kept};
+ghost use Rattle.kept_registers.specs.Kept.{Kept};
 ghost use Rattle.folio_extract.specs.Reports.{Tells, end_line, folio_texts, report, report_text};
 ghost use Rattle.registrar.specs.Settling.{Settled};
 

@@ -6,12 +6,8 @@ pub mod FilteredLists
 pub mod HeldParts
 pub mod HeldRights
 pub mod Indexes
-pub mod KeptOrder
 pub mod ListLemmas
-pub mod PlaceDays
-pub mod PlaceOrder
 pub mod Progress
-pub mod RankOrder
 pub mod ReceiptNumbers
 pub mod Unchanged
 pub mod Unnoticed

@@ -5,10 +5,6 @@ use Rattle.std.specs.Prelude.{ℕ}
 abbrev pub most_creations : ℕ
 most_creations = 256
 
--- the most curable defects of a filing: six sections, eight acts
-abbrev pub most_defects : ℕ
-most_defects = 48
-
 -- the most seizures in a case
 abbrev pub most_seizures : ℕ
 most_seizures = 8

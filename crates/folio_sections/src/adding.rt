@@ -3,7 +3,7 @@ ghost use Rattle.std.specs.Prelude.{◌≡◌, ◌≤◌, [], ◌∷◌, length,
 ghost use Rattle.gb_base.specs.DayMinute.{IsStampDay};
 ghost use Rattle.act_model.specs.Receiving.{day_of};
 ghost use Rattle.folio_sections.specs.Adding.{AddsList, HasRoom};
-ghost use Rattle.folio_sections.specs.Entering.{entry_by};
+ghost use Rattle.folio_sections.specs.Entries.{entry_by};
 
 use crate::{Entry, Parts, What};
 use act_model::Journal;

@@ -25,8 +25,7 @@ impl Model for CasePart {
 impl CasePart {
     ghost use Rattle.std.specs.List.{find};
     ghost use Rattle.folio_sections.specs.Cases.{is_running, seizures, award, call};
-    ghost use Rattle.folio_sections.specs.Entering.{waiting_unnoticed};
-    ghost use Rattle.folio_sections.specs.Waiting.{pending, is_above};
+    ghost use Rattle.folio_sections.specs.Waiting.{waiting_unnoticed, pending, is_above};
 
     /// The empty part at a key.
     pub fn new(alloc: Global, key: Key) -> CasePart

@@ -10,8 +10,6 @@ mod case_part;
 mod case_tests;
 mod entries;
 mod entry_list;
-mod judgements;
-pub mod laws;
 mod map_parts;
 #[cfg(test)]
 mod map_tests;
@@ -30,7 +28,6 @@ mod waiting;
 pub use adding::{add, day_of, entry_by};
 pub use case_part::CasePart;
 pub use entries::{Created, Entry, RightForm, What};
-pub use judgements::{Defect, Defects, Judgement};
 pub use map_parts::MapParts;
 pub use parts::Parts;
 pub use right_part::RightPart;

@@ -25,9 +25,8 @@ impl Model for RightPart {
 
 impl RightPart {
     ghost use Rattle.std.specs.List.{find};
-    ghost use Rattle.folio_sections.specs.Entering.{waiting_unnoticed};
+    ghost use Rattle.folio_sections.specs.Waiting.{waiting_unnoticed, pending, is_above, notice};
     ghost use Rattle.folio_sections.specs.Rights.{created, is_live, is_full, holder, holder_for, capital, is_spent};
-    ghost use Rattle.folio_sections.specs.Waiting.{pending, is_above, notice};
 
     /// The empty part at a key.
     pub fn new(alloc: Global, key: Key) -> RightPart

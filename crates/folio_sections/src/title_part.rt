@@ -27,9 +27,8 @@ impl Model for TitlePart {
 
 impl TitlePart {
     ghost use Rattle.std.specs.List.{find};
-    ghost use Rattle.folio_sections.specs.Entering.{waiting_unnoticed};
+    ghost use Rattle.folio_sections.specs.Waiting.{waiting_unnoticed, pending, is_above, notice};
     ghost use Rattle.folio_sections.specs.Titles.{is_open, inventory, owners, owners_for};
-    ghost use Rattle.folio_sections.specs.Waiting.{pending, is_above, notice};
 
     /// The empty part at a key.
     pub fn new(alloc: Global, key: Key) -> TitlePart

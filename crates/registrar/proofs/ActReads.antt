@@ -12,8 +12,8 @@ use Rattle.act_model.specs.declared.filing_acts.Act.TheVariants.{Open, Transfer,
 use Rattle.act_model.specs.declared.receipts.Receipt.{Receipt}
 use Rattle.act_model.specs.Documents.{has_proof}
 use Rattle.act_model.specs.Groups.{shares_its_group}
-use Rattle.folio_sections.specs.Judging.{assigns_division_two, converts_full_right, exchanges_unfit_right, is_barred_from_exchange, is_open_as_of, lacks_folio, lacks_reservation, lacks_right, lives, opens, reserves_less}
-use Rattle.folio_sections.specs.Persons.{affected, applicants, holder_then, needed, number_behind, others, owner_side, owners_named, owners_then, persons, stands_in_division_three, waiting_applicants}
+use Rattle.consent_rules.specs.Judging.{assigns_division_two, converts_full_right, exchanges_unfit_right, is_barred_from_exchange, is_open_as_of, lacks_folio, lacks_reservation, lacks_right, lives, opens, reserves_less}
+use Rattle.consent_rules.specs.Persons.{affected, applicants, holder_then, needed, number_behind, others, owner_side, owners_named, owners_then, persons, stands_in_division_three, waiting_applicants}
 use Rattle.folio_sections.specs.Rights.{holder_for, is_full, is_live, is_spent, live_right}
 use Rattle.folio_sections.specs.Titles.{is_open, owners_for}
 use Rattle.folio_sections.specs.declared.entries.Entry.{Entry}

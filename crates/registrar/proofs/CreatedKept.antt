@@ -19,8 +19,9 @@ use Rattle.act_model.specs.declared.receipts.Receipt.{Receipt}
 use Rattle.act_model.specs.declared.rights.RightSpec.{RightSpec}
 use Rattle.folio_sections.specs.Entries.{at, with_entries}
 use Rattle.act_model.specs.Documents.{documents}
-use Rattle.folio_sections.specs.Entering.{as_entered, content, contents_brought, enters}
-use Rattle.folio_sections.specs.KeptRights.{CreatedAsFiled, EntersAsFiled, IsAsFiled, IsCreatedAsFiled, SetsPlace}
+use Rattle.entry_rules.specs.Entering.{as_entered, content, contents_brought}
+use Rattle.registrar.specs.Enters.{enters}
+use Rattle.kept_registers.specs.KeptRights.{CreatedAsFiled, EntersAsFiled, IsAsFiled, IsCreatedAsFiled, SetsPlace}
 use Rattle.folio_sections.specs.Limits.{most_creations}
 use Rattle.folio_sections.specs.declared.entries.Entry.{Entry}
 use Rattle.folio_sections.specs.declared.entries.What.{What}

@@ -6,7 +6,7 @@ use Rattle.gb_base.specs.RightNo.{RightNo}
 use Rattle.gb_base.specs.declared.keys.Key.{Key}
 use Rattle.gb_base.specs.declared.keys.Key.TheVariants.{Title, Right, Case}
 use Rattle.act_model.specs.declared.receipts.Receipt.{Receipt}
-use Rattle.folio_sections.specs.KeptRights.{ActsOnItsKind, IsPlain, StandsAhead, StandsPlain}
+use Rattle.kept_registers.specs.KeptRights.{ActsOnItsKind, IsPlain, StandsAhead, StandsPlain}
 use Rattle.folio_sections.specs.Rights.{created, is_exercise}
 use Rattle.folio_sections.specs.declared.entries.Created.{Created}
 use Rattle.folio_sections.specs.declared.entries.Entry.{Entry}

@@ -9,10 +9,10 @@ use Rattle.act_model.specs.declared.items.Item.{Item}
 use Rattle.act_model.specs.declared.items.Item.TheVariants as item
 use Rattle.act_model.specs.declared.receipts.Receipt.{Receipt}
 use Rattle.folio_sections.specs.Adding.{HasRoom}
-use Rattle.folio_sections.specs.Judging.{judged, judged_filing}
+use Rattle.consent_rules.specs.Judging.{judged, judged_filing}
 use Rattle.folio_sections.specs.declared.entries.Entry.{Entry}
-use Rattle.folio_sections.specs.declared.judgements.Judgement.{Judgement}
-use Rattle.folio_sections.specs.declared.judgements.Judgement.TheVariants.{Enter, Interim, Reject}
+use Rattle.consent_rules.specs.declared.judgements.Judgement.{Judgement}
+use Rattle.consent_rules.specs.declared.judgements.Judgement.TheVariants.{Enter, Interim, Reject}
 use Rattle.interim_orders.proofs.Room.{lapse_fits}
 use Rattle.interim_orders.specs.Lapses.{lapse_at, lapse_in}
 use Rattle.interim_orders.specs.Orders.{deadline_of, state_of}

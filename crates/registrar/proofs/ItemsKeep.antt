@@ -13,11 +13,11 @@ use Rattle.act_model.specs.declared.items.Item.{Item}
 use Rattle.act_model.specs.declared.items.Item.TheVariants as item
 use Rattle.act_model.specs.declared.receipts.Receipt.{Receipt}
 use Rattle.act_model.specs.Documents.{documents}
-use Rattle.folio_sections.specs.Judging.{defects, judged_filing, judgement_by, rejection}
+use Rattle.consent_rules.specs.Judging.{defects, judged_filing, judgement_by, rejection}
 use Rattle.folio_sections.specs.declared.entries.Entry.{Entry}
-use Rattle.folio_sections.specs.declared.judgements.Defect.{Defect}
-use Rattle.folio_sections.specs.declared.judgements.Judgement.{Judgement}
-use Rattle.folio_sections.specs.declared.judgements.Judgement.TheVariants.{Enter, Interim, Reject}
+use Rattle.consent_rules.specs.declared.judgements.Defect.{Defect}
+use Rattle.consent_rules.specs.declared.judgements.Judgement.{Judgement}
+use Rattle.consent_rules.specs.declared.judgements.Judgement.TheVariants.{Enter, Interim, Reject}
 use Rattle.gb_base.specs.declared.sections.Section.{Section}
 use Rattle.registrar.proofs.Dealing.{Deals, IsFit}
 use Rattle.registrar.proofs.Keeping.{Leaves, entry_leaves, none_leave, order_leaves}

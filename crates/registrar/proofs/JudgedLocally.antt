@@ -17,10 +17,10 @@ use Rattle.consent_rules.proofs.HeldLemmas.{parts_of_filing}
 use Rattle.consent_rules.specs.inner.Held.{HasParts}
 use Rattle.act_model.specs.Documents.{documents, is_strangers_consent}
 use Rattle.folio_sections.specs.Held.{is_given}
-use Rattle.folio_sections.specs.Judging.{curables, defects_under, grounds, holds, is_defective, is_plain_among, is_rejected_under, is_silent_among, judged_filing, judgement_by, lacks_owner, lacks_owner_of_exchange, with_before, KnowsExchanges}
-use Rattle.folio_sections.specs.Persons.{number_behind}
+use Rattle.consent_rules.specs.Judging.{curables, defects_under, grounds, holds, is_defective, is_plain_among, is_rejected_under, is_silent_among, judged_filing, judgement_by, lacks_owner, lacks_owner_of_exchange, with_before, KnowsExchanges}
+use Rattle.consent_rules.specs.Persons.{number_behind}
 use Rattle.folio_sections.specs.declared.entries.Entry.{Entry}
-use Rattle.folio_sections.specs.declared.judgements.Defect.{Defect}
+use Rattle.consent_rules.specs.declared.judgements.Defect.{Defect}
 use Rattle.folio_sections.proofs.Unchanged.{all_weaker}
 use Rattle.folio_sections.proofs.FilteredLists.{filter_alike}
 use Rattle.registrar.proofs.ActReads.{affected_locally, applicants_locally, assignment_locally, conversion_locally, exchange_locally, folio_locally, needed_locally, others_locally, owner_side_locally, reservation_locally, right_locally, ReadsSame}

@@ -12,18 +12,18 @@ use Rattle.act_model.specs.Touches.{acts_of, created_before, created_in, filing_
 use Rattle.act_model.specs.declared.filing_acts.Act.{Act}
 use Rattle.act_model.specs.declared.filing_acts.Act.TheVariants.{Exchange}
 use Rattle.act_model.specs.declared.receipts.Receipt.{Receipt}
-use Rattle.folio_sections.specs.Judging.{IsKnownExchange, KnowsExchanges}
-use Rattle.folio_sections.specs.Kept.{Kept}
-use Rattle.folio_sections.specs.KeptEntries.{IsCreatedInTime}
-use Rattle.folio_sections.specs.KeptPlaces.{NamesEarlier}
-use Rattle.folio_sections.specs.KeptRights.{EntersAsFiled, IsAsFiled}
+use Rattle.consent_rules.specs.Judging.{IsKnownExchange, KnowsExchanges}
+use Rattle.kept_registers.specs.Kept.{Kept}
+use Rattle.kept_registers.specs.KeptEntries.{IsCreatedInTime}
+use Rattle.kept_registers.specs.KeptPlaces.{NamesEarlier}
+use Rattle.kept_registers.specs.KeptRights.{EntersAsFiled, IsAsFiled}
 use Rattle.folio_sections.specs.Rights.{created, is_live, live_right}
 use Rattle.folio_sections.specs.Waiting.{is_pending}
 use Rattle.folio_sections.specs.declared.entries.Created.{Created}
 use Rattle.folio_sections.specs.declared.entries.Entry.{Entry}
 use Rattle.folio_sections.specs.declared.entries.What.{What}
 use Rattle.folio_sections.specs.declared.entries.What.TheVariants as what
-use Rattle.folio_sections.proofs.KeptOrder.{OfCreation, created_has}
+use Rattle.kept_registers.proofs.KeptOrder.{OfCreation, created_has}
 
 live_created : (F : Created → Type 0) (es : List Entry) → AllByRecursion (λ e. OfCreation F e.what) es → IfSome (live_right es) F
 live_created F es all =

@@ -9,12 +9,12 @@ use Rattle.act_model.specs.Touches.{filing_at, filing_in, keys_in_order, keys_of
 use Rattle.act_model.specs.declared.items.Item.{Item}
 use Rattle.act_model.specs.declared.items.Item.TheVariants as item
 use Rattle.act_model.specs.declared.receipts.Receipt.{Receipt}
-use Rattle.folio_sections.specs.Judging.{judged, judged_filing, KnowsExchanges}
-use Rattle.folio_sections.specs.Kept.{Kept}
+use Rattle.consent_rules.specs.Judging.{judged, judged_filing, KnowsExchanges}
+use Rattle.kept_registers.specs.Kept.{Kept}
 use Rattle.folio_sections.specs.Waiting.{pending}
 use Rattle.folio_sections.specs.declared.entries.Entry.{Entry}
-use Rattle.folio_sections.specs.declared.judgements.Judgement.{Judgement}
-use Rattle.folio_sections.specs.declared.judgements.Judgement.TheVariants.{Enter, Interim, Reject}
+use Rattle.consent_rules.specs.declared.judgements.Judgement.{Judgement}
+use Rattle.consent_rules.specs.declared.judgements.Judgement.TheVariants.{Enter, Interim, Reject}
 use Rattle.interim_orders.specs.Lapses.{brought_by_lapse, lapse_at, lapse_by, lapsed}
 use Rattle.interim_orders.specs.Orders.{end_brought, state_by, state_of, waits_until}
 use Rattle.interim_orders.specs.declared.answers.Lapse.TheVariants as answer

@@ -10,7 +10,9 @@ use Rattle.act_model.specs.declared.filing_acts.Act.{Act}
 use Rattle.act_model.specs.declared.items.Filing.{Filing}
 use Rattle.act_model.specs.declared.receipts.Receipt.{Receipt}
 use Rattle.act_model.specs.Documents.{documents}
-use Rattle.folio_sections.specs.Entering.{content, contents_brought, enters, notices_brought, places_brought, with_notices, with_places}
+use Rattle.entry_rules.specs.Entering.{content, contents_brought, places_brought, with_places}
+use Rattle.registrar.specs.Enters.{enters}
+use Rattle.interim_orders.specs.Notices.{notices_brought, with_notices}
 use Rattle.folio_sections.specs.Entries.{at, with_entries}
 use Rattle.folio_sections.proofs.Additions.{at-append}
 use Rattle.folio_sections.specs.declared.entries.Entry.{Entry}

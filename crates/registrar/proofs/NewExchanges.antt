@@ -17,13 +17,15 @@ use Rattle.act_model.specs.declared.items.Filing.{Filing}
 use Rattle.act_model.specs.declared.receipts.Receipt.{Receipt}
 use Rattle.act_model.specs.declared.rights.RightSpec.{RightSpec}
 use Rattle.act_model.specs.Documents.{documents}
-use Rattle.folio_sections.specs.Entering.{as_entered, content, contents_brought, enters, entry_by, notices_brought, places_brought, with_notices}
+use Rattle.entry_rules.specs.Entering.{as_entered, content, contents_brought, places_brought}
+use Rattle.registrar.specs.Enters.{enters}
+use Rattle.interim_orders.specs.Notices.{notices_brought, with_notices}
+use Rattle.folio_sections.specs.Entries.{entry_by, at, with_entries}
 use Rattle.act_model.specs.Acts.{right_behind}
-use Rattle.folio_sections.specs.Entries.{at, with_entries}
 use Rattle.act_model.specs.Groups.{shares_its_group}
-use Rattle.folio_sections.specs.Judging.{exchanges_unfit_right, is_barred_from_exchange, lacks_reservation, lacks_right, lives, reserves_less}
-use Rattle.folio_sections.specs.KeptPlaces.{NamesEarlier}
-use Rattle.folio_sections.specs.KeptRights.{ActsOnItsKind, CreatedAsFiled, EntersAsFiled, IsAsFiled, IsPlain, StandsAhead, StandsPlain}
+use Rattle.consent_rules.specs.Judging.{exchanges_unfit_right, is_barred_from_exchange, lacks_reservation, lacks_right, lives, reserves_less}
+use Rattle.kept_registers.specs.KeptPlaces.{NamesEarlier}
+use Rattle.kept_registers.specs.KeptRights.{ActsOnItsKind, CreatedAsFiled, EntersAsFiled, IsAsFiled, IsPlain, StandsAhead, StandsPlain}
 use Rattle.folio_sections.specs.Places.{places}
 use Rattle.folio_sections.specs.Rights.{created, is_full, is_live, is_spent, live_right}
 use Rattle.folio_sections.specs.declared.entries.Created.{Created}
@@ -32,7 +34,7 @@ use Rattle.folio_sections.specs.declared.entries.What.{What}
 use Rattle.folio_sections.specs.declared.entries.What.TheVariants as what
 use Rattle.folio_sections.proofs.Indexes.{is_none_of}
 use Rattle.folio_sections.proofs.Unchanged.{all_weaker}
-use Rattle.folio_sections.proofs.KeptOrder.{OfCreation, created_has}
+use Rattle.kept_registers.proofs.KeptOrder.{OfCreation, created_has}
 use Rattle.registrar.proofs.ContainedParts.{all_numbered, all_paired, contains_kept, contains_part}
 use Rattle.registrar.proofs.Dealing.{Deals, IsFit}
 use Rattle.registrar.proofs.ExchangesStand.{ActsAt, ReadOn, leaves_acts, plain_stays, reserved_by}

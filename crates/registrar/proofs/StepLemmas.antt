@@ -8,7 +8,7 @@ use Rattle.act_model.specs.declared.items.Item.TheVariants as item
 use Rattle.act_model.specs.declared.receipts.Receipt.{Receipt}
 use Rattle.folio_sections.specs.Adding.{AddsAll, HasRoom}
 use Rattle.folio_sections.specs.Entries.{with_entries}
-use Rattle.folio_sections.specs.Kept.{Kept}
+use Rattle.kept_registers.specs.Kept.{Kept}
 use Rattle.folio_sections.specs.declared.entries.Entry.{Entry}
 use Rattle.registrar.proofs.CuresKeep.{AreEarlier, item_leaves}
 use Rattle.registrar.proofs.ItemRooms.{item_fits}

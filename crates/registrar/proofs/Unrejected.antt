@@ -15,11 +15,11 @@ use Rattle.act_model.specs.declared.items.Filing.{Filing}
 use Rattle.act_model.specs.declared.receipts.Receipt.{Receipt}
 use Rattle.act_model.specs.Creations.{creating_rank}
 use Rattle.act_model.specs.Touches.{acts_of, filing_at, keys_of_act, keys_of_acts, keys_of_filing, new_right}
-use Rattle.folio_sections.specs.Judging.{exchanges_unfit_right, grounds, is_beyond_limit, is_rejected_under, lacks_reservation, lacks_right, lives, rejection, with_before}
-use Rattle.folio_sections.specs.KeptEntries.{IsCreatedInTime}
-use Rattle.folio_sections.specs.KeptPlaces.{NamesEarlier}
+use Rattle.consent_rules.specs.Judging.{exchanges_unfit_right, grounds, is_beyond_limit, is_rejected_under, lacks_reservation, lacks_right, lives, rejection, with_before}
+use Rattle.kept_registers.specs.KeptEntries.{IsCreatedInTime}
+use Rattle.kept_registers.specs.KeptPlaces.{NamesEarlier}
 use Rattle.folio_sections.specs.Limits.{most_creations}
-use Rattle.folio_sections.specs.Persons.{number_behind}
+use Rattle.consent_rules.specs.Persons.{number_behind}
 use Rattle.folio_sections.specs.Rights.{is_live, live_by}
 use Rattle.folio_sections.specs.Waiting.{is_pending}
 use Rattle.folio_sections.specs.declared.entries.Entry.{Entry}

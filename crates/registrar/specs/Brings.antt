@@ -6,11 +6,11 @@ use Rattle.act_model.specs.Receiving.{receipt_at}
 use Rattle.act_model.specs.declared.items.Item.{Item}
 use Rattle.act_model.specs.declared.items.Item.TheVariants as item
 use Rattle.act_model.specs.declared.receipts.Receipt.{Receipt}
-use Rattle.folio_sections.specs.Entering.{enters}
-use Rattle.folio_sections.specs.Judging.{judged, judged_filing}
+use Rattle.registrar.specs.Enters.{enters}
+use Rattle.consent_rules.specs.Judging.{judged, judged_filing}
 use Rattle.folio_sections.specs.declared.entries.Entry.{Entry}
-use Rattle.folio_sections.specs.declared.judgements.Judgement.{Judgement}
-use Rattle.folio_sections.specs.declared.judgements.Judgement.TheVariants.{Enter, Reject, Interim}
+use Rattle.consent_rules.specs.declared.judgements.Judgement.{Judgement}
+use Rattle.consent_rules.specs.declared.judgements.Judgement.TheVariants.{Enter, Reject, Interim}
 use Rattle.interim_orders.specs.Lapses.{lapse_brought, lapsed}
 use Rattle.interim_orders.specs.Orders.{deadline_of, end_brought, order_brought, state_of}
 use Rattle.interim_orders.specs.declared.answers.Lapse.{Lapse}

@@ -6,7 +6,7 @@ use Rattle.act_model.specs.Receiving.{receipt_at}
 use Rattle.act_model.specs.declared.items.Item.{Item}
 use Rattle.act_model.specs.declared.items.Item.TheVariants as item
 use Rattle.act_model.specs.declared.receipts.Receipt.{Receipt}
-use Rattle.folio_sections.specs.Entering.{waiting_unnoticed}
+use Rattle.folio_sections.specs.Waiting.{waiting_unnoticed}
 use Rattle.folio_sections.specs.declared.entries.Entry.{Entry}
 use Rattle.registrar.specs.ItemKeys.{keys_of_item}
 

@@ -2,7 +2,7 @@
 use Rattle.std.specs.Prelude.{◌≡◌, Bool, List, IsTrue}
 use Rattle.gb_base.specs.declared.keys.Key.{Key}
 use Rattle.act_model.specs.declared.receipts.Receipt.{Receipt}
-use Rattle.folio_sections.specs.Kept.{Kept}
+use Rattle.kept_registers.specs.Kept.{Kept}
 use Rattle.folio_sections.specs.declared.entries.Entry.{Entry}
 
 -- at each key that is held the parts say what the register says

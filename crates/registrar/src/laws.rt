@@ -6,9 +6,9 @@ ghost use Rattle.gb_base.specs.declared.keys.Key.TheVariants.{Right};
 ghost use Rattle.act_model.specs.Receiving.{IsJournal};
 ghost use Rattle.act_model.specs.declared.receipts.Receipt.{Receipt};
 ghost use Rattle.folio_sections.specs.Entries.{at, with_entries};
-ghost use Rattle.folio_sections.specs.Kept.{Kept};
+ghost use Rattle.kept_registers.specs.Kept.{Kept};
 ghost use Rattle.folio_sections.specs.Places.{places};
-ghost use Rattle.folio_sections.specs.Ranks.{is_ahead, is_filed_ahead, ranked};
+ghost use Rattle.kept_registers.specs.Ranks.{is_ahead, is_filed_ahead, ranked};
 ghost use Rattle.folio_sections.specs.Rights.{live_right};
 ghost use Rattle.folio_sections.specs.Waiting.{below};
 ghost use Rattle.folio_sections.specs.declared.entries.Created.{Created};
@@ -19,7 +19,7 @@ ghost use Rattle.registrar.specs.RegisterState.{verdict_among};
 ghost use Rattle.registrar.specs.Schedules.{IsPermitted};
 ghost use Rattle.registrar.specs.Settling.{registrar};
 
-use folio_sections::laws::empty_register_is_kept;
+use kept_registers::laws::empty_register_is_kept;
 
 /// The items of a journal may be settled in the order of their receipts (GBO § 17).
 pub fn receipts_in_turn()

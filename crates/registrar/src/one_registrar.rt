@@ -4,7 +4,7 @@ ghost use Rattle.gb_base.specs.declared.keys.Key.{Key};
 ghost use Rattle.act_model.specs.Touches.{keys_of_filing};
 ghost use Rattle.folio_sections.specs.Entries.{at, with_entries};
 ghost use Rattle.folio_sections.specs.Held.{entries_at, is_held, is_given};
-ghost use Rattle.folio_sections.specs.Kept.{Kept};
+ghost use Rattle.kept_registers.specs.Kept.{Kept};
 ghost use Rattle.registrar.specs.Brings.{brings};
 ghost use Rattle.registrar.specs.ItemKeys.{keys_of_filings};
 ghost use Rattle.registrar.specs.OpenFolios.{open_folios};
@@ -18,7 +18,7 @@ use crate::steps::{receipt_of, step};
 use crate::{Register, Scratch, Verdict};
 use act_model::{Item, Journal, filing_keys};
 use folio_sections::MapParts;
-use folio_sections::laws::empty_register_is_kept;
+use kept_registers::laws::empty_register_is_kept;
 use gb_base::{Key, NoMemory, ReceiptNo};
 use std::alloc::Global;
 

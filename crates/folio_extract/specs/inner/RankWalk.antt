@@ -1,7 +1,7 @@
 -- The ranks of rights that stand in order of filing and group, in one walk.
 use Rattle.std.specs.Prelude.{◌≡◌, ℕ, ◌+◌, Bool, false, if◌then◌else◌, List, [], ◌∷◌, ◌++◌, Option, Some, None}
 use Rattle.std.specs.List.{AllByRecursion}
-use Rattle.folio_sections.specs.Ranks.{is_filed_ahead, ranked}
+use Rattle.kept_registers.specs.Ranks.{is_filed_ahead, ranked}
 use Rattle.folio_extract.specs.FolioRights.{has_same_place}
 use Rattle.folio_extract.specs.RankTables.{rank_line}
 use Rattle.folio_extract.specs.declared.folio_rights.CreatedRight.{CreatedRight}

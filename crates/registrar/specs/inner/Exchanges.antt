@@ -4,7 +4,7 @@ use Rattle.gb_base.specs.declared.keys.Key.{Key}
 use Rattle.act_model.specs.declared.items.Item.{Item}
 use Rattle.act_model.specs.declared.items.Item.TheVariants as item
 use Rattle.act_model.specs.declared.receipts.Receipt.{Receipt}
-use Rattle.folio_sections.specs.Judging.{KnowsExchanges}
+use Rattle.consent_rules.specs.Judging.{KnowsExchanges}
 use Rattle.folio_sections.specs.declared.entries.Entry.{Entry}
 use Rattle.interim_orders.specs.Orders.{state_of}
 use Rattle.interim_orders.specs.declared.states.FilingState.TheVariants.{Pending}

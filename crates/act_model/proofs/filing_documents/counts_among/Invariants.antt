@@ -2,7 +2,7 @@ use Rattle.std.proofs.Common.{◌≡◌, drop, filter}
 use Rattle.std.specs.List.{list_any}
 use Rattle.gb_base.specs.Limits.{is_between}
 use Rattle.act_model.specs.Documents.{act_of_doc}
-use Rattle.folio_sections.proofs.documents.counts_among.Given as goal
+use Rattle.act_model.proofs.filing_documents.counts_among.Given as goal
 
 abbrev pub invariant-loop-doc : goal.invariant-loop-doc
 invariant-loop-doc g l =

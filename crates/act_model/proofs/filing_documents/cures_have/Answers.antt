@@ -3,7 +3,7 @@ use Rattle.std.specs.List.{list_any}
 use Rattle.gb_base.specs.Limits.{is_between}
 use Rattle.act_model.specs.Documents.{act_of_doc, docs_by_cure}
 use Rattle.act_model.proofs.CureOrder.{any_past, none_behind, passes_not_both}
-use Rattle.folio_sections.proofs.documents.cures_have.Goals as goal
+use Rattle.act_model.proofs.filing_documents.cures_have.Goals as goal
 
 pub loop-number-preserved : goal.loop-number-preserved
 loop-number-preserved g c =

@@ -3,7 +3,7 @@ use Rattle.std.specs.List.{list_any}
 use Rattle.gb_base.specs.Limits.{is_between}
 use Rattle.act_model.specs.Cures.{cures_of}
 use Rattle.act_model.specs.Documents.{act_of_doc, docs_by_cure}
-use Rattle.folio_sections.proofs.documents.cures_have.Given as goal
+use Rattle.act_model.proofs.filing_documents.cures_have.Given as goal
 
 abbrev pub invariant-loop-number : goal.invariant-loop-number
 invariant-loop-number g l =

@@ -2,7 +2,7 @@ use Rattle.std.proofs.Common.{◌≡◌, ◌+◌, ◌==◌, ◌&&◌, not, drop}
 use Rattle.std.specs.List.{list_any, enumerate_from}
 use Rattle.act_model.specs.WellFormed.{share_group}
 use Rattle.act_model.specs.Groups.{has_equal}
-use Rattle.folio_sections.proofs.groups.has_equal.Given as goal
+use Rattle.act_model.proofs.groups.has_equal.Given as goal
 
 abbrev pub invariant-loop-index : goal.invariant-loop-index
 invariant-loop-index l =

@@ -1,6 +1,6 @@
 use Rattle.std.proofs.Common.{◌≡◌, ◌+◌, ◌≤◌, ◌++◌, length, filter, map}
-use Rattle.folio_sections.specs.Judging.{defects_under, is_defective}
-use Rattle.folio_sections.specs.Persons.{number_behind}
+use Rattle.consent_rules.specs.Judging.{defects_under, is_defective}
+use Rattle.consent_rules.specs.Persons.{number_behind}
 use Rattle.consent_rules.specs.inner.WithBefore.{with_before_from}
 use Rattle.consent_rules.proofs.defects.add_defects.Given as goal
 

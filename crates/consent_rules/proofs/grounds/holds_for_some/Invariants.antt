@@ -1,6 +1,6 @@
 use Rattle.std.proofs.Common.{◌≡◌}
 use Rattle.std.specs.List.{list_any}
-use Rattle.folio_sections.specs.Judging.{holds, with_before}
+use Rattle.consent_rules.specs.Judging.{holds, with_before}
 use Rattle.consent_rules.specs.inner.WithBefore.{with_before_from}
 use Rattle.consent_rules.proofs.grounds.holds_for_some.Given as goal
 

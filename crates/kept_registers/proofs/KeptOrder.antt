@@ -14,11 +14,11 @@ use Rattle.act_model.specs.declared.rights.RightSpec.{RightSpec}
 use Rattle.act_model.specs.Acts.{folio_of, is_in_division_three, right_created}
 use Rattle.act_model.specs.Receiving.{IsJournal}
 use Rattle.act_model.specs.Touches.{act_at, acts_of, filing_at, act_of_right}
-use Rattle.folio_sections.specs.Kept.{Kept}
-use Rattle.folio_sections.specs.KeptRights.{EntersAsFiled, IsAsFiled, SetsPlace}
+use Rattle.kept_registers.specs.Kept.{Kept}
+use Rattle.kept_registers.specs.KeptRights.{EntersAsFiled, IsAsFiled, SetsPlace}
 use Rattle.act_model.specs.Divisions.{create_in_division, creates_in_division, is_of_division}
 use Rattle.folio_sections.specs.Places.{own_place, place_by, places, places_among}
-use Rattle.folio_sections.specs.Ranks.{is_ahead, is_filed_ahead, ranked}
+use Rattle.kept_registers.specs.Ranks.{is_ahead, is_filed_ahead, ranked}
 use Rattle.folio_sections.specs.Rights.{created, created_by}
 use Rattle.folio_sections.specs.declared.entries.Created.{Created}
 use Rattle.folio_sections.specs.declared.entries.Entry.{Entry}
@@ -26,9 +26,9 @@ use Rattle.folio_sections.specs.declared.entries.What.{What}
 use Rattle.folio_sections.specs.declared.entries.What.TheVariants as what
 use Rattle.folio_sections.specs.declared.title_places.TitlePlace.{TitlePlace}
 use Rattle.folio_sections.proofs.Indexes.{is_some-find}
-use Rattle.folio_sections.proofs.PlaceDays.{NamesDivisions, places_ascend, places_name}
-use Rattle.folio_sections.proofs.PlaceOrder.{own_has}
-use Rattle.folio_sections.proofs.RankOrder.{is_of_own, rank_is_order}
+use Rattle.kept_registers.proofs.PlaceDays.{NamesDivisions, places_ascend, places_name}
+use Rattle.kept_registers.proofs.PlaceOrder.{own_has}
+use Rattle.kept_registers.proofs.RankOrder.{is_of_own, rank_is_order}
 
 -- ---- the filing of a right creates in its division
 

@@ -4,10 +4,7 @@ use Rattle.std.specs.Option.{option_map_or}
 use Rattle.gb_base.specs.RightNo.{RightNo, same_right}
 use Rattle.gb_base.specs.declared.keys.Key.{Key}
 use Rattle.gb_base.specs.declared.keys.Key.TheVariants.{Title, Right, Case}
-use Rattle.act_model.specs.declared.auctions.Basis.TheVariants as basis
-use Rattle.act_model.specs.declared.auctions.Registration.TheVariants as registration
 use Rattle.act_model.specs.declared.items.Item.{Item}
-use Rattle.act_model.specs.declared.items.Item.TheVariants as item
 use Rattle.act_model.specs.declared.receipts.Receipt.{Receipt}
 use Rattle.act_model.specs.Receiving.{receipt_at}
 use Rattle.folio_sections.specs.Cases.{case, is_seizure}
@@ -15,6 +12,9 @@ use Rattle.folio_sections.specs.Limits.{most_registrations, most_seizures}
 use Rattle.folio_sections.specs.Titles.{is_opening}
 use Rattle.folio_sections.specs.declared.entries.Entry.{Entry}
 use Rattle.folio_sections.specs.declared.entries.What.{What}
+use Rattle.act_model.specs.declared.auctions.Basis.TheVariants as basis
+use Rattle.act_model.specs.declared.auctions.Registration.TheVariants as registration
+use Rattle.act_model.specs.declared.items.Item.TheVariants as item
 use Rattle.folio_sections.specs.declared.entries.What.TheVariants as what
 
 -- the item of receipt n

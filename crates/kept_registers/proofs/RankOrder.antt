@@ -5,9 +5,9 @@ use Rattle.std.specs.Option.{option_map_or}
 use Rattle.std.proofs.lemmas.Bool.{and_right, cases_eq, cases_lt, eq-eqb, eqb-true, false≢true, or_left, or_right, true≢false}
 use Rattle.std.proofs.lemmas.Bool.Decides.{nat_tests}
 use Rattle.folio_sections.specs.Places.{behind, behind_by, own_place}
-use Rattle.folio_sections.specs.Ranks.{Ranked, are_of_one_day, is_ahead, is_behind, is_filed_ahead, is_of_earlier_day, is_placed_ahead, places_are, same_division}
+use Rattle.kept_registers.specs.Ranks.{Ranked, are_of_one_day, is_ahead, is_behind, is_filed_ahead, is_of_earlier_day, is_placed_ahead, places_are, same_division}
 use Rattle.folio_sections.specs.declared.title_places.TitlePlace.{TitlePlace}
-use Rattle.folio_sections.proofs.PlaceOrder.{Ascends, ahead, ahead_is, ascends_ahead, days_rise, earlier_ahead, found_earlier, found_own, is_other, own_ahead, placed_ahead_is}
+use Rattle.kept_registers.proofs.PlaceOrder.{Ascends, ahead, ahead_is, ascends_ahead, days_rise, earlier_ahead, found_earlier, found_own, is_other, own_ahead, placed_ahead_is}
 
 -- the place is of the division of the right's
 abbrev pub is_of_own : Bool → TitlePlace → Bool

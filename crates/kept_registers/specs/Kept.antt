@@ -2,10 +2,10 @@
 use Rattle.std.specs.Prelude.{List}
 use Rattle.gb_base.specs.declared.keys.Key.{Key}
 use Rattle.act_model.specs.declared.receipts.Receipt.{Receipt}
-use Rattle.folio_sections.specs.KeptCases.{CaseInOrder}
-use Rattle.folio_sections.specs.KeptEntries.{ReceiptsRise}
-use Rattle.folio_sections.specs.KeptPlaces.{PendingEverywhere, PlacesAscend}
-use Rattle.folio_sections.specs.KeptRights.{CreatedAsFiled, ExchangedArePlain}
+use Rattle.kept_registers.specs.KeptCases.{CaseInOrder}
+use Rattle.kept_registers.specs.KeptEntries.{ReceiptsRise}
+use Rattle.kept_registers.specs.KeptPlaces.{PendingEverywhere, PlacesAscend}
+use Rattle.kept_registers.specs.KeptRights.{CreatedAsFiled, ExchangedArePlain}
 use Rattle.folio_sections.specs.declared.entries.Entry.{Entry}
 
 -- All of it, of a journal and of what stands at each key.

@@ -1,5 +1,5 @@
--- What the entry of filing m by item i brings: official notices, places, and the contents of its acts (GBO §§ 16(2), 18(2), 45).
-use Rattle.std.specs.Prelude.{ℕ, false, true, ◌&&◌, if◌then◌else◌, List, [], ◌∷◌, ◌++◌, filter, flat_map, map, is_none, option_to_list}
+-- What the entry of filing m by item i brings but for official notices: places, and the contents of its acts (GBO §§ 16(2), 45).
+use Rattle.std.specs.Prelude.{ℕ, false, true, ◌&&◌, if◌then◌else◌, List, [], ◌∷◌, ◌++◌, flat_map, map, is_none, option_to_list}
 use Rattle.std.specs.Option.{option_map_or}
 use Rattle.std.specs.List.{enumerate_from}
 use Rattle.gb_base.specs.declared.keys.Key.{Key}
@@ -14,36 +14,17 @@ use Rattle.act_model.specs.Receiving.{day_of}
 use Rattle.act_model.specs.Touches.{acts_of, filing_at, keys_in_order, new_right}
 use Rattle.act_model.specs.Acts.{folio_of, is_in_division_three, right_created, reserve_of, right_behind}
 use Rattle.act_model.specs.Documents.{documents, has_proof}
-use Rattle.folio_sections.specs.Entries.{with_entries}
+use Rattle.folio_sections.specs.Entries.{with_entries, entry_by}
 use Rattle.act_model.specs.Groups.{has_equal}
 use Rattle.folio_sections.specs.Places.{behind, own_place, places}
 use Rattle.act_model.specs.Divisions.{create_in_division, creates_there}
-use Rattle.folio_sections.specs.Waiting.{notice, waiting_before}
+use Rattle.folio_sections.specs.Waiting.{notice}
 use Rattle.folio_sections.specs.declared.entries.Created.{Created}
 use Rattle.folio_sections.specs.declared.entries.Entry.{Entry}
 use Rattle.folio_sections.specs.declared.entries.RightForm.{RightForm}
-use Rattle.folio_sections.specs.declared.entries.What.{What}
 use Rattle.folio_sections.specs.declared.title_places.TitlePlace.{TitlePlace}
 use Rattle.folio_sections.specs.declared.entries.RightForm.TheVariants as form
 use Rattle.folio_sections.specs.declared.entries.What.TheVariants as what
-
--- an entry by item i
-abbrev pub entry_by : List Receipt → ℕ → Key → What → Entry
-entry_by journal i key what = record { receipt = i; day = day_of journal i; key = key; what = what }
-
--- ---- official notices (GBO § 18(2))
-
--- the earlier filings than m that wait at a key without a notice, ascending
-abbrev pub waiting_unnoticed : ℕ → List Entry → List ℕ
-waiting_unnoticed m entries = filter (λ n. is_none (notice n entries)) (waiting_before m entries)
-
--- the official notices that the entry of filing m brings at a key
-abbrev pub notices_at : List Receipt → ℕ → ℕ → (Key → List Entry) → Key → List Entry
-notices_at journal m i at key = map (λ n. entry_by journal i key (what.Notice n)) (waiting_unnoticed m (at key))
-
--- the official notices that the entry of filing m brings, key by key
-abbrev pub notices_brought : List Receipt → ℕ → ℕ → (Key → List Entry) → List Entry
-notices_brought journal m i at = flat_map (notices_at journal m i at) (keys_in_order journal m)
 
 -- ---- places (BGB § 879)
 
@@ -129,11 +110,3 @@ with_places journal m i at = with_entries at (places_brought journal m i at)
 abbrev pub entered : List Receipt → ℕ → ℕ → (Key → List Entry) → List Entry
 entered journal m i at =
     option_map_or (λ f. places_brought journal m i at ++ contents_brought journal m i (with_places journal m i at) f) (filing_at journal m) []
-
--- what stands once the official notices do
-abbrev pub with_notices : List Receipt → ℕ → ℕ → (Key → List Entry) → Key → List Entry
-with_notices journal m i at = with_entries at (notices_brought journal m i at)
-
--- all that the entry of filing m brings
-abbrev pub enters : List Receipt → ℕ → ℕ → (Key → List Entry) → List Entry
-enters journal m i at = notices_brought journal m i at ++ entered journal m i (with_notices journal m i at)

@@ -1,6 +1,6 @@
 // What becomes of a filing that is judged.
 ghost use Rattle.std.specs.Prelude.{◌≡◌, ◌≤◌, length};
-ghost use Rattle.folio_sections.specs.Limits.{most_defects};
+ghost use Rattle.consent_rules.specs.Limits.{most_defects};
 
 use arrayvec::ArrayVec;
 use gb_base::Section;
@@ -32,8 +32,8 @@ pub struct Defects {
 
 impl Model for Defects {
     ghost use Rattle.std.specs.Prelude.{List, ◌≤◌, length};
-    ghost use Rattle.folio_sections.specs.Limits.{most_defects};
-    ghost use Rattle.folio_sections.specs.declared.judgements.Defect.{Defect};
+    ghost use Rattle.consent_rules.specs.Limits.{most_defects};
+    ghost use Rattle.consent_rules.specs.declared.judgements.Defect.{Defect};
 
     ghost Value = { List Defect };
 

@@ -7,7 +7,6 @@ use Rattle.gb_base.specs.RightNo.{RightNo}
 use Rattle.gb_base.specs.declared.keys.Key.{Key}
 use Rattle.gb_base.specs.declared.keys.Key.TheVariants.{Title, Right}
 use Rattle.gb_base.specs.declared.sections.Section.{Section}
-use Rattle.gb_base.specs.declared.sections.Section.TheVariants as section
 use Rattle.act_model.specs.declared.documents.Doc.{Doc}
 use Rattle.act_model.specs.declared.filing_acts.Act.{Act}
 use Rattle.act_model.specs.declared.filing_acts.Act.TheVariants.{Open, Transfer, Create, NoticeFor, Convert, Assign, Cancel, Exchange, Exercise}
@@ -19,13 +18,14 @@ use Rattle.act_model.specs.Touches.{acts_of, created_before, filing_at, new_righ
 use Rattle.act_model.specs.Documents.{documents, given, is_agreement, is_clearance, is_plain, is_strangers_consent}
 use Rattle.act_model.specs.Groups.{shares_its_group}
 use Rattle.folio_sections.specs.Limits.{most_creations}
-use Rattle.folio_sections.specs.Persons.{affected, applicants, needed, number_behind, others, owner_side}
+use Rattle.consent_rules.specs.Persons.{affected, applicants, needed, number_behind, others, owner_side}
 use Rattle.folio_sections.specs.Rights.{is_full, is_live, is_spent, live_right}
 use Rattle.folio_sections.specs.Titles.{is_open}
 use Rattle.folio_sections.specs.declared.entries.Entry.{Entry}
-use Rattle.folio_sections.specs.declared.judgements.Defect.{Defect}
-use Rattle.folio_sections.specs.declared.judgements.Judgement.{Judgement}
-use Rattle.folio_sections.specs.declared.judgements.Judgement.TheVariants.{Enter, Reject, Interim}
+use Rattle.consent_rules.specs.declared.judgements.Defect.{Defect}
+use Rattle.consent_rules.specs.declared.judgements.Judgement.{Judgement}
+use Rattle.consent_rules.specs.declared.judgements.Judgement.TheVariants.{Enter, Reject, Interim}
+use Rattle.gb_base.specs.declared.sections.Section.TheVariants as section
 
 -- each act with the acts before it
 abbrev pub with_before : List Act → List (List Act × Act)

@@ -4,7 +4,7 @@ use Rattle.std.specs.List.{AllByRecursion, before_first, list_any, position_or_l
 use Rattle.std.proofs.lemmas.Bool.{eqb-true}
 use Rattle.std.proofs.lemmas.Bool.Decides.{nat_tests}
 use Rattle.folio_sections.specs.Places.{behind_by, own_place}
-use Rattle.folio_sections.specs.Ranks.{is_placed_ahead}
+use Rattle.kept_registers.specs.Ranks.{is_placed_ahead}
 use Rattle.folio_sections.specs.declared.title_places.TitlePlace.{TitlePlace}
 
 -- the second place is of a later filing, and of no earlier day

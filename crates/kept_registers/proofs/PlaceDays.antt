@@ -11,15 +11,15 @@ use Rattle.gb_base.specs.declared.keys.Key.TheVariants.{Title}
 use Rattle.act_model.specs.declared.receipts.Receipt.{Receipt}
 use Rattle.act_model.specs.Receiving.{IsJournal, is_before, receipt_at}
 use Rattle.act_model.specs.Touches.{acts_of}
-use Rattle.folio_sections.specs.Kept.{Kept}
-use Rattle.folio_sections.specs.KeptPlaces.{SaysDivisions}
+use Rattle.kept_registers.specs.Kept.{Kept}
+use Rattle.kept_registers.specs.KeptPlaces.{SaysDivisions}
 use Rattle.act_model.specs.Divisions.{create_in_division, creates_there}
 use Rattle.folio_sections.specs.Places.{place_by, place_of, places, places_among}
 use Rattle.folio_sections.specs.declared.entries.Entry.{Entry}
 use Rattle.folio_sections.specs.declared.entries.What.{What}
 use Rattle.folio_sections.specs.declared.entries.What.TheVariants as what
 use Rattle.folio_sections.specs.declared.title_places.TitlePlace.{TitlePlace}
-use Rattle.folio_sections.proofs.PlaceOrder.{Ascends, IsLater}
+use Rattle.kept_registers.proofs.PlaceOrder.{Ascends, IsLater}
 
 -- ---- the days of receipts
 

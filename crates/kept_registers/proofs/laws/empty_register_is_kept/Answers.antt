@@ -1,6 +1,6 @@
 use Rattle.std.proofs.Common.{refl, arith}
 use Rattle.std.proofs.lemmas.Bool.{false≢true}
-use Rattle.folio_sections.proofs.laws.empty_register_is_kept.Goals as goal
+use Rattle.kept_registers.proofs.laws.empty_register_is_kept.Goals as goal
 
 pub returns : goal.returns
 returns c = record {

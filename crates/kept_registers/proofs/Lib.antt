@@ -1,0 +1,5 @@
+-- Lemmas.
+pub mod KeptOrder
+pub mod PlaceDays
+pub mod PlaceOrder
+pub mod RankOrder
