@@ -26,7 +26,7 @@ other: low
 
 # It notes when it begins and ends, and leaves a library, or a program that tells its words and its
 # input. It fails in a crate that has a file `wrong`. The crate `left` ends only once `right` begins,
-# or after ten seconds.
+# or after ten seconds. Like `rt` it wants each crate that is listed to be there.
 STAND_IN = """#!/bin/sh
 name=$(basename "$PWD")
 verb=$1
@@ -40,6 +40,9 @@ turn=0
 while [ "$name" = left ] && ! grep -q 'begins right' "$NOTES" && [ $turn -lt 100 ]; do
     sleep 0.1
     turn=$((turn + 1))
+done
+for listed in $(sed -n 's/:.*//p' ../../crates.txt); do
+    [ -d "../$listed/src" ] || exit 1
 done
 if [ -e src/wrong ]; then
     echo "refused"
