@@ -1,6 +1,7 @@
 -- Lemmas.
 pub mod Ahead
 pub mod EmptySums
+pub mod ExchangedCents
 pub mod Exchanges
 pub mod FillTests
 pub mod Filling

@@ -21,7 +21,7 @@ apart_rights a c two x last =
     false_from_ne_true (same_right a x) (λ own. both_ways (same_right a c) two (subst (λ z. same_right a z ≡ true) (sym (right_is c x last)) own))
 
 -- where no element passes both tests, those that pass one are those that pass the first and those that pass the second
-counted_either : {X : Type 0} (p q : X → Bool) → AreApart p q → (xs : List X) → counted (λ x. p x || q x) xs ≡ counted p xs + counted q xs
+pub counted_either : {X : Type 0} (p q : X → Bool) → AreApart p q → (xs : List X) → counted (λ x. p x || q x) xs ≡ counted p xs + counted q xs
 counted_either p q apart [] = refl
 counted_either p q apart (x ∷ xs) =
     let rest = counted_either p q apart xs in

@@ -1,14 +1,27 @@
 //! Laws of the definitions that contracts cite. Each function does nothing; its contract is the
 //! law.
-ghost use Rattle.std.specs.Prelude.{◌≡◌, ◌+◌, ◌≤◌, ℕ, Contains, false, sum_by, true};
-ghost use Rattle.gb_base.specs.RightNo.{RightNo};
+ghost use Rattle.std.specs.Prelude.{◌≡◌, ◌+◌, ◌++◌, ◌≤◌, ℕ, Contains, List, false, filter, map, not, replicate, sum_by, true};
+ghost use Rattle.gb_base.specs.RightNo.{RightNo, same_right};
 ghost use Rattle.rank_slots.specs.CanFill.{CanFill, StandsAlone};
-ghost use Rattle.rank_slots.specs.CentLine.{is_of_either};
+ghost use Rattle.rank_slots.specs.CentLine.{cents_of, exchange, is_of_either};
 ghost use Rattle.rank_slots.specs.Filled.{Filled, with_swap, without_knots};
 ghost use Rattle.rank_slots.specs.Groups.{group_of, keeps_place};
 ghost use Rattle.rank_slots.specs.Payments.{claim_of, paid_out, pay, pay_reserved, plain_pay, threshold};
 ghost use Rattle.rank_slots.specs.declared.places.Knot.{Knot};
 ghost use Rattle.rank_slots.specs.declared.places.Swap.{Swap};
+
+/// Behind an exchange the cents of the two rights stand where theirs stood. The first of them are
+/// the rising one's, as many as it had, and the others the receding one's; all other cents are as
+/// before (BGB § 880(1), (5)).
+pub fn exchange()
+    ensures stay { (s : Swap) (line : List RightNo)
+        → map (is_of_either s) (exchange line s) ≡ map (is_of_either s) line }
+    ensures thirds { (s : Swap) (line : List RightNo)
+        → filter (λ c. not (is_of_either s c)) (exchange line s) ≡ filter (λ c. not (is_of_either s c)) line }
+    ensures in_order { (s : Swap) (line : List RightNo) → same_right s.recede s.rise ≡ false
+        → filter (is_of_either s) (exchange line s)
+        ≡ replicate (cents_of s.rise line) s.rise ++ replicate (cents_of s.recede line) s.recede }
+{}
 
 /// A further exchange of two rights that are not dropped leaves what every third right gets of each
 /// sum (BGB § 880(5)).
