@@ -1,5 +1,5 @@
 -- What an exchange makes of a line: where the cents of the two rights stand, and in which order they are the one's and the other's.
-use Rattle.std.proofs.Common.{◌≡◌, ℕ, zero, suc, ◌+◌, ◌-◌, ◌≤◌, ◌||◌, true, false, cond, eqb, not, List, [], ◌∷◌, ◌++◌, filter, map, replicate, refl, sym, ap, ◌∙◌, arith}
+use Rattle.std.proofs.Common.{◌≡◌, ℕ, zero, suc, ◌+◌, ◌-◌, ◌≤◌, true, false, cond, eqb, not, List, [], ◌∷◌, ◌++◌, filter, map, replicate, refl, sym, ap, ◌∙◌, arith}
 use Rattle.std.proofs.lemmas.Bool.{ne_eqb, or_left, or_right}
 use Rattle.gb_base.specs.RightNo.{RightNo, same_right}
 use Rattle.gb_base.proofs.SameRights.{right_self}

@@ -3,7 +3,7 @@ use Rattle.std.proofs.Common.{◌≡◌, ℕ, zero, suc, ◌+◌, ◌/◌, ◌�
 use Rattle.std.specs.Prelude.{nat_le, nat_lt, sum}
 use Rattle.std.specs.List.{AllByRecursion, list_any, position_or_len, range_with_len}
 use Rattle.std.proofs.Math.Nat.{zero-div, zero-mul}
-use Rattle.std.proofs.lemmas.Bool.{false≢true, or_parts, true≢false}
+use Rattle.std.proofs.lemmas.Bool.{false≢true, or_parts}
 use Rattle.std.proofs.lemmas.Bool.Decides.{nat_tests}
 use Rattle.std.proofs.lemmas.List.{length-map}
 use Rattle.std.proofs.lemmas.List.Elements.{recursion_from_All}
@@ -35,9 +35,13 @@ no_share claims i =
     ] refl
 
 pub no_part : (group : List Place) (r : RightNo) → share_in_group group r 0 ≡ 0
-no_part [] r = no_share [] 0
-no_part (p ∷ []) r = refl
-no_part (p ∷ (q ∷ ps)) r = no_share (map (λ (x : Place). x.claim) (p ∷ q ∷ ps)) (position_or_len (is_of r) (p ∷ q ∷ ps))
+no_part group r =
+    let claims = map (λ (p : Place). p.claim) group in
+    let place = position_or_len (is_of r) group in
+    elim (length group == 1) as (λ b. (if b then 0 else share 0 claims place) ≡ 0) [
+      | true ↦ refl
+      | false ↦ no_share claims place
+    ]
 
 -- ---- each member at its place
 
@@ -84,9 +88,7 @@ member_shares cents group once =
 
 -- one that does not stand alone gets its share
 shared : (group : List Place) (r : RightNo) (cents : ℕ) → (length group == 1) ≡ false → share_in_group group r cents ≡ share cents (map (λ p. p.claim) group) (position_or_len (is_of r) group)
-shared [] r cents more = refl
-shared (p ∷ []) r cents more = absurd (true≢false more)
-shared (p ∷ (q ∷ ps)) r cents more = refl
+shared group r cents more = λ i. if more i then cents else share cents (map (λ (p : Place). p.claim) group) (position_or_len (is_of r) group)
 
 -- the claims come to a cent at least where a right has one of them
 some_claims : (group : List Place) (r : RightNo) → list_any (is_of r) group ≡ true → AllByRecursion (λ p. 1 ≤ p.claim) group → 1 ≤ sum_by (λ p. p.claim) group
