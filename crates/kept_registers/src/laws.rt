@@ -1,5 +1,5 @@
 //! What holds of registers.
-ghost use Rattle.std.specs.Prelude.{◌≡◌, ℕ, List, [], Some};
+ghost use Rattle.std.specs.Prelude.{◌≡◌, ◌≤◌, ℕ, List, [], AllPairs, Some};
 ghost use Rattle.gb_base.specs.RightNo.{RightNo};
 ghost use Rattle.gb_base.specs.declared.keys.Key.{Key};
 ghost use Rattle.gb_base.specs.declared.keys.Key.TheVariants.{Right};
@@ -24,4 +24,10 @@ pub fn kept_order()
     ensures order { (journal : List Receipt) (at : Key → List Entry) (folio : ℕ) (x y : RightNo) (a b : Created)
         → IsJournal journal → Kept journal at → created (at (Right folio x)) ≡ Some a → created (at (Right folio y)) ≡ Some b
         → is_ahead (places journal at folio) (ranked x a) (ranked y b) ≡ is_filed_ahead (ranked x a) (ranked y b) }
+{}
+
+/// In every kept register the days of the places at a title never fall.
+pub fn place_days()
+    ensures days { (journal : List Receipt) (at : Key → List Entry) (folio : ℕ) → IsJournal journal → Kept journal at
+        → AllPairs (λ p later. p.day ≤ later.day) (places journal at folio) }
 {}
