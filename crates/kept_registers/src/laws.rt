@@ -6,6 +6,7 @@ ghost use Rattle.gb_base.specs.declared.keys.Key.TheVariants.{Right};
 ghost use Rattle.act_model.specs.Receiving.{IsJournal};
 ghost use Rattle.act_model.specs.declared.receipts.Receipt.{Receipt};
 ghost use Rattle.kept_registers.specs.Kept.{Kept};
+ghost use Rattle.kept_registers.specs.KeptRights.{StandsAtItsPlace};
 ghost use Rattle.folio_sections.specs.Places.{places};
 ghost use Rattle.kept_registers.specs.Ranks.{is_ahead, is_filed_ahead, ranked};
 ghost use Rattle.folio_sections.specs.Rights.{created};
@@ -30,4 +31,12 @@ pub fn kept_order()
 pub fn place_days()
     ensures days { (journal : List Receipt) (at : Key → List Entry) (folio : ℕ) → IsJournal journal → Kept journal at
         → AllPairs (λ p later. p.day ≤ later.day) (places journal at folio) }
+{}
+
+/// In every kept register a right as it was entered (its day, what it stands behind, and whether it
+/// shares its group) is as the places at the title and the journal have it. So what an extract
+/// prints of it and what its rank is read from say the same.
+pub fn rights_stand_at_their_places()
+    ensures in_place { (journal : List Receipt) (at : Key → List Entry) (folio : ℕ) (right : RightNo) (made : Created) → Kept journal at
+        → created (at (Right folio right)) ≡ Some made → StandsAtItsPlace journal (places journal at folio) right made }
 {}

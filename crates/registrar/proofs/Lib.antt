@@ -17,6 +17,7 @@ pub mod EntriesKept
 pub mod ExchangedKept
 pub mod ExchangesStand
 pub mod ExercisedOnce
+pub mod InPlaceKept
 pub mod ItemKeysStay
 pub mod ItemRooms
 pub mod ItemsKeep
