@@ -87,6 +87,12 @@ place_found journal folio m receipt (d ∷ es) zero e within is sets =
 place_found journal folio m receipt (d ∷ es) (suc k) e within is sets =
     further m (place_by journal folio d.day d.what) (places_among journal folio es) (place_found journal folio m receipt es k e (omega arith) is sets)
 
+-- a title with an entry that sets it one has a place of filing m
+pub has_its_place : (journal : List Receipt) (folio m receipt : ℕ) (es : List Entry) → Any (SetsPlace journal folio m receipt) es → is_some (own_place m (places_among journal folio es)) ≡ true
+has_its_place journal folio m receipt es placed =
+    is_some-find (λ (p : TitlePlace). p.filing == m) (places_among journal folio es)
+    ∙ place_found journal folio m receipt es placed.0 placed.1 placed.2 placed.3 placed.4
+
 -- ---- and the place names its division
 
 -- a place of filing m, which names this division
@@ -132,10 +138,9 @@ StandsPlaced journal at folio right made = StandsAt right.receipt (division_of m
 content_stands : (journal : List Receipt) (at : Key → List Entry) (folio : ℕ) (right : RightNo) (receipt : ℕ) (w : What) → Kept journal at → EntersAsFiled journal at folio right receipt w
     → OfCreation (StandsPlaced journal at folio right) w
 content_stands journal at folio right receipt (what.Created made) kept enters =
-    let placed : Any (SetsPlace journal folio right.receipt receipt) (at (Title folio)) = enters.placed in
     let ps = places journal at folio in
     stands_at journal folio right.receipt (division_of made) ps (own_place right.receipt ps) refl
-    (is_some-find (λ (p : TitlePlace). p.filing == right.receipt) ps ∙ place_found journal folio right.receipt receipt (at (Title folio)) placed.0 placed.1 placed.2 placed.3 placed.4)
+    (has_its_place journal folio right.receipt receipt (at (Title folio)) enters.placed)
     (places_name journal at folio kept) (creates_for_right journal folio right made enters.filed)
 content_stands journal at folio right receipt other kept enters = tt
 

@@ -1,9 +1,9 @@
 -- The places at a title ascend with their days, and each names the divisions in which its filing creates rights.
-use Rattle.std.proofs.Common.{◌≡◌, ℕ, ◌-◌, ◌<◌, ◌≤◌, true, false, cond, eqb, List, [], ◌∷◌, suc, get_or, slice_get, AllPairs, IfSome, Option, Some, None, option_map, refl, sym, ap, subst, ◌∙◌, ⊎_elim, arith}
+use Rattle.std.proofs.Common.{◌≡◌, ℕ, zero, ◌-◌, ◌<◌, ◌≤◌, true, false, cond, eqb, List, [], ◌∷◌, suc, get_or, slice_get, AllPairs, IfSome, Option, Some, None, option_map, refl, sym, ap, subst, ◌∙◌, ⊎_elim, arith}
 use Rattle.std.specs.List.{AllByRecursion, cons_option}
 use Rattle.std.proofs.lemmas.Bool.{cases_eq}
 use Rattle.std.proofs.lemmas.Bool.Decides.{nat_tests}
-use Rattle.std.proofs.lemmas.List.Elements.{recursion_from_All}
+use Rattle.std.proofs.lemmas.List.Elements.{All-from_recursion, recursion_from_All}
 use Rattle.std.proofs.lemmas.Option.{get_or_from_slice_get, slice_get_within}
 use Rattle.gb_base.specs.DayMinute.{DayMinute}
 use Rattle.gb_base.specs.declared.keys.Key.{Key}
@@ -84,6 +84,13 @@ from_pairs R (x ∷ xs) all = (
   from_pairs R xs (λ i j d less within. all (suc i) (suc j) d (omega arith) (omega arith)),
 )
 
+pub to_pairs : {X : Type 0} (R : X → X → Type 0) (xs : List X) → Pairs R xs → AllPairs R xs
+to_pairs R [] all i j d less within = absurd (omega arith)
+to_pairs R (x ∷ xs) all zero zero d less within = absurd (omega arith)
+to_pairs R (x ∷ xs) all zero (suc j) d less within = All-from_recursion (R x) xs all.0 j d (omega arith)
+to_pairs R (x ∷ xs) all (suc i) zero d less within = absurd (omega arith)
+to_pairs R (x ∷ xs) all (suc i) (suc j) d less within = to_pairs R xs all.1 i j d (omega arith) (omega arith)
+
 both_later : (p : TitlePlace) (ps : List TitlePlace) → AllByRecursion (λ q. p.filing < q.filing) ps → AllByRecursion (λ q. p.day ≤ q.day) ps → AllByRecursion (IsLater p) ps
 both_later p [] filings days = tt
 both_later p (q ∷ ps) filings days = ((filings.0, days.0), both_later p ps filings.1 days.1)
@@ -132,18 +139,27 @@ place_days journal folio (e ∷ es) pairs =
     (λ later less. no_earlier (place_by journal folio later.day later.what) e.day later.day less (on_its_day journal folio later.day later.what)) pairs.0)
     (place_days journal folio es pairs.1)
 
--- the places of a folio ascend by filing, and their days never fall
-pub places_ascend : (journal : List Receipt) (at : Key → List Entry) (folio : ℕ) → IsJournal journal → Kept journal at → Ascends (places journal at folio)
-places_ascend journal at folio stands kept =
+-- the days of the places of a folio never fall
+days_in_turn : (journal : List Receipt) (at : Key → List Entry) (folio : ℕ) → IsJournal journal → Kept journal at → Pairs (λ (p later : TitlePlace). p.day ≤ later.day) (places journal at folio)
+days_in_turn journal at folio stands kept =
     let title = at (Title folio) in
     let rise = kept.receipts_rise in
     let entry_days : AllPairs (λ (e later : Entry). e.day ≤ later.day) title =
     λ i j d less within.
     receipt_days journal (get_or title i d).receipt (get_or title j d).receipt (get_or title i d).day (get_or title j d).day stands
     (rise.never_fall (Title folio) i j d less within) (rise.days (Title folio) i d (omega arith)) (rise.days (Title folio) j d within) in
+    place_days journal folio title (from_pairs (λ (e later : Entry). e.day ≤ later.day) title entry_days)
+
+pub days_never_fall : (journal : List Receipt) (at : Key → List Entry) (folio : ℕ) → IsJournal journal → Kept journal at → AllPairs (λ p later. p.day ≤ later.day) (places journal at folio)
+days_never_fall journal at folio stands kept =
+    to_pairs (λ (p later : TitlePlace). p.day ≤ later.day) (places journal at folio) (days_in_turn journal at folio stands kept)
+
+-- they ascend by filing, and their days never fall
+pub places_ascend : (journal : List Receipt) (at : Key → List Entry) (folio : ℕ) → IsJournal journal → Kept journal at → Ascends (places journal at folio)
+places_ascend journal at folio stands kept =
     both_ascend (places journal at folio)
     (from_pairs (λ (p q : TitlePlace). p.filing < q.filing) (places journal at folio) (kept.places_ascend.ascend folio))
-    (place_days journal folio title (from_pairs (λ (e later : Entry). e.day ≤ later.day) title entry_days))
+    (days_in_turn journal at folio stands kept)
 
 -- ---- the divisions that a place names
 

@@ -5,7 +5,7 @@ use Rattle.act_model.specs.declared.receipts.Receipt.{Receipt}
 use Rattle.kept_registers.specs.KeptCases.{CaseInOrder}
 use Rattle.kept_registers.specs.KeptEntries.{ReceiptsRise}
 use Rattle.kept_registers.specs.KeptPlaces.{PendingEverywhere, PlacesAscend}
-use Rattle.kept_registers.specs.KeptRights.{CreatedAsFiled, ExchangedArePlain}
+use Rattle.kept_registers.specs.KeptRights.{CreatedAsFiled, EnteredInPlace, ExchangedArePlain}
 use Rattle.folio_sections.specs.declared.entries.Entry.{Entry}
 
 -- All of it, of a journal and of what stands at each key.
@@ -14,5 +14,6 @@ pub record Kept (journal : List Receipt) (at : Key → List Entry) : Type 0 wher
   pub places_ascend : PlacesAscend journal at
   pub pending_everywhere : PendingEverywhere journal at
   pub created_as_filed : CreatedAsFiled journal at
+  pub entered_in_place : EnteredInPlace journal at
   pub exchanged_are_plain : ExchangedArePlain journal at
   pub case_in_order : CaseInOrder journal at

@@ -124,4 +124,8 @@ item_leaves journal i at (item.Filing f) stands kept is before =
     filing_leaves journal i f at (judged_filing journal i f i at) (filing_deals journal i f at stands kept before is) refl
 item_leaves journal i at (item.Cure m docs) stands kept is before = cure_in_state journal m i at (state_of journal m i at) (there_is (receipt_at journal i) (item.Cure m docs) is) stands kept before refl
 item_leaves journal i at (item.Lapse m) stands kept is before = lapse_leaves journal i m at stands kept before is
-item_leaves journal i at other stands kept is before = none_leave journal i at kept
+item_leaves journal i at (item.Seize folio basis served) stands kept is before = none_leave journal i at kept
+item_leaves journal i at (item.Register folio registered) stands kept is before = none_leave journal i at kept
+item_leaves journal i at (item.OpenBids folio costs) stands kept is before = none_leave journal i at kept
+item_leaves journal i at (item.Award folio buyer bid) stands kept is before = none_leave journal i at kept
+item_leaves journal i at (item.Distribute folio) stands kept is before = none_leave journal i at kept

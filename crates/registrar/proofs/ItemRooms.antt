@@ -70,4 +70,8 @@ item_fits journal i at room (item.Lapse m) stands is roomy =
     lapse_fits journal i at room (λ n names earlier k there.
     let same = lapse_names journal i m n is names in
     roomy k (subst (λ x. Contains (keys_of_named journal i x) k) (sym same) (named journal i n k earlier there)))
-item_fits journal i at room other stands is roomy = no_entry room
+item_fits journal i at room (item.Seize folio basis served) stands is roomy = no_entry room
+item_fits journal i at room (item.Register folio registered) stands is roomy = no_entry room
+item_fits journal i at room (item.OpenBids folio costs) stands is roomy = no_entry room
+item_fits journal i at room (item.Award folio buyer bid) stands is roomy = no_entry room
+item_fits journal i at room (item.Distribute folio) stands is roomy = no_entry room

@@ -108,7 +108,11 @@ item_locally journal i at0 at1 (item.Cure m docs) kept is before agrees =
 item_locally journal i at0 at1 (item.Lapse m) kept is before agrees =
     ap {B = Brought} (λ lapse. record { entries = option_map_or (λ n. brought_by_lapse (end_brought journal n i) lapse) (lapse_at journal i) []; verdict = verdict_on_lapse lapse })
     (lapse_locally journal i m at0 at1 is agrees)
-item_locally journal i at0 at1 other kept is before agrees = refl
+item_locally journal i at0 at1 (item.Seize folio basis served) kept is before agrees = refl
+item_locally journal i at0 at1 (item.Register folio registered) kept is before agrees = refl
+item_locally journal i at0 at1 (item.OpenBids folio costs) kept is before agrees = refl
+item_locally journal i at0 at1 (item.Award folio buyer bid) kept is before agrees = refl
+item_locally journal i at0 at1 (item.Distribute folio) kept is before agrees = refl
 
 pub locality : (journal : List Receipt) (i : ℕ) (at0 at1 : Key → List Entry) → Kept journal at0 → AreEarlier i at0 (keys_of_item journal i) → AgreesAt (keys_of_item journal i) at0 at1 → brings journal i at1 ≡ brings journal i at0
 locality journal i at0 at1 kept =

@@ -45,7 +45,8 @@ brought_by_cure journal m i at (Reject section) =
     record { entries = end_brought journal m i; verdict = verdict.CureRejected section }
 brought_by_cure journal m i at (Interim defects) = record { entries = []; verdict = verdict.StillOpen defects }
 
--- the same, by the state in which cure i finds filing m
+-- The same, by the state in which cure i finds filing m. Only a filing has keys at which it waits, so what waits is judged, and
+-- that there is no judgement never comes about.
 abbrev pub brought_in_state : List Receipt → ℕ → ℕ → (Key → List Entry) → FilingState → Brought
 brought_in_state journal m i at (Pending until) =
     option_map_or (brought_by_cure journal m i at) (judged journal m i at) nothing_pending
@@ -63,7 +64,11 @@ brought_by_item journal i at (item.Filing f) = brought_by_filing journal i at (j
 brought_by_item journal i at (item.Cure m docs) = brought_in_state journal m i at (state_of journal m i at)
 brought_by_item journal i at (item.Lapse m) =
     record { entries = lapse_brought journal i at; verdict = verdict_on_lapse (lapsed journal i at) }
-brought_by_item journal i at other = nothing_pending
+brought_by_item journal i at (item.Seize folio basis served) = nothing_pending
+brought_by_item journal i at (item.Register folio registered) = nothing_pending
+brought_by_item journal i at (item.OpenBids folio costs) = nothing_pending
+brought_by_item journal i at (item.Award folio buyer bid) = nothing_pending
+brought_by_item journal i at (item.Distribute folio) = nothing_pending
 
 -- what receipt i brings; nothing where there is none
 abbrev pub brings : List Receipt → ℕ → (Key → List Entry) → Brought

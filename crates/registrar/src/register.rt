@@ -2,6 +2,8 @@
 ghost use Rattle.std.specs.Prelude.{◌≡◌, ◌-◌, ◌<◌, IfOk, slice_get};
 ghost use Rattle.std.specs.List.{enumerate_from};
 ghost use Rattle.std.specs.Option.{option_copied};
+ghost use Rattle.folio_sections.specs.Adding.{Adds};
+ghost use Rattle.folio_sections.specs.Held.{entries_at, is_held, room_at};
 ghost use Rattle.folio_sections.specs.HeldRights.{held_rights};
 ghost use Rattle.registrar.specs.RegisterState.{verdict_among};
 
@@ -105,7 +107,14 @@ impl Parts for Register {
         self.parts.case(folio)
     }
 
-    fn append(&mut self, entry: Entry) {
+    /// Adds an entry at the end of its key's part; what became of each item stays, and so does the
+    /// list of open folios.
+    fn append(&mut self, entry: Entry)
+        ensures added { Adds (entries_at self.old.parts) (entries_at self.new.parts) (room_at self.old.parts) (room_at self.new.parts) entry }
+        ensures held { is_held self.new.parts ≡ is_held self.old.parts }
+        ensures verdicts { self.new.verdicts ≡ self.old.verdicts }
+        ensures folios { self.new.folios ≡ self.old.folios }
+    {
         self.parts.append(entry);
     }
 }

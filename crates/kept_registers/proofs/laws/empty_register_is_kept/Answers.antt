@@ -23,6 +23,7 @@ returns c = record {
       names_earlier = λ m k there waits. absurd (false≢true waits);
     };
     created_as_filed = record { filed = λ folio right i d within. absurd (omega arith) };
+    entered_in_place = record { in_place = λ folio right i d within. absurd (omega arith) };
     exchanged_are_plain = record {
       kinds = λ folio right i d within. absurd (omega arith);
       once = λ folio right. omega arith;
