@@ -78,7 +78,14 @@ fn knows_exchange<P: Parts>(parts: &P, journal: &Journal, filing: ReceiptNo, act
             },
             None => false,
         },
-        _ => true,
+        Act::Open { .. }
+        | Act::Transfer { .. }
+        | Act::Create { .. }
+        | Act::NoticeFor { .. }
+        | Act::Convert { .. }
+        | Act::Assign { .. }
+        | Act::Cancel { .. }
+        | Act::Exercise { .. } => true,
     }
 }
 
