@@ -1,4 +1,4 @@
-// Who may apply for an act (GBO § 13).
+//! Who may apply for an act (GBO § 13).
 ghost use Rattle.std.specs.Prelude.{◌≡◌, ◌==◌, if◌then◌else◌, [], ◌++◌, true, IsTrue};
 ghost use Rattle.std.specs.List.{list_any};
 ghost use Rattle.gb_base.specs.declared.keys.Key.TheVariants.{Title, Right};

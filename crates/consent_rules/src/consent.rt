@@ -1,4 +1,4 @@
-// Whether those whose consent an act needs have given it (GBO §§ 19, 29).
+//! Whether those whose consent an act needs have given it (GBO §§ 19, 29).
 ghost use Rattle.std.specs.Prelude.{◌≡◌};
 ghost use Rattle.consent_rules.specs.Judging.{has_stranger, is_plain_among, is_silent_among, lacks_agreement, lacks_clearance, lacks_consent, lacks_owner, lacks_owner_of_exchange};
 ghost use Rattle.consent_rules.specs.Persons.{needed, others, owner_side};

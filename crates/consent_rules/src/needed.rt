@@ -1,4 +1,4 @@
-// Whose consent each act needs (GBO §§ 19, 22, 27; BGB §§ 876, 880(2)).
+//! Whose consent each act needs (GBO §§ 19, 22, 27; BGB §§ 876, 880(2)).
 ghost use Rattle.std.specs.Prelude.{◌≡◌, ◌&&◌, not, if◌then◌else◌, [], IsTrue};
 ghost use Rattle.gb_base.specs.declared.keys.Key.TheVariants.{Title, Right};
 ghost use Rattle.consent_rules.specs.Persons.{affected, holder_then, others, owner_side, owners_then, persons, stands_in_division_three, waiting_applicants};

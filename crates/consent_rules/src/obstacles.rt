@@ -1,4 +1,4 @@
-// Why an act cannot be entered, whoever consents (GBO § 3; BGB §§ 873, 880, 881, 883, 1059).
+//! Why an act cannot be entered, whoever consents (GBO § 3; BGB §§ 873, 880, 881, 883, 1059).
 ghost use Rattle.std.specs.Prelude.{◌≡◌, ◌≤◌, ◌||◌, is_some, true, false, IsTrue};
 ghost use Rattle.std.specs.List.{list_any};
 ghost use Rattle.std.specs.Option.{option_map_or};

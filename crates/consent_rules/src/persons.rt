@@ -1,4 +1,4 @@
-// Whom an act concerns: the owners as of the act, and the holder of a right (GBO §§ 18(2), 19).
+//! Whom an act concerns: the owners as of the act, and the holder of a right (GBO §§ 18(2), 19).
 ghost use Rattle.std.specs.Prelude.{◌≡◌, fold, IsTrue};
 ghost use Rattle.gb_base.specs.declared.keys.Key.TheVariants.{Title, Right};
 ghost use Rattle.consent_rules.specs.Persons.{acts_before, holder_then, owners_as_of, owners_named, owners_then};
