@@ -1,4 +1,4 @@
-// Whose consent an act needs (GBO §§ 19, 22, 27; BGB §§ 876, 880(2)).
+//! Whose consent an act needs (GBO §§ 19, 22, 27; BGB §§ 876, 880(2)).
 ghost use Rattle.std.specs.Prelude.{◌≡◌, ◌==◌};
 ghost use Rattle.std.specs.List.{list_any};
 ghost use Rattle.consent_rules.specs.Persons.{persons};

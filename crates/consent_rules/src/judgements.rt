@@ -1,4 +1,4 @@
-// What becomes of a filing that is judged.
+//! What becomes of a filing that is judged.
 ghost use Rattle.std.specs.Prelude.{◌≡◌, ◌≤◌, length};
 ghost use Rattle.consent_rules.specs.Limits.{most_defects};
 
@@ -14,9 +14,18 @@ pub struct Defect {
     pub act: u8,
 }
 
-/// Want of form for act 1, which fills the unused slots of a bounded list.
+/// Want of form for act 1, which fills the unused slots of a bounded list. It is a defect that a
+/// filing can have.
 impl Default for Defect {
-    fn default() -> Defect {
+    ghost use Rattle.std.specs.Prelude.{◌≤◌, Contains};
+    ghost use Rattle.gb_base.specs.Limits.{most_acts};
+    ghost use Rattle.consent_rules.specs.Judging.{curables};
+
+    fn default() -> Defect
+        ensures curable { Contains curables result.section }
+        ensures from_one { 1 ≤ result.act }
+        ensures to_eight { result.act ≤ most_acts }
+    {
         Defect {
             section: Section::Gbo29,
             act: 1,
@@ -43,7 +52,7 @@ impl Model for Defects {
 }
 
 impl Defects {
-    /// These defects.
+    /// These defects. Takes no memory.
     pub fn new(list: ArrayVec<Defect, 48>) -> Defects
         ensures { result ≡ list.items }
     {

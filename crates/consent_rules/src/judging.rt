@@ -1,4 +1,4 @@
-// How a filing is judged on the register as it stands (GBO § 18).
+//! How a filing is judged on the register as it stands (GBO § 18).
 ghost use Rattle.std.specs.Prelude.{◌≡◌, ◌≤◌, Some, length, IsSome, IsTrue, All, Contains};
 ghost use Rattle.gb_base.specs.declared.keys.Key.{Key};
 ghost use Rattle.act_model.specs.Touches.{filing_at, keys_of_filing};
@@ -15,7 +15,20 @@ use folio_sections::Parts;
 use gb_base::ReceiptNo;
 
 /// Filing `filing`, judged on the register as it stands, with its documents and those of its cures
-/// up to receipt `upto` (GBO § 18). `can_be_judged` tests what this asks. Takes no memory.
+/// up to receipt `upto` (GBO § 18). It wants the parts of the filing's keys, and of each right that
+/// recedes that it is as an earlier filing creates it; `can_be_judged` tests both. It takes no
+/// memory and cannot fail.
+///
+/// ```
+/// if can_be_judged(&parts, &journal, filing) {
+///     // As it was filed, without a cure.
+///     match judge(&parts, &journal, filing, filing) {
+///         Judgement::Enter => {}
+///         Judgement::Reject(section) => assert!(section != Section::Gbo29),
+///         Judgement::Interim(defects) => assert!(!defects.list().is_empty()),
+///     }
+/// }
+/// ```
 pub fn judge<P: Parts>(
     parts: &P,
     journal: &Journal,

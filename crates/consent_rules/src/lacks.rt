@@ -1,4 +1,4 @@
-// What the consents of several persons to an act may lack.
+//! What the consents of several persons to an act may lack.
 ghost use Rattle.std.specs.Prelude.{◌≡◌};
 ghost use Rattle.std.specs.List.{list_any};
 ghost use Rattle.consent_rules.specs.inner.Lacks.{is_lacking};

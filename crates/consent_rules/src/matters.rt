@@ -1,4 +1,4 @@
-// A filing that is judged.
+//! A filing that is judged.
 use act_model::{Documents, Filing, Journal};
 use gb_base::ReceiptNo;
 

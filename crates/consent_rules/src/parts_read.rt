@@ -1,4 +1,4 @@
-// What is read from the parts at an act's keys.
+//! What is read from the parts at an act's keys.
 ghost use Rattle.std.specs.Prelude.{◌≡◌, IsTrue};
 ghost use Rattle.gb_base.specs.declared.keys.Key.TheVariants.{Title, Right};
 ghost use Rattle.consent_rules.specs.Judging.{lives};

@@ -1,4 +1,4 @@
-// The earlier filings that wait at a right (BGB § 876).
+//! The earlier filings that wait at a right (BGB § 876).
 ghost use Rattle.std.specs.Prelude.{◌≡◌, ◌==◌};
 ghost use Rattle.std.specs.List.{list_any};
 ghost use Rattle.consent_rules.specs.Persons.{waiting_applicants};

@@ -1,4 +1,4 @@
-// Entries that are added to the parts of a register.
+//! Entries that are added to the parts of a register.
 ghost use Rattle.std.specs.Prelude.{◌≡◌, ◌≤◌, [], ◌∷◌, length, IsTrue};
 ghost use Rattle.act_model.specs.Receiving.{day_of};
 ghost use Rattle.folio_sections.specs.Adding.{AddsList, HasRoom};

@@ -1,4 +1,4 @@
-// What the acts of a filing bring when it is entered.
+//! What the acts of a filing bring when it is entered.
 ghost use Rattle.std.specs.Prelude.{◌≡◌, ◌≤◌, ℕ, length};
 ghost use Rattle.gb_base.specs.Limits.{most_acts};
 ghost use Rattle.act_model.specs.Touches.{keys_of_act, keys_of_acts};

@@ -1,4 +1,4 @@
-// The rights that acts create, as they are entered.
+//! The rights that acts create, as they are entered.
 ghost use Rattle.std.specs.Prelude.{◌≡◌, ◌≤◌, length, IsTrue};
 ghost use Rattle.gb_base.specs.Limits.{most_acts};
 ghost use Rattle.gb_base.specs.declared.keys.Key.TheVariants.{Title, Right};

@@ -1,4 +1,4 @@
-// The entry of a filing.
+//! The entry of a filing.
 ghost use Rattle.std.specs.Prelude.{◌≡◌, ◌≤◌, length, Contains, IsSome, IsTrue};
 ghost use Rattle.gb_base.specs.declared.keys.Key.{Key};
 ghost use Rattle.act_model.specs.Touches.{filing_at, keys_of_filing};

@@ -1,4 +1,4 @@
-// The places that the entry of a filing brings (BGB § 879).
+//! The places that the entry of a filing brings (BGB § 879).
 ghost use Rattle.std.specs.Prelude.{◌≡◌, ◌≤◌, length, Contains, IsTrue, is_none};
 ghost use Rattle.gb_base.specs.declared.keys.Key.{Key};
 ghost use Rattle.gb_base.specs.declared.keys.Key.TheVariants.{Title};
