@@ -9,12 +9,12 @@ use Rattle.kept_registers.specs.Kept.{Kept}
 use Rattle.folio_sections.specs.Places.{places}
 use Rattle.folio_sections.specs.declared.entries.Entry.{Entry}
 use Rattle.folio_extract.specs.CentTexts.{line_text}
-use Rattle.folio_extract.specs.Exchanges.{counted_at, counted_exchanges, counted_knots, in_turn}
-use Rattle.folio_extract.specs.FolioSlots.{filled_by}
-use Rattle.folio_extract.specs.FolioRights.{live_rights}
+use Rattle.folio_line.specs.Exchanges.{counted_exchanges, counted_knots}
+use Rattle.folio_line.specs.FolioSlots.{filled_by}
+use Rattle.folio_line.specs.FolioRights.{live_rights}
 use Rattle.folio_extract.specs.RankTables.{exchange_line, exercise_line, rank_lines, rank_table_text}
-use Rattle.folio_extract.specs.declared.exchanges.Exchange.{Exchange}
-use Rattle.folio_extract.specs.declared.folio_rights.CreatedRight.{CreatedRight}
+use Rattle.folio_line.specs.declared.exchanges.Exchange.{Exchange}
+use Rattle.folio_line.specs.declared.folio_rights.CreatedRight.{CreatedRight}
 use Rattle.folio_extract.specs.inner.RankWalk.{ranked_lines}
 use Rattle.folio_extract.proofs.KeptRanks.{kept_ranks}
 
@@ -43,11 +43,6 @@ whole journal at folio rights exchanges stands kept live counted =
     let behind : List Exchange → List ℕ = λ xs. flat_map exchange_line xs ++ (flat_map exercise_line (counted_knots at folio) ++ line_text (filled_by xs at folio)) in
     (λ i. (codes "ranks " ++ (decimal folio ++ (codes "\n" ++ ranks i))) ++ behind (counted i))
     ∙ moved (decimal folio) (rank_lines (places journal at folio) (live_rights at folio)) (behind (counted_exchanges at folio))
-
--- the exchanges that count, found among the live rights
-pub counted_of : (at : Key → List Entry) (folio : ℕ) (rights : List CreatedRight) (exchanges : List Exchange)
-    → rights ≡ live_rights at folio → exchanges ≡ in_turn (flat_map (counted_at at folio) rights) → exchanges ≡ counted_exchanges at folio
-counted_of at folio rights exchanges live found = found ∙ ap (λ xs. in_turn (flat_map (counted_at at folio) xs)) live
 
 -- a text to which the parts were added
 pub table_added : (journal : List Receipt) (at : Key → List Entry) (folio : ℕ) (rights : List CreatedRight) (exchanges : List Exchange) → IsJournal journal → Kept journal at

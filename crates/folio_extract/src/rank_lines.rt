@@ -3,7 +3,7 @@ ghost use Rattle.std.specs.Prelude.{◌≡◌, ◌+◌, ◌<◌, ◌≤◌, ◌^
 ghost use Rattle.std.specs.String.{string_bytes};
 ghost use Rattle.folio_extract.specs.inner.RankWalk.{rank_behind, ranked_lines};
 
-use crate::folio_rights::{CreatedRight, has_same_place};
+use folio_line::{CreatedRight, has_same_place};
 use gb_base::NoMemory;
 
 /// Adds each right with its rank.

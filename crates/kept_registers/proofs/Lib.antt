@@ -3,3 +3,4 @@ pub mod KeptOrder
 pub mod PlaceDays
 pub mod PlaceOrder
 pub mod RankOrder
+pub mod WellFiled

@@ -1,0 +1,4 @@
+-- What only private clauses and proofs use.
+pub mod FilingRuns
+pub mod NotHeld
+pub mod RightOrder
