@@ -5,7 +5,7 @@ pub mod FiledRights
 pub mod FilingRuns
 pub mod FolioFills
 pub mod GroupedRights
-pub mod HeldRights
+pub mod LiveAreHeld
 pub mod LiveRights
 pub mod LoneGroups
 pub mod PlacedDistinct

@@ -5,7 +5,7 @@ use Rattle.gb_base.specs.declared.keys.Key.TheVariants.{Right}
 use Rattle.folio_sections.specs.Held.{entries_at, is_held}
 use Rattle.folio_line.specs.declared.folio_rights.CreatedRight.{CreatedRight}
 use Rattle.folio_extract.proofs.ExtractText.{extract_is}
-use Rattle.folio_line.proofs.HeldRights.{live_are_held}
+use Rattle.folio_line.proofs.LiveAreHeld.{live_are_held}
 use Rattle.folio_line.specs.inner.NotHeld.{not_held}
 use Rattle.folio_extract.proofs.extracts.add_extract.Goals as goal
 

@@ -1,7 +1,7 @@
 use Rattle.std.proofs.Common.{◌≡◌, ◌∙◌, IfOk, ap, filter_map, subst}
 use Rattle.folio_line.specs.FolioSlots.{stands_on_line}
 use Rattle.folio_line.specs.FolioRights.{right_where}
-use Rattle.folio_line.proofs.HeldRights.{held_are_all}
+use Rattle.folio_line.proofs.LiveAreHeld.{held_are_all}
 use Rattle.folio_line.proofs.folio_rights.on_line_by_act.Goals as goal
 
 pub returns : goal.returns

@@ -3,7 +3,7 @@ use Rattle.gb_base.specs.Limits.{most_cents}
 use Rattle.rank_slots.specs.declared.places.Place.{Place}
 use Rattle.folio_line.specs.FolioSlots.{places_behind}
 use Rattle.folio_line.proofs.FolioFills.{can_fill}
-use Rattle.folio_line.proofs.folio_slots.folio_slots.Goals as goal
+use Rattle.folio_line.proofs.slots.folio_slots.Goals as goal
 
 pub fill-requires-clause-fits : goal.fill-requires-clause-fits
 fill-requires-clause-fits g c =

@@ -1,7 +1,7 @@
 use Rattle.std.proofs.Common.{◌≡◌, ◌≤◌, ◌++◌, All, None, drop}
 use Rattle.gb_base.specs.Limits.{most_cents}
 use Rattle.folio_line.specs.FolioSlots.{places_behind}
-use Rattle.folio_line.proofs.folio_slots.places_of.Given as goal
+use Rattle.folio_line.proofs.slots.places_of.Given as goal
 
 abbrev pub invariant-loop-right : goal.invariant-loop-right
 invariant-loop-right g l = record {
