@@ -1,5 +1,6 @@
 -- What holds of the rights of a register that comes about: they are as they were filed, and what is exchanged or exercised may be.
 use Rattle.std.specs.Prelude.{◌≡◌, ℕ, ◌<◌, ◌≤◌, false, List, All, Any, count_by, IsSome, IsSomeAnd, Some, None}
+use Rattle.gb_base.specs.Limits.{most_acts}
 use Rattle.gb_base.specs.RightNo.{RightNo}
 use Rattle.gb_base.specs.declared.keys.Key.{Key}
 use Rattle.gb_base.specs.declared.keys.Key.TheVariants.{Title, Right}
@@ -58,9 +59,11 @@ abbrev pub StandsAhead : (Key → List Entry) → ℕ → RightNo → RightNo �
 StandsAhead at folio right by =
     IsSomeAnd (created (at (Right folio by))) (λ made. made.ahead_of ≡ Some right) × (right.receipt < by.receipt)
 
--- a content at a right exchanges plain rights alone, and uses a reservation that the right has
+-- a content at a right exchanges plain rights alone, by one of the acts that a filing has, and uses a reservation that the
+-- right has
 abbrev pub ActsOnItsKind : List Receipt → (Key → List Entry) → ℕ → RightNo → What → Type 0
-ActsOnItsKind journal at folio right (what.Exchanged recede rise act) = StandsPlain journal at folio recede × StandsPlain journal at folio rise
+ActsOnItsKind journal at folio right (what.Exchanged recede rise act) =
+    StandsPlain journal at folio recede × StandsPlain journal at folio rise × (1 ≤ act) × (act ≤ most_acts)
 ActsOnItsKind journal at folio right (what.Exercised by) =
     IsSomeAnd (created (at (Right folio right))) (λ made. IsSome made.reserve) × StandsAhead at folio right by
 ActsOnItsKind journal at folio right other = Unit {0}

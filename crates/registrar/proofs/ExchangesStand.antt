@@ -42,7 +42,7 @@ plain_stays journal at0 at1 folio right same is =
 
 pub kind_stays : (journal : List Receipt) (at0 at1 : Key → List Entry) (folio : ℕ) (right : RightNo) (w : What) → ReadOn at0 at1 → ActsOnItsKind journal at0 folio right w → ActsOnItsKind journal at1 folio right w
 kind_stays journal at0 at1 folio right (what.Exchanged recede rise act) same is =
-    (plain_stays journal at0 at1 folio recede same is.0, plain_stays journal at0 at1 folio rise same is.1)
+    (plain_stays journal at0 at1 folio recede same is.0, plain_stays journal at0 at1 folio rise same is.1, is.2, is.3)
 kind_stays journal at0 at1 folio right (what.Exercised by) same is =
     let ahead : StandsAhead at1 folio right by =
     (ahead_by right (created (at0 (Right folio by))) (created (at1 (Right folio by))) (same folio by) is.1.0, is.1.1) in
