@@ -7,7 +7,7 @@ ghost use Rattle.folio_sections.specs.Held.{entries_at};
 ghost use Rattle.kept_registers.specs.Kept.{Kept};
 ghost use Rattle.folio_extract.specs.CentTexts.{line_text};
 ghost use Rattle.folio_line.specs.Exchanges.{counted_exchanges, counted_knots};
-ghost use Rattle.folio_line.specs.FolioSlots.{filled_by};
+ghost use Rattle.folio_line.specs.FolioSlots.{folio_filled};
 ghost use Rattle.folio_extract.specs.RankTables.{exercise_line, rank_table, rank_table_text};
 ghost use Rattle.folio_extract.specs.inner.RankWalk.{ranked_lines};
 
@@ -96,7 +96,7 @@ fn add_cents(
     requires kept { Kept journal.now.receipts (entries_at register.now.parts) }
     requires counted { exchanges.now ≡ counted_exchanges (entries_at register.now.parts) folio }
     ensures { OnOk result (string_bytes text.new ≡ string_bytes text.old
-        ++ line_text (filled_by exchanges.now (entries_at register.now.parts) folio)) }
+        ++ line_text (folio_filled (entries_at register.now.parts) folio)) }
 {
     let slots = folio_slots(alloc, register, journal, folio, exchanges)?;
     add_cent_lines(text, &slots)

@@ -6,7 +6,7 @@ use Rattle.std.proofs.lemmas.Bool.{false≢true, or_left, or_right}
 use Rattle.std.proofs.lemmas.List.Elements.{All-from_recursion, All-map, All-nil, recursion_from_All}
 use Rattle.std.proofs.lemmas.List.Sums.{sum_by-le}
 use Rattle.gb_base.specs.Limits.{most_cents}
-use Rattle.gb_base.specs.RightNo.{same_right}
+use Rattle.gb_base.specs.RightNo.{RightNo, same_right}
 use Rattle.gb_base.specs.declared.keys.Key.{Key}
 use Rattle.gb_base.specs.declared.keys.Key.TheVariants.{Right}
 use Rattle.gb_base.proofs.Members.{In}
@@ -26,12 +26,14 @@ use Rattle.rank_slots.specs.Limits.{most_places}
 use Rattle.rank_slots.specs.declared.places.Place.{Place}
 use Rattle.rank_slots.specs.declared.places.Swap.{Swap}
 use Rattle.folio_line.specs.Exchanges.{counted_exchanges}
-use Rattle.folio_line.specs.FolioSlots.{capital_at, recedes, stands_on_line, swap_of}
+use Rattle.rank_slots.specs.Filled.{Filled}
+use Rattle.folio_line.specs.FolioSlots.{capital_at, folio_filled, is_gone, recedes, stands_on_line, swap_of}
 use Rattle.folio_line.specs.FolioRights.{rights_where}
 use Rattle.folio_line.specs.declared.exchanges.Exchange.{Exchange}
 use Rattle.folio_line.specs.declared.folio_rights.CreatedRight.{CreatedRight}
 use Rattle.folio_line.proofs.CountedExchanges.{is_counted}
 use Rattle.folio_line.proofs.CreatedRights.{is_created_here, is_in_ranges}
+use Rattle.folio_line.proofs.GroupsWritten.{line_written}
 use Rattle.folio_line.proofs.PlacedDistinct.{placed_distinct}
 use Rattle.folio_line.proofs.PlacedFew.{placed_few}
 use Rattle.folio_line.proofs.PlacedOrder.{of_placed_rights}
@@ -69,43 +71,52 @@ gone_recedes : (live gives : Bool) → (live || gives) ≡ true → not live ≡
 gone_recedes true gives stands gone = absurd (false≢true gone)
 gone_recedes false gives stands gone = stands
 
+-- the places of the folio's line with these claims
+abbrev pub counted_places : (RightNo → ℕ) → (Key → List Entry) → ℕ → List Place
+counted_places claims at folio = line_places claims (is_gone at folio) (counted_exchanges at folio) at folio
+
+-- the rights that stand on it
+abbrev pub counted_rights : (Key → List Entry) → ℕ → List CreatedRight
+counted_rights at folio = rights_where (stands_on_line (counted_exchanges at folio)) at folio
+
 -- both rights of an exchange that counts stand alone
-swap_alone : (journal : List Receipt) (at : Key → List Entry) (folio : ℕ) (y : Exchange) → Kept journal at → IsJournal journal → In y (counted_exchanges at folio) → CanSwap (line_places (counted_exchanges at folio) at folio) (swap_of y)
-swap_alone journal at folio y kept stands there =
+swap_alone : (claims : RightNo → ℕ) (journal : List Receipt) (at : Key → List Entry) (folio : ℕ) (y : Exchange) → Kept journal at → IsJournal journal → In y (counted_exchanges at folio) → CanSwap (counted_places claims at folio) (swap_of y)
+swap_alone claims journal at folio y kept stands there =
     let exchanges = counted_exchanges at folio in
+    let gone = is_gone at folio in
     let counted = is_counted journal at folio y kept there in
     let gives = any_in (λ (x : Exchange). same_right x.recede y.recede) exchanges y there (right_self y.recede) in (
-      plain_alone exchanges journal at folio y.recede kept stands counted.recede (or_right (is_live (at (Right folio y.recede))) (recedes exchanges y.recede) gives),
-      plain_alone exchanges journal at folio y.rise kept stands counted.rise (or_left (is_live (at (Right folio y.rise))) (recedes exchanges y.rise) counted.live),
+      plain_alone claims gone exchanges journal at folio y.recede kept stands counted.recede (or_right (is_live (at (Right folio y.recede))) (recedes exchanges y.recede) gives),
+      plain_alone claims gone exchanges journal at folio y.rise kept stands counted.rise (or_left (is_live (at (Right folio y.rise))) (recedes exchanges y.rise) counted.live),
     )
 
 -- and so does the right of a dropped place
-dropped_alone : (journal : List Receipt) (at : Key → List Entry) (folio : ℕ) (x : CreatedRight) → Kept journal at → IsJournal journal → In x (rights_where (stands_on_line (counted_exchanges at folio)) at folio) → not (is_live (at (Right folio x.id))) ≡ true
-    → StandsAlone (line_places (counted_exchanges at folio) at folio) x.id
-dropped_alone journal at folio x kept stands there gone =
+dropped_alone : (claims : RightNo → ℕ) (journal : List Receipt) (at : Key → List Entry) (folio : ℕ) (x : CreatedRight) → Kept journal at → IsJournal journal → In x (counted_rights at folio) → is_gone at folio x.id ≡ true
+    → StandsAlone (counted_places claims at folio) x.id
+dropped_alone claims journal at folio x kept stands there gone =
     let exchanges = counted_exchanges at folio in
     let placed = of_placed_rights (stands_on_line exchanges) at folio x there in
     let gives = gone_recedes (is_live (at (Right folio x.id))) (recedes exchanges x.id) placed.stands gone in
     let from = of_any (λ (y : Exchange). same_right y.recede x.id) exchanges gives in
-    subst (StandsAlone (line_places exchanges at folio)) (right_is from.0.recede x.id from.2) (swap_alone journal at folio from.0 kept stands from.1).0
+    subst (StandsAlone (counted_places claims at folio)) (right_is from.0.recede x.id from.2) (swap_alone claims journal at folio from.0 kept stands from.1).0
 
 -- the places of the line are places
-are_places : (journal : List Receipt) (at : Key → List Entry) (folio : ℕ) → Kept journal at → IsJournal journal → All (λ (p : Place). p.claim ≤ most_cents) (line_places (counted_exchanges at folio) at folio)
-    → ArePlaces (line_places (counted_exchanges at folio) at folio)
-are_places journal at folio kept stands bound =
+are_places : (claims : RightNo → ℕ) (journal : List Receipt) (at : Key → List Entry) (folio : ℕ) → Kept journal at → IsJournal journal → ((x : CreatedRight) → In x (counted_rights at folio) → 1 ≤ claims x.id)
+    → All (λ (p : Place). p.claim ≤ most_cents) (counted_places claims at folio) → ArePlaces (counted_places claims at folio)
+are_places claims journal at folio kept stands some bound =
+    let gone = is_gone at folio in
     let exchanges = counted_exchanges at folio in
-    let rights = rights_where (stands_on_line exchanges) at folio in
-    let places = line_places exchanges at folio in
-    let few : length places ≤ most_places = subst (λ n. n ≤ most_places) (sym (places_many at folio None rights)) (placed_few (stands_on_line exchanges) journal at folio kept stands) in
+    let rights = counted_rights at folio in
+    let places = counted_places claims at folio in
+    let few : length places ≤ most_places = subst (λ n. n ≤ most_places) (sym (places_many claims gone None rights)) (placed_few (stands_on_line exchanges) journal at folio kept stands) in
     let sum = sum_by-le (λ (p : Place). p.claim) most_cents places bound in
     record {
       few = few;
-      distinct = places_distinct at folio None rights (placed_distinct (stands_on_line exchanges) at folio);
-      first = first_joins_none at folio rights;
+      distinct = places_distinct claims gone None rights (placed_distinct (stands_on_line exchanges) at folio);
+      first = first_joins_none claims gone rights;
       dropped = All-from_recursion (λ p. p.dropped ≡ true → StandsAlone places p.right) places
-          (all_places (λ p. p.dropped ≡ true → StandsAlone places p.right) at folio None rights (λ b x there. dropped_alone journal at folio x kept stands there));
-      claims = All-from_recursion (λ p. 1 ≤ p.claim) places
-          (all_places (λ p. 1 ≤ p.claim) at folio None rights (λ b x there. claims_from journal at folio x kept stands (of_placed_rights (stands_on_line exchanges) at folio x there).made));
+          (all_places (λ p. p.dropped ≡ true → StandsAlone places p.right) claims gone None rights (λ b x there. dropped_alone claims journal at folio x kept stands there));
+      claims = All-from_recursion (λ p. 1 ≤ p.claim) places (all_places (λ p. 1 ≤ p.claim) claims gone None rights (λ b x there. some x there));
       sum = omega (arith, few, sum);
     }
 
@@ -113,21 +124,43 @@ no_knots : IsDistinct same_right []
 unfolding IsDistinct
 no_knots = tt
 
--- These are the places and the exchanges of the folio's line, and no place has a claim beyond the greatest amount.
-pub can_fill : (journal : List Receipt) (at : Key → List Entry) (folio : ℕ) (exchanges : List Exchange) (places : List Place) (swaps : List Swap) → Kept journal at → IsJournal journal
-    → exchanges ≡ counted_exchanges at folio → places ≡ line_places exchanges at folio → swaps ≡ map swap_of exchanges → All (λ p. p.claim ≤ most_cents) places
+-- these places and exchanges, without knots
+abbrev pub filled_of : List Place → List Swap → Filled
+filled_of places swaps = record { places = places; swaps = swaps; knots = [] }
+
+-- The places and the exchanges of a folio's line, with claims that are each an amount, are such that slots can be filled with them.
+pub can_fill : (claims : RightNo → ℕ) (journal : List Receipt) (at : Key → List Entry) (folio : ℕ) (exchanges : List Exchange) (places : List Place) (swaps : List Swap) → Kept journal at → IsJournal journal
+    → ((x : CreatedRight) → In x (counted_rights at folio) → 1 ≤ claims x.id)
+    → exchanges ≡ counted_exchanges at folio → places ≡ line_places claims (is_gone at folio) exchanges at folio → swaps ≡ map swap_of exchanges → All (λ p. p.claim ≤ most_cents) places
     → CanFill (record { places = places; swaps = swaps; knots = [] })
-can_fill journal at folio exchanges places swaps kept stands counted placed swapped bound =
+can_fill claims journal at folio exchanges places swaps kept stands some counted placed swapped bound =
     let all = counted_exchanges at folio in
-    let of_folio = placed ∙ ap (λ xs. line_places xs at folio) counted in
-    let can_swap = All-map (CanSwap (line_places all at folio)) swap_of all
-    (All-from_recursion (λ y. CanSwap (line_places all at folio) (swap_of y)) all
-    (all_in (λ y. CanSwap (line_places all at folio) (swap_of y)) all (λ y there. swap_alone journal at folio y kept stands there))) in
+    let line = counted_places claims at folio in
+    let of_folio : places ≡ line = placed ∙ ap (λ xs. line_places claims (is_gone at folio) xs at folio) counted in
+    let can_swap = All-map (CanSwap line) swap_of all
+    (All-from_recursion (λ y. CanSwap line (swap_of y)) all
+    (all_in (λ y. CanSwap line (swap_of y)) all (λ y there. swap_alone claims journal at folio y kept stands there))) in
     subst (λ xs. CanFill (record { places = xs; swaps = swaps; knots = [] })) (sym of_folio)
-    (subst (λ ss. CanFill (record { places = line_places all at folio; swaps = ss; knots = [] })) (sym (swapped ∙ ap (map swap_of) counted))
+    (subst (λ ss. CanFill (record { places = line; swaps = ss; knots = [] })) (sym (swapped ∙ ap (map swap_of) counted))
     (record {
-      places = are_places journal at folio kept stands (subst (All (λ (p : Place). p.claim ≤ most_cents)) of_folio bound);
+      places = are_places claims journal at folio kept stands some (subst (All (λ (p : Place). p.claim ≤ most_cents)) of_folio bound);
       swaps = can_swap;
       knots = All-nil _;
       once = no_knots;
     }))
+
+-- the capitals are amounts
+pub capitals_from : (journal : List Receipt) (at : Key → List Entry) (folio : ℕ) → Kept journal at → IsJournal journal → (x : CreatedRight) → In x (counted_rights at folio) → 1 ≤ capital_at at folio x.id
+capitals_from journal at folio kept stands x there =
+    claims_from journal at folio x kept stands (of_placed_rights (stands_on_line (counted_exchanges at folio)) at folio x there).made
+
+-- and these are what the line of the folio is filled with
+pub line_is : (at : Key → List Entry) (folio : ℕ) (exchanges : List Exchange) (places : List Place) (swaps : List Swap)
+    → exchanges ≡ counted_exchanges at folio → places ≡ line_places (capital_at at folio) (is_gone at folio) exchanges at folio → swaps ≡ map swap_of exchanges
+    → filled_of places swaps ≡ folio_filled at folio
+line_is at folio exchanges places swaps counted placed swapped =
+    let claims = capital_at at folio in
+    let gone = is_gone at folio in
+    let places_are = placed ∙ ap (λ xs. line_places claims gone xs at folio) counted ∙ line_written claims gone (stands_on_line (counted_exchanges at folio)) at folio in
+    let swaps_are = swapped ∙ ap (map swap_of) counted in
+    λ i. filled_of (places_are i) (swaps_are i)

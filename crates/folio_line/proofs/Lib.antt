@@ -5,6 +5,7 @@ pub mod FiledRights
 pub mod FilingRuns
 pub mod FolioFills
 pub mod GroupedRights
+pub mod GroupsWritten
 pub mod LiveAreHeld
 pub mod LiveRights
 pub mod LoneGroups

@@ -16,7 +16,8 @@ use Rattle.folio_sections.specs.declared.entries.Entry.{Entry}
 use Rattle.folio_sections.proofs.DistinctLists.{distinct_weaker}
 use Rattle.rank_slots.specs.CanFill.{StandsAlone}
 use Rattle.rank_slots.specs.declared.places.Place.{Place}
-use Rattle.folio_line.specs.FolioSlots.{places_behind, recedes, stands_on_line}
+use Rattle.folio_line.specs.FolioSlots.{recedes, stands_on_line}
+use Rattle.folio_line.specs.inner.PlaceByPlace.{places_behind}
 use Rattle.folio_line.specs.FolioRights.{has_same_place, rights_where}
 use Rattle.folio_line.specs.declared.exchanges.Exchange.{Exchange}
 use Rattle.folio_line.specs.declared.folio_rights.CreatedRight.{CreatedRight}
@@ -28,9 +29,9 @@ use Rattle.folio_line.proofs.PlacedOrder.{of_placed_rights, the_right}
 use Rattle.folio_line.proofs.PlacesBehind.{listed, none_joins, shares_place}
 use Rattle.folio_line.proofs.PlainRights.{plain_apart}
 
--- the places of a folio behind these exchanges
-abbrev pub line_places : List Exchange → (Key → List Entry) → ℕ → List Place
-line_places exchanges at folio = places_behind at folio None (rights_where (stands_on_line exchanges) at folio)
+-- the places of a folio behind these exchanges, with these claims
+abbrev pub line_places : (RightNo → ℕ) → (RightNo → Bool) → List Exchange → (Key → List Entry) → ℕ → List Place
+line_places claims gone exchanges at folio = places_behind claims gone None (rights_where (stands_on_line exchanges) at folio)
 
 -- in either order
 numbers_swap : (x y : CreatedRight) → has_same_number x y ≡ false → has_same_number y x ≡ false
@@ -55,23 +56,23 @@ apart_where_plain exchanges journal at folio right x y kept plain here there apa
     (λ is. places_swap x y (plain_apart journal folio y x (ap (shares_its_group journal) (right_is y.id right is) ∙ plain) second first (numbers_swap x y apart)))
 
 -- so a placed right that is plain stands alone
-alone : (exchanges : List Exchange) (journal : List Receipt) (at : Key → List Entry) (folio : ℕ) (right : RightNo) (x : CreatedRight) → Kept journal at → shares_its_group journal right ≡ false → In x (rights_where (stands_on_line exchanges) at folio) → same_right x.id right ≡ true
-    → StandsAlone (line_places exchanges at folio) right
-alone exchanges journal at folio right x kept plain there same =
+alone : (claims : RightNo → ℕ) (gone : RightNo → Bool) (exchanges : List Exchange) (journal : List Receipt) (at : Key → List Entry) (folio : ℕ) (right : RightNo) (x : CreatedRight) → Kept journal at → shares_its_group journal right ≡ false → In x (rights_where (stands_on_line exchanges) at folio) → same_right x.id right ≡ true
+    → StandsAlone (line_places claims gone exchanges at folio) right
+alone claims gone exchanges journal at folio right x kept plain there same =
     let rights = rights_where (stands_on_line exchanges) at folio in
-    stands_alone right (line_places exchanges at folio)
-    (none_joins at folio right rights
+    stands_alone right (line_places claims gone exchanges at folio)
+    (none_joins claims gone right rights
     (distinct_weaker has_same_number (shares_place right) rights (placed_distinct (stands_on_line exchanges) at folio)
     (λ a b here behind apart. apart_where_plain exchanges journal at folio right a b kept plain here behind apart)))
-    (listed at folio None rights x right there same)
+    (listed claims gone None rights x right there same)
 
 -- and a plain right is placed where it is live or recedes
-pub plain_alone : (exchanges : List Exchange) (journal : List Receipt) (at : Key → List Entry) (folio : ℕ) (right : RightNo) → Kept journal at → IsJournal journal → StandsPlain journal at folio right → (is_live (at (Right folio right)) || recedes exchanges right) ≡ true
-    → StandsAlone (line_places exchanges at folio) right
-plain_alone exchanges journal at folio right kept is_journal plain stands =
-    elim (created (at (Right folio right))) as (λ o. created (at (Right folio right)) ≡ o → IsSomeAnd o (IsPlain journal right) → StandsAlone (line_places exchanges at folio) right) [
+pub plain_alone : (claims : RightNo → ℕ) (gone : RightNo → Bool) (exchanges : List Exchange) (journal : List Receipt) (at : Key → List Entry) (folio : ℕ) (right : RightNo) → Kept journal at → IsJournal journal → StandsPlain journal at folio right → (is_live (at (Right folio right)) || recedes exchanges right) ≡ true
+    → StandsAlone (line_places claims gone exchanges at folio) right
+plain_alone claims gone exchanges journal at folio right kept is_journal plain stands =
+    elim (created (at (Right folio right))) as (λ o. created (at (Right folio right)) ≡ o → IsSomeAnd o (IsPlain journal right) → StandsAlone (line_places claims gone exchanges at folio) right) [
       | None ↦ λ _ none. absurd none
       | Some made ↦ λ is its.
           let ranges = is_in_ranges journal folio right made is_journal (is_created_here journal at folio right made kept is) in
-          alone exchanges journal at folio right (the_right right made) kept its.alone (is_placed (stands_on_line exchanges) journal at folio right made is_journal ranges is stands) (right_self right)
+          alone claims gone exchanges journal at folio right (the_right right made) kept its.alone (is_placed (stands_on_line exchanges) journal at folio right made is_journal ranges is stands) (right_self right)
     ] refl plain

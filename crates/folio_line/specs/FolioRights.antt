@@ -1,5 +1,5 @@
 -- The rights of a folio in order of filing, group and act.
-use Rattle.std.specs.Prelude.{ℕ, Bool, ◌==◌, ◌&&◌, if◌then◌else◌, List, filter, filter_map, flat_map, Option, None, option_map}
+use Rattle.std.specs.Prelude.{ℕ, Bool, ◌==◌, ◌&&◌, if◌then◌else◌, List, filter, filter_map, flat_map, map, Option, None, option_map}
 use Rattle.std.specs.List.{range_with_len}
 use Rattle.gb_base.specs.RightNo.{RightNo}
 use Rattle.gb_base.specs.declared.keys.Key.{Key}
@@ -22,6 +22,15 @@ rights_of holds at folio m = filter_map (right_where holds at folio) (rights_of_
 -- the right is of this group
 abbrev pub has_group : ℕ → CreatedRight → Bool
 has_group group x = x.made.spec.group == group
+
+-- these rights in their groups; a group may be empty
+abbrev pub in_groups : List CreatedRight → List (List CreatedRight)
+in_groups rights = map (λ group. filter (has_group group) rights) (range_with_len 1 most_groups)
+
+-- the groups of equal rank of a folio, with the rights of which the test holds, in order of filing and group
+-- (BGB § 879, GBO § 45)
+abbrev pub groups_where : (RightNo → List Entry → Bool) → (Key → List Entry) → ℕ → List (List CreatedRight)
+groups_where holds at folio = flat_map (λ m. in_groups (rights_of holds at folio m)) receipt_numbers
 
 -- these rights by group
 abbrev pub by_group : List CreatedRight → List CreatedRight

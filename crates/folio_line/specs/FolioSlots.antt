@@ -1,5 +1,5 @@
--- What the cent line of a folio is filled with: its rights in order, with their capitals, and the exchanges among them.
-use Rattle.std.specs.Prelude.{ℕ, Bool, false, not, ◌||◌, List, [], ◌∷◌, map, Option, Some, None}
+-- The line of a folio: groups of rights of equal rank in order, each with what its members claim, and the exchanges among them.
+use Rattle.std.specs.Prelude.{ℕ, Bool, false, true, not, ◌||◌, List, [], ◌∷◌, flat_map, map}
 use Rattle.std.specs.List.{list_any}
 use Rattle.std.specs.Option.{option_map_or}
 use Rattle.gb_base.specs.RightNo.{RightNo, same_right}
@@ -8,35 +8,45 @@ use Rattle.gb_base.specs.declared.keys.Key.TheVariants.{Right}
 use Rattle.folio_sections.specs.Rights.{capital, is_live}
 use Rattle.folio_sections.specs.declared.entries.Entry.{Entry}
 use Rattle.rank_slots.specs.Filled.{Filled}
+use Rattle.rank_slots.specs.declared.places.Knot.{Knot}
 use Rattle.rank_slots.specs.declared.places.Place.{Place}
 use Rattle.rank_slots.specs.declared.places.Swap.{Swap}
 use Rattle.folio_line.specs.Exchanges.{counted_exchanges}
-use Rattle.folio_line.specs.FolioRights.{has_same_place, rights_where}
+use Rattle.folio_line.specs.FolioRights.{groups_where}
 use Rattle.folio_line.specs.declared.exchanges.Exchange.{Exchange}
 use Rattle.folio_line.specs.declared.folio_rights.CreatedRight.{CreatedRight}
+
+-- ---- any line
+
+-- the place of a right with its claim, dropped at the end where it is gone; it joins the one before it, or begins a group
+abbrev pub place_of : (RightNo → ℕ) → (RightNo → Bool) → Bool → CreatedRight → Place
+place_of claims gone with_previous x = record { right = x.id; claim = claims x.id; with_previous = with_previous; dropped = gone x.id }
+
+-- A group of equal rank is one owner of the cents that its members claim together (BGB § 879, GBO § 45(1), (3)): their places,
+-- of which each but the first joins the one before it.
+abbrev pub group_places : (RightNo → ℕ) → (RightNo → Bool) → List CreatedRight → List Place
+group_places claims gone [] = []
+group_places claims gone (x ∷ xs) = place_of claims gone false x ∷ map (place_of claims gone true) xs
+
+-- an exchange on the line
+abbrev pub swap_of : Exchange → Swap
+swap_of x = record { recede = x.recede; rise = x.rise }
+
+-- What a line is filled with: the groups in order, with what each right claims and which rights are gone, the exchanges, and the
+-- exercised reservations.
+abbrev pub filled_by : (RightNo → ℕ) → (RightNo → Bool) → List (List CreatedRight) → List Exchange → List Knot → Filled
+filled_by claims gone groups exchanges knots =
+    record { places = flat_map (group_places claims gone) groups; swaps = map swap_of exchanges; knots = knots }
+
+-- ---- the line of a folio
 
 -- the capital of a right, in cents
 abbrev pub capital_at : (Key → List Entry) → ℕ → RightNo → ℕ
 capital_at at folio id = option_map_or (λ c. c) (capital (at (Right folio id))) 0
 
--- whether the right joins the place of the one before it
-abbrev pub joins_place : Option CreatedRight → CreatedRight → Bool
-joins_place None x = false
-joins_place (Some before) x = has_same_place before x
-
--- the place of a right on the line: its capital is its claim, and its cents are taken out where it is no longer live
-abbrev pub place_behind : (Key → List Entry) → ℕ → Option CreatedRight → CreatedRight → Place
-place_behind at folio before x =
-    record { right = x.id; claim = capital_at at folio x.id; with_previous = joins_place before x; dropped = not (is_live (at (Right folio x.id))) }
-
--- the places of these rights, from the right before them
-abbrev pub places_behind : (Key → List Entry) → ℕ → Option CreatedRight → List CreatedRight → List Place
-places_behind at folio before [] = []
-places_behind at folio before (x ∷ xs) = place_behind at folio before x ∷ places_behind at folio (Some x) xs
-
--- an exchange on the line
-abbrev pub swap_of : Exchange → Swap
-swap_of x = record { recede = x.recede; rise = x.rise }
+-- a right is no longer live
+abbrev pub is_gone : (Key → List Entry) → ℕ → RightNo → Bool
+is_gone at folio id = not (is_live (at (Right folio id)))
 
 -- the right recedes in one of these exchanges
 abbrev pub recedes : List Exchange → RightNo → Bool
@@ -46,11 +56,8 @@ recedes exchanges id = list_any (λ x. same_right x.recede id) exchanges
 abbrev pub stands_on_line : List Exchange → RightNo → List Entry → Bool
 stands_on_line exchanges id entries = is_live entries || recedes exchanges id
 
--- what the line of a folio is filled with where these exchanges count
-abbrev pub filled_by : List Exchange → (Key → List Entry) → ℕ → Filled
-filled_by exchanges at folio =
-    record { places = places_behind at folio None (rights_where (stands_on_line exchanges) at folio); swaps = map swap_of exchanges; knots = [] }
-
--- what the line of a folio is filled with: the capitals, and the exchanges that count
+-- The line of a folio with its capitals: the rights that stand on it, and the exchanges that count. A knot moves no cents of it.
 abbrev pub folio_filled : (Key → List Entry) → ℕ → Filled
-folio_filled at folio = filled_by (counted_exchanges at folio) at folio
+folio_filled at folio =
+    filled_by (capital_at at folio) (is_gone at folio) (groups_where (stands_on_line (counted_exchanges at folio)) at folio)
+    (counted_exchanges at folio) []

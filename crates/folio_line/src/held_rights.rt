@@ -1,6 +1,5 @@
 //! Parts that know which rights of a folio are among them.
 ghost use Rattle.std.specs.Prelude.{◌≡◌, IfOk};
-ghost use Rattle.folio_sections.specs.HeldRights.{held_rights};
 
 use folio_sections::{MapParts, Parts};
 use gb_base::{FolioId, NoMemory, RightId};

@@ -3,7 +3,8 @@ ghost use Rattle.std.specs.Prelude.{◌≡◌, ◌≤◌, All, IfOk, None, map};
 ghost use Rattle.gb_base.specs.Limits.{most_cents};
 ghost use Rattle.kept_registers.specs.Kept.{Kept};
 ghost use Rattle.folio_line.specs.Exchanges.{counted_exchanges};
-ghost use Rattle.folio_line.specs.FolioSlots.{filled_by, joins_place, place_behind, places_behind, swap_of};
+ghost use Rattle.folio_line.specs.FolioSlots.{capital_at, folio_filled, is_gone, swap_of};
+ghost use Rattle.folio_line.specs.inner.PlaceByPlace.{joins_place, place_behind, places_behind};
 
 use crate::HeldRights;
 use crate::exchanges::Exchange;
@@ -24,7 +25,7 @@ pub fn folio_slots<P: HeldRights>(
 ) -> Result<Slots, NoMemory>
     requires kept { Kept journal.now.receipts (P.at parts.now) }
     requires counted { exchanges.now ≡ counted_exchanges (P.at parts.now) folio }
-    ensures { IfOk result (λ slots. slots.filled ≡ filled_by exchanges.now (P.at parts.now) folio) }
+    ensures { IfOk result (λ slots. slots.filled ≡ folio_filled (P.at parts.now) folio) }
 {
     // The contract of `len` says that this is a journal.
     let receipts = journal.len() as usize;
@@ -45,7 +46,7 @@ fn places_of<P: HeldRights>(
     folio: FolioId,
     rights: &[CreatedRight],
 ) -> Result<Vec<Place>, NoMemory>
-    ensures value { IfOk result (λ places. places.items ≡ places_behind (P.at parts.now) folio None rights.now) }
+    ensures value { IfOk result (λ places. places.items ≡ places_behind (capital_at (P.at parts.now) folio) (is_gone (P.at parts.now) folio) None rights.now) }
     ensures bound { IfOk result (λ places. All (λ p. p.claim ≤ most_cents) places.items) }
 {
     let mut places = Vec::new(alloc);
@@ -64,7 +65,7 @@ fn place_behind<P: HeldRights>(
     before: Option<CreatedRight>,
     right: &CreatedRight,
 ) -> Place
-    ensures value { result ≡ place_behind (P.at parts.now) folio before right.now }
+    ensures value { result ≡ place_behind (capital_at (P.at parts.now) folio) (is_gone (P.at parts.now) folio) before right.now }
     ensures bound { result.claim ≤ most_cents }
 {
     Place {
