@@ -1,4 +1,4 @@
-// Extracts, each part of each line present and absent.
+//! Extracts, each part of each line present and absent.
 use crate::extract;
 use crate::folio_reads::awaits_award;
 use crate::right_lines::add_right_line;

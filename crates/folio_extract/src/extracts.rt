@@ -1,4 +1,4 @@
-// The extract of a folio: its parcel, its owners, the filings that wait, and its rights.
+//! The extract of a folio: its parcel, its owners, the filings that wait, and its rights.
 ghost use Rattle.std.specs.Prelude.{◌≡◌, ◌++◌, All, IfOk, IsTrue, OnOk, codes, flat_map, option_map};
 ghost use Rattle.std.specs.Fmt.{decimal};
 ghost use Rattle.std.specs.String.{string_bytes};

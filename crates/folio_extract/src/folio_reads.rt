@@ -1,4 +1,4 @@
-// What stands in a folio of a register; nothing where the register does not hold the part.
+//! What stands in a folio of a register; nothing where the register does not hold the part.
 ghost use Rattle.std.specs.Prelude.{◌≡◌, ◌&&◌, is_none};
 ghost use Rattle.gb_base.specs.declared.keys.Key.TheVariants.{Case, Title};
 ghost use Rattle.folio_sections.specs.Cases.{award, is_running};

@@ -9,6 +9,8 @@ mod exchange_tests;
 mod extract_tests;
 mod extracts;
 mod folio_reads;
+#[cfg(test)]
+mod full_line_tests;
 mod rank_lines;
 #[cfg(test)]
 mod rank_table_tests;

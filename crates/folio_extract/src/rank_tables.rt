@@ -1,5 +1,5 @@
-// The rank table of a folio: the ranks of its rights, the exchanges and exercised reservations that
-// count, and the cents after the exchanges.
+//! The rank table of a folio: the ranks of its rights, the exchanges and exercised reservations that
+//! count, and the cents after the exchanges.
 ghost use Rattle.std.specs.Prelude.{◌≡◌, ◌++◌, IfOk, None, OnOk, codes, flat_map, option_map};
 ghost use Rattle.std.specs.Fmt.{decimal};
 ghost use Rattle.std.specs.String.{string_bytes};
@@ -55,7 +55,7 @@ pub(crate) fn add_rank_table(
     prove!(receipts <= Journal::MAX);
     let rights = live_rights(alloc, register, folio)?;
     add_ranks(text, folio, &rights)?;
-    let exchanges = counted_exchanges(alloc, register, folio, &rights)?;
+    let exchanges = counted_exchanges(alloc, register, journal, folio, &rights)?;
     add_exchange_lines(text, &exchanges)?;
     add_exercises(alloc, text, register, folio)?;
     add_cents(alloc, text, register, journal, folio, &exchanges)

@@ -1,9 +1,11 @@
 -- The exchanges of rank and the exercised reservations of a folio that count (BGB §§ 880, 881).
-use Rattle.std.specs.Prelude.{ℕ, Bool, false, not, ◌==◌, ◌&&◌, ◌||◌, nat_lt, if◌then◌else◌, List, [], ◌∷◌, filter, filter_map, flat_map, Option, Some, None, is_some, option_and_then}
-use Rattle.std.specs.List.{list_any}
+use Rattle.std.specs.Prelude.{ℕ, Bool, false, not, ◌==◌, ◌&&◌, ◌||◌, if◌then◌else◌, List, filter, filter_map, flat_map, Option, Some, None, is_some, option_and_then}
+use Rattle.std.specs.List.{list_any, range_with_len}
+use Rattle.gb_base.specs.Limits.{most_acts}
 use Rattle.gb_base.specs.RightNo.{RightNo, same_right}
 use Rattle.gb_base.specs.declared.keys.Key.{Key}
 use Rattle.gb_base.specs.declared.keys.Key.TheVariants.{Right}
+use Rattle.folio_sections.specs.HeldRights.{receipt_numbers}
 use Rattle.folio_sections.specs.Rights.{created, is_live}
 use Rattle.folio_sections.specs.declared.entries.Entry.{Entry}
 use Rattle.folio_sections.specs.declared.entries.What.{What}
@@ -36,19 +38,13 @@ abbrev pub counted_at : (Key → List Entry) → ℕ → CreatedRight → List E
 counted_at at folio x =
     filter (λ y. keeps_cents (at (Right folio y.recede))) (filter_map (λ e. rise_by x.id e.receipt e.what) (at (Right folio x.id)))
 
--- exchange x is of an earlier item than y, or of an earlier act of the same item
-abbrev pub is_earlier : Exchange → Exchange → Bool
-is_earlier x y = nat_lt x.item y.item || (x.item == y.item && nat_lt x.act y.act)
+-- the exchange is by receipt n, as act a of its filing
+abbrev pub is_by : ℕ → ℕ → Exchange → Bool
+is_by n a x = x.item == n && x.act == a
 
--- an exchange among others in turn: ahead of the first that is not earlier
-abbrev pub in_turn_with : Exchange → List Exchange → List Exchange
-in_turn_with x [] = x ∷ []
-in_turn_with x (y ∷ ys) = if is_earlier y x then y ∷ in_turn_with x ys else x ∷ y ∷ ys
-
--- these exchanges by item and act
+-- these exchanges by receipt and act; those of one act stay in their order
 abbrev pub in_turn : List Exchange → List Exchange
-in_turn [] = []
-in_turn (x ∷ xs) = in_turn_with x (in_turn xs)
+in_turn exchanges = flat_map (λ n. flat_map (λ a. filter (is_by n a) exchanges) (range_with_len 1 most_acts)) receipt_numbers
 
 -- The exchanges of a folio that count, by item and act: the right that rose is live, and the one that receded is live or was cancelled
 -- by consent (BGB § 880).

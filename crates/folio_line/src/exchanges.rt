@@ -2,12 +2,14 @@
 ghost use Rattle.std.specs.Prelude.{◌≡◌, ◌++◌, IfOk, OnOk, flat_map};
 ghost use Rattle.std.specs.List.{list_any};
 ghost use Rattle.gb_base.specs.declared.keys.Key.TheVariants.{Right};
+ghost use Rattle.kept_registers.specs.Kept.{Kept};
 ghost use Rattle.folio_line.specs.FolioRights.{live_rights};
 ghost use Rattle.folio_line.specs.Exchanges.{counted_at, counted_exchanges, is_cancellation_by_consent, keeps_cents, rise_by};
 
 use crate::HeldRights;
 use crate::folio_reads::{is_live, right_entries, was_created};
 use crate::folio_rights::CreatedRight;
+use act_model::Journal;
 use folio_sections::{Entry, What};
 use gb_base::{FolioId, NoMemory, ReceiptNo, RightId};
 use std::alloc::Global;
@@ -25,18 +27,26 @@ pub struct Exchange {
     pub rise: RightId,
 }
 
-/// The exchanges by which these live rights rise and that count, by item and act: the cents of the
-/// right that recedes stay. An exchange stands at both of its rights, and is read at the one that
-/// rises.
+/// The exchanges of a folio that count, by item and act: the right that rises is live, and the cents
+/// of the one that recedes stay. An exchange stands at both of its rights, and is read at the one
+/// that rises, among the live rights of the folio. NoMemory where no memory is found for the list.
+///
+/// By act 1 of receipt 5 right 2.1 recedes behind 4.1: `{ item: 5, act: 1, recede: 2.1, rise: 4.1 }`.
+/// It counts on where 2.1 is cancelled by consent, and no longer once 4.1 is.
 pub fn counted_exchanges<P: HeldRights>(
     alloc: Global,
     parts: &P,
+    journal: &Journal,
     folio: FolioId,
     live: &[CreatedRight],
 ) -> Result<Vec<Exchange>, NoMemory>
+    requires kept { Kept journal.now.receipts (P.at parts.now) }
     requires live { live.now ≡ live_rights (P.at parts.now) folio }
     ensures { IfOk result (λ exchanges. exchanges.items ≡ counted_exchanges (P.at parts.now) folio) }
 {
+    // The contract of `len` says that this is a journal.
+    let receipts = journal.len() as usize;
+    prove!(receipts <= Journal::MAX);
     let mut exchanges = counted_by_right(alloc, parts, folio, live)?;
     exchanges.sort_by_key(|exchange: &Exchange| (exchange.item, exchange.act))?;
     Ok(exchanges)

@@ -21,7 +21,11 @@ pub struct CreatedRight {
     pub made: Created,
 }
 
-/// The rights that are live in a folio, in order of filing, group and act.
+/// The rights that are live in a folio, in order of filing, group and act. NoMemory where no memory
+/// is found for the list.
+///
+/// Receipt 2 creates 2.1 in its group 2 and 2.2 in its group 1, receipt 3 creates 3.1: the list is
+/// 2.2, 2.1, 3.1.
 pub fn live_rights<P: HeldRights>(
     alloc: Global,
     parts: &P,
@@ -151,6 +155,8 @@ fn add_group(
 }
 
 /// Whether two rights of a folio have one place: they are of one filing and group (GBO § 45(1), (3)).
+///
+/// 2.1 and 2.2, both of group 1, have; 2.1 and 3.1 have not, whatever their groups are.
 pub fn has_same_place(a: &CreatedRight, b: &CreatedRight) -> bool
     ensures { result ≡ has_same_place a.now b.now }
 {

@@ -14,7 +14,7 @@ pub trait HeldRights: Parts {
     ghost use Rattle.folio_line.specs.HeldNumbers.{held_among};
 
     /// The rights of a folio whose parts are held, by receipt and act. NoMemory where no memory is
-    /// found.
+    /// found for the list.
     fn rights_in(&self, alloc: Global, folio: FolioId) -> Result<Vec<RightId>, NoMemory>
         ensures rights { IfOk result (λ rights. rights.items ≡ held_among (Self.holds self.now) folio) };
 

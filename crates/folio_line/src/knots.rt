@@ -12,6 +12,9 @@ use rank_slots::Knot;
 use std::alloc::Global;
 
 /// The exercised reservations of a folio that count, by the exercised right: both rights are live.
+/// NoMemory where no memory is found for the list.
+///
+/// Right 2.1 reserved an amount, and receipt 4 exercises it with 4.1: `{ reserved: 2.1, exercised: 4.1 }`.
 pub fn counted_knots<P: HeldRights>(
     alloc: Global,
     parts: &P,

@@ -5,12 +5,12 @@
 mod exchanges;
 mod folio_reads;
 mod folio_rights;
-mod slots;
 mod held_rights;
 mod knots;
+mod slots;
 
 pub use exchanges::{Exchange, counted_exchanges};
 pub use folio_rights::{CreatedRight, has_same_place, live_rights};
-pub use slots::folio_slots;
 pub use held_rights::HeldRights;
 pub use knots::counted_knots;
+pub use slots::folio_slots;

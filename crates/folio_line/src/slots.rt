@@ -15,7 +15,11 @@ use gb_base::{FolioId, NoMemory};
 use rank_slots::{Place, Slots, Swap};
 use std::alloc::Global;
 
-/// The line of a folio after the exchanges that count.
+/// The line of a folio with its capitals, after the exchanges that count. Its lists and its room may
+/// want memory (NoMemory); to fill the line takes none.
+///
+/// Charges 2.1 of 100 euros, 3.1 of 50 and 4.1 of 80, of which 2.1 recedes behind 4.1: 4.1 takes the
+/// cents 1 to 8000, 2.1 those to 10000, 3.1 those to 15000, and 2.1 the rest.
 pub fn folio_slots<P: HeldRights>(
     alloc: Global,
     parts: &P,
