@@ -9,10 +9,12 @@ use Rattle.folio_sections.specs.Places.{places}
 use Rattle.folio_sections.specs.declared.entries.Entry.{Entry}
 use Rattle.folio_sections.proofs.FilteredLists.{all_in}
 use Rattle.kept_registers.proofs.KeptOrder.{kept_is_order}
-use Rattle.folio_extract.specs.FolioRights.{live_rights, lives}
-use Rattle.folio_extract.specs.RankTables.{rank_lines, stands_ahead}
-use Rattle.folio_extract.specs.inner.RankWalk.{is_filed_before, ranked_lines}
-use Rattle.folio_extract.proofs.PlacedOrder.{of_placed_rights, placed_rights_ascend}
+use Rattle.folio_line.specs.FolioRights.{live_rights, lives}
+use Rattle.folio_extract.specs.RankTables.{rank_lines}
+use Rattle.folio_line.specs.RightRanks.{stands_ahead}
+use Rattle.folio_line.specs.inner.RightOrder.{is_filed_before}
+use Rattle.folio_extract.specs.inner.RankWalk.{ranked_lines}
+use Rattle.folio_line.proofs.PlacedOrder.{of_placed_rights, placed_rights_ascend}
 use Rattle.folio_extract.proofs.RankWalks.{ranks_in_order}
 
 pub kept_ranks : (journal : List Receipt) (at : Key → List Entry) (folio : ℕ) → IsJournal journal → Kept journal at

@@ -13,9 +13,9 @@ use Rattle.folio_sections.specs.Rights.{capital, holder, is_full, is_spent}
 use Rattle.folio_sections.specs.Titles.{inventory, is_open, owners}
 use Rattle.folio_sections.specs.declared.entries.Created.{Created}
 use Rattle.folio_sections.specs.declared.entries.Entry.{Entry}
-use Rattle.folio_extract.specs.FolioRights.{live_rights}
+use Rattle.folio_line.specs.FolioRights.{live_rights}
 use Rattle.folio_extract.specs.WaitingFilings.{waiting_filings}
-use Rattle.folio_extract.specs.declared.folio_rights.CreatedRight.{CreatedRight}
+use Rattle.folio_line.specs.declared.folio_rights.CreatedRight.{CreatedRight}
 use Rattle.folio_extract.specs.declared.waiting.WaitingFiling.{WaitingFiling}
 
 -- ---- the folio

@@ -1,4 +1,4 @@
-// The report: what becomes of each receipt, the texts of each open folio, and a line that ends it.
+//! The report: what becomes of each receipt, the texts of each open folio, and a line that ends it.
 ghost use Rattle.std.specs.Prelude.{◌≡◌, ◌++◌, IfOk, OnOk, length};
 ghost use Rattle.std.specs.String.{string_bytes};
 ghost use Rattle.folio_sections.specs.Held.{entries_at};

@@ -1,4 +1,4 @@
-// What becomes of a receipt, as a line.
+//! What becomes of a receipt, as a line.
 ghost use Rattle.std.specs.Prelude.{◌≡◌, ◌++◌, IfOk, OnOk, codes, option_map};
 ghost use Rattle.std.specs.String.{string_bytes};
 ghost use Rattle.gb_base.specs.Texts.{date_text};

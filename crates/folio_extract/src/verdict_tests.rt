@@ -1,4 +1,4 @@
-// The line of each verdict.
+//! The line of each verdict.
 use crate::verdict_lines::add_verdict_line;
 use consent_rules::{Defect, Defects};
 use arrayvec::ArrayVec;

@@ -4,3 +4,4 @@ pub mod PlaceDays
 pub mod PlaceOrder
 pub mod RankOrder
 pub mod RightPlaces
+pub mod WellFiled

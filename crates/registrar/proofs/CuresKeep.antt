@@ -22,7 +22,8 @@ use Rattle.interim_orders.specs.declared.states.FilingState.TheVariants.{NotPend
 use Rattle.registrar.proofs.Dealing.{Deals}
 use Rattle.registrar.proofs.Dealing.Turn.{finds, is_it}
 use Rattle.registrar.proofs.ItemRooms.{lapse_names, named, read_of_item}
-use Rattle.registrar.proofs.ItemsKeep.{filing_leaves, fit_as_judged, well_filed}
+use Rattle.kept_registers.proofs.WellFiled.{well_filed}
+use Rattle.registrar.proofs.ItemsKeep.{filing_leaves, fit_as_judged}
 use Rattle.registrar.proofs.Keeping.{Leaves, cure_leaves, end_leaves, none_leave}
 use Rattle.registrar.proofs.WaitingStates.{found_waiting, waiting_is_a_filing}
 use Rattle.registrar.specs.Brings.{brought_by_cure, brought_by_item, brought_in_state, nothing_pending}

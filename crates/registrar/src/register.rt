@@ -8,6 +8,7 @@ ghost use Rattle.folio_sections.specs.HeldRights.{held_rights};
 ghost use Rattle.registrar.specs.RegisterState.{verdict_among};
 
 use crate::Verdict;
+use folio_line::HeldRights;
 use folio_sections::{CasePart, Entry, MapParts, Parts, RightPart, TitlePart};
 use gb_base::{FolioId, NoMemory, ReceiptNo, RightId};
 use std::alloc::Global;
@@ -84,6 +85,16 @@ fn at_number(verdicts: &[Verdict], n: ReceiptNo) -> Option<&Verdict>
     ensures positive { 0 < n }
 {
     verdicts.get(n.get() as usize - 1)
+}
+
+impl HeldRights for Register {
+    ghost use Rattle.folio_line.specs.inner.NotHeld.{not_held};
+
+    fn rights_in(&self, alloc: Global, folio: FolioId) -> Result<Vec<RightId>, NoMemory> {
+        self.parts.rights_in(alloc, folio)
+    }
+
+    ghost unheld_is_empty = { λ r. not_held r.parts };
 }
 
 impl Parts for Register {
