@@ -1,4 +1,5 @@
 -- The extract of a folio: its parcel, its owners, the filings that wait, and its rights.
+-- Why so: docs/DECISIONS.md, "A line for each filing that waits at a title or a live right".
 use Rattle.std.specs.Prelude.{ℕ, Bool, true, false, ◌&&◌, if◌then◌else◌, List, [], ◌++◌, codes, flat_map, Option, Some, None, is_none}
 use Rattle.std.specs.Fmt.{decimal}
 use Rattle.gb_base.specs.Texts.{date_text, euro, right_text}

@@ -1,4 +1,5 @@
 -- The rank table of a folio: the ranks of its rights, the exchanges and exercised reservations that count, and the cents after the exchanges.
+-- Why so: docs/DECISIONS.md, "Printed ranks are those of the places".
 use Rattle.std.specs.Prelude.{ℕ, if◌then◌else◌, List, ◌++◌, codes, flat_map, Option, Some, None}
 use Rattle.std.specs.Fmt.{decimal}
 use Rattle.gb_base.specs.RightNo.{RightNo}

@@ -1,4 +1,5 @@
 //! The report: what becomes of each receipt, the texts of each open folio, and a line that ends it.
+//! Why so: docs/DECISIONS.md, "The report is made whole before its first byte is written".
 ghost use Rattle.std.specs.Prelude.{◌≡◌, ◌++◌, IfOk, OnOk, length};
 ghost use Rattle.std.specs.String.{string_bytes};
 ghost use Rattle.folio_sections.specs.Held.{entries_at};

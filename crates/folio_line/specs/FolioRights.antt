@@ -1,4 +1,5 @@
 -- The rights of a folio in order of filing, group and act.
+-- Why so: docs/DECISIONS.md, "The rights of a line stand by filing and group".
 use Rattle.std.specs.Prelude.{ℕ, Bool, ◌==◌, ◌&&◌, if◌then◌else◌, List, filter, filter_map, flat_map, map, Option, None, option_map}
 use Rattle.std.specs.List.{range_with_len}
 use Rattle.gb_base.specs.RightNo.{RightNo}

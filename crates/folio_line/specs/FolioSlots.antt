@@ -1,4 +1,5 @@
 -- The line of a folio: groups of rights of equal rank in order, each with what its members claim, and the exchanges among them.
+-- Why so: docs/DECISIONS.md, "The line takes live rights and those that recede".
 use Rattle.std.specs.Prelude.{ℕ, Bool, false, true, not, ◌||◌, List, [], ◌∷◌, flat_map, map}
 use Rattle.std.specs.List.{list_any}
 use Rattle.std.specs.Option.{option_map_or}

@@ -1,5 +1,6 @@
 //! The line of a folio, along which money is shared: which of its rights stand there, in which
 //! order, which exchanges and exercised reservations count, and what `Slots` are filled with.
+//! Why so: docs/DECISIONS.md, "What a line is made of stands in one crate below the texts".
 #![tactic(auto)]
 
 mod exchanges;

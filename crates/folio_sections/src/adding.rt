@@ -1,4 +1,4 @@
-// Entries that an item adds to the parts of a register.
+//! Entries that an item adds to the parts of a register.
 ghost use Rattle.std.specs.Prelude.{◌≡◌, ◌≤◌, [], ◌∷◌, length, IsTrue};
 ghost use Rattle.gb_base.specs.DayMinute.{IsStampDay};
 ghost use Rattle.act_model.specs.Receiving.{day_of};

@@ -1,4 +1,6 @@
-// The part of a register at the forced sale of a folio.
+//! The part of a register at the forced sale of a folio.
+//! Why so: docs/DECISIONS.md, "A part counts its seizures up to the greatest `u32`".
+//! Why so: docs/DECISIONS.md, "The part of a forced sale answers like the others".
 ghost use Rattle.std.specs.Prelude.{◌≡◌, ◌+◌, ◌≤◌, [], ◌∷◌, ◌++◌, All, IsOk, OnOk, OnErr, min};
 ghost use Rattle.folio_sections.specs.Cases.{is_distribution, case, is_seizure, award_by, call_by};
 

@@ -1,4 +1,4 @@
-// The part of a register at a right.
+//! The part of a register at a right.
 ghost use Rattle.std.specs.Prelude.{◌≡◌, ◌+◌, ◌≤◌, [], ◌∷◌, ◌++◌, All, IsOk, OnOk, OnErr, fold, None};
 ghost use Rattle.std.specs.List.{list_any};
 ghost use Rattle.folio_sections.specs.Rights.{created_by, created, live_by, is_conversion, new_holder_by, holder, remaining_by, is_exercise};

@@ -1,4 +1,4 @@
-// The part of a register at the title of a folio.
+//! The part of a register at the title of a folio.
 ghost use Rattle.std.specs.Prelude.{◌≡◌, ◌+◌, ◌≤◌, [], ◌∷◌, ◌++◌, All, IsOk, OnOk, OnErr};
 ghost use Rattle.std.specs.List.{list_any};
 ghost use Rattle.folio_sections.specs.Titles.{is_opening, inventory_by, owners_by, owners, is_award_owner};

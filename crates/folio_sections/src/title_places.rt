@@ -1,4 +1,4 @@
-// The places that stand at the title of a folio (BGB § 879, GBO § 45).
+//! The places that stand at the title of a folio (BGB § 879, GBO § 45).
 ghost use Rattle.std.specs.Prelude.{◌≡◌, ◌==◌, fold};
 ghost use Rattle.std.specs.List.{before_first};
 ghost use Rattle.folio_sections.specs.Places.{behind, behind_by, noticed_place, own_place, place_by, places_among};

@@ -1,4 +1,4 @@
-// Official notices, which keep the places of filings that wait (GBO § 18(2)).
+//! Official notices, which keep the places of filings that wait (GBO § 18(2)).
 ghost use Rattle.std.specs.Prelude.{◌≡◌, ◌≤◌, length, Contains, IsTrue};
 ghost use Rattle.std.specs.List.{find};
 ghost use Rattle.gb_base.specs.declared.keys.Key.{Key};

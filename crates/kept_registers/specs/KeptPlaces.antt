@@ -1,4 +1,5 @@
 -- What holds of the places and of the waiting filings of a register that comes about (BGB § 879, GBO § 18).
+-- Why so: docs/DECISIONS.md, "A filing that waits names rights of earlier filings".
 use Rattle.std.specs.Prelude.{◌≡◌, ℕ, ◌<◌, Bool, true, false, ◌==◌, List, All, AllPairs, Contains, IsTrue, IsSome}
 use Rattle.gb_base.specs.declared.keys.Key.{Key}
 use Rattle.gb_base.specs.declared.keys.Key.TheVariants.{Title}

@@ -1,4 +1,5 @@
 -- Which of two rights of a folio stands ahead (BGB §§ 879, 883(3); GBO § 45), read from the places at its title.
+-- Why so: docs/DECISIONS.md, "Rank is read from the places".
 use Rattle.std.specs.Prelude.{ℕ, Bool, true, false, not, ◌==◌, ◌&&◌, ◌||◌, nat_le, nat_lt, if◌then◌else◌, List}
 use Rattle.std.specs.List.{before_first, list_any}
 use Rattle.std.specs.Option.{option_map_or}

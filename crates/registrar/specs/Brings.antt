@@ -1,4 +1,5 @@
 -- What an item brings about: entries and a verdict (GBO §§ 16 to 18).
+-- Why so: docs/DECISIONS.md, "Items of a forced sale bring nothing".
 use Rattle.std.specs.Prelude.{ℕ, List, [], ◌++◌}
 use Rattle.std.specs.Option.{option_map_or}
 use Rattle.gb_base.specs.declared.keys.Key.{Key}

@@ -1,4 +1,5 @@
 -- All that the entry of filing m by item i brings (GBO §§ 16(2), 18(2), 45).
+-- Why so: docs/DECISIONS.md, "Notices stand in the crate that brings them".
 use Rattle.std.specs.Prelude.{ℕ, List, ◌++◌}
 use Rattle.gb_base.specs.declared.keys.Key.{Key}
 use Rattle.act_model.specs.declared.receipts.Receipt.{Receipt}

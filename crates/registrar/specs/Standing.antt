@@ -1,4 +1,5 @@
 -- The registers that parts stand for.
+-- Why so: docs/DECISIONS.md, "A step speaks of every register that its parts stand for".
 use Rattle.std.specs.Prelude.{◌≡◌, Bool, List, IsTrue}
 use Rattle.gb_base.specs.declared.keys.Key.{Key}
 use Rattle.act_model.specs.declared.receipts.Receipt.{Receipt}

@@ -1,4 +1,5 @@
-// The one registrar, who settles a journal in the order of its receipts (GBO § 17).
+//! The one registrar, who settles a journal in the order of its receipts (GBO § 17).
+//! Why so: docs/DECISIONS.md, "A register has the parts at the keys of filings".
 ghost use Rattle.std.specs.Prelude.{◌≡◌, ◌<◌, ◌≤◌, ℕ, [], length, All, Contains, IfOk, IsTrue, OnOk};
 ghost use Rattle.gb_base.specs.declared.keys.Key.{Key};
 ghost use Rattle.act_model.specs.Touches.{keys_of_filing};
@@ -18,8 +19,8 @@ use crate::steps::{receipt_of, step};
 use crate::{Register, Scratch, Verdict};
 use act_model::{Item, Journal, filing_keys};
 use folio_sections::MapParts;
-use kept_registers::laws::empty_register_is_kept;
 use gb_base::{Key, NoMemory, ReceiptNo};
+use kept_registers::laws::empty_register_is_kept;
 use std::alloc::Global;
 
 /// The register that one registrar leaves who takes the items of a journal in the order of their

@@ -1,4 +1,5 @@
-// The register that the one registrar leaves.
+//! The register that the one registrar leaves.
+//! Why so: docs/DECISIONS.md, "`Register::verdict` lends its verdict".
 ghost use Rattle.std.specs.Prelude.{◌≡◌, ◌-◌, ◌<◌, IfOk, slice_get};
 ghost use Rattle.std.specs.List.{enumerate_from};
 ghost use Rattle.std.specs.Option.{option_copied};

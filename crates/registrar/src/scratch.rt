@@ -1,4 +1,5 @@
-// What a settlement works in.
+//! What a settlement works in.
+//! Why so: docs/DECISIONS.md, "`Scratch` keeps only how much it is for".
 ghost use Rattle.std.specs.Prelude.{◌≤◌, IfOk, IsOk};
 
 use gb_base::NoMemory;

@@ -1,4 +1,4 @@
-// What an item brings, added to the parts of a register (GBO §§ 16 to 18).
+//! What an item brings, added to the parts of a register (GBO §§ 16 to 18).
 ghost use Rattle.std.specs.Prelude.{◌≡◌, ◌<◌, ◌≤◌, ℕ, Some, length, option_map, Contains, IsSome, IsTrue};
 ghost use Rattle.gb_base.specs.declared.keys.Key.{Key};
 ghost use Rattle.act_model.specs.Receiving.{receipt_at};

@@ -1,4 +1,4 @@
-// One step of a registrar: an item settled on parts that stand for a kept register.
+//! One step of a registrar: an item settled on parts that stand for a kept register.
 ghost use Rattle.std.specs.Prelude.{◌≡◌, List, ◌≤◌, ◌<◌, Some, length, All, Contains, IsTrue};
 ghost use Rattle.gb_base.specs.declared.keys.Key.{Key};
 ghost use Rattle.act_model.specs.Receiving.{IsJournal, receipt_at};

@@ -1,4 +1,4 @@
-// What becomes of an item.
+//! What becomes of an item.
 use consent_rules::Defects;
 use gb_base::{Day, Section};
 
