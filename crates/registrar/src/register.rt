@@ -1,6 +1,6 @@
 //! The register that the one registrar leaves.
 //! Why so: docs/DECISIONS.md, "`Register::verdict` lends its verdict".
-ghost use Rattle.std.specs.Prelude.{◌≡◌, ◌-◌, ◌<◌, IfOk, slice_get};
+ghost use Rattle.std.specs.Prelude.{◌≡◌, ◌-◌, ◌<◌, ◌≤◌, IfOk, IsTrue, slice_get};
 ghost use Rattle.std.specs.List.{enumerate_from};
 ghost use Rattle.std.specs.Option.{option_copied};
 ghost use Rattle.folio_sections.specs.Adding.{Adds};
@@ -122,6 +122,8 @@ impl Parts for Register {
     /// Adds an entry at the end of its key's part; what became of each item stays, and so does the
     /// list of open folios.
     fn append(&mut self, entry: Entry)
+        requires held { IsTrue (is_held self.old.parts entry.key) }
+        requires room { 1 ≤ room_at self.old.parts entry.key }
         ensures added { Adds (entries_at self.old.parts) (entries_at self.new.parts) (room_at self.old.parts) (room_at self.new.parts) entry }
         ensures held { is_held self.new.parts ≡ is_held self.old.parts }
         ensures verdicts { self.new.verdicts ≡ self.old.verdicts }
