@@ -16,7 +16,9 @@ use crate::exchange_lines::{add_exchange_lines, add_exercise_lines};
 use crate::folio_reads::is_open;
 use crate::rank_lines::add_rank_lines;
 use act_model::Journal;
-use folio_line::{CreatedRight, Exchange, counted_exchanges, counted_knots, folio_slots, live_rights};
+use folio_line::{
+    CreatedRight, Exchange, counted_exchanges, counted_knots, folio_slots, live_rights,
+};
 use gb_base::{FolioId, NoMemory};
 use registrar::Register;
 use std::alloc::Global;

@@ -27,4 +27,3 @@ well_filed journal m f stands =
       | true ↦ λ is. absurd (false≢true (ap is_some is))
       | false ↦ λ is. got_well journal (m - 1) f stands.items is
     ]
-
