@@ -92,7 +92,7 @@ impl HeldRights for Register {
     ghost use Rattle.folio_line.specs.inner.NotHeld.{not_held};
 
     fn rights_in(&self, alloc: Global, folio: FolioId) -> Result<Vec<RightId>, NoMemory> {
-        self.parts.rights_in(alloc, folio)
+        Register::rights_in(self, alloc, folio)
     }
 
     ghost unheld_is_empty = { λ r. not_held r.parts };
