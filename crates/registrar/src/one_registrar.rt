@@ -18,8 +18,8 @@ use crate::steps::{receipt_of, step};
 use crate::{Register, Scratch, Verdict};
 use act_model::{Item, Journal, filing_keys};
 use folio_sections::MapParts;
-use kept_registers::laws::empty_register_is_kept;
 use gb_base::{Key, NoMemory, ReceiptNo};
+use kept_registers::laws::empty_register_is_kept;
 use std::alloc::Global;
 
 /// The register that one registrar leaves who takes the items of a journal in the order of their
