@@ -1,4 +1,5 @@
 -- The documents that count for a filing (GBO §§ 18, 19, 29).
+-- Why so: docs/DECISIONS.md, "A document of no act counts for none".
 use Rattle.std.specs.Prelude.{ℕ, Bool, true, false, not, ◌&&◌, ◌==◌, nat_le, if◌then◌else◌, List, [], ◌++◌, length, filter, flat_map, Option, Some, None}
 use Rattle.std.specs.Option.{option_map_or}
 use Rattle.std.specs.List.{list_any}

@@ -1,4 +1,4 @@
-// The documents that count for a filing (GBO §§ 18, 19, 29).
+//! The documents that count for a filing (GBO §§ 18, 19, 29).
 ghost use Rattle.std.specs.Prelude.{◌≡◌, ◌&&◌, nat_le, filter, flat_map};
 ghost use Rattle.act_model.specs.Cures.{cures_of};
 ghost use Rattle.std.specs.List.{list_any};

@@ -1,4 +1,4 @@
-// Filings of the journal, their acts, and the rights that these create.
+//! Filings of the journal, their acts, and the rights that these create.
 ghost use Rattle.std.specs.Prelude.{◌≡◌, ◌≤◌, IsTrue, IfSome};
 ghost use Rattle.std.specs.Option.{option_copied};
 ghost use Rattle.gb_base.specs.Limits.{most_acts};

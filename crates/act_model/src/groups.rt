@@ -1,4 +1,4 @@
-// Rights of equal rank: creating acts of one filing, folio and group (GBO § 45(1), (3)).
+//! Rights of equal rank: creating acts of one filing, folio and group (GBO § 45(1), (3)).
 ghost use Rattle.std.specs.Prelude.{◌≡◌};
 ghost use Rattle.act_model.specs.Groups.{has_equal, shares_its_group};
 

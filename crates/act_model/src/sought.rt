@@ -1,4 +1,4 @@
-// What is looked for among documents.
+//! What is looked for among documents.
 ghost use Rattle.std.specs.Prelude.{◌≡◌};
 ghost use Rattle.act_model.specs.Documents.{is_agreement, is_certified_consent_of, is_clearance, is_consent_of, is_proof};
 

@@ -1,4 +1,5 @@
 //! How a filing is judged on the register as it stands (GBO § 18).
+//! Why so: docs/DECISIONS.md, "`judge` asks for no more than it needs".
 ghost use Rattle.std.specs.Prelude.{◌≡◌, ◌≤◌, Some, length, IsSome, IsTrue, All, Contains};
 ghost use Rattle.gb_base.specs.declared.keys.Key.{Key};
 ghost use Rattle.act_model.specs.Touches.{filing_at, keys_of_filing};
