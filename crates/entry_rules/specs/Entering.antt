@@ -48,12 +48,19 @@ places_brought journal m i at = flat_map (placed_at journal m i at) (keys_in_ord
 
 -- ---- the contents of the acts, once the places stand
 
--- the form in which a creating act enters its right (BGB § 883)
+-- the form in which a creating act enters its right (BGB § 883); of other acts it is never asked
 abbrev pub form_created : Act → RightForm
+form_created (Open folio inventory owners) = form.Full
+form_created (Transfer folio owners) = form.Full
+form_created (Create folio spec reserve) = form.Full
 form_created (NoticeFor folio spec) = form.Notice
-form_created other = form.Full
+form_created (Convert folio right) = form.Full
+form_created (Assign folio right holder) = form.Full
+form_created (Cancel folio right) = form.Full
+form_created (Exchange folio recede rise) = form.Full
+form_created (Exercise folio behind_right spec) = form.Full
 
--- the day of filing m's own among these places; that of item i where it has none
+-- the day of filing m's own among these places; a filing that enters a right has one, and without one it is the day of item i
 abbrev pub day_placed : List Receipt → ℕ → ℕ → List TitlePlace → ℕ
 day_placed journal m i standing = option_map_or (λ p. p.day) (own_place m standing) (day_of journal i)
 

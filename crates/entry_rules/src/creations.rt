@@ -47,7 +47,14 @@ fn form_created(act: &Act) -> RightForm
 {
     match act {
         Act::NoticeFor { .. } => RightForm::Notice,
-        _ => RightForm::Full,
+        Act::Open { .. } => RightForm::Full,
+        Act::Transfer { .. } => RightForm::Full,
+        Act::Create { .. } => RightForm::Full,
+        Act::Convert { .. } => RightForm::Full,
+        Act::Assign { .. } => RightForm::Full,
+        Act::Cancel { .. } => RightForm::Full,
+        Act::Exchange { .. } => RightForm::Full,
+        Act::Exercise { .. } => RightForm::Full,
     }
 }
 
@@ -58,7 +65,14 @@ fn reserve_of(act: &Act) -> Option<Cents>
 {
     match act {
         Act::Create { reserve, .. } => *reserve,
-        _ => None,
+        Act::Open { .. } => None,
+        Act::Transfer { .. } => None,
+        Act::NoticeFor { .. } => None,
+        Act::Convert { .. } => None,
+        Act::Assign { .. } => None,
+        Act::Cancel { .. } => None,
+        Act::Exchange { .. } => None,
+        Act::Exercise { .. } => None,
     }
 }
 
@@ -68,7 +82,14 @@ fn right_behind(act: &Act) -> Option<RightId>
 {
     match act {
         Act::Exercise { behind, .. } => Some(*behind),
-        _ => None,
+        Act::Open { .. } => None,
+        Act::Transfer { .. } => None,
+        Act::Create { .. } => None,
+        Act::NoticeFor { .. } => None,
+        Act::Convert { .. } => None,
+        Act::Assign { .. } => None,
+        Act::Cancel { .. } => None,
+        Act::Exchange { .. } => None,
     }
 }
 

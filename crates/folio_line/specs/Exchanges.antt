@@ -1,6 +1,6 @@
 -- The exchanges of rank and the exercised reservations of a folio that count (BGB §§ 880, 881).
 -- Why so: docs/DECISIONS.md, "Counting exchanges are read at the right that rose".
--- Why so: docs/DECISIONS.md, "Exchanges are put into their turn".
+-- Why so: docs/DECISIONS.md, "Exchanges are filtered by receipt and act".
 use Rattle.std.specs.Prelude.{ℕ, Bool, false, not, ◌==◌, ◌&&◌, ◌||◌, if◌then◌else◌, List, filter, filter_map, flat_map, Option, Some, None, is_some, option_and_then}
 use Rattle.std.specs.List.{list_any, range_with_len}
 use Rattle.gb_base.specs.Limits.{most_acts}

@@ -23,8 +23,8 @@ use Rattle.folio_line.specs.declared.folio_rights.CreatedRight.{CreatedRight}
 abbrev pub place_of : (RightNo → ℕ) → (RightNo → Bool) → Bool → CreatedRight → Place
 place_of claims gone with_previous x = record { right = x.id; claim = claims x.id; with_previous = with_previous; dropped = gone x.id }
 
--- A group of equal rank is one owner of the cents that its members claim together (BGB § 879, GBO § 45(1), (3)): their places,
--- of which each but the first joins the one before it.
+-- The places of a group, which share one rank (BGB § 879, GBO § 45(1), (3)): one behind the other, of which each but the first
+-- joins the one before it.
 abbrev pub group_places : (RightNo → ℕ) → (RightNo → Bool) → List CreatedRight → List Place
 group_places claims gone [] = []
 group_places claims gone (x ∷ xs) = place_of claims gone false x ∷ map (place_of claims gone true) xs
@@ -41,7 +41,7 @@ filled_by claims gone groups exchanges knots =
 
 -- ---- the line of a folio
 
--- the capital of a right, in cents
+-- the capital of a right, in cents; each right that was entered has one
 abbrev pub capital_at : (Key → List Entry) → ℕ → RightNo → ℕ
 capital_at at folio id = option_map_or (λ c. c) (capital (at (Right folio id))) 0
 

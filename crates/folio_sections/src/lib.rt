@@ -1,6 +1,5 @@
 //! The parts of a folio: what stands at its title, at its rights and at its forced sale, and what
-//! is read from them; the documents of a filing, and the definitions that the crates of the rules
-//! share.
+//! is read from them.
 //! Why so: docs/DECISIONS.md, "A definition stands in the crate whose code it defines".
 #![tactic(auto)]
 

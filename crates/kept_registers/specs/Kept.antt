@@ -1,4 +1,5 @@
 -- What every register that comes about keeps, whatever was filed.
+-- Why so: docs/DECISIONS.md, "`Kept` says of rights what their places say".
 use Rattle.std.specs.Prelude.{List}
 use Rattle.gb_base.specs.declared.keys.Key.{Key}
 use Rattle.act_model.specs.declared.receipts.Receipt.{Receipt}

@@ -1,4 +1,5 @@
 -- Which of two rights stands ahead of the other.
+-- Why so: docs/DECISIONS.md, "A right is of one rank with itself".
 use Rattle.std.specs.Prelude.{Bool, ◌&&◌, ◌||◌, if◌then◌else◌, List, filter, Option, Some, None}
 use Rattle.std.specs.List.{last_or, list_any}
 use Rattle.gb_base.specs.RightNo.{RightNo, same_right}

@@ -1,4 +1,5 @@
 //! The slots of a line.
+//! Why so: docs/DECISIONS.md, "`Slots` has one call more than it needs to pay".
 ghost use Rattle.std.specs.Prelude.{◌≡◌, ◌<◌, ◌≤◌, All, IfOk, length, sum_by, vec_capacity};
 ghost use Rattle.rank_slots.specs.CanFill.{CanFill};
 ghost use Rattle.rank_slots.specs.CentLine.{pieces_of};
