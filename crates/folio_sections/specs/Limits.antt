@@ -1,4 +1,4 @@
--- How many rights a folio takes, how many defects a filing has at most, how much a case of a forced sale holds, and how many entries a key.
+-- How many rights a folio takes, how much a case of a forced sale holds, and how many entries a key.
 use Rattle.std.specs.Prelude.{ℕ}
 
 -- the most creating acts of a folio, whatever became of their filings
