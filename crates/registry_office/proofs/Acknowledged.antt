@@ -6,8 +6,8 @@ use Rattle.act_model.specs.declared.items.Item.{Item}
 use Rattle.act_model.specs.declared.receipts.Receipt.{Receipt}
 use Rattle.registry_office.specs.Grown.{IsFront}
 use Rattle.registry_office.specs.Requests.{Medium, Held, received, received_text, replied_by_clock, reply_of, replies, held_after}
-use Rattle.registry_office.specs.declared.requests.Request.{Request}
-use Rattle.registry_office.specs.declared.requests.Request.TheVariants.{Nothing, Refused, Receive}
+use Rattle.intake_requests.specs.declared.requests.Request.{Request}
+use Rattle.intake_requests.specs.declared.requests.Request.TheVariants.{Nothing, Refused, Receive}
 use Rattle.registry_office.proofs.Durable.{front_refl}
 use Rattle.registry_office.proofs.Replies.{grows}
 
@@ -26,8 +26,8 @@ no_reply : (medium : Medium) (held : Held) (request : Request) → (reply_of med
 unfolding reply_of
 no_reply medium held Nothing none = refl
 no_reply medium held (Refused text) none = refl
-no_reply medium held (Receive (Some stamp) sender reference item) none = absurd (not_empty (received_text (received medium held.journal stamp sender reference item)) 10 none)
-no_reply medium held (Receive None sender reference item) none = no_reply_by_clock medium held.journal held.ticks sender reference item none
+no_reply medium held (Receive (Some stamp) from item) none = absurd (not_empty (received_text (received medium held.journal stamp from.sender from.reference item)) 10 none)
+no_reply medium held (Receive None from item) none = no_reply_by_clock medium held.journal held.ticks from.sender from.reference item none
 
 pub first_empty : (xs ys : List ℕ) → xs ++ ys ≡ [] → xs ≡ []
 first_empty [] ys is = refl

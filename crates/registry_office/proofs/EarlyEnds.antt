@@ -10,7 +10,7 @@ use Rattle.receipt_journal.specs.Standing.{StandsForJournal}
 use Rattle.registry_office.specs.EarlyEnds.{EndsEarly}
 use Rattle.registry_office.specs.Grown.{IsFront, GrownFrom}
 use Rattle.registry_office.specs.Requests.{Medium, OnDisk, Held, holding, replies, held_after}
-use Rattle.registry_office.specs.declared.requests.Request.{Request}
+use Rattle.intake_requests.specs.declared.requests.Request.{Request}
 use Rattle.registry_office.specs.inner.Sessions.{IsReady, Answered}
 use Rattle.registry_office.proofs.Durable.{front_refl, durable_stands}
 use Rattle.registry_office.proofs.Replies.{replies-append, held_after-append, held_between, grown_at, front_of_longer}

@@ -1,14 +1,12 @@
 -- Lemmas.
 pub mod Acknowledged
 pub mod Blocks
-pub mod CsvSteps
 pub mod Durable
 pub mod EarlyEnds
 pub mod LineRequests
 pub mod OnDisk
 pub mod OneRequest
 pub mod Opened
-pub mod OpeningRows
 pub mod Replies
 pub mod Reported
 pub mod RowsAnswered

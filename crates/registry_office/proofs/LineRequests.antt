@@ -13,17 +13,18 @@ use Rattle.registry_office.specs.inner.Asking.{is_stamped_by_clock}
 use Rattle.registry_office.specs.Sessions.{ended, behind, ended_requests}
 use Rattle.registry_office.specs.declared.lines.LineKind.{LineKind}
 use Rattle.registry_office.specs.declared.lines.LineKind.TheVariants.{Stamped, Unstamped}
-use Rattle.registry_office.specs.declared.requests.Request.TheVariants.{Nothing, Refused, Receive}
-use Rattle.registry_office.specs.inner.Asking.{asks_clock}
+use Rattle.intake_requests.specs.declared.requests.Request.TheVariants.{Nothing, Refused, Receive}
+use Rattle.intake_requests.specs.declared.requests.SenderReference.{SenderReference}
+use Rattle.intake_requests.specs.Asking.{asks_clock}
 
 -- ---- which lines ask the clock
 
-item_asks_none : (stamp : DayMinute) (sender reference : ℕ) (item : Item) → asks_clock (request_of_item (Some stamp) sender reference item) ≡ false
-item_asks_none stamp sender reference item =
-    elim (is_built item) as (λ b. asks_clock (cond b (Receive (Some stamp) sender reference item) (Refused (codes "not built\n"))) ≡ false) [ true ↦ refl | false ↦ refl ]
+item_asks_none : (stamp : DayMinute) (from : SenderReference) (item : Item) → asks_clock (request_of_item (Some stamp) from item) ≡ false
+item_asks_none stamp from item =
+    elim (is_built item) as (λ b. asks_clock (cond b (Receive (Some stamp) from item) (Refused (codes "not built\n"))) ≡ false) [ true ↦ refl | false ↦ refl ]
 
 stamped_asks_none : (said : Result (DayMinute × ℕ × ℕ × Item) LineFault) → asks_clock (request_of_stamped said) ≡ false
-stamped_asks_none (Ok found) = item_asks_none found.0 found.1 found.2 found.3
+stamped_asks_none (Ok found) = item_asks_none found.0 (record { sender = found.1; reference = found.2 }) found.3
 stamped_asks_none (Err fault) = refl
 
 stamped_line_asks_none : (line : List ℕ) → asks_clock (request_of_line Stamped line) ≡ false

@@ -14,8 +14,8 @@ use Rattle.receipt_journal.specs.Standing.{StandsForJournal}
 use Rattle.receipt_journal.specs.declared.received.Received.{Received}
 use Rattle.registry_office.specs.Grown.{IsFront, GrownFrom, DiskGrows}
 use Rattle.registry_office.specs.Requests.{Medium, OnDisk, Held, holding, received, replied_by_clock, reply_of, replies, held_after}
-use Rattle.registry_office.specs.declared.requests.Request.{Request}
-use Rattle.registry_office.specs.declared.requests.Request.TheVariants.{Nothing, Refused, Receive}
+use Rattle.intake_requests.specs.declared.requests.Request.{Request}
+use Rattle.intake_requests.specs.declared.requests.Request.TheVariants.{Nothing, Refused, Receive}
 use Rattle.registry_office.specs.inner.Sessions.{IsReady, Knows, Answered}
 use Rattle.registry_office.proofs.Durable.{front_refl, durable_stands}
 use Rattle.registry_office.proofs.WrittenFrames.{frames_none, frames_wider, frames_then}
@@ -54,8 +54,8 @@ grows_by : (medium : Medium) (held : Held) (request : Request) → IsFront held.
 unfolding reply_of
 grows_by medium held Nothing = front_refl held.journal
 grows_by medium held (Refused text) = front_refl held.journal
-grows_by medium held (Receive (Some stamp) sender reference item) = grows_by_answer held.journal stamp sender reference item (received medium held.journal stamp sender reference item)
-grows_by medium held (Receive None sender reference item) = grows_by_clock medium held.journal held.ticks sender reference item
+grows_by medium held (Receive (Some stamp) from item) = grows_by_answer held.journal stamp from.sender from.reference item (received medium held.journal stamp from.sender from.reference item)
+grows_by medium held (Receive None from item) = grows_by_clock medium held.journal held.ticks from.sender from.reference item
 
 pub grows : (medium : Medium) (held : Held) (requests : List Request) → IsFront held.journal (held_after medium held requests).journal
 grows medium held [] = front_refl held.journal

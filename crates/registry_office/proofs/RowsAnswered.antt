@@ -3,7 +3,7 @@ use Rattle.std.proofs.Common.{◌≡◌, ℕ, List, [], ◌∷◌, ◌++◌, sym
 use Rattle.act_model.specs.declared.receipts.Receipt.{Receipt}
 use Rattle.registry_office.specs.Grown.{IsFront, DiskGrows}
 use Rattle.registry_office.specs.Requests.{Medium, Held, held_after}
-use Rattle.registry_office.specs.declared.requests.Request.{Request}
+use Rattle.intake_requests.specs.declared.requests.Request.{Request}
 use Rattle.registry_office.proofs.Durable.{front_refl}
 use Rattle.registry_office.proofs.Replies.{disk_wider, grows, grows_longer}
 

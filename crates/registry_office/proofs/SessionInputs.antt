@@ -6,7 +6,7 @@ use Rattle.std.proofs.lemmas.List.{map-append, take_all, take_at}
 use Rattle.registry_office.specs.Lines.{request_of_line}
 use Rattle.registry_office.specs.Sessions.{ended, behind, ended_requests, line_requests, Took}
 use Rattle.registry_office.specs.declared.lines.LineKind.{LineKind}
-use Rattle.registry_office.specs.declared.requests.Request.{Request}
+use Rattle.intake_requests.specs.declared.requests.Request.{Request}
 use Rattle.registry_office.specs.EarlyEnds.{AreOf}
 use Rattle.registry_office.specs.Grown.{IsFront}
 use Rattle.registry_office.proofs.LineRequests.{requests_of_two}

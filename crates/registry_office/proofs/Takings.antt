@@ -10,12 +10,12 @@ use Rattle.registry_office.specs.Grown.{IsFront, GrownFrom, DiskGrows}
 use Rattle.registry_office.specs.Requests.{Medium, OnDisk, Held, holding, replies, held_after}
 use Rattle.registry_office.specs.Sessions.{Took, AllTell, HasWritten}
 use Rattle.registry_office.specs.Intakes.{whole_of, cut_of}
-use Rattle.registry_office.specs.OpeningLists.{row_requests}
+use Rattle.opening_lists.specs.OpeningLists.{row_requests}
 use Rattle.registry_office.specs.Receivings.{Receives}
 use Rattle.registry_office.specs.declared.intakes.Intake.{Intake}
 use Rattle.registry_office.specs.declared.intakes.Intake.TheVariants.{Lines, OpeningList}
 use Rattle.registry_office.specs.declared.lines.LineKind.TheVariants.{Unstamped}
-use Rattle.registry_office.specs.declared.requests.Request.{Request}
+use Rattle.intake_requests.specs.declared.requests.Request.{Request}
 use Rattle.registry_office.specs.inner.Inputs.{AllAnswered, PartAnswered, DiskGrowsBy}
 use Rattle.registry_office.specs.EarlyEnds.{AreOf, EndsEarly}
 use Rattle.registry_office.specs.inner.Sessions.{IsReady, Knows, Answered}

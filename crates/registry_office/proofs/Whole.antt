@@ -9,7 +9,7 @@ use Rattle.registry_office.specs.Outcomes.{report_of, settle_lines_output}
 use Rattle.registry_office.specs.Requests.{InMemory, OnDisk, holding, replies, held_after}
 use Rattle.registry_office.specs.Sessions.{lines_of, line_requests, ended_requests, Took}
 use Rattle.registry_office.specs.declared.lines.LineKind.TheVariants.{Stamped}
-use Rattle.registry_office.specs.declared.requests.Request.{Request}
+use Rattle.intake_requests.specs.declared.requests.Request.{Request}
 use Rattle.registry_office.specs.inner.Inputs.{AllAnswered, PartAnswered}
 use Rattle.registry_office.specs.EarlyEnds.{AreOf, EndsEarly}
 use Rattle.registry_office.specs.inner.Sessions.{Knows, Answered}

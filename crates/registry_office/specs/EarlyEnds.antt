@@ -5,7 +5,7 @@ use Rattle.gb_base.specs.DayMinute.{DayMinute}
 use Rattle.registry_office.specs.Grown.{IsFront, GrownFrom}
 use Rattle.registry_office.specs.Requests.{Medium, OnDisk, Held, replies, held_after}
 use Rattle.registry_office.specs.Sessions.{most_input}
-use Rattle.registry_office.specs.declared.requests.Request.{Request}
+use Rattle.intake_requests.specs.declared.requests.Request.{Request}
 
 -- Of these requests the first are replied to whole, and at most one more was begun: a front of its reply stands written, and then its receipt is in every image; or nothing of it, and then its receipt may be there or not. The clock, where it may be asked, was asked for these and for no other.
 pub record EndsEarly (by_clock : Bool) (medium : Medium) (held : Held) (known : Option (List DayMinute)) (written0 written1 : Option (List ℕ)) (images : List ℕ → Type 0) (requests : List Request) : Type 0 where

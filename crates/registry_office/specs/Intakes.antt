@@ -1,11 +1,11 @@
 -- What an input asks whose items are received onto the disk.
 use Rattle.std.specs.Prelude.{ℕ, List, []}
-use Rattle.registry_office.specs.OpeningLists.{row_requests}
+use Rattle.opening_lists.specs.OpeningLists.{row_requests}
 use Rattle.registry_office.specs.Sessions.{line_requests, ended_requests}
 use Rattle.registry_office.specs.declared.intakes.Intake.{Intake}
 use Rattle.registry_office.specs.declared.intakes.Intake.TheVariants.{Lines, OpeningList}
 use Rattle.registry_office.specs.declared.lines.LineKind.TheVariants.{Unstamped}
-use Rattle.registry_office.specs.declared.requests.Request.{Request}
+use Rattle.intake_requests.specs.declared.requests.Request.{Request}
 
 -- what a whole input asks
 abbrev pub whole_of : Intake → List ℕ → List Request

@@ -6,7 +6,6 @@ pub mod Faults
 pub mod Grown
 pub mod Intakes
 pub mod Lines
-pub mod OpeningLists
 pub mod Outcomes
 pub mod Receivings
 pub mod Requests

@@ -9,8 +9,9 @@ use Rattle.act_json.specs.declared.lines.LineFault.TheVariants.{NotJson, NotItem
 use Rattle.registry_office.specs.Built.{is_built}
 use Rattle.registry_office.specs.declared.lines.LineKind.{LineKind}
 use Rattle.registry_office.specs.declared.lines.LineKind.TheVariants.{Stamped, Unstamped}
-use Rattle.registry_office.specs.declared.requests.Request.{Request}
-use Rattle.registry_office.specs.declared.requests.Request.TheVariants.{Nothing, Refused, Receive}
+use Rattle.intake_requests.specs.declared.requests.Request.{Request}
+use Rattle.intake_requests.specs.declared.requests.SenderReference.{SenderReference}
+use Rattle.intake_requests.specs.declared.requests.Request.TheVariants.{Nothing, Refused, Receive}
 
 -- spaces, tabs and carriage returns alone
 abbrev pub is_blank : List ℕ → Bool
@@ -23,17 +24,17 @@ fault_text (NotItem path) = codes "malformed " ++ path
 fault_text Memory = []
 
 -- an item that the office does not take yet is refused, and asks no clock
-abbrev pub request_of_item : Option DayMinute → ℕ → ℕ → Item → Request
-request_of_item stamp sender reference item = if is_built item then Receive stamp sender reference item else Refused (codes "not built\n")
+abbrev pub request_of_item : Option DayMinute → SenderReference → Item → Request
+request_of_item stamp from item = if is_built item then Receive stamp from item else Refused (codes "not built\n")
 
 -- a line that has its stamp
 abbrev pub request_of_stamped : Result (DayMinute × ℕ × ℕ × Item) LineFault → Request
-request_of_stamped (Ok found) = request_of_item (Some found.0) found.1 found.2 found.3
+request_of_stamped (Ok found) = request_of_item (Some found.0) (record { sender = found.1; reference = found.2 }) found.3
 request_of_stamped (Err fault) = Refused (fault_text fault ++ codes "\n")
 
 -- a line that the clock stamps
 abbrev pub request_of_plain : Result (ℕ × ℕ × Item) LineFault → Request
-request_of_plain (Ok found) = request_of_item None found.0 found.1 found.2
+request_of_plain (Ok found) = request_of_item None (record { sender = found.0; reference = found.1 }) found.2
 request_of_plain (Err fault) = Refused (fault_text fault ++ codes "\n")
 
 -- what a line that is neither blank nor too long asks

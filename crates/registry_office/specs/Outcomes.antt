@@ -11,7 +11,7 @@ use Rattle.registry_office.specs.Intakes.{whole_of, cut_of}
 use Rattle.registry_office.specs.Requests.{InMemory, OnDisk, Held, holding, replies, held_after}
 use Rattle.registry_office.specs.Sessions.{line_requests, ended_requests}
 use Rattle.registry_office.specs.declared.lines.LineKind.TheVariants.{Stamped}
-use Rattle.registry_office.specs.declared.requests.Request.{Request}
+use Rattle.intake_requests.specs.declared.requests.Request.{Request}
 use Rattle.registry_office.specs.declared.words.Command.{Command}
 use Rattle.registry_office.specs.declared.words.Command.TheVariants.{Settle, SettleLines, Receive}
 

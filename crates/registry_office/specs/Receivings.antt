@@ -7,7 +7,7 @@ use Rattle.registry_office.specs.EarlyEnds.{EndsEarly, AreOf}
 use Rattle.registry_office.specs.Grown.{GrownFrom, DiskGrows}
 use Rattle.registry_office.specs.Requests.{OnDisk, Held, replies, held_after}
 use Rattle.registry_office.specs.Sessions.{most_input, Took, HasWritten}
-use Rattle.registry_office.specs.declared.requests.Request.{Request}
+use Rattle.intake_requests.specs.declared.requests.Request.{Request}
 use Rattle.registry_office.specs.declared.statuses.Status.{Status}
 use Rattle.registry_office.specs.declared.statuses.Status.TheVariants as status
 

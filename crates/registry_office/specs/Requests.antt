@@ -8,8 +8,8 @@ use Rattle.act_model.specs.declared.receipts.Receipt.{Receipt}
 use Rattle.receipt_journal.specs.Receiving.{in_journal, answer_on, journal_after}
 use Rattle.receipt_journal.specs.declared.received.Received.{Received}
 use Rattle.receipt_journal.specs.declared.received.Received.TheVariants as answer
-use Rattle.registry_office.specs.declared.requests.Request.{Request}
-use Rattle.registry_office.specs.declared.requests.Request.TheVariants.{Nothing, Refused, Receive}
+use Rattle.intake_requests.specs.declared.requests.Request.{Request}
+use Rattle.intake_requests.specs.declared.requests.Request.TheVariants.{Nothing, Refused, Receive}
 
 -- where items are received: in memory, or on a disk whose file has its limit
 pub data Medium : Type 0 where
@@ -64,9 +64,9 @@ replied_by_clock medium journal (t ∷ u ∷ ticks) sender reference item =
 unfoldable pub reply_of : Medium → Held → Request → Replied
 reply_of medium held Nothing = record { text = []; held = held }
 reply_of medium held (Refused text) = record { text = text; held = held }
-reply_of medium held (Receive (Some stamp) sender reference item) =
-    replied held.journal held.ticks stamp sender reference item (received medium held.journal stamp sender reference item)
-reply_of medium held (Receive None sender reference item) = replied_by_clock medium held.journal held.ticks sender reference item
+reply_of medium held (Receive (Some stamp) from item) =
+    replied held.journal held.ticks stamp from.sender from.reference item (received medium held.journal stamp from.sender from.reference item)
+reply_of medium held (Receive None from item) = replied_by_clock medium held.journal held.ticks from.sender from.reference item
 
 -- the replies to requests, one after the other
 abbrev pub replies : Medium → Held → List Request → List ℕ

@@ -4,7 +4,7 @@ use Rattle.std.specs.Io.KnownBytes.{Consumes}
 use Rattle.gb_base.specs.DayMinute.{DayMinute}
 use Rattle.registry_office.specs.Lines.{request_of_line}
 use Rattle.registry_office.specs.declared.lines.LineKind.{LineKind}
-use Rattle.registry_office.specs.declared.requests.Request.{Request}
+use Rattle.intake_requests.specs.declared.requests.Request.{Request}
 
 -- the lines that an LF ends, where `line` stands before these bytes
 abbrev pub ended : List ℕ → List ℕ → List (List ℕ)

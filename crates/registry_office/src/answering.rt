@@ -1,4 +1,4 @@
-// One request is answered: an item is received before its reply is written.
+//! One request is answered: an item is received before its reply is written.
 ghost use Rattle.std.specs.Prelude.{◌≡◌, ◌++◌, ◌∷◌, [], false, true, codes, List, Bool, Some, None, IfOk, OnOk, OnErr, IsTrue};
 ghost use Rattle.gb_base.specs.DayMinute.{DayMinute};
 ghost use Rattle.gb_outside.specs.Faults.{Counts};
@@ -9,16 +9,17 @@ ghost use Rattle.registry_office.specs.EarlyEnds.{EndsEarly};
 ghost use Rattle.registry_office.specs.Faults.{answer_output_failed, answer_disk_failed};
 ghost use Rattle.registry_office.specs.Grown.{DiskGrows};
 ghost use Rattle.registry_office.specs.Requests.{InMemory, OnDisk, received, received_text, holding, replied, held_after};
-ghost use Rattle.registry_office.specs.inner.Asking.{asks_well, asks_clock, is_fault};
+ghost use Rattle.intake_requests.specs.Asking.{asks_well, asks_clock};
+ghost use Rattle.registry_office.specs.inner.Asking.{is_fault};
 ghost use Rattle.registry_office.specs.inner.Sessions.{IsReady, Knows, GotReply, MissedReply, Answered};
 
 use crate::faults::AnswerFault;
 use crate::receivers::Receiver;
-use crate::requests::Request;
 use crate::writing::write_all;
 use act_model::Item;
 use gb_base::Stamp;
 use gb_outside::{Clock, Disk, Sink};
+use intake_requests::Request;
 use receipt_journal::Received;
 use std::alloc::Global;
 
@@ -56,15 +57,17 @@ pub(crate) fn answer_request<J: Receiver, D: Disk, C: Clock, K: Sink>(
     match request {
         Request::Nothing => Ok(()),
         Request::Refused(reply) => Ok(write_all(sink, reply.text())?),
-        Request::Receive {
-            stamp,
-            sender,
-            reference,
-            item,
-        } => {
+        Request::Receive { stamp, from, item } => {
             let stamp = stamp_for(clock, *stamp);
             answer_item(
-                alloc, receiver, disk, stamp, *sender, *reference, item, sink,
+                alloc,
+                receiver,
+                disk,
+                stamp,
+                from.sender,
+                from.reference,
+                item,
+                sink,
             )
         }
     }

@@ -1,4 +1,4 @@
-// Which items the office takes today.
+//! Which items the office takes today.
 ghost use Rattle.std.specs.Prelude.{◌≡◌};
 ghost use Rattle.registry_office.specs.Built.{is_built};
 

@@ -1,4 +1,4 @@
-// The journal of a book is settled, and the command that settles the journal of the disk.
+//! The journal of a book is settled, and the command that settles the journal of the disk.
 ghost use Rattle.std.specs.Prelude.{◌≡◌, ◌≤◌, ℕ, List, true, false, OnOk, OnErr, IsTrue};
 ghost use Rattle.std.specs.List.{list_all};
 ghost use Rattle.std.specs.Io.KnownBytes.{Appends};

@@ -1,4 +1,4 @@
-// Why work ended early.
+//! Why work ended early.
 ghost use Rattle.registry_office.specs.declared.faults.OutputFault.TheVariants.{Memory as NoMemoryToWrite};
 ghost use Rattle.registry_office.specs.declared.faults.AnswerFault.TheVariants.{Memory as NoMemoryToAnswer};
 ghost use Rattle.registry_office.specs.declared.faults.SessionFault.TheVariants.{Memory as NoMemoryToGoOn};

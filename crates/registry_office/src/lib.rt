@@ -3,25 +3,21 @@
 
 mod answering;
 mod built;
-mod csv_records;
 mod disk_settling;
 #[cfg(test)]
 mod disk_tests;
 mod faults;
 mod inputs;
 mod intakes;
+pub mod laws;
 mod lines;
 mod list_session;
 #[cfg(test)]
 mod list_tests;
-mod numerals;
-mod opening_lists;
-#[cfg(test)]
-mod opening_tests;
-mod openings;
 mod receivers;
 mod receiving;
-mod requests;
+#[cfg(test)]
+mod row_tests;
 mod session;
 mod settling;
 mod statuses;

@@ -1,17 +1,17 @@
-// One line of an input: what it asks.
+//! One line of an input: what it asks.
 ghost use Rattle.std.specs.Prelude.{◌≡◌, ◌≤◌, ◌==◌, ◌||◌, ◌++◌, ◌≢◌, true, false, codes, length, IfOk, OnOk, IsTrue};
 ghost use Rattle.std.specs.List.{list_all};
 ghost use Rattle.act_model.specs.WellFormed.{well_formed};
 ghost use Rattle.act_json.specs.Lines.{longest_line, item_of, stamped_of};
 ghost use Rattle.registry_office.specs.Built.{is_built};
 ghost use Rattle.registry_office.specs.Lines.{is_blank, fault_text, request_of_line, request_of_item, request_of_stamped, request_of_plain, request_read};
-ghost use Rattle.registry_office.specs.inner.Asking.{asks_well};
+ghost use Rattle.intake_requests.specs.Asking.{asks_well};
 
 use crate::built::is_built;
-use crate::requests::{Reply, Request};
 use act_json::{LineFault, read_item, read_stamped};
 use act_model::Item;
 use gb_base::{NoMemory, Stamp};
+use intake_requests::{Reply, Request, SenderReference};
 use std::alloc::{AllocError, Global};
 
 /// The most bytes of a line.
@@ -60,7 +60,8 @@ fn request_of_stamped(alloc: Global, line: &[u8]) -> Result<Request, NoMemory>
 {
     match read_stamped(alloc, line) {
         Ok((stamp, sender, reference, item)) => {
-            request_of_item(alloc, Some(stamp), sender, reference, item)
+            let from = SenderReference { sender, reference };
+            request_of_item(alloc, Some(stamp), from, item)
         }
         Err(fault) => fault_line(alloc, &fault),
     }
@@ -73,7 +74,10 @@ fn request_of_plain(alloc: Global, line: &[u8]) -> Result<Request, NoMemory>
     ensures well_formed { IfOk result (λ request. IsTrue (asks_well request)) }
 {
     match read_item(alloc, line) {
-        Ok((sender, reference, item)) => request_of_item(alloc, None, sender, reference, item),
+        Ok((sender, reference, item)) => {
+            let from = SenderReference { sender, reference };
+            request_of_item(alloc, None, from, item)
+        }
         Err(fault) => fault_line(alloc, &fault),
     }
 }
@@ -82,21 +86,15 @@ fn request_of_plain(alloc: Global, line: &[u8]) -> Result<Request, NoMemory>
 fn request_of_item(
     alloc: Global,
     stamp: Option<Stamp>,
-    sender: u32,
-    reference: u64,
+    from: SenderReference,
     item: Item,
 ) -> Result<Request, NoMemory>
     requires { IsTrue (well_formed item) }
-    ensures value { IfOk result (λ request. request ≡ request_of_item stamp sender reference item) }
+    ensures value { IfOk result (λ request. request ≡ request_of_item stamp from item) }
     ensures well_formed { IfOk result (λ request. IsTrue (asks_well request)) }
 {
     if is_built(&item) {
-        return Ok(Request::Receive {
-            stamp,
-            sender,
-            reference,
-            item,
-        });
+        return Ok(Request::Receive { stamp, from, item });
     }
     Request::refused(alloc, b"not built\n")
 }

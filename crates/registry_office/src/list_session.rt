@@ -1,4 +1,4 @@
-// The session of an opening list: it is read whole, and then each of its rows is answered.
+//! The session of an opening list: it is read whole, and then each of its rows is answered.
 ghost use Rattle.std.specs.Prelude.{◌≡◌, ◌⊎◌, ◌≤◌, ◌+◌, ℕ, List, [], true, false, length, take, OnOk, OnErr, IsTrue, Err};
 ghost use Rattle.std.specs.Io.KnownBytes.{IsAtEnd};
 ghost use Rattle.gb_base.specs.DayMinute.{DayMinute};
@@ -7,20 +7,20 @@ ghost use Rattle.registry_office.specs.EarlyEnds.{AreOf, EndsEarly};
 ghost use Rattle.registry_office.specs.Faults.{answer_output_failed, answer_disk_failed, session_input_failed, session_output_failed, session_disk_failed};
 ghost use Rattle.registry_office.specs.Grown.{DiskGrows};
 ghost use Rattle.registry_office.specs.Intakes.{whole_of, cut_of};
-ghost use Rattle.registry_office.specs.OpeningLists.{row_requests};
+ghost use Rattle.opening_lists.specs.OpeningLists.{row_requests};
 ghost use Rattle.registry_office.specs.Requests.{OnDisk, holding, held_after};
 ghost use Rattle.registry_office.specs.Sessions.{Took};
 ghost use Rattle.registry_office.specs.declared.intakes.Intake.TheVariants.{OpeningList as ListFrom};
-ghost use Rattle.registry_office.specs.declared.requests.Request.{Request};
+ghost use Rattle.intake_requests.specs.declared.requests.Request.{Request};
 ghost use Rattle.registry_office.specs.inner.Inputs.{AllAnswered, PartAnswered, DiskGrowsBy};
 ghost use Rattle.registry_office.specs.inner.Sessions.{IsReady, Knows, Answered};
 
 use crate::answering::answer_request;
 use crate::faults::{AnswerFault, SessionFault};
 use crate::inputs::{MAX_INPUT, read_whole};
-use crate::opening_lists::OpeningList;
 use crate::receivers::Receiver;
 use gb_outside::{Clock, Disk, Sink, Source};
+use opening_lists::OpeningList;
 use std::alloc::Global;
 
 /// Answers what the rest of a list asks.

@@ -1,4 +1,4 @@
-// What receives items: a journal in memory, or a book on a disk.
+//! What receives items: a journal in memory, or a book on a disk.
 use act_model::{Added, Item, Journal};
 use gb_base::Stamp;
 use gb_outside::Disk;

@@ -1,4 +1,4 @@
-// The commands that receive what the input has into the journal of the disk.
+//! The commands that receive what the input has into the journal of the disk.
 ghost use Rattle.std.specs.Prelude.{◌≡◌, ◌⊎◌, ◌≤◌, ◌+◌, ◌++◌, ℕ, List, [], Some, true, false, length, take, IsTrue, IfSome};
 ghost use Rattle.std.specs.Io.KnownBytes.{Appends};
 ghost use Rattle.gb_base.specs.DayMinute.{DayMinute};
@@ -16,7 +16,7 @@ ghost use Rattle.registry_office.specs.Receivings.{Receives};
 ghost use Rattle.registry_office.specs.Requests.{OnDisk, Held, holding, replies, held_after};
 ghost use Rattle.registry_office.specs.Sessions.{most_input, Took, AllTell, HasWritten};
 ghost use Rattle.registry_office.specs.Statuses.{read_fault, write_fault, disk_fault, door_fault, is_no_journal, is_of_session, tells_of_opening};
-ghost use Rattle.registry_office.specs.declared.requests.Request.{Request};
+ghost use Rattle.intake_requests.specs.declared.requests.Request.{Request};
 ghost use Rattle.registry_office.specs.declared.words.Command.TheVariants.{Receive};
 
 use crate::intakes::Intake;

@@ -1,4 +1,4 @@
-// The session of an input of lines: each is answered as it comes.
+//! The session of an input of lines: each is answered as it comes.
 ghost use Rattle.std.specs.Prelude.{◌≡◌, ◌⊎◌, ◌≤◌, ◌<◌, ◌+◌, ◌^◌, ◌++◌, ◌∷◌, [], ◌==◌, true, false, List, length, take, Some, OnOk, OnErr, IfOk, IfSome, IfNone, IsTrue, Err, vec_len};
 ghost use Rattle.std.specs.List.{list_any};
 ghost use Rattle.std.specs.Io.KnownBytes.{IsAtEnd};
@@ -12,7 +12,7 @@ ghost use Rattle.registry_office.specs.Lines.{request_of_line};
 ghost use Rattle.registry_office.specs.inner.Asking.{is_stamped_by_clock};
 ghost use Rattle.registry_office.specs.Requests.{InMemory, OnDisk, holding, held_after};
 ghost use Rattle.registry_office.specs.Sessions.{behind, ended_requests, line_requests, Took};
-ghost use Rattle.registry_office.specs.declared.requests.Request.{Request};
+ghost use Rattle.intake_requests.specs.declared.requests.Request.{Request};
 ghost use Rattle.registry_office.specs.inner.Inputs.{AllAnswered, PartAnswered, DiskGrowsBy};
 ghost use Rattle.registry_office.specs.inner.Sessions.{IsReady, Knows, Answered};
 

@@ -1,4 +1,4 @@
-// The command that settles stamped lines in memory.
+//! The command that settles stamped lines in memory.
 ghost use Rattle.std.specs.Prelude.{◌≡◌, ◌⊎◌, ◌≤◌, ◌<◌, ◌+◌, ◌^◌, [], Some, Err, IfOk, OnOk, OnErr, IfSome, length, take, false, IsTrue};
 ghost use Rattle.std.specs.Io.KnownBytes.{Appends, IsAtEnd};
 ghost use Rattle.gb_outside.specs.Bytes.{AppendsFront};

@@ -1,4 +1,4 @@
-// How a run ends.
+//! How a run ends.
 ghost use Rattle.std.specs.Prelude.{◌≡◌};
 ghost use Rattle.registry_office.specs.inner.Ends.{status_of, status_of_fault, status_of_writing};
 

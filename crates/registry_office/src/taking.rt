@@ -1,4 +1,4 @@
-// Lines, or the rows of a list, are received into the journal of a book.
+//! Lines, or the rows of a list, are received into the journal of a book.
 ghost use Rattle.std.specs.Prelude.{◌≡◌, ◌≤◌, ◌+◌, ℕ, List, [], Some, false, length, IsTrue, IfSome};
 ghost use Rattle.gb_base.specs.DayMinute.{DayMinute};
 ghost use Rattle.gb_outside.specs.Faults.{Counts};

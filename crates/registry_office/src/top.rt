@@ -1,4 +1,4 @@
-// The top call: the words, and the objects that stand outside.
+//! The top call: the words, and the objects that stand outside.
 ghost use Rattle.std.specs.Prelude.{◌≡◌, ◌⊎◌, ◌↔◌, ◌≤◌, ◌+◌, ◌++◌, ℕ, [], Some, None, IfSome, IsTrue, List, map, length, take, true, false};
 ghost use Rattle.std.specs.Io.KnownBytes.{Appends, IsAtEnd};
 ghost use Rattle.std.specs.Rc.{rc_str_bytes};
@@ -15,7 +15,7 @@ ghost use Rattle.registry_office.specs.Requests.{OnDisk, Held, replies, held_aft
 ghost use Rattle.registry_office.specs.Sessions.{most_input, Took, HasWritten};
 ghost use Rattle.registry_office.specs.Statuses.{read_fault, write_fault, disk_fault, door_fault, is_no_journal, tells_of_opening};
 ghost use Rattle.registry_office.specs.Words.{command_of};
-ghost use Rattle.registry_office.specs.declared.requests.Request.{Request};
+ghost use Rattle.intake_requests.specs.declared.requests.Request.{Request};
 
 use crate::disk_settling::settle_disk;
 use crate::receiving::receive_disk;

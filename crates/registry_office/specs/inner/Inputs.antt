@@ -5,7 +5,7 @@ use Rattle.act_model.specs.declared.receipts.Receipt.{Receipt}
 use Rattle.registry_office.specs.EarlyEnds.{EndsEarly}
 use Rattle.registry_office.specs.Grown.{DiskGrows}
 use Rattle.registry_office.specs.Requests.{Medium, OnDisk, holding, held_after}
-use Rattle.registry_office.specs.declared.requests.Request.{Request}
+use Rattle.intake_requests.specs.declared.requests.Request.{Request}
 use Rattle.registry_office.specs.inner.Sessions.{Knows, Answered}
 
 -- All of these requests are answered, whatever the clock gives.

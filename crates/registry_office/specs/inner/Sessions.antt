@@ -8,7 +8,7 @@ use Rattle.receipt_journal.specs.BookState.{BookState}
 use Rattle.receipt_journal.specs.Standing.{StandsForJournal}
 use Rattle.registry_office.specs.Grown.{GrownFrom, IsDurable}
 use Rattle.registry_office.specs.Requests.{Medium, OnDisk, Held, Replied, replies, held_after}
-use Rattle.registry_office.specs.declared.requests.Request.{Request}
+use Rattle.intake_requests.specs.declared.requests.Request.{Request}
 
 -- What receives works, and if it keeps its journal on a disk that tells its bytes, it stands there.
 pub record IsReady (medium : Medium) (tells : Bool) (book : BookState) (reads : List ℕ) (images : List ℕ → Type 0) : Type 0 where

@@ -1,5 +1,5 @@
 use Rattle.std.proofs.lemmas.Result.{MatchResult-from_err}
-use Rattle.registry_office.specs.OpeningLists.{row_requests}
+use Rattle.opening_lists.specs.OpeningLists.{row_requests}
 use Rattle.registry_office.specs.Requests.{holding}
 use Rattle.registry_office.proofs.EarlyEnds.{early_before}
 use Rattle.registry_office.proofs.Replies.{disk_same, grows}

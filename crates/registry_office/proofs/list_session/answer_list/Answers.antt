@@ -2,7 +2,7 @@ use Rattle.std.proofs.Common.{inl, inr, ℕ, true, List, [], refl, ◌∙◌, su
 use Rattle.std.proofs.lemmas.Result.{MatchResult-from_err}
 use Rattle.registry_office.specs.EarlyEnds.{EndsEarly}
 use Rattle.registry_office.specs.Grown.{DiskGrows}
-use Rattle.registry_office.specs.OpeningLists.{row_requests}
+use Rattle.opening_lists.specs.OpeningLists.{row_requests}
 use Rattle.registry_office.specs.Requests.{holding, held_after}
 use Rattle.registry_office.proofs.EarlyEnds.{early_before}
 use Rattle.registry_office.proofs.Replies.{disk_same, grows}

@@ -4,7 +4,7 @@ use Rattle.registry_office.specs.Grown.{DiskGrows}
 use Rattle.registry_office.specs.inner.Asking.{is_stamped_by_clock}
 use Rattle.registry_office.specs.Requests.{holding, held_after}
 use Rattle.registry_office.specs.Sessions.{ended_requests}
-use Rattle.registry_office.specs.declared.requests.Request.{Request}
+use Rattle.intake_requests.specs.declared.requests.Request.{Request}
 use Rattle.registry_office.specs.EarlyEnds.{EndsEarly}
 use Rattle.registry_office.specs.inner.Sessions.{Answered}
 use Rattle.registry_office.proofs.LineRequests.{feed_requests, behind_with_feed}

@@ -2,7 +2,7 @@ use Rattle.std.proofs.Common.{◌∷◌, [], ap, ◌∙◌, sym}
 use Rattle.std.proofs.lemmas.Result.{MatchResult-from_err}
 use Rattle.registry_office.specs.Lines.{request_of_line}
 use Rattle.registry_office.specs.Requests.{holding}
-use Rattle.registry_office.specs.inner.Asking.{asks_clock}
+use Rattle.intake_requests.specs.Asking.{asks_clock}
 use Rattle.registry_office.proofs.LineRequests.{asks_none, asks_by_kind}
 use Rattle.registry_office.proofs.EarlyEnds.{early_before}
 use Rattle.registry_office.proofs.Replies.{disk_same, grows}

@@ -9,7 +9,7 @@ use Rattle.registry_office.specs.Outcomes.{outcome, requests_of, cut_requests_of
 use Rattle.registry_office.specs.Requests.{OnDisk, held_after}
 use Rattle.registry_office.specs.Sessions.{Took}
 use Rattle.registry_office.specs.Statuses.{disk_fault, tells_of_opening}
-use Rattle.registry_office.specs.declared.requests.Request.{Request}
+use Rattle.intake_requests.specs.declared.requests.Request.{Request}
 use Rattle.registry_office.specs.declared.words.Command.{Command}
 use Rattle.registry_office.proofs.Takings.{cut_by_status, err_by_status, short_by_status, read_part_of_early}
 use Rattle.registry_office.proofs.top.run.Goals as goal

@@ -1,4 +1,4 @@
-// What one line or row of an input asks.
+//! What one line or row of an input asks.
 use act_model::Item;
 use gb_base::{NoMemory, Stamp};
 use std::alloc::Global;
@@ -36,6 +36,13 @@ impl Reply {
     }
 }
 
+/// A sender with its own number for what it sends: under both an item acts once.
+#[derive(Clone, Copy, Debug, PartialEq, Eq)]
+pub struct SenderReference {
+    pub sender: u32,
+    pub reference: u64,
+}
+
 /// What one line or row of an input asks: nothing, or a text that is refused with this reply, or
 /// that an item be received, which the clock stamps where it has no stamp of its own.
 #[derive(Debug, Drop)]
@@ -47,17 +54,16 @@ pub enum Request {
     /// An item.
     Receive {
         stamp: Option<Stamp>,
-        sender: u32,
-        reference: u64,
+        from: SenderReference,
         item: Item,
     },
 }
 
 impl Request {
     ghost use Rattle.std.specs.Prelude.{◌≡◌, IfOk};
-    ghost use Rattle.registry_office.specs.declared.requests.Request.TheVariants.{Refused};
+    ghost use Rattle.intake_requests.specs.declared.requests.Request.TheVariants.{Refused};
 
-    /// A text that is refused with these bytes.
+    /// A text that is refused with these bytes. It may want memory.
     pub fn refused(alloc: Global, text: &[u8]) -> Result<Request, NoMemory>
         ensures { IfOk result (λ request. request ≡ Refused text.now) }
     {

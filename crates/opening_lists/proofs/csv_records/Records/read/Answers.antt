@@ -1,5 +1,5 @@
-use Rattle.registry_office.proofs.CsvSteps.{read_says}
-use Rattle.registry_office.proofs.csv_records.Records.read.Goals as goal
+use Rattle.opening_lists.proofs.CsvSteps.{read_says}
+use Rattle.opening_lists.proofs.csv_records.Records.read.Goals as goal
 
 pub returns-clause-next : goal.returns-clause-next
 returns-clause-next c =

@@ -6,7 +6,7 @@ use Rattle.csv.specs.Reading.{ReadRecord, Reached, Ready, default_config, has_fa
 use Rattle.csv.specs.declared.reader.Reader.{Reader}
 use Rattle.csv.specs.declared.reader.Trim.TheVariants as trim
 use Rattle.csv.proofs.ReadFacts.{rows-end, rows-more}
-use Rattle.registry_office.specs.inner.CsvRecords.{IsSetUp, records_at, records_left}
+use Rattle.opening_lists.specs.inner.CsvRecords.{IsSetUp, records_at, records_left}
 use Rattle.csv.specs.declared.parser.Config.{Config}
 use Rattle.csv.specs.declared.parser.State.{State}
 use Rattle.csv.specs.declared.parser.State.TheVariants as st

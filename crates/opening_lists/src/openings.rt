@@ -1,11 +1,10 @@
-// What a row of an opening list opens.
+//! What a row of an opening list opens.
 ghost use Rattle.std.specs.Prelude.{◌≡◌, ◌≤◌, IfSome, IsTrue, option_and_then};
 ghost use Rattle.csv.specs.Records.{field_at, fields_of};
 ghost use Rattle.act_model.specs.WellFormed.{is_inventory, well_formed};
-ghost use Rattle.registry_office.specs.Built.{is_built};
-ghost use Rattle.registry_office.specs.OpeningLists.{filing_for, is_header, opening_of};
-ghost use Rattle.registry_office.specs.Words.{number_in};
-ghost use Rattle.registry_office.specs.inner.OpeningLists.{names_columns, opening_at, says};
+ghost use Rattle.opening_lists.specs.OpeningLists.{filing_for, is_header, opening_of};
+ghost use Rattle.opening_lists.specs.Numerals.{number_in};
+ghost use Rattle.opening_lists.specs.inner.Rows.{names_columns, opening_at, says};
 
 use crate::numerals::number_in;
 use act_model::{Act, Acts, Doc, Docs, Filing, Form, Inventory, Item, Owners};
@@ -103,7 +102,6 @@ pub fn filing_for(opening: &Opening) -> Item
     requires { IsTrue (is_inventory opening.now.inventory) }
     ensures value { result ≡ filing_for opening.now }
     ensures well_formed { IsTrue (well_formed result) }
-    ensures built { IsTrue (is_built result) }
 {
     let owner = opening.owner;
     let mut owners = ArrayVec::new();

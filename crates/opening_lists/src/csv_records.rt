@@ -1,4 +1,4 @@
-// The records of a CSV text in memory, one after the other.
+//! The records of a CSV text in memory, one after the other.
 use csv::{ByteRecord, Reader, ReaderBuilder};
 use gb_base::NoMemory;
 use std::alloc::{AllocError, Global};
@@ -14,7 +14,7 @@ pub struct Records<'a> {
 impl<'a> Model for Records<'a> {
     ghost use Rattle.std.specs.Prelude.{List, ℕ, ◌≡◌, false};
     ghost use Rattle.csv.specs.Reading.{has_failed};
-    ghost use Rattle.registry_office.specs.inner.CsvRecords.{records_left, IsSetUp};
+    ghost use Rattle.opening_lists.specs.inner.CsvRecords.{records_left, IsSetUp};
 
     ghost Value = { List (List (List ℕ)) };
 

@@ -1,12 +1,12 @@
-// An opening list: what its records ask, one after the other.
+//! An opening list: what its records ask, one after the other.
 ghost use Rattle.std.specs.Prelude.{◌≡◌, IfOk, IsTrue};
 ghost use Rattle.csv.specs.Records.{fields_of};
-ghost use Rattle.registry_office.specs.OpeningLists.{row_request};
-ghost use Rattle.registry_office.specs.inner.Asking.{asks_well};
+ghost use Rattle.opening_lists.specs.OpeningLists.{row_request};
+ghost use Rattle.intake_requests.specs.Asking.{asks_well};
 
 use crate::csv_records::Records;
 use crate::openings::{filing_for, is_header, read_opening};
-use crate::requests::Request;
+use intake_requests::{Request, SenderReference};
 use csv::ByteRecord;
 use gb_base::NoMemory;
 use std::alloc::Global;
@@ -35,8 +35,8 @@ pub struct OpeningList<'a> {
 
 impl<'a> Model for OpeningList<'a> {
     ghost use Rattle.std.specs.Prelude.{List};
-    ghost use Rattle.registry_office.specs.declared.requests.Request.{Request};
-    ghost use Rattle.registry_office.specs.inner.OpeningLists.{requests_at};
+    ghost use Rattle.intake_requests.specs.declared.requests.Request.{Request};
+    ghost use Rattle.opening_lists.specs.inner.Rows.{requests_at};
 
     ghost Value = { List Request };
 
@@ -45,10 +45,10 @@ impl<'a> Model for OpeningList<'a> {
 
 impl<'a> OpeningList<'a> {
     ghost use Rattle.std.specs.Prelude.{◌≡◌, ◌∷◌, [], IfOk, IfSome, IfNone, IsErr, IsTrue};
-    ghost use Rattle.registry_office.specs.OpeningLists.{row_requests};
-    ghost use Rattle.registry_office.specs.inner.Asking.{asks_well};
+    ghost use Rattle.opening_lists.specs.OpeningLists.{row_requests};
+    ghost use Rattle.intake_requests.specs.Asking.{asks_well};
 
-    /// The list of these bytes, from this sender.
+    /// The list of these bytes, from this sender. It may want memory, as each call of `next` may.
     #[tactic(auto, unfolding(crate::specs::OpeningLists::row_requests))]
     pub fn new(alloc: Global, sender: u32, bytes: &'a [u8]) -> Result<OpeningList<'a>, NoMemory>
         ensures { IfOk result (λ list. list ≡ row_requests sender bytes.now) }
@@ -102,8 +102,10 @@ fn request_of_row(alloc: Global, sender: u32, row: &ByteRecord) -> Result<Reques
     match read_opening(row) {
         Some(opening) => Ok(Request::Receive {
             stamp: None,
-            sender,
-            reference: u64::from(opening.folio.get()),
+            from: SenderReference {
+                sender,
+                reference: u64::from(opening.folio.get()),
+            },
             item: filing_for(&opening),
         }),
         None => Request::refused(alloc, b"malformed row\n"),

@@ -1,8 +1,8 @@
 -- The rows of an opening list by the places of their fields.
 use Rattle.std.proofs.Common.{◌≡◌, ◌≢◌, ℕ, false, List, [], ◌∷◌, length, None, refl, arith}
 use Rattle.csv.specs.Records.{field_at}
-use Rattle.registry_office.specs.OpeningLists.{is_header, opening_of}
-use Rattle.registry_office.specs.inner.OpeningLists.{names_columns, opening_at}
+use Rattle.opening_lists.specs.OpeningLists.{is_header, opening_of}
+use Rattle.opening_lists.specs.inner.Rows.{names_columns, opening_at}
 
 pub header_of_six : (fields : List (List ℕ)) → length fields ≡ 6 → names_columns fields ≡ is_header fields
 unfolding field_at

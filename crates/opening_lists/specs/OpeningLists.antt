@@ -6,10 +6,10 @@ use Rattle.act_model.specs.declared.filing_acts.Act.TheVariants.{Open}
 use Rattle.act_model.specs.declared.items.Item.{Item}
 use Rattle.act_model.specs.declared.items.Item.TheVariants as item
 use Rattle.csv.specs.Reading.{default_config, records, strip_bom}
-use Rattle.registry_office.specs.Words.{number_in}
-use Rattle.registry_office.specs.declared.openings.Opening.{Opening}
-use Rattle.registry_office.specs.declared.requests.Request.{Request}
-use Rattle.registry_office.specs.declared.requests.Request.TheVariants.{Refused, Receive}
+use Rattle.opening_lists.specs.Numerals.{number_in}
+use Rattle.opening_lists.specs.declared.openings.Opening.{Opening}
+use Rattle.intake_requests.specs.declared.requests.Request.{Request}
+use Rattle.intake_requests.specs.declared.requests.Request.TheVariants.{Refused, Receive}
 
 -- the fields of the header, which is the first record
 abbrev pub is_header : List (List ℕ) → Bool
@@ -47,7 +47,7 @@ filing_for opening = item.Filing (record {
 
 -- what is asked for a row that opens this: the clock stamps the filing, whose reference is the folio's number
 abbrev pub request_to_open : ℕ → Option Opening → Request
-request_to_open sender (Some opening) = Receive None sender opening.folio (filing_for opening)
+request_to_open sender (Some opening) = Receive None (record { sender = sender; reference = opening.folio }) (filing_for opening)
 request_to_open sender None = Refused (codes "malformed row\n")
 
 -- what a row asks

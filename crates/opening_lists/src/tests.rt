@@ -1,7 +1,6 @@
-// Opening lists, and what their records ask.
-use crate::lines::{LineKind, request_of_line};
-use crate::opening_lists::OpeningList;
-use crate::requests::Request;
+//! Opening lists, and what their records ask.
+use crate::OpeningList;
+use intake_requests::Request;
 use act_model::{Act, Item};
 use gb_base::NoMemory;
 use std::alloc::Global;
@@ -21,12 +20,8 @@ fn asked(alloc: Global, bytes: &[u8]) -> Result<Vec<u8>, NoMemory> {
         match &request {
             Request::Nothing => text.extend_from_slice(b"nothing\n")?,
             Request::Refused(reply) => text.extend_from_slice(reply.text())?,
-            Request::Receive {
-                reference,
-                item,
-                ..
-            } => {
-                let line = format!(in alloc; "{reference}:")?;
+            Request::Receive { from, item, .. } => {
+                let line = format!(in alloc; "{}:", from.reference)?;
                 text.extend_from_slice(line.as_bytes())?;
                 add_opening(alloc, &mut text, item)?;
             }
@@ -59,38 +54,6 @@ fn add_opening(alloc: Global, text: &mut Vec<u8>, item: &Item) -> Result<(), NoM
         }
     }
     text.push(b'\n')?;
-    Ok(())
-}
-
-/// The filing of a row is that of the line which says the same.
-#[test]
-fn a_row_asks_for_what_its_line_asks(rt: HostRuntime) -> Result<(), Fail> {
-    let alloc = rt.alloc();
-    let line =
-        b"{\"sender\":9,\"reference\":7,\"item\":{\"kind\":\"filing\",\"applicant\":10,\"conditional\":false,\"acts\":[{\"act\":\"open\",\"folio\":7,\"district\":12,\"parcel\":345,\"sub\":6,\"area\":800,\"owners\":[10]}],\"docs\":[{\"doc\":\"consent\",\"act\":1,\"person\":10,\"form\":\"certified\"}]}}";
-    let of_line = request_of_line(alloc, LineKind::Unstamped, line)?;
-    let rows = b"folio,district,parcel,sub,area,owner\n7,12,345,6,800,10\n";
-    let of_row = OpeningList::new(alloc, 9, rows)?.next(alloc)?;
-    let same = match (&of_line, &of_row) {
-        (
-            Request::Receive {
-                stamp: None,
-                sender: line_sender,
-                reference: line_reference,
-                item: line_item,
-            },
-            Some(
-                Request::Receive {
-                    stamp: None,
-                    sender,
-                    reference,
-                    item,
-                },
-            ),
-        ) => sender == line_sender && reference == line_reference && item == line_item,
-        _ => false,
-    };
-    assert!(rt; same);
     Ok(())
 }
 

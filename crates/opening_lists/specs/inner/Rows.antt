@@ -1,13 +1,13 @@
 -- How far an opening list is read.
 use Rattle.std.specs.Prelude.{ℕ, Bool, false, ◌&&◌, List, [], ◌∷◌, map, codes, bytes_eq, Option, Some, None, option_and_then}
 use Rattle.csv.specs.Records.{field_at}
-use Rattle.registry_office.specs.OpeningLists.{◌>>=◌, row_request}
-use Rattle.registry_office.specs.Words.{number_in}
-use Rattle.registry_office.specs.declared.opening_lists.Stage.{Stage}
-use Rattle.registry_office.specs.declared.opening_lists.Stage.TheVariants.{WrongHeader, Rows, End}
-use Rattle.registry_office.specs.declared.openings.Opening.{Opening}
-use Rattle.registry_office.specs.declared.requests.Request.{Request}
-use Rattle.registry_office.specs.declared.requests.Request.TheVariants.{Refused}
+use Rattle.opening_lists.specs.OpeningLists.{◌>>=◌, row_request}
+use Rattle.opening_lists.specs.Numerals.{number_in}
+use Rattle.opening_lists.specs.declared.lists.Stage.{Stage}
+use Rattle.opening_lists.specs.declared.lists.Stage.TheVariants.{WrongHeader, Rows, End}
+use Rattle.opening_lists.specs.declared.openings.Opening.{Opening}
+use Rattle.intake_requests.specs.declared.requests.Request.{Request}
+use Rattle.intake_requests.specs.declared.requests.Request.TheVariants.{Refused}
 
 -- there is such a field, and it says this
 abbrev pub says : Option (List ℕ) → List ℕ → Bool
