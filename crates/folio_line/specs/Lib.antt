@@ -2,6 +2,5 @@
 pub mod Exchanges
 pub mod FolioRights
 pub mod FolioSlots
-pub mod HeldNumbers
 pub mod RightRanks
 pub mod inner

@@ -11,12 +11,12 @@ use std::alloc::Global;
 pub trait HeldRights: Parts {
     ghost use Rattle.std.specs.Prelude.{◌≡◌, false, List, [], IfOk};
     ghost use Rattle.gb_base.specs.declared.keys.Key.{Key};
-    ghost use Rattle.folio_line.specs.HeldNumbers.{held_among};
+    ghost use Rattle.folio_sections.specs.HeldRights.{held_rights};
 
     /// The rights of a folio whose parts are held, by receipt and act. NoMemory where no memory is
     /// found for the list.
     fn rights_in(&self, alloc: Global, folio: FolioId) -> Result<Vec<RightId>, NoMemory>
-        ensures rights { IfOk result (λ rights. rights.items ≡ held_among (Self.holds self.now) folio) };
+        ensures rights { IfOk result (λ rights. rights.items ≡ held_rights (Self.holds self.now) folio) };
 
     /// Nothing stands where no part is held.
     ghost unheld_is_empty: { (parts : Self) (k : Key) → Self.holds parts k ≡ false → Self.at parts k ≡ [] };

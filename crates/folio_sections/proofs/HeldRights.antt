@@ -184,7 +184,7 @@ some_there (Some n) is = (n, refl)
 -- The rights of the entries between the first and the last of the folio are those that are held.
 rights_held : (index : BTreeMap Key ℕ) (parts : List PartState) (folio : ℕ) → IsOrdered key_cmp index → IsIndexOf index parts
     → All (IsEntryInRange key_cmp (Included (first_key folio)) (Included (last_key folio)) index) (entries_from_to (first_key folio) (last_key folio) index.entries)
-    → filter_map (λ e. right_in e.0) (entries_from_to (first_key folio) (last_key folio) index.entries) ≡ held_rights parts folio
+    → filter_map (λ e. right_in e.0) (entries_from_to (first_key folio) (last_key folio) index.entries) ≡ held_rights (is_held parts) folio
 rights_held index parts folio ordered indexed all =
     let IsFound : Key × ℕ → Type 0 = IsEntryInRange key_cmp (Included (first_key folio)) (Included (last_key folio)) index in
     let ranged : List (Key × ℕ) = entries_from_to (first_key folio) (last_key folio) index.entries in
@@ -194,7 +194,7 @@ rights_held index parts folio ordered indexed all =
     let entries = index.entries in
     let there : (e : Key × ℕ) (id : RightNo) → In e (filter between entries) → right_in e.0 ≡ Some id → e.0 ≡ Right folio id = λ e id here is.
     right_there folio e.0 id (of_filter between entries e here).1 is in
-    one_distinct is_up_to one_way (filter_map (λ e. right_in e.0) (filter between entries)) (held_rights parts folio)
+    one_distinct is_up_to one_way (filter_map (λ e. right_in e.0) (filter between entries)) (held_rights (is_held parts) folio)
     (distinct_given is_not_before is_up_to (λ e. right_in e.0) (filter between entries) (distinct_filter is_not_before between entries (entries_rise entries ordered))
     (λ d e x y here behind less first second.
     later_key folio x y (subst (λ k. is_lt (key_cmp k (Right folio y)) ≡ true) (there d x here first) (subst (λ k. is_lt (key_cmp d.0 k) ≡ true) (there e y behind second) (not_false (is_lt (key_cmp d.0 e.0)) less)))))
@@ -220,7 +220,7 @@ rights_held index parts folio ordered indexed all =
 pub rights_listed : (index : BTreeMap Key ℕ) (parts now : List PartState) (folio : ℕ) (first last : RightNo) → first ≡ new_right 1 1 → last ≡ new_right last_number most_acts → parts ≡ now
     → IsIndexOf index parts → IsOrdered key_cmp index
     → All (IsEntryInRange key_cmp (Included (Right folio first)) (Included (Right folio last)) index) (entries_from_to (Right folio first) (Right folio last) index.entries)
-    → filter_map (λ e. right_in e.0) (entries_from_to (Right folio first) (Right folio last) index.entries) ≡ held_rights now folio
+    → filter_map (λ e. right_in e.0) (entries_from_to (Right folio first) (Right folio last) index.entries) ≡ held_rights (is_held now) folio
 rights_listed index parts now folio first last from to same indexed ordered all =
     (λ i. filter_map (λ e. right_in e.0) (entries_from_to (Right folio (from i)) (Right folio (to i)) index.entries))
     ∙ rights_held index now folio ordered (subst (IsIndexOf index) same indexed)

@@ -1,6 +1,5 @@
 -- Lemmas.
 pub mod Additions
-pub mod Below
 pub mod DistinctLists
 pub mod FilteredLists
 pub mod HeldParts
@@ -9,5 +8,6 @@ pub mod Indexes
 pub mod ListLemmas
 pub mod Progress
 pub mod ReceiptNumbers
+pub mod ReceiptsBefore
 pub mod Unchanged
 pub mod Unnoticed

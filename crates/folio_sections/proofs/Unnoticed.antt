@@ -6,11 +6,11 @@ use Rattle.std.proofs.lemmas.Bool.{and_parts, cases_Bool, eqb-true, false≢true
 use Rattle.std.proofs.lemmas.Bool.Decides.{nat_tests}
 use Rattle.std.proofs.lemmas.List.Elements.{filter-append}
 use Rattle.std.proofs.lemmas.List.Folds.{find-append}
-use Rattle.folio_sections.specs.Waiting.{waiting_unnoticed, below, is_above, is_pending, notice, pending, until_by}
+use Rattle.folio_sections.specs.Waiting.{waiting_unnoticed, receipts_before, is_above, is_pending, notice, pending, until_by}
 use Rattle.folio_sections.specs.declared.entries.Entry.{Entry}
 use Rattle.folio_sections.specs.declared.entries.What.{What}
 use Rattle.folio_sections.specs.declared.entries.What.TheVariants as what
-use Rattle.folio_sections.proofs.Below.{below_next}
+use Rattle.folio_sections.proofs.ReceiptsBefore.{receipts_before_next}
 use Rattle.folio_sections.specs.inner.Unnoticed.{ceiling, floor, lacks_notice, least_by, least_with}
 
 -- ---- the least number that passes a test
@@ -56,13 +56,13 @@ least_further p q m None above h =
       | false ↦ λ dropped. none_further (λ n. q n && p n) m h (ap (λ b. b && p m) dropped)
     ] refl
 
-first_below : (p q : ℕ → Bool) (m : ℕ) → IsLeast (λ n. q n && p n) m (find p (filter q (below m)))
+first_below : (p q : ℕ → Bool) (m : ℕ) → IsLeast (λ n. q n && p n) m (find p (filter q (receipts_before m)))
 first_below p q zero = λ n above within. absurd (omega arith)
 first_below p q (suc zero) = λ n above within. absurd (omega arith)
 first_below p q (suc (suc k)) =
-    let ahead = filter q (below (suc k)) in
+    let ahead = filter q (receipts_before (suc k)) in
     subst (λ r. IsLeast (λ n. q n && p n) (suc (suc k)) r)
-    (sym (ap (λ ns. find p (filter q ns)) (below_next k) ∙ ap (find p) (filter-append q (below (suc k)) (suc k ∷ [])) ∙ find-append p ahead (filter q (suc k ∷ []))))
+    (sym (ap (λ ns. find p (filter q ns)) (receipts_before_next k) ∙ ap (find p) (filter-append q (receipts_before (suc k)) (suc k ∷ [])) ∙ find-append p ahead (filter q (suc k ∷ []))))
     (least_further p q (suc k) (find p ahead) (omega arith) (first_below p q (suc k)))
 
 -- ---- the walk
@@ -212,8 +212,8 @@ filtered_twice p q (x ∷ xs) =
       | false ↦ filtered_twice p q xs
     ]
 
-pub unnoticed_is : (m : ℕ) (entries : List Entry) → waiting_unnoticed m entries ≡ filter (λ n. lacks_notice n entries) (below m)
-unnoticed_is m entries = filtered_twice (λ n. is_pending n entries) (λ n. is_none (notice n entries)) (below m)
+pub unnoticed_is : (m : ℕ) (entries : List Entry) → waiting_unnoticed m entries ≡ filter (λ n. lacks_notice n entries) (receipts_before m)
+unnoticed_is m entries = filtered_twice (λ n. is_pending n entries) (λ n. is_none (notice n entries)) (receipts_before m)
 
 -- the walk finds the first of them
 pub walked : (after : Option ℕ) (m : ℕ) (entries : List Entry) → fold (λ before e. least_by after m entries before e.what) None entries ≡ find (is_above after) (waiting_unnoticed m entries)

@@ -1,13 +1,12 @@
--- The rights of a folio whose parts are held.
+-- The rights of a folio whose parts are held, of any parts.
 -- Why so: docs/DECISIONS.md, "The extract is read from the register alone".
-use Rattle.std.specs.Prelude.{ℕ, List, filter, flat_map, map}
+use Rattle.std.specs.Prelude.{ℕ, Bool, List, filter, flat_map, map}
 use Rattle.std.specs.List.{range_with_len}
 use Rattle.gb_base.specs.Limits.{most_acts}
 use Rattle.gb_base.specs.RightNo.{RightNo}
+use Rattle.gb_base.specs.declared.keys.Key.{Key}
 use Rattle.gb_base.specs.declared.keys.Key.TheVariants.{Right}
 use Rattle.act_model.specs.Touches.{new_right}
-use Rattle.folio_sections.specs.Held.{is_held}
-use Rattle.folio_sections.specs.PartState.{PartState}
 
 -- the greatest number that a receipt may have
 abbrev pub last_number : ℕ
@@ -26,5 +25,5 @@ abbrev pub right_numbers : List RightNo
 right_numbers = flat_map rights_of_filing receipt_numbers
 
 -- the rights of a folio whose parts are held, by receipt and act
-abbrev pub held_rights : List PartState → ℕ → List RightNo
-held_rights parts folio = filter (λ id. is_held parts (Right folio id)) right_numbers
+abbrev pub held_rights : (Key → Bool) → ℕ → List RightNo
+held_rights holds folio = filter (λ id. holds (Right folio id)) right_numbers

@@ -19,13 +19,13 @@ pending m entries = fold (λ before e. until_by m before e.what) None entries
 abbrev pub is_pending : ℕ → List Entry → Bool
 is_pending m entries = is_some (pending m entries)
 
--- the numbers from 1 that are below n, ascending
-abbrev pub below : ℕ → List ℕ
-below n = range_with_len 1 (n - 1)
+-- the numbers of the receipts before receipt n, ascending
+abbrev pub receipts_before : ℕ → List ℕ
+receipts_before n = range_with_len 1 (n - 1)
 
 -- the earlier filings than m that wait, ascending
 abbrev pub waiting_before : ℕ → List Entry → List ℕ
-waiting_before m entries = filter (λ n. is_pending n entries) (below m)
+waiting_before m entries = filter (λ n. is_pending n entries) (receipts_before m)
 
 -- the content is the official notice of filing m
 abbrev pub is_notice_of : ℕ → What → Bool

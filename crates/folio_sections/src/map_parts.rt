@@ -103,7 +103,7 @@ impl MapParts {
     /// The rights of a folio whose parts are held, by receipt and act. However many parts are
     /// held elsewhere, it looks at those of the folio's rights alone.
     pub fn rights_in(&self, alloc: Global, folio: FolioId) -> Result<Vec<RightId>, NoMemory>
-        ensures rights { IfOk result (λ rights. rights.items ≡ held_rights self.now folio) }
+        ensures rights { IfOk result (λ rights. rights.items ≡ held_rights (is_held self.now) folio) }
     {
         let first = Key::Right(folio, first_right());
         let last = Key::Right(folio, last_right());

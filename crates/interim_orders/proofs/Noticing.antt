@@ -15,7 +15,7 @@ use Rattle.act_model.proofs.KeyOrder.{ties}
 use Rattle.folio_sections.specs.Adding.{AddsList, HasRoom}
 use Rattle.folio_sections.specs.Entries.{entry_by, at}
 use Rattle.interim_orders.specs.Notices.{notices_at}
-use Rattle.folio_sections.specs.Waiting.{waiting_unnoticed, below, is_above}
+use Rattle.folio_sections.specs.Waiting.{waiting_unnoticed, receipts_before, is_above}
 use Rattle.folio_sections.specs.declared.entries.Entry.{Entry}
 use Rattle.folio_sections.specs.declared.entries.What.TheVariants as what
 use Rattle.folio_sections.specs.inner.Unnoticed.{lacks_notice}
@@ -24,7 +24,7 @@ use Rattle.folio_sections.proofs.Indexes.{find_passes}
 use Rattle.folio_sections.proofs.ListLemmas.{filter_all}
 use Rattle.folio_sections.proofs.Progress.{Progress, begins, ends, goes_on_by, has_room_by}
 use Rattle.folio_sections.proofs.Unchanged.{KeepsNotice, all_at, all_both, all_weaker, own_notice_stays, pending_stays}
-use Rattle.folio_sections.proofs.Below.{below_next}
+use Rattle.folio_sections.proofs.ReceiptsBefore.{receipts_before_next}
 use Rattle.folio_sections.proofs.Unnoticed.{unnoticed_is}
 
 all_filtered : (P : ℕ → Type 0) (q : ℕ → Bool) (xs : List ℕ) → AllByRecursion P xs → AllByRecursion P (filter q xs)
@@ -55,22 +55,22 @@ ascends_filter q (x ∷ xs) up =
       | false ↦ ascends_filter q xs up.1
     ]
 
-below_less : (m : ℕ) → AllByRecursion (λ x. nat_lt x m ≡ true) (below m)
-below_less zero = tt
-below_less (suc zero) = tt
-below_less (suc (suc n)) =
-    subst (AllByRecursion (λ x. nat_lt x (suc (suc n)) ≡ true)) (sym (below_next n)) (all_both (λ x. nat_lt x (suc (suc n)) ≡ true) (below (suc n)) (suc n ∷ [])
-    (all_weaker (λ x. nat_lt x (suc n) ≡ true) (λ x. nat_lt x (suc (suc n)) ≡ true) (below (suc n)) (λ x less. grind (arith, nat_tests, less)) (below_less (suc n)))
+receipts_before_less : (m : ℕ) → AllByRecursion (λ x. nat_lt x m ≡ true) (receipts_before m)
+receipts_before_less zero = tt
+receipts_before_less (suc zero) = tt
+receipts_before_less (suc (suc n)) =
+    subst (AllByRecursion (λ x. nat_lt x (suc (suc n)) ≡ true)) (sym (receipts_before_next n)) (all_both (λ x. nat_lt x (suc (suc n)) ≡ true) (receipts_before (suc n)) (suc n ∷ [])
+    (all_weaker (λ x. nat_lt x (suc n) ≡ true) (λ x. nat_lt x (suc (suc n)) ≡ true) (receipts_before (suc n)) (λ x less. grind (arith, nat_tests, less)) (receipts_before_less (suc n)))
     (grind (arith, nat_tests), tt))
 
-below_ascends : (m : ℕ) → Ascends (below m)
-below_ascends zero = tt
-below_ascends (suc zero) = tt
-below_ascends (suc (suc n)) = subst Ascends (sym (below_next n)) (ascends_push (below (suc n)) (suc n) (below_ascends (suc n)) (below_less (suc n)))
+receipts_before_ascend : (m : ℕ) → Ascends (receipts_before m)
+receipts_before_ascend zero = tt
+receipts_before_ascend (suc zero) = tt
+receipts_before_ascend (suc (suc n)) = subst Ascends (sym (receipts_before_next n)) (ascends_push (receipts_before (suc n)) (suc n) (receipts_before_ascend (suc n)) (receipts_before_less (suc n)))
 
 unnoticed_ascend : (m : ℕ) (entries : List Entry) → Ascends (waiting_unnoticed m entries)
 unnoticed_ascend m entries =
-    subst Ascends (sym (unnoticed_is m entries)) (ascends_filter (λ n. lacks_notice n entries) (below m) (below_ascends m))
+    subst Ascends (sym (unnoticed_is m entries)) (ascends_filter (λ n. lacks_notice n entries) (receipts_before m) (receipts_before_ascend m))
 
 -- ---- the first above a number, and those behind it
 
@@ -165,7 +165,7 @@ lacks_same after xs ys all n above =
 next_same : (after : Option ℕ) (m : ℕ) (xs ys : List Entry) → AllByRecursion (LeavesAbove after) ys → find (is_above after) (waiting_unnoticed m (xs ++ ys)) ≡ find (is_above after) (waiting_unnoticed m xs)
 next_same after m xs ys all =
     ap (find (is_above after)) (unnoticed_is m (xs ++ ys))
-    ∙ same_found (is_above after) (λ n. lacks_notice n (xs ++ ys)) (λ n. lacks_notice n xs) (lacks_same after xs ys all) (below m)
+    ∙ same_found (is_above after) (λ n. lacks_notice n (xs ++ ys)) (λ n. lacks_notice n xs) (lacks_same after xs ys all) (receipts_before m)
     ∙ sym (ap (find (is_above after)) (unnoticed_is m xs))
 
 -- How far the notices at a key have come: those of all filings above the last are left.

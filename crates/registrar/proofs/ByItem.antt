@@ -18,7 +18,7 @@ use Rattle.act_model.specs.Documents.{documents}
 use Rattle.entry_rules.specs.Entering.{content, contents_brought, entered, placed_at, places_brought, with_places}
 use Rattle.registrar.specs.Enters.{enters}
 use Rattle.interim_orders.specs.Notices.{notices_at, notices_brought, with_notices}
-use Rattle.folio_sections.specs.Waiting.{waiting_unnoticed, below, notice}
+use Rattle.folio_sections.specs.Waiting.{waiting_unnoticed, receipts_before, notice}
 use Rattle.folio_sections.specs.Entries.{entry_by}
 use Rattle.kept_registers.specs.KeptCases.{LeavesCents}
 use Rattle.kept_registers.specs.KeptEntries.{IsCreatedInTime, WaitsInTime}
@@ -113,10 +113,10 @@ noticed_at : (journal : List Receipt) (m i : ℕ) (at : Key → List Entry) (key
 noticed_at journal m i at key within there =
     all_mapped (IsBrought journal m i) (λ n. entry_by journal i key (what.Notice n)) (waiting_unnoticed m (at key))
     (subst (AllByRecursion (λ n. IsBrought journal m i (entry_by journal i key (what.Notice n)))) (sym (unnoticed_is m (at key)))
-    (all_filtered (λ n. IsBrought journal m i (entry_by journal i key (what.Notice n))) (λ n. lacks_notice n (at key)) (below m)
-    (all_weaker (λ n. n ≤ i) (λ n. IsBrought journal m i (entry_by journal i key (what.Notice n))) (below m)
+    (all_filtered (λ n. IsBrought journal m i (entry_by journal i key (what.Notice n))) (λ n. lacks_notice n (at key)) (receipts_before m)
+    (all_weaker (λ n. n ≤ i) (λ n. IsBrought journal m i (entry_by journal i key (what.Notice n))) (receipts_before m)
     (λ n earlier. noticed journal m i n key earlier there)
-    (all_weaker (λ k. k < 1 + (m - 1)) (λ n. n ≤ i) (below m) (λ n less. omega arith) (all_in_range 1 (m - 1) (1 + (m - 1)) (omega arith))))))
+    (all_weaker (λ k. k < 1 + (m - 1)) (λ n. n ≤ i) (receipts_before m) (λ n less. omega arith) (all_in_range 1 (m - 1) (1 + (m - 1)) (omega arith))))))
 
 notices_by_item : (journal : List Receipt) (m i : ℕ) (at : Key → List Entry) → m ≤ i → AllByRecursion (IsBrought journal m i) (notices_brought journal m i at)
 notices_by_item journal m i at within =

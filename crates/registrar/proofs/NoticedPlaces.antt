@@ -9,7 +9,7 @@ use Rattle.gb_base.specs.declared.keys.Key.{Key}
 use Rattle.gb_base.proofs.Members.{In, in_range}
 use Rattle.act_model.specs.declared.receipts.Receipt.{Receipt}
 use Rattle.folio_sections.specs.Entries.{entry_by}
-use Rattle.folio_sections.specs.Waiting.{waiting_unnoticed, below, is_notice_of, is_pending, notice, waiting_before}
+use Rattle.folio_sections.specs.Waiting.{waiting_unnoticed, receipts_before, is_notice_of, is_pending, notice, waiting_before}
 use Rattle.kept_registers.specs.KeptPlaces.{is_placed}
 use Rattle.act_model.specs.Divisions.{creates_there}
 use Rattle.folio_sections.specs.Places.{place_by, place_of, places_among}
@@ -55,9 +55,9 @@ range_less : (bound a n : ℕ) → a + n ≤ bound → AllByRecursion (λ y. y <
 range_less bound a zero within = tt
 range_less bound a (suc n) within = (omega arith, range_less bound (a + 1) n (omega arith))
 
-below_less : (m : ℕ) → AllByRecursion (λ y. y < m) (below m)
-below_less zero = tt
-below_less (suc k) = range_less (suc k) 1 (suc k - 1) (omega arith)
+receipts_before_less : (m : ℕ) → AllByRecursion (λ y. y < m) (receipts_before m)
+receipts_before_less zero = tt
+receipts_before_less (suc k) = range_less (suc k) 1 (suc k - 1) (omega arith)
 
 in_filtered : (q : ℕ → Bool) (xs : List ℕ) (x : ℕ) → In x xs → q x ≡ true → In x (filter q xs)
 in_filtered q [] x there passes = absurd there
@@ -80,14 +80,14 @@ LacksNotice entries n = (is_pending n entries ≡ true) × (is_noticed n entries
 pub unnoticed_rise : (m : ℕ) (entries : List Entry) → Rises (waiting_unnoticed m entries)
 unnoticed_rise m entries =
     rises_filtered (λ n. is_none (notice n entries)) (waiting_before m entries)
-    (rises_filtered (λ n. is_pending n entries) (below m) (range_rises 1 (m - 1)))
+    (rises_filtered (λ n. is_pending n entries) (receipts_before m) (range_rises 1 (m - 1)))
 
 pub unnoticed_lack : (m : ℕ) (entries : List Entry) → AllByRecursion (λ n. (n < m) × LacksNotice entries n) (waiting_unnoticed m entries)
 unnoticed_lack m entries =
     all_weaker (λ n. ((n < m) × (is_pending n entries ≡ true)) × (is_none (notice n entries) ≡ true)) (λ n. (n < m) × LacksNotice entries n) (waiting_unnoticed m entries)
     (λ n all. (all.0.0, (all.0.1, not-true (is_noticed n entries) (sym (lacks_is n entries all.0.1) ∙ all.1))))
     (all_that_pass (λ n. (n < m) × (is_pending n entries ≡ true)) (λ n. is_none (notice n entries)) (waiting_before m entries)
-    (all_that_pass (λ n. n < m) (λ n. is_pending n entries) (below m) (below_less m)))
+    (all_that_pass (λ n. n < m) (λ n. is_pending n entries) (receipts_before m) (receipts_before_less m)))
 
 -- where a filing creates a right it is no receipt 0
 is_receipt : (journal : List Receipt) (folio n : ℕ) → creates_there journal folio n ≡ true → 0 < n
@@ -99,7 +99,7 @@ pub unnoticed_has : (journal : List Receipt) (folio m n : ℕ) (entries : List E
 unnoticed_has journal folio m n entries less creates lacks =
     let above : 0 < n = is_receipt journal folio n creates in
     in_filtered (λ k. is_none (notice k entries)) (waiting_before m entries) n
-    (in_filtered (λ k. is_pending k entries) (below m) n (in_range 1 (m - 1) n (omega arith) (omega arith)) lacks.0)
+    (in_filtered (λ k. is_pending k entries) (receipts_before m) n (in_range 1 (m - 1) n (omega arith) (omega arith)) lacks.0)
     (lacks_is n entries lacks.0 ∙ not_from_false (is_noticed n entries) lacks.1)
 
 -- ---- one notice after the other

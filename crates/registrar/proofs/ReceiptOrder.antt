@@ -3,7 +3,7 @@ use Rattle.std.proofs.Common.{◌≡◌, ◌↔◌, ℕ, ◌+◌, ◌-◌, ◌<�
 use Rattle.std.specs.List.{range_with_len}
 use Rattle.std.proofs.lemmas.List.FromFn.{get_or-range_with_len, length-range_with_len}
 use Rattle.act_model.specs.declared.receipts.Receipt.{Receipt}
-use Rattle.folio_sections.specs.Waiting.{below}
+use Rattle.folio_sections.specs.Waiting.{receipts_before}
 use Rattle.registrar.specs.Schedules.{IsPermitted}
 
 -- of two numbers in a row the one ahead is the smaller
@@ -39,7 +39,7 @@ in_turn_to journal n is = record {
   in_turn = λ i j d less within conflict. rising n i j d less within;
 }
 
-pub receipts_in_turn : (journal : List Receipt) → IsPermitted journal (below (length journal + 1))
+pub receipts_in_turn : (journal : List Receipt) → IsPermitted journal (receipts_before (length journal + 1))
 receipts_in_turn journal =
     let count : length journal ≡ (length journal + 1) - 1 = omega arith in
     subst (λ n. IsPermitted journal (range_with_len 1 n)) count (in_turn_to journal (length journal) refl)

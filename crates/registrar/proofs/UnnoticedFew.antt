@@ -3,7 +3,7 @@ use Rattle.std.proofs.Common.{◌≡◌, ℕ, suc, zero, ◌+◌, ◌-◌, ◌<�
 use Rattle.std.specs.List.{list_any, range_with_len}
 use Rattle.std.proofs.lemmas.Bool.{cases_Bool, eqb-true, false≢true}
 use Rattle.std.proofs.lemmas.List.Sums.{count_by-le-length, length-filter}
-use Rattle.folio_sections.specs.Waiting.{waiting_unnoticed, below, is_pending, notice, pending, until_by, waiting_before}
+use Rattle.folio_sections.specs.Waiting.{waiting_unnoticed, receipts_before, is_pending, notice, pending, until_by, waiting_before}
 use Rattle.folio_sections.specs.declared.entries.Entry.{Entry}
 use Rattle.folio_sections.specs.declared.entries.What.{What}
 use Rattle.folio_sections.specs.declared.entries.What.TheVariants as what
@@ -107,21 +107,21 @@ none_pass : (ns : List ℕ) → length (filter (λ _. false) ns) ≡ 0
 none_pass [] = refl
 none_pass (n ∷ ns) = none_pass ns
 
-one_by_content : (w : What) (m : ℕ) → length (filter (sets w) (below m)) ≤ 1
+one_by_content : (w : What) (m : ℕ) → length (filter (sets w) (receipts_before m)) ≤ 1
 one_by_content (what.Pending f until) m = one_in_range f 1 (m - 1)
-one_by_content other m = let none = none_pass (below m) in omega arith
+one_by_content other m = let none = none_pass (receipts_before m) in omega arith
 
-one_by_entry : (entries : List Entry) (m : ℕ) → length (filter (is_set entries) (below m)) ≤ length entries
-one_by_entry [] m = let none = none_pass (below m) in omega arith
+one_by_entry : (entries : List Entry) (m : ℕ) → length (filter (is_set entries) (receipts_before m)) ≤ length entries
+one_by_entry [] m = let none = none_pass (receipts_before m) in omega arith
 one_by_entry (e ∷ es) m =
     let here = one_by_content e.what m in
     let rest = one_by_entry es m in
-    let both = either (sets e.what) (is_set es) (below m) in
+    let both = either (sets e.what) (is_set es) (receipts_before m) in
     omega arith
 
 pub unnoticed_at_most : (m : ℕ) (entries : List Entry) → length (waiting_unnoticed m entries) ≤ length entries
 unnoticed_at_most m entries =
     let unnoticed = fewer (λ n. is_none (notice n entries)) (waiting_before m entries) in
-    let waiting = wider (λ n. is_pending n entries) (is_set entries) (set_where_pending entries) (below m) in
+    let waiting = wider (λ n. is_pending n entries) (is_set entries) (set_where_pending entries) (receipts_before m) in
     let all = one_by_entry entries m in
     omega arith

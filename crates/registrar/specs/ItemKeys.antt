@@ -12,11 +12,11 @@ use Rattle.act_model.specs.declared.items.Item.{Item}
 use Rattle.act_model.specs.declared.items.Item.TheVariants as item
 use Rattle.act_model.specs.declared.receipts.Receipt.{Receipt}
 use Rattle.folio_sections.specs.Limits.{most_creations}
-use Rattle.folio_sections.specs.Waiting.{below}
+use Rattle.folio_sections.specs.Waiting.{receipts_before}
 
 -- the keys of all filings of a journal, in the order of receipts; those that several filings touch come as often
 abbrev pub keys_of_filings : List Receipt → List Key
-keys_of_filings journal = flat_map (keys_of_filing journal) (below (length journal + 1))
+keys_of_filings journal = flat_map (keys_of_filing journal) (receipts_before (length journal + 1))
 
 -- the keys of filing m, as item i names it: none where it is no earlier one
 abbrev pub keys_of_named : List Receipt → ℕ → ℕ → List Key

@@ -16,7 +16,7 @@ ghost use Rattle.kept_registers.specs.Kept.{Kept};
 ghost use Rattle.folio_sections.specs.Places.{places};
 ghost use Rattle.kept_registers.specs.Ranks.{is_ahead, is_filed_ahead, ranked};
 ghost use Rattle.folio_sections.specs.Rights.{live_right};
-ghost use Rattle.folio_sections.specs.Waiting.{below};
+ghost use Rattle.folio_sections.specs.Waiting.{receipts_before};
 ghost use Rattle.folio_sections.specs.declared.entries.Created.{Created};
 ghost use Rattle.folio_sections.specs.declared.entries.Entry.{Entry};
 ghost use Rattle.interim_orders.specs.Orders.{end_brought, state_of};
@@ -33,7 +33,7 @@ use kept_registers::laws::empty_register_is_kept;
 
 /// The items of a journal may be settled in the order of their receipts (GBO § 17).
 pub fn receipts_in_turn()
-    ensures permitted { (journal : List Receipt) → IsPermitted journal (below (length journal + 1)) }
+    ensures permitted { (journal : List Receipt) → IsPermitted journal (receipts_before (length journal + 1)) }
 {}
 
 /// A filing that nothing speaks against is entered: where no ground for rejection and no defect

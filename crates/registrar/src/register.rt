@@ -74,7 +74,7 @@ impl Register {
     /// The rights of a folio whose parts are held, by receipt and act. However many parts are
     /// held elsewhere, it looks at those of the folio's rights alone.
     pub fn rights_in(&self, alloc: Global, folio: FolioId) -> Result<Vec<RightId>, NoMemory>
-        ensures rights { IfOk result (λ rights. rights.items ≡ held_rights self.now.parts folio) }
+        ensures rights { IfOk result (λ rights. rights.items ≡ held_rights (is_held self.now.parts) folio) }
     {
         self.parts.rights_in(alloc, folio)
     }

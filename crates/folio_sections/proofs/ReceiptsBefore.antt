@@ -1,7 +1,7 @@
--- The numbers from 1 that are below another.
+-- The numbers of the receipts before another.
 use Rattle.std.proofs.Common.{◌≡◌, ℕ, zero, suc, ◌+◌, ◌-◌, [], ◌∷◌, ◌++◌, ap, ◌∙◌, arith}
 use Rattle.std.specs.List.{range_with_len}
-use Rattle.folio_sections.specs.Waiting.{below}
+use Rattle.folio_sections.specs.Waiting.{receipts_before}
 
 one_more : (a n : ℕ) → range_with_len a (suc n) ≡ range_with_len a n ++ (a + n) ∷ []
 one_more a zero = let none : a ≡ a + 0 = omega arith in ap (λ j. j ∷ []) none
@@ -9,8 +9,8 @@ one_more a (suc n) =
     let on : (a + 1) + n ≡ a + suc n = omega arith in
     ap (λ js. a ∷ js) (one_more (a + 1) n) ∙ ap (λ j. a ∷ (range_with_len (a + 1) n ++ j ∷ [])) on
 
-pub below_next : (n : ℕ) → below (suc (suc n)) ≡ below (suc n) ++ suc n ∷ []
-below_next n =
+pub receipts_before_next : (n : ℕ) → receipts_before (suc (suc n)) ≡ receipts_before (suc n) ++ suc n ∷ []
+receipts_before_next n =
     let more : suc (suc n) - 1 ≡ suc n = omega arith in
     let same : n ≡ suc n - 1 = omega arith in
     let next : 1 + n ≡ suc n = omega arith in
