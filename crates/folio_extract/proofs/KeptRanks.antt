@@ -9,7 +9,7 @@ use Rattle.folio_sections.specs.Places.{places}
 use Rattle.folio_sections.specs.declared.entries.Entry.{Entry}
 use Rattle.folio_sections.proofs.FilteredLists.{all_in}
 use Rattle.kept_registers.proofs.KeptOrder.{kept_is_order}
-use Rattle.folio_line.specs.FolioRights.{live_rights, lives}
+use Rattle.folio_line.specs.FolioRights.{live_rights, is_live_with}
 use Rattle.folio_extract.specs.RankTables.{rank_lines}
 use Rattle.folio_line.specs.RightRanks.{stands_ahead}
 use Rattle.folio_line.specs.inner.RightOrder.{is_filed_before}
@@ -22,7 +22,7 @@ pub kept_ranks : (journal : List Receipt) (at : Key → List Entry) (folio : ℕ
 kept_ranks journal at folio stands kept =
     let rights = live_rights at folio in
     let standing = places journal at folio in
-    ranks_in_order standing rights (placed_rights_ascend lives at folio)
+    ranks_in_order standing rights (placed_rights_ascend is_live_with at folio)
     (all_in (λ y. AllByRecursion (λ x. is_filed_before x y ≡ stands_ahead standing x y) rights) rights
     (λ y there. all_in (λ x. is_filed_before x y ≡ stands_ahead standing x y) rights
-    (λ x here. sym (kept_is_order journal at folio x.id y.id x.made y.made stands kept (of_placed_rights lives at folio x here).made (of_placed_rights lives at folio y there).made))))
+    (λ x here. sym (kept_is_order journal at folio x.id y.id x.made y.made stands kept (of_placed_rights is_live_with at folio x here).made (of_placed_rights is_live_with at folio y there).made))))

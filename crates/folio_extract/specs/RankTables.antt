@@ -13,7 +13,7 @@ use Rattle.folio_sections.specs.declared.entries.Entry.{Entry}
 use Rattle.folio_sections.specs.declared.title_places.TitlePlace.{TitlePlace}
 use Rattle.rank_slots.specs.declared.places.Knot.{Knot}
 use Rattle.folio_extract.specs.CentTexts.{line_text}
-use Rattle.folio_line.specs.Exchanges.{counted_exchanges, counted_knots}
+use Rattle.folio_line.specs.Exchanges.{counted_exchanges, counted_exercises}
 use Rattle.folio_line.specs.FolioSlots.{folio_filled}
 use Rattle.folio_line.specs.FolioRights.{live_rights}
 use Rattle.folio_line.specs.RightRanks.{rank_of}
@@ -50,7 +50,7 @@ exercise_line k = pair_line (codes "exercise") k.reserved k.exercised
 unfoldable pub rank_table_text : List Receipt → (Key → List Entry) → ℕ → List ℕ
 rank_table_text journal at folio =
     codes "ranks " ++ (decimal folio ++ (codes "\n" ++ (rank_lines (places journal at folio) (live_rights at folio)
-    ++ (flat_map exchange_line (counted_exchanges at folio) ++ (flat_map exercise_line (counted_knots at folio)
+    ++ (flat_map exchange_line (counted_exchanges at folio) ++ (flat_map exercise_line (counted_exercises at folio)
     ++ line_text (folio_filled at folio))))))
 
 -- the same, where the folio is open

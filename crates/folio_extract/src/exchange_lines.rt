@@ -18,11 +18,11 @@ pub(crate) fn add_exchange_lines(text: &mut String, exchanges: &[Exchange]) -> R
 }
 
 /// Adds each exercised reservation: the right that reserved, and the one that was entered.
-pub(crate) fn add_exercise_lines(text: &mut String, knots: &[Knot]) -> Result<(), NoMemory>
-    ensures { OnOk result (string_bytes text.new ≡ string_bytes text.old ++ flat_map exercise_line knots.now) }
+pub(crate) fn add_exercise_lines(text: &mut String, exercises: &[Knot]) -> Result<(), NoMemory>
+    ensures { OnOk result (string_bytes text.new ≡ string_bytes text.old ++ flat_map exercise_line exercises.now) }
 {
-    for knot in knots {
-        writeln!(text, "exercise {} {}", knot.reserved, knot.exercised)?;
+    for exercise in exercises {
+        writeln!(text, "exercise {} {}", exercise.reserved, exercise.exercised)?;
     }
     Ok(())
 }

@@ -6,7 +6,7 @@ ghost use Rattle.std.specs.String.{string_bytes};
 ghost use Rattle.folio_sections.specs.Held.{entries_at};
 ghost use Rattle.kept_registers.specs.Kept.{Kept};
 ghost use Rattle.folio_extract.specs.CentTexts.{line_text};
-ghost use Rattle.folio_line.specs.Exchanges.{counted_exchanges, counted_knots};
+ghost use Rattle.folio_line.specs.Exchanges.{counted_exchanges, counted_exercises};
 ghost use Rattle.folio_line.specs.FolioSlots.{folio_filled};
 ghost use Rattle.folio_extract.specs.RankTables.{exercise_line, rank_table, rank_table_text};
 ghost use Rattle.folio_extract.specs.inner.RankWalk.{ranked_lines};
@@ -17,7 +17,7 @@ use crate::folio_reads::is_open;
 use crate::rank_lines::add_rank_lines;
 use act_model::Journal;
 use folio_line::{
-    CreatedRight, Exchange, counted_exchanges, counted_knots, folio_slots, live_rights,
+    CreatedRight, Exchange, counted_exchanges, counted_exercises, folio_slots, live_rights,
 };
 use gb_base::{FolioId, NoMemory};
 use registrar::Register;
@@ -80,10 +80,10 @@ fn add_exercises(
     folio: FolioId,
 ) -> Result<(), NoMemory>
     ensures { OnOk result (string_bytes text.new ≡ string_bytes text.old
-        ++ flat_map exercise_line (counted_knots (entries_at register.now.parts) folio)) }
+        ++ flat_map exercise_line (counted_exercises (entries_at register.now.parts) folio)) }
 {
-    let knots = counted_knots(alloc, register, folio)?;
-    add_exercise_lines(text, &knots)
+    let exercises = counted_exercises(alloc, register, folio)?;
+    add_exercise_lines(text, &exercises)
 }
 
 /// Adds the cents of the folio's line after the exchanges that count.

@@ -20,7 +20,7 @@ use Rattle.folio_sections.specs.declared.entries.What.{What}
 use Rattle.folio_sections.specs.declared.entries.What.TheVariants as what
 use Rattle.folio_sections.proofs.FilteredLists.{all_in, in_all, of_filter, of_filter_map}
 use Rattle.folio_line.specs.Exchanges.{counted_at, counted_exchanges, keeps_cents, rise_by}
-use Rattle.folio_line.specs.FolioRights.{live_rights, lives}
+use Rattle.folio_line.specs.FolioRights.{live_rights, is_live_with}
 use Rattle.folio_line.specs.declared.exchanges.Exchange.{Exchange}
 use Rattle.folio_line.proofs.CreatedRights.{numbered}
 use Rattle.folio_line.proofs.PlacedOrder.{of_placed_rights}
@@ -74,7 +74,7 @@ is_found journal at folio y kept there =
     record {
       recede = rises.0;
       rise = rises.1;
-      live = ap (λ id. is_live (at (Right folio id))) (right_is y.rise right rises.2) ∙ (of_placed_rights lives at folio from.0 from.1).stands;
+      live = ap (λ id. is_live (at (Right folio id))) (right_is y.rise right rises.2) ∙ (of_placed_rights is_live_with at folio from.0 from.1).stands;
       receipt = subst (λ n. IsSome (receipt_at journal n)) (sym rises.3) received;
       act_from = rises.4;
       act_to = rises.5;

@@ -13,7 +13,7 @@ use Rattle.folio_sections.proofs.ReceiptNumbers.{numbers_are}
 use Rattle.rank_slots.specs.Groups.{groups, joins, with_first}
 use Rattle.rank_slots.specs.declared.places.Place.{Place}
 use Rattle.folio_line.specs.FolioRights.{by_group, groups_where, has_group, has_same_place, in_groups, rights_of, rights_where}
-use Rattle.folio_line.specs.FolioSlots.{group_places, place_of}
+use Rattle.folio_line.specs.FolioSlots.{group_places, place_on_line}
 use Rattle.folio_line.specs.inner.PlaceByPlace.{joins_place, place_behind, places_behind}
 use Rattle.folio_line.specs.declared.folio_rights.CreatedRight.{CreatedRight}
 use Rattle.folio_line.proofs.PlacedOrder.{of_filing}
@@ -45,12 +45,12 @@ begins_group m k (Some b) x past own = two_places m k b x past own
 
 -- behind a right of the group all of it join
 joined : (claims : RightNo → ℕ) (gone : RightNo → Bool) (m k : ℕ) (b : CreatedRight) (xs : List CreatedRight) → IsOfGroup m k b → AllByRecursion (IsOfGroup m k) xs
-    → places_behind claims gone (Some b) xs ≡ map (place_of claims gone true) xs
+    → places_behind claims gone (Some b) xs ≡ map (place_on_line claims gone true) xs
 joined claims gone m k b [] own all = refl
 joined claims gone m k b (x ∷ xs) own all =
     let joins_it : has_same_place b x ≡ true = one_place m k b x own all.0 in
     let rest = joined claims gone m k x xs all.0 all.1 in
-    λ i. place_of claims gone (joins_it i) x ∷ rest i
+    λ i. place_on_line claims gone (joins_it i) x ∷ rest i
 
 one_group : (claims : RightNo → ℕ) (gone : RightNo → Bool) (m k : ℕ) (before : Option CreatedRight) (xs : List CreatedRight) → IsPast m k before → AllByRecursion (IsOfGroup m k) xs
     → places_behind claims gone before xs ≡ group_places claims gone xs
@@ -58,7 +58,7 @@ one_group claims gone m k before [] past all = refl
 one_group claims gone m k before (x ∷ xs) past all =
     let begins : joins_place before x ≡ false = begins_group m k before x past all.0 in
     let rest = joined claims gone m k x xs all.0 all.1 in
-    λ i. place_of claims gone (begins i) x ∷ rest i
+    λ i. place_on_line claims gone (begins i) x ∷ rest i
 
 -- ---- one group behind another
 
@@ -172,9 +172,9 @@ begins_none claims gone ([] ∷ gs) = begins_none claims gone gs
 begins_none claims gone ((x ∷ xs) ∷ gs) = refl
 
 first_group : (claims : RightNo → ℕ) (gone : RightNo → Bool) (p : Place) (xs : List CreatedRight) (ps : List Place) → joins ps ≡ false
-    → groups (p ∷ map (place_of claims gone true) xs ++ ps) ≡ (p ∷ map (place_of claims gone true) xs) ∷ groups ps
+    → groups (p ∷ map (place_on_line claims gone true) xs ++ ps) ≡ (p ∷ map (place_on_line claims gone true) xs) ∷ groups ps
 first_group claims gone p [] ps ends = ap (λ b. cond b (with_first p (groups ps)) ((p ∷ []) ∷ groups ps)) ends
-first_group claims gone p (x ∷ xs) ps ends = ap (with_first p) (first_group claims gone (place_of claims gone true x) xs ps ends)
+first_group claims gone p (x ∷ xs) ps ends = ap (with_first p) (first_group claims gone (place_on_line claims gone true x) xs ps ends)
 
 -- the groups of places that are written out are the groups that have a member
 pub groups_back : (claims : RightNo → ℕ) (gone : RightNo → Bool) (gs : List (List CreatedRight))
@@ -182,5 +182,5 @@ pub groups_back : (claims : RightNo → ℕ) (gone : RightNo → Bool) (gs : Lis
 groups_back claims gone [] = refl
 groups_back claims gone ([] ∷ gs) = groups_back claims gone gs
 groups_back claims gone ((x ∷ xs) ∷ gs) =
-    first_group claims gone (place_of claims gone false x) xs (flat_map (group_places claims gone) gs) (begins_none claims gone gs)
+    first_group claims gone (place_on_line claims gone false x) xs (flat_map (group_places claims gone) gs) (begins_none claims gone gs)
     ∙ ap (λ rest. group_places claims gone (x ∷ xs) ∷ rest) (groups_back claims gone gs)

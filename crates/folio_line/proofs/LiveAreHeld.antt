@@ -6,13 +6,12 @@ use Rattle.std.proofs.lemmas.List.Elements.{All-from_recursion, filter_map-appen
 use Rattle.gb_base.specs.RightNo.{RightNo}
 use Rattle.gb_base.specs.declared.keys.Key.{Key}
 use Rattle.gb_base.specs.declared.keys.Key.TheVariants.{Right}
-use Rattle.folio_sections.specs.HeldRights.{receipt_numbers, right_numbers, rights_of_filing}
+use Rattle.folio_sections.specs.HeldRights.{held_rights, receipt_numbers, right_numbers, rights_of_filing}
 use Rattle.folio_sections.specs.Rights.{created}
 use Rattle.folio_sections.specs.declared.entries.Created.{Created}
 use Rattle.folio_sections.specs.declared.entries.Entry.{Entry}
 use Rattle.folio_sections.proofs.FilteredLists.{all_in, filter_skips, filter_takes}
-use Rattle.folio_line.specs.FolioRights.{live_rights, lives, right_where, rights_of}
-use Rattle.folio_line.specs.HeldNumbers.{held_among}
+use Rattle.folio_line.specs.FolioRights.{live_rights, is_live_with, right_where, rights_of}
 use Rattle.folio_line.specs.declared.folio_rights.CreatedRight.{CreatedRight}
 use Rattle.folio_line.proofs.PlacedOrder.{of_placed_rights, the_right}
 
@@ -32,7 +31,7 @@ live_are_held held at folio none =
     let rights = live_rights at folio in
     All-from_recursion (λ (x : CreatedRight). IsTrue (held (Right folio x.id))) rights
     (all_in (λ (x : CreatedRight). IsTrue (held (Right folio x.id))) rights
-    (λ x there. created_is_held held at (Right folio x.id) x.made none (of_placed_rights lives at folio x there).made))
+    (λ x there. created_is_held held at (Right folio x.id) x.made none (of_placed_rights is_live_with at folio x there).made))
 
 -- ---- and those that are held are all
 
@@ -59,7 +58,7 @@ given_in_turn h f [] = refl
 given_in_turn h f (x ∷ xs) = filter_map-append h (f x) (flat_map f xs) ∙ ap (λ ys. filter_map h (f x) ++ ys) (given_in_turn h f xs)
 
 pub held_are_all : (holds : RightNo → List Entry → Bool) (held : Key → Bool) (at : Key → List Entry) (folio : ℕ) → NotHeld held at
-    → filter_map (right_where holds at folio) (held_among held folio) ≡ flat_map (rights_of holds at folio) receipt_numbers
+    → filter_map (right_where holds at folio) (held_rights held folio) ≡ flat_map (rights_of holds at folio) receipt_numbers
 held_are_all holds held at folio none =
     given_of_filter (right_where holds at folio) (λ id. held (Right folio id)) right_numbers (λ id apart. none_placed holds held at folio id none apart)
     ∙ given_in_turn (right_where holds at folio) rights_of_filing receipt_numbers

@@ -60,16 +60,16 @@ abbrev pub is_spent_on : RightNo → What → Bool
 is_spent_on right (what.Exercised by) = same_right by right
 is_spent_on right other = false
 
--- the knot of right x and the one whose reservation it has spent, where that is live
-abbrev pub knot_behind : (Key → List Entry) → ℕ → CreatedRight → RightNo → Option Knot
-knot_behind at folio x reserved =
+-- the exercise by which right x has spent the reservation of this one, where that is live
+abbrev pub exercise_behind : (Key → List Entry) → ℕ → CreatedRight → RightNo → Option Knot
+exercise_behind at folio x reserved =
     if is_live (at (Right folio reserved)) && list_any (λ e. is_spent_on x.id e.what) (at (Right folio reserved))
     then Some (record { reserved = reserved; exercised = x.id }) else None
 
--- the same, where right x was entered by an exercise
-abbrev pub knot_of : (Key → List Entry) → ℕ → CreatedRight → Option Knot
-knot_of at folio x = option_and_then (knot_behind at folio x) x.made.ahead_of
+-- the exercise by which right x was entered, where that counts
+abbrev pub exercise_of : (Key → List Entry) → ℕ → CreatedRight → Option Knot
+exercise_of at folio x = option_and_then (exercise_behind at folio x) x.made.ahead_of
 
 -- The exercised reservations of a folio that count, by the exercised right: both rights are live (BGB § 881).
-abbrev pub counted_knots : (Key → List Entry) → ℕ → List Knot
-counted_knots at folio = filter_map (knot_of at folio) (live_by_act at folio)
+abbrev pub counted_exercises : (Key → List Entry) → ℕ → List Knot
+counted_exercises at folio = filter_map (exercise_of at folio) (live_by_act at folio)

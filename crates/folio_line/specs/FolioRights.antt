@@ -42,16 +42,16 @@ abbrev pub rights_where : (RightNo → List Entry → Bool) → (Key → List En
 rights_where holds at folio = flat_map (λ m. by_group (rights_of holds at folio m)) receipt_numbers
 
 -- the right with these entries is live
-abbrev pub lives : RightNo → List Entry → Bool
-lives id entries = is_live entries
+abbrev pub is_live_with : RightNo → List Entry → Bool
+is_live_with id entries = is_live entries
 
 -- the rights that are live in the folio
 abbrev pub live_rights : (Key → List Entry) → ℕ → List CreatedRight
-live_rights at folio = rights_where lives at folio
+live_rights at folio = rights_where is_live_with at folio
 
 -- the same by filing and act
 abbrev pub live_by_act : (Key → List Entry) → ℕ → List CreatedRight
-live_by_act at folio = flat_map (rights_of lives at folio) receipt_numbers
+live_by_act at folio = flat_map (rights_of is_live_with at folio) receipt_numbers
 
 -- rights of one filing and group have one place (GBO § 45(1), (3))
 abbrev pub has_same_place : CreatedRight → CreatedRight → Bool

@@ -20,14 +20,14 @@ use Rattle.folio_line.specs.declared.folio_rights.CreatedRight.{CreatedRight}
 -- ---- any line
 
 -- the place of a right with its claim, dropped at the end where it is gone; it joins the one before it, or begins a group
-abbrev pub place_of : (RightNo → ℕ) → (RightNo → Bool) → Bool → CreatedRight → Place
-place_of claims gone with_previous x = record { right = x.id; claim = claims x.id; with_previous = with_previous; dropped = gone x.id }
+abbrev pub place_on_line : (RightNo → ℕ) → (RightNo → Bool) → Bool → CreatedRight → Place
+place_on_line claims gone with_previous x = record { right = x.id; claim = claims x.id; with_previous = with_previous; dropped = gone x.id }
 
 -- The places of a group, which share one rank (BGB § 879, GBO § 45(1), (3)): one behind the other, of which each but the first
 -- joins the one before it.
 abbrev pub group_places : (RightNo → ℕ) → (RightNo → Bool) → List CreatedRight → List Place
 group_places claims gone [] = []
-group_places claims gone (x ∷ xs) = place_of claims gone false x ∷ map (place_of claims gone true) xs
+group_places claims gone (x ∷ xs) = place_on_line claims gone false x ∷ map (place_on_line claims gone true) xs
 
 -- an exchange on the line
 abbrev pub swap_of : Exchange → Swap
@@ -57,7 +57,7 @@ recedes exchanges id = list_any (λ x. same_right x.recede id) exchanges
 abbrev pub stands_on_line : List Exchange → RightNo → List Entry → Bool
 stands_on_line exchanges id entries = is_live entries || recedes exchanges id
 
--- The line of a folio with its capitals: the rights that stand on it, and the exchanges that count. A knot moves no cents of it.
+-- The line of a folio with its capitals: the rights that stand on it, and the exchanges that count. An exercise moves no cents of it.
 abbrev pub folio_filled : (Key → List Entry) → ℕ → Filled
 folio_filled at folio =
     filled_by (capital_at at folio) (is_gone at folio) (groups_where (stands_on_line (counted_exchanges at folio)) at folio)

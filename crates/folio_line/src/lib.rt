@@ -4,14 +4,14 @@
 #![tactic(auto)]
 
 mod exchanges;
+mod exercises;
 mod folio_reads;
 mod folio_rights;
 mod held_rights;
-mod knots;
 mod slots;
 
 pub use exchanges::{Exchange, counted_exchanges};
+pub use exercises::counted_exercises;
 pub use folio_rights::{CreatedRight, has_same_place, live_rights};
 pub use held_rights::HeldRights;
-pub use knots::counted_knots;
 pub use slots::folio_slots;

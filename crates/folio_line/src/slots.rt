@@ -38,7 +38,7 @@ pub fn folio_slots<P: HeldRights>(
     let places = places_of(alloc, parts, folio, &rights)?;
     let swaps = swaps_of(alloc, exchanges)?;
     let mut slots = Slots::with_room(alloc, places.len(), swaps.len())?;
-    // A knot moves no cents.
+    // An exercise moves no cents.
     slots.fill(&places, &swaps, &[]);
     Ok(slots)
 }

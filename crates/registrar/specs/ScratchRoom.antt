@@ -4,4 +4,4 @@ use Rattle.std.specs.Prelude.{ℕ}
 -- the rights of a folio, and the exchanges of ranks among them
 pub record ScratchRoom : Type 0 where
   pub rights : ℕ
-  pub swaps : ℕ
+  pub exchanges : ℕ

@@ -11,7 +11,7 @@ use std::marker::Model;
 #[derive(Debug, Drop)]
 pub struct Scratch {
     rights: usize,
-    swaps: usize,
+    exchanges: usize,
 }
 
 impl Model for Scratch {
@@ -19,18 +19,18 @@ impl Model for Scratch {
 
     ghost Value = { ScratchRoom };
 
-    ghost view = { λ a. record { rights = a.rights; swaps = a.swaps } };
+    ghost view = { λ a. record { rights = a.rights; exchanges = a.exchanges } };
 }
 
 impl Scratch {
     /// A scratch for so many rights of a folio, and for so many exchanges of ranks among them. It
     /// takes no memory, and so it never wants any.
-    pub fn with_room(_alloc: Global, rights: usize, swaps: usize) -> Result<Scratch, NoMemory>
+    pub fn with_room(_alloc: Global, rights: usize, exchanges: usize) -> Result<Scratch, NoMemory>
         ensures succeeds { IsOk result }
         ensures rights { IfOk result (λ scratch. rights ≤ scratch.rights) }
-        ensures swaps { IfOk result (λ scratch. swaps ≤ scratch.swaps) }
+        ensures exchanges { IfOk result (λ scratch. exchanges ≤ scratch.exchanges) }
     {
-        Ok(Scratch { rights, swaps })
+        Ok(Scratch { rights, exchanges })
     }
 }
 

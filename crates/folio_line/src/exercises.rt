@@ -1,7 +1,7 @@
 //! The exercised reservations of a folio that count (BGB § 881).
 ghost use Rattle.std.specs.Prelude.{◌≡◌, IfOk, filter_map};
 ghost use Rattle.std.specs.List.{list_any};
-ghost use Rattle.folio_line.specs.Exchanges.{counted_knots, is_spent_on, knot_behind, knot_of};
+ghost use Rattle.folio_line.specs.Exchanges.{counted_exercises, exercise_behind, exercise_of, is_spent_on};
 
 use crate::HeldRights;
 use crate::folio_reads::{is_live, right_entries};
@@ -15,50 +15,50 @@ use std::alloc::Global;
 /// NoMemory where no memory is found for the list.
 ///
 /// Right 2.1 reserved an amount, and receipt 4 exercises it with 4.1: `{ reserved: 2.1, exercised: 4.1 }`.
-pub fn counted_knots<P: HeldRights>(
+pub fn counted_exercises<P: HeldRights>(
     alloc: Global,
     parts: &P,
     folio: FolioId,
 ) -> Result<Vec<Knot>, NoMemory>
-    ensures { IfOk result (λ knots. knots.items ≡ counted_knots (P.at parts.now) folio) }
+    ensures { IfOk result (λ exercises. exercises.items ≡ counted_exercises (P.at parts.now) folio) }
 {
     let live = on_line_by_act(alloc, parts, folio, &[])?;
-    knots_of(alloc, parts, folio, &live)
+    exercises_of(alloc, parts, folio, &live)
 }
 
-/// The knots of these rights that count.
-fn knots_of<P: HeldRights>(
+/// The exercises of these rights that count.
+fn exercises_of<P: HeldRights>(
     alloc: Global,
     parts: &P,
     folio: FolioId,
     rights: &[CreatedRight],
 ) -> Result<Vec<Knot>, NoMemory>
-    ensures { IfOk result (λ knots. knots.items ≡ filter_map (knot_of (P.at parts.now) folio) rights.now) }
+    ensures { IfOk result (λ exercises. exercises.items ≡ filter_map (exercise_of (P.at parts.now) folio) rights.now) }
 {
     rights
         .iter()
-        .filter_map(|right| knot_of(parts, folio, right))
+        .filter_map(|right| exercise_of(parts, folio, right))
         .collect(alloc)
 }
 
-/// The knot of a right that was entered by an exercise, where it counts.
-fn knot_of<P: HeldRights>(parts: &P, folio: FolioId, right: &CreatedRight) -> Option<Knot>
-    ensures { result ≡ knot_of (P.at parts.now) folio right.now }
+/// The exercise by which a right was entered, where it counts.
+fn exercise_of<P: HeldRights>(parts: &P, folio: FolioId, right: &CreatedRight) -> Option<Knot>
+    ensures { result ≡ exercise_of (P.at parts.now) folio right.now }
 {
     match right.made.ahead_of {
-        Some(reserved) => knot_behind(parts, folio, right, reserved),
+        Some(reserved) => exercise_behind(parts, folio, right, reserved),
         None => None,
     }
 }
 
-/// The knot of a right that has spent this one's reservation, where this one is live.
-fn knot_behind<P: HeldRights>(
+/// The exercise by which a right has spent the reservation of another, where that is live.
+fn exercise_behind<P: HeldRights>(
     parts: &P,
     folio: FolioId,
     right: &CreatedRight,
     reserved: RightId,
 ) -> Option<Knot>
-    ensures { result ≡ knot_behind (P.at parts.now) folio right.now reserved }
+    ensures { result ≡ exercise_behind (P.at parts.now) folio right.now reserved }
 {
     if is_live(parts, folio, reserved)
         && has_spent(right.id, right_entries(parts, folio, reserved))
