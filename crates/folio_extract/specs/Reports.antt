@@ -8,7 +8,7 @@ use Rattle.folio_sections.specs.Held.{entries_at}
 use Rattle.folio_sections.specs.declared.entries.Entry.{Entry}
 use Rattle.registrar.specs.OpenFolios.{open_folios}
 use Rattle.registrar.specs.RegisterState.{RegisterState}
-use Rattle.registrar.specs.Settling.{Settled}
+use Rattle.registrar.specs.Settling.{Settlement}
 use Rattle.registrar.specs.declared.verdicts.Verdict.{Verdict}
 use Rattle.folio_extract.specs.Extracts.{extract_text}
 use Rattle.folio_extract.specs.RankTables.{rank_table_text}
@@ -28,11 +28,11 @@ report_text journal verdicts at folios =
     verdict_lines verdicts ++ (folio_texts journal at folios ++ end_line (length verdicts) (length folios))
 
 -- The register tells what is settled: what stands at each key, the verdicts, and the folios that are open.
-pub record Tells (register : RegisterState) (settled : Settled) : Type 0 where
+pub record Tells (register : RegisterState) (settled : Settlement) : Type 0 where
   pub entries : entries_at register.parts ≡ at_key settled.entries
   pub verdicts : register.verdicts ≡ settled.verdicts
   pub folios : register.folios ≡ open_folios settled.entries
 
 -- the report of what is settled
-abbrev pub report : List Receipt → Settled → List ℕ
+abbrev pub report : List Receipt → Settlement → List ℕ
 report journal settled = report_text journal settled.verdicts (at_key settled.entries) (open_folios settled.entries)

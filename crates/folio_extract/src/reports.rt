@@ -5,7 +5,7 @@ ghost use Rattle.std.specs.String.{string_bytes};
 ghost use Rattle.folio_sections.specs.Held.{entries_at};
 ghost use Rattle.kept_registers.specs.Kept.{Kept};
 ghost use Rattle.folio_extract.specs.Reports.{Tells, end_line, folio_texts, report, report_text};
-ghost use Rattle.registrar.specs.Settling.{Settled};
+ghost use Rattle.registrar.specs.Settling.{Settlement};
 
 use crate::extracts::add_extract;
 use crate::rank_tables::add_rank_table;
@@ -20,7 +20,7 @@ use std::alloc::Global;
 pub fn report(alloc: Global, register: &Register, journal: &Journal) -> Result<Vec<u8>, NoMemory>
     requires kept { Kept journal.now.receipts (entries_at register.now.parts) }
     ensures text { IfOk result (λ text. text.items ≡ report_text journal.now.receipts register.now.verdicts (entries_at register.now.parts) register.now.folios) }
-    ensures report { (settled : Settled) → Tells register.now settled → IfOk result (λ text. text.items ≡ report journal.now.receipts settled) }
+    ensures report { (settled : Settlement) → Tells register.now settled → IfOk result (λ text. text.items ≡ report journal.now.receipts settled) }
 {
     whole_text(alloc, register, journal)
 }

@@ -9,7 +9,7 @@ use Rattle.registrar.proofs.Numbered.{none_below, numbered_from}
 use Rattle.registrar.proofs.Registering.{numbered_more, registrar_is, settled_more}
 use Rattle.registrar.specs.Brings.{brings}
 use Rattle.registrar.specs.RegisterState.{verdict_among}
-use Rattle.registrar.specs.Settling.{Settled, registrar, settled_in_order}
+use Rattle.registrar.specs.Settling.{Settlement, registrar, settled_in_order}
 use Rattle.registrar.specs.declared.verdicts.Verdict.{Verdict}
 
 -- the verdicts on the first n items are a list of as many, numbered
@@ -29,7 +29,7 @@ answered journal (suc n) =
     record {
       verdicts = before.verdicts ++ verdict ∷ [];
       same = numbered_more 1 before.verdicts verdict ∙ ap (λ m. enumerate_from 1 before.verdicts ++ (m, verdict) ∷ []) number ∙ ap (λ ps. ps ++ (n + 1, verdict) ∷ []) before.same
-          ∙ ap (λ (s : Settled). s.verdicts) (sym (settled_more journal n)) ∙ ap (λ m. (settled_in_order journal (range_with_len 1 m)).verdicts) end;
+          ∙ ap (λ (s : Settlement). s.verdicts) (sym (settled_more journal n)) ∙ ap (λ m. (settled_in_order journal (range_with_len 1 m)).verdicts) end;
       count = length-append before.verdicts (verdict ∷ []) ∙ ap (λ m. m + 1) before.count ∙ end;
     }
 
@@ -37,7 +37,7 @@ all_answered : (journal : List Receipt) → Answered journal (length journal)
 all_answered journal = answered journal (length journal)
 
 are_those : (journal : List Receipt) → enumerate_from 1 (all_answered journal).verdicts ≡ (registrar journal).verdicts
-are_those journal = (all_answered journal).same ∙ ap (λ (s : Settled). s.verdicts) (registrar_is journal)
+are_those journal = (all_answered journal).same ∙ ap (λ (s : Settlement). s.verdicts) (registrar_is journal)
 
 pub as_many : (journal : List Receipt) → length (registrar journal).verdicts ≡ length journal
 as_many journal =

@@ -17,7 +17,7 @@ use Rattle.folio_sections.proofs.HeldParts.{nothing_at}
 use Rattle.folio_sections.proofs.Unchanged.{all_at, all_weaker}
 use Rattle.registrar.proofs.StepLemmas.{brings_leaves}
 use Rattle.registrar.specs.Brings.{Brought, brings}
-use Rattle.registrar.specs.Settling.{Settled, nothing_settled, registrar, settled_in_order, settled_next}
+use Rattle.registrar.specs.Settling.{Settlement, nothing_settled, registrar, settled_in_order, settled_next}
 use Rattle.registrar.specs.declared.verdicts.Verdict.{Verdict}
 use Rattle.registrar.specs.inner.SettledTo.{SettledTo}
 
@@ -80,10 +80,10 @@ one_settled journal n at0 at1 vs v stands so_far added is kept =
     let number : 1 + length vs ≡ n + 1 = let count = so_far.count in omega arith in
     record {
       entries = added ∙ ap (λ b. with_entries b brought.entries) so_far.entries ∙ sym both
-          ∙ ap (λ (b : Brought). at (before.entries ++ b.entries)) again ∙ ap (λ (s : Settled). at s.entries) (sym (settled_more journal n));
+          ∙ ap (λ (b : Brought). at (before.entries ++ b.entries)) again ∙ ap (λ (s : Settlement). at s.entries) (sym (settled_more journal n));
       verdicts = numbered_more 1 vs v ∙ ap (λ m. enumerate_from 1 vs ++ (m, v) ∷ []) number ∙ ap (λ ps. ps ++ (n + 1, v) ∷ []) so_far.verdicts
           ∙ ap (λ w. before.verdicts ++ (n + 1, w) ∷ []) is ∙ ap (λ (b : Brought). before.verdicts ++ (n + 1, b.verdict) ∷ []) again
-          ∙ ap (λ (s : Settled). s.verdicts) (sym (settled_more journal n));
+          ∙ ap (λ (s : Settlement). s.verdicts) (sym (settled_more journal n));
       count = length-append vs (v ∷ []) ∙ ap (λ m. m + 1) so_far.count;
       kept = kept;
       earlier = λ k. subst (λ es. All (λ e. e.receipt < (n + 1) + 1) es) (sym (λ j. added j k))
@@ -126,4 +126,4 @@ left_by journal (suc n) stands empty =
 -- the register of each journal
 pub registrar_kept : (journal : List Receipt) → IsJournal journal → Kept journal (λ k. []) → Kept journal (at (registrar journal).entries)
 registrar_kept journal stands empty =
-    subst (λ (s : Settled). Kept journal (at s.entries)) (registrar_is journal) (left_by journal (length journal) stands empty).settled.kept
+    subst (λ (s : Settlement). Kept journal (at s.entries)) (registrar_is journal) (left_by journal (length journal) stands empty).settled.kept

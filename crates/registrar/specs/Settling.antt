@@ -3,33 +3,33 @@
 use Rattle.std.specs.Prelude.{ℕ, ◌+◌, List, [], ◌∷◌, ◌++◌, length, fold}
 use Rattle.act_model.specs.declared.receipts.Receipt.{Receipt}
 use Rattle.folio_sections.specs.Entries.{at}
-use Rattle.folio_sections.specs.Waiting.{below}
+use Rattle.folio_sections.specs.Waiting.{receipts_before}
 use Rattle.folio_sections.specs.declared.entries.Entry.{Entry}
 use Rattle.registrar.specs.Brings.{Brought, brings}
 use Rattle.registrar.specs.declared.verdicts.Verdict.{Verdict}
 
--- the register: its entries, and what became of each item settled so far, by its number
-pub record Settled : Type 0 where
+-- what settling has come to: the entries of the register, and the verdict of each item settled so far, by its number
+pub record Settlement : Type 0 where
   pub entries : List Entry
   pub verdicts : List (ℕ × Verdict)
 
 -- nothing is settled
-abbrev pub nothing_settled : Settled
+abbrev pub nothing_settled : Settlement
 nothing_settled = record { entries = []; verdicts = [] }
 
 -- the register behind what item i brings
-abbrev pub settled_by : Settled → ℕ → Brought → Settled
+abbrev pub settled_by : Settlement → ℕ → Brought → Settlement
 settled_by before i brought =
     record { entries = before.entries ++ brought.entries; verdicts = before.verdicts ++ (i, brought.verdict) ∷ [] }
 
 -- the register behind item i
-abbrev pub settled_next : List Receipt → Settled → ℕ → Settled
+abbrev pub settled_next : List Receipt → Settlement → ℕ → Settlement
 settled_next journal before i = settled_by before i (brings journal i (at before.entries))
 
 -- the register behind the items of these numbers, in this order
-abbrev pub settled_in_order : List Receipt → List ℕ → Settled
+abbrev pub settled_in_order : List Receipt → List ℕ → Settlement
 settled_in_order journal order = fold (settled_next journal) nothing_settled order
 
 -- the register that the one registrar leaves
-abbrev pub registrar : List Receipt → Settled
-registrar journal = settled_in_order journal (below (length journal + 1))
+abbrev pub registrar : List Receipt → Settlement
+registrar journal = settled_in_order journal (receipts_before (length journal + 1))

@@ -5,7 +5,7 @@ use Rattle.folio_sections.specs.PartState.{PartState}
 use Rattle.registrar.proofs.JournalKeys.{given_of_filing}
 use Rattle.registrar.proofs.OneListOfFolios.{one_list_of_folios}
 use Rattle.registrar.proofs.Registering.{registrar_is}
-use Rattle.registrar.specs.Settling.{Settled, registrar}
+use Rattle.registrar.specs.Settling.{Settlement, registrar}
 use Rattle.registrar.proofs.one_registrar.alone.Goals as goal
 
 pub settle_all-requires-clause-held : goal.settle_all-requires-clause-held
@@ -20,7 +20,7 @@ pub returns-clause-folios : goal.returns-clause-folios
 returns-clause-folios c =
     c.new-2.ensures.folios
     ∙ one_list_of_folios c.in_ok-folios.folios.items (registrar c.args.journal.now.receipts).entries (entries_at c.settle_all.new.parts) c.in_ok-folios.ensures
-    (λ k. ap (λ stands. stands k) (c.in_ok-verdicts.ensures.settled.entries ∙ ap (λ (s : Settled). at s.entries) (registrar_is c.args.journal.now.receipts)))
+    (λ k. ap (λ stands. stands k) (c.in_ok-verdicts.ensures.settled.entries ∙ ap (λ (s : Settlement). at s.entries) (registrar_is c.args.journal.now.receipts)))
 
 pub returns-clause-held : goal.returns-clause-held
 returns-clause-held c = λ k.
