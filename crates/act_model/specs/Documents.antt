@@ -46,7 +46,7 @@ documents journal m f i =
     (f.docs ++ flat_map (docs_by_cure journal) (filter (λ n. nat_le n i) (cures_of journal m)))
 
 -- the documents that count for a filing as an item settles it
-abbrev pub docs_of : Matter → List Doc
+unfoldable pub docs_of : Matter → List Doc
 docs_of matter = documents matter.journal.now.receipts matter.number matter.filing.now matter.item
 
 -- ---- what stands among documents for act a

@@ -15,12 +15,12 @@ impl<'a> Matter<'a> {
     ghost use Rattle.act_model.specs.Documents.{docs_of, given, has_proof};
 
     /// Whether such a document counts.
+    #[tactic(auto, unfolding(crate::specs::Documents::docs_of))]
     pub fn has<T: DocFilter>(&self, test: &T) -> bool
         ensures { result ≡ list_any (T.test test.now) (docs_of self.now) }
     {
         let acts = self.filing.acts.list().len();
-        counts_among(self.filing.docs.list(), acts, test)
-            || cures_have(self.journal, self.number, self.item, acts, test)
+        counts_among(self.filing.docs.list(), acts, test) || cures_have(self, acts, test)
     }
 
     /// The form in which the person has consented to the act: certified where some consent is;
@@ -45,23 +45,18 @@ impl<'a> Matter<'a> {
     }
 }
 
-/// Whether a cure of the filing, up to a receipt, brings such a document for one of so many acts.
+/// Whether a cure of the filing, up to the item that settles it, brings such a document for one of
+/// so many acts.
 #[tactic(auto, using(crate::proofs::CureOrder::any_brought))]
-fn cures_have<T: DocFilter>(
-    journal: &Journal,
-    filing: ReceiptNo,
-    upto: ReceiptNo,
-    acts: usize,
-    test: &T,
-) -> bool
-    ensures { result ≡ list_any (T.test test.now) (filter (λ d. is_between 1 acts (act_of_doc d)) (flat_map (docs_by_cure journal.now.receipts) (filter (λ n. nat_le n upto) (cures_of journal.now.receipts filing)))) }
+fn cures_have<T: DocFilter>(matter: &Matter, acts: usize, test: &T) -> bool
+    ensures { result ≡ list_any (T.test test.now) (filter (λ d. is_between 1 acts (act_of_doc d)) (flat_map (docs_by_cure matter.now.journal.now.receipts) (filter (λ n. nat_le n matter.now.item) (cures_of matter.now.journal.now.receipts matter.now.number)))) }
 {
-    // Cures ascend: none behind the receipt counts.
-    for number in journal.cures_of(filing) {
-        if *number > upto {
+    // Cures ascend: none behind the item counts.
+    for number in matter.journal.cures_of(matter.number) {
+        if *number > matter.item {
             return false;
         }
-        if counts_among(docs_by_cure(journal, *number), acts, test) {
+        if counts_among(docs_by_cure(matter.journal, *number), acts, test) {
             return true;
         }
     }

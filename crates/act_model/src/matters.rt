@@ -1,4 +1,5 @@
 //! A filing, and the item by which it is settled.
+//! Why so: docs/DECISIONS.md, "A filing and the item that settles it are one value".
 use crate::{Filing, Journal};
 use gb_base::ReceiptNo;
 

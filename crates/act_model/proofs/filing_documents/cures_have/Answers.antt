@@ -7,15 +7,15 @@ use Rattle.act_model.proofs.filing_documents.cures_have.Goals as goal
 
 pub loop-number-preserved : goal.loop-number-preserved
 loop-number-preserved g c =
-    any_past (λ n. nat_le n c.args.upto && list_any (g.T.DocFilter.test c.args.test.now) (filter (λ d. is_between 1 c.args.acts (act_of_doc d)) (docs_by_cure c.args.journal.now.receipts n)))
+    any_past (λ n. nat_le n c.args.matter.now.item && list_any (g.T.DocFilter.test c.args.test.now) (filter (λ d. is_between 1 c.args.acts (act_of_doc d)) (docs_by_cure c.args.matter.now.journal.now.receipts n)))
     c.cures_of-number-items.result.now c.loop-number.number-index c.number-item.result c.loop-number-test.true
     (rw (← c.number-item.is) (passes_not_both _ _ (ap (λ docs. list_any (g.T.DocFilter.test c.args.test.now) (filter (λ d. is_between 1 c.args.acts (act_of_doc d)) docs)) (sym c.docs_by_cure.ensures) ∙ sym c.counts_among.ensures ∙ c.if-counts_among.false)))
     ∙ c.loop-number.invariant
 
 pub returns-then-gt : goal.returns-then-gt
 returns-then-gt g c =
-    sym (none_behind (λ n. list_any (g.T.DocFilter.test c.args.test.now) (filter (λ d. is_between 1 c.args.acts (act_of_doc d)) (docs_by_cure c.args.journal.now.receipts n))) c.args.upto
-    c.args.filing c.args.journal.now.receipts c.cures_of-number-items.result.now c.cures_of-number-items.ensures
+    sym (none_behind (λ n. list_any (g.T.DocFilter.test c.args.test.now) (filter (λ d. is_between 1 c.args.acts (act_of_doc d)) (docs_by_cure c.args.matter.now.journal.now.receipts n))) c.args.matter.now.item
+    c.args.matter.now.number c.args.matter.now.journal.now.receipts c.cures_of-number-items.result.now c.cures_of-number-items.ensures
     c.loop-number.number-index c.number-item.result c.loop-number-test.true
-    (subst (λ n. c.args.upto < n) c.number-item.is (search arith)))
+    (subst (λ n. c.args.matter.now.item < n) c.number-item.is (search arith)))
     ∙ c.loop-number.invariant

@@ -7,5 +7,5 @@ use Rattle.act_model.proofs.filing_documents.cures_have.Given as goal
 
 abbrev pub invariant-loop-number : goal.invariant-loop-number
 invariant-loop-number g l =
-    list_any (λ n. nat_le n l.upto && list_any (g.T.DocFilter.test l.test) (filter (λ d. is_between 1 l.acts (act_of_doc d)) (docs_by_cure l.journal.receipts n))) (drop l.number-index l.number-items)
-    ≡ list_any (g.T.DocFilter.test l.test) (filter (λ d. is_between 1 l.acts (act_of_doc d)) (flat_map (docs_by_cure l.journal.receipts) (filter (λ n. nat_le n l.upto) (cures_of l.journal.receipts l.fn.filing))))
+    list_any (λ n. nat_le n l.matter.item && list_any (g.T.DocFilter.test l.test) (filter (λ d. is_between 1 l.acts (act_of_doc d)) (docs_by_cure l.matter.journal.now.receipts n))) (drop l.number-index l.number-items)
+    ≡ list_any (g.T.DocFilter.test l.test) (filter (λ d. is_between 1 l.acts (act_of_doc d)) (flat_map (docs_by_cure l.matter.journal.now.receipts) (filter (λ n. nat_le n l.matter.item) (cures_of l.matter.journal.now.receipts l.matter.number))))
