@@ -14,7 +14,8 @@ use Rattle.act_model.specs.declared.filing_acts.Act.TheVariants.{Open, Transfer,
 use Rattle.act_model.specs.declared.items.Filing.{Filing}
 use Rattle.act_model.specs.declared.receipts.Receipt.{Receipt}
 use Rattle.consent_rules.specs.Judging.{defects, judged, judged_filing, judgement_by, rejection, IsKnownExchange, KnowsExchanges}
-use Rattle.act_model.specs.Documents.{documents}
+use Rattle.act_model.specs.Documents.{docs_of, documents}
+use Rattle.act_model.specs.declared.matters.Matter.{Matter}
 use Rattle.folio_sections.specs.Rights.{live_right}
 use Rattle.folio_sections.specs.declared.entries.Created.{Created}
 use Rattle.folio_sections.specs.declared.entries.Entry.{Entry}
@@ -103,6 +104,11 @@ pub all_held : (holds : Key → Bool) (keys own : List Key) → ((k : Key) → (
     → AreHeld holds own → list_all holds keys ≡ true
 all_held holds keys own members held =
     list_all-from_AllPass holds keys (λ i d within. held (get_or keys i d) ((members (get_or keys i d)).0 (Contains-get_or keys i d within)))
+
+-- the documents of a matter are those of its filing up to its item
+pub docs_are : (matter : Matter) → docs_of matter ≡ documents matter.journal.now.receipts matter.number matter.filing.now matter.item
+unfolding docs_of
+docs_are matter = refl
 
 -- the judgement of filing m, from the filing and its documents
 pub judged_by : (journal : List Receipt) (m i : ℕ) (at : Key → List Entry) (f : Filing) (docs : List Doc) (result : Judgement)

@@ -1,5 +1,7 @@
 -- Whom an act concerns, who must consent to it, and who may apply for it (GBO §§ 13, 19, 22, 27; BGB §§ 876, 880(2)).
--- `m` is the filing, `acts` are its acts and `act` is act `a` of them, from 1; `at` are the entries at each key.
+-- `m` is the number of the filing that is judged, `acts` are its acts, and `act` is act `a` of them, from 1; `docs` are the documents
+-- that count for it; `at` has the entries at each key, as they stand when it is judged. Who stands at a title or a right for a filing
+-- is said by `owners_for` and `holder_for`: where an official notice keeps its place, in general who stood there ahead of the notice.
 use Rattle.std.specs.Prelude.{ℕ, ◌-◌, Bool, false, not, ◌&&◌, ◌==◌, if◌then◌else◌, List, [], ◌∷◌, ◌++◌, filter_map, fold, take, Option, Some, None, option_to_list}
 use Rattle.std.specs.Option.{option_map_or}
 use Rattle.gb_base.specs.RightNo.{RightNo}
@@ -17,11 +19,11 @@ use Rattle.folio_sections.specs.Titles.{owners_for}
 use Rattle.folio_sections.specs.Waiting.{waiting_before}
 use Rattle.folio_sections.specs.declared.entries.Entry.{Entry}
 
--- the acts before act a
+-- the acts of the filing before act a, whose owners count although none of them is entered yet
 abbrev pub acts_before : ℕ → List Act → List Act
 acts_before a acts = take (a - 1) acts
 
--- the owners of a folio behind an act: those that it names, else those before
+-- the owners of a folio once an act is entered: those whom the act names for this folio, else those before it
 abbrev pub owners_named : ℕ → Option (List ℕ) → Act → Option (List ℕ)
 owners_named folio before (Open f inventory owners) = if f == folio then Some owners else before
 owners_named folio before (Transfer f owners) = if f == folio then Some owners else before
@@ -33,29 +35,31 @@ owners_named folio before (Cancel f right) = before
 owners_named folio before (Exchange f recede rise) = before
 owners_named folio before (Exercise f behind spec) = before
 
--- the owners as of act a: named by an act before it in that folio, else those at the title whom the filing concerns
+-- the owners of a folio as act a finds them: those whom the last act before it names for the folio, else those who stand at the
+-- title for the filing; none where the folio is not open
 abbrev pub owners_as_of : ℕ → (Key → List Entry) → List Act → ℕ → ℕ → Option (List ℕ)
 owners_as_of m at acts a folio = fold (owners_named folio) (owners_for m (at (Title folio))) (acts_before a acts)
 
--- these persons; none, where there are none
+-- these persons as a list, empty where there are none
 abbrev pub persons : Option (List ℕ) → List ℕ
 persons (Some people) = people
 persons None = []
 
--- the owners as of act a, as a list: empty where there are none
+-- the same as a list, empty where the folio is not open
 abbrev pub owners_then : ℕ → (Key → List Entry) → List Act → ℕ → ℕ → List ℕ
 owners_then m at acts a folio = persons (owners_as_of m at acts a folio)
 
--- the holder of a right whom the filing concerns
+-- the holder of a right who stands there for the filing, as a list, empty where there is none
 abbrev pub holder_then : ℕ → (Key → List Entry) → ℕ → RightNo → List ℕ
 holder_then m at folio right = option_to_list (holder_for m (at (Right folio right)))
 
--- the right is live, and of division III
+-- the right is live, and a mortgage or a land charge (division III)
 abbrev pub stands_in_division_three : (Key → List Entry) → ℕ → RightNo → Bool
 stands_in_division_three at folio right =
     option_map_or (λ made. is_in_division_three made.spec.kind) (live_right (at (Right folio right))) false
 
--- whose right the act affects (GBO § 19); nobody's where a right is cancelled with a proof that it has expired (GBO § 22)
+-- whose right the act affects (GBO § 19): for an opening the owners whom it names; nobody's where a right is cancelled with a proof
+-- that it has expired (GBO § 22)
 abbrev pub affected : ℕ → List Doc → (Key → List Entry) → List Act → ℕ → Act → List ℕ
 affected m docs at acts a (Open folio inventory owners) = owners
 affected m docs at acts a (Transfer folio owners) = owners_then m at acts a folio
@@ -98,7 +102,7 @@ applicants m at acts a (Exchange folio recede rise) =
     ++ (if stands_in_division_three at folio recede then owners_then m at acts a folio else []))
 applicants m at acts a (Exercise folio behind spec) = owners_then m at acts a folio ++ spec.holder ∷ []
 
--- the applicants of the earlier filings that wait at the right
+-- the applicants of the filings before filing m that wait at the right with these entries
 abbrev pub waiting_applicants : List Receipt → ℕ → List Entry → List ℕ
 waiting_applicants journal m entries = filter_map (applicant_of journal) (waiting_before m entries)
 

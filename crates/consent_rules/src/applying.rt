@@ -6,10 +6,9 @@ ghost use Rattle.consent_rules.specs.Judging.{may_not_apply};
 ghost use Rattle.consent_rules.specs.Persons.{applicants, holder_then, owners_then, stands_in_division_three};
 ghost use Rattle.consent_rules.specs.inner.Held.{HasParts};
 
-use crate::matters::Matter;
 use crate::parts_read::stands_in_division_three;
 use crate::persons::{holder_then, owners_then};
-use act_model::Act;
+use act_model::{Act, Matter};
 use folio_sections::Parts;
 use gb_base::{FolioId, Person, RightId};
 

@@ -1,5 +1,6 @@
 //! The curable defects, of which all that hold are listed (GBO § 18).
 ghost use Rattle.std.specs.Prelude.{◌≡◌, ◌+◌, ◌≤◌, ◌++◌, length, All};
+ghost use Rattle.act_model.specs.Documents.{docs_of};
 ghost use Rattle.consent_rules.specs.Judging.{defects, defects_under, is_defective};
 ghost use Rattle.consent_rules.specs.inner.Held.{HasParts};
 
@@ -8,8 +9,7 @@ use crate::consent::{
     has_stranger, lacks_clearance, lacks_consent, lacks_others, lacks_owner,
     lacks_owner_of_exchange, wants_form,
 };
-use crate::matters::Matter;
-use act_model::Act;
+use act_model::{Act, Matter};
 use arrayvec::ArrayVec;
 use folio_sections::Parts;
 use gb_base::Section;
@@ -27,7 +27,7 @@ const CURABLES: [Section; 6] = [
 /// All defects, by section and then by act.
 pub fn defects<P: Parts>(parts: &P, matter: &Matter) -> ArrayVec<Defect, 48>
     requires held { All (HasParts (P.holds parts.now) (P.at parts.now)) matter.now.filing.now.acts }
-    ensures { result.items ≡ defects matter.now.journal.now.receipts matter.now.number matter.now.filing.now matter.now.docs (P.at parts.now) }
+    ensures { result.items ≡ defects matter.now.journal.now.receipts matter.now.number matter.now.filing.now (docs_of matter.now) (P.at parts.now) }
 {
     let mut list = ArrayVec::new();
     for section in CURABLES {
@@ -45,7 +45,7 @@ fn add_defects<P: Parts>(
 )
     requires room { length list.old.items ≤ 40 }
     requires held { All (HasParts (P.holds parts.now) (P.at parts.now)) matter.now.filing.now.acts }
-    ensures added { list.new.items ≡ list.old.items ++ defects_under matter.now.journal.now.receipts matter.now.number matter.now.filing.now matter.now.docs (P.at parts.now) section }
+    ensures added { list.new.items ≡ list.old.items ++ defects_under matter.now.journal.now.receipts matter.now.number matter.now.filing.now (docs_of matter.now) (P.at parts.now) section }
     ensures few { length list.new.items ≤ length list.old.items + 8 }
 {
     for (index, act) in matter.filing.acts.list().iter().enumerate() {
@@ -59,7 +59,7 @@ fn add_defects<P: Parts>(
 /// Whether the defect is there at act a of the filing. Only the sections of `CURABLES` are asked.
 fn is_defective<P: Parts>(parts: &P, matter: &Matter, section: Section, a: u8, act: &Act) -> bool
     requires held { HasParts (P.holds parts.now) (P.at parts.now) act.now }
-    ensures { result ≡ is_defective matter.now.journal.now.receipts matter.now.number matter.now.filing.now matter.now.docs (P.at parts.now) section a act.now }
+    ensures { result ≡ is_defective matter.now.journal.now.receipts matter.now.number matter.now.filing.now (docs_of matter.now) (P.at parts.now) section a act.now }
 {
     match section {
         Section::Gbo29 => wants_form(parts, matter, a, act),
@@ -69,7 +69,7 @@ fn is_defective<P: Parts>(parts: &P, matter: &Matter, section: Section, a: u8, a
         Section::Gbo27 => lacks_owner(parts, matter, a, act),
         Section::Bgb876 => lacks_others(parts, matter, a, act),
         Section::Bgb880 => lacks_owner_of_exchange(parts, matter, a, act),
-        Section::Grest22 => lacks_clearance(&matter.docs, a, act),
+        Section::Grest22 => lacks_clearance(matter, a, act),
         _ => false,
     }
 }

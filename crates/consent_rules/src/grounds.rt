@@ -2,17 +2,17 @@
 ghost use Rattle.std.specs.Prelude.{◌≡◌, ◌≤◌, find, All};
 ghost use Rattle.std.specs.List.{enumerate_from, list_any};
 ghost use Rattle.gb_base.specs.Limits.{most_acts};
+ghost use Rattle.act_model.specs.Documents.{docs_of};
 ghost use Rattle.consent_rules.specs.Judging.{holds, is_rejected_under, rejection};
 ghost use Rattle.consent_rules.specs.inner.Held.{HasParts};
 
 use crate::applying::may_not_apply;
 use crate::consent::{has_stranger, lacks_agreement, lacks_consent};
-use crate::matters::Matter;
 use crate::obstacles::{
     assigns_division_two, converts_full_right, exchanges_unfit_right, is_beyond_limit, lacks_folio,
     lacks_reservation, lacks_right,
 };
-use act_model::Act;
+use act_model::{Act, Matter};
 use folio_sections::Parts;
 use gb_base::Section;
 
@@ -34,7 +34,7 @@ const GROUNDS: [Section; 11] = [
 /// The first ground that holds.
 pub fn rejection<P: Parts>(parts: &P, matter: &Matter) -> Option<Section>
     requires held { All (HasParts (P.holds parts.now) (P.at parts.now)) matter.now.filing.now.acts }
-    ensures { result ≡ rejection matter.now.journal.now.receipts matter.now.number matter.now.filing.now matter.now.docs (P.at parts.now) }
+    ensures { result ≡ rejection matter.now.journal.now.receipts matter.now.number matter.now.filing.now (docs_of matter.now) (P.at parts.now) }
 {
     for section in GROUNDS {
         if is_rejected_under(parts, matter, section) {
@@ -48,7 +48,7 @@ pub fn rejection<P: Parts>(parts: &P, matter: &Matter) -> Option<Section>
 /// other ground one of some act (GBO § 16).
 fn is_rejected_under<P: Parts>(parts: &P, matter: &Matter, section: Section) -> bool
     requires held { All (HasParts (P.holds parts.now) (P.at parts.now)) matter.now.filing.now.acts }
-    ensures { result ≡ is_rejected_under matter.now.journal.now.receipts matter.now.number matter.now.filing.now matter.now.docs (P.at parts.now) section }
+    ensures { result ≡ is_rejected_under matter.now.journal.now.receipts matter.now.number matter.now.filing.now (docs_of matter.now) (P.at parts.now) section }
 {
     match section {
         Section::Gbo16 => matter.filing.conditional,
@@ -59,7 +59,7 @@ fn is_rejected_under<P: Parts>(parts: &P, matter: &Matter, section: Section) -> 
 /// Whether the ground holds for some act of the filing.
 fn holds_for_some<P: Parts>(parts: &P, matter: &Matter, section: Section) -> bool
     requires held { All (HasParts (P.holds parts.now) (P.at parts.now)) matter.now.filing.now.acts }
-    ensures { result ≡ list_any (λ p. holds matter.now.journal.now.receipts matter.now.number matter.now.filing.now matter.now.docs (P.at parts.now) section p.0 p.1) (enumerate_from 1 matter.now.filing.now.acts) }
+    ensures { result ≡ list_any (λ p. holds matter.now.journal.now.receipts matter.now.number matter.now.filing.now (docs_of matter.now) (P.at parts.now) section p.0 p.1) (enumerate_from 1 matter.now.filing.now.acts) }
 {
     for (index, act) in matter.filing.acts.list().iter().enumerate() {
         if holds(parts, matter, section, index as u8 + 1, act) {
@@ -75,7 +75,7 @@ fn holds<P: Parts>(parts: &P, matter: &Matter, section: Section, a: u8, act: &Ac
     requires from_one { 1 ≤ a }
     requires to_eight { a ≤ most_acts }
     requires held { HasParts (P.holds parts.now) (P.at parts.now) act.now }
-    ensures { result ≡ holds matter.now.journal.now.receipts matter.now.number matter.now.filing.now matter.now.docs (P.at parts.now) section a act.now }
+    ensures { result ≡ holds matter.now.journal.now.receipts matter.now.number matter.now.filing.now (docs_of matter.now) (P.at parts.now) section a act.now }
 {
     match section {
         Section::Limit => is_beyond_limit(matter, a),
@@ -86,7 +86,7 @@ fn holds<P: Parts>(parts: &P, matter: &Matter, section: Section, a: u8, act: &Ac
         Section::Bgb881 => lacks_reservation(parts, act),
         Section::Bgb1059 => assigns_division_two(parts, act),
         Section::Gbo13 => may_not_apply(parts, matter, a, act),
-        Section::Gbo20 => lacks_agreement(&matter.docs, a, act),
+        Section::Gbo20 => lacks_agreement(matter, a, act),
         Section::Gbo19 => {
             lacks_consent(parts, matter, a, act) && !has_stranger(parts, matter, a, act)
         }

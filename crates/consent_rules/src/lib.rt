@@ -14,7 +14,6 @@ mod grounds;
 mod judgements;
 mod judging;
 mod lacks;
-mod matters;
 mod needed;
 mod obstacles;
 #[cfg(test)]

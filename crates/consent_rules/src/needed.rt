@@ -1,15 +1,15 @@
 //! Whose consent each act needs (GBO §§ 19, 22, 27; BGB §§ 876, 880(2)).
 ghost use Rattle.std.specs.Prelude.{◌≡◌, ◌&&◌, not, if◌then◌else◌, [], IsTrue};
 ghost use Rattle.gb_base.specs.declared.keys.Key.TheVariants.{Title, Right};
+ghost use Rattle.act_model.specs.Documents.{docs_of};
 ghost use Rattle.consent_rules.specs.Persons.{affected, holder_then, others, owner_side, owners_then, persons, stands_in_division_three, waiting_applicants};
 ghost use Rattle.consent_rules.specs.inner.Held.{HasParts};
 
 use crate::consenters::Consenters;
-use crate::matters::Matter;
 use crate::parts_read::{right_part, stands_in_division_three};
 use crate::persons::{holder_then, owners_then, people};
 use crate::waiting::Waiting;
-use act_model::{Act, Journal};
+use act_model::{Act, Journal, Matter};
 use arrayvec::ArrayVec;
 use folio_sections::{Parts, RightPart};
 use gb_base::{FolioId, Person, ReceiptNo, RightId};
@@ -22,9 +22,9 @@ pub fn needed<'a, P: Parts>(
     act: &Act,
 ) -> Consenters<'a>
     requires held { HasParts (P.holds parts.now) (P.at parts.now) act.now }
-    ensures affected { result.affected.items ≡ affected matter.now.number matter.now.docs (P.at parts.now) matter.now.filing.now.acts a act.now }
-    ensures owner_side { result.owner_side.items ≡ owner_side matter.now.number matter.now.docs (P.at parts.now) matter.now.filing.now.acts a act.now }
-    ensures others { persons result.others ≡ others matter.now.journal.now.receipts matter.now.number matter.now.docs (P.at parts.now) a act.now }
+    ensures affected { result.affected.items ≡ affected matter.now.number (docs_of matter.now) (P.at parts.now) matter.now.filing.now.acts a act.now }
+    ensures owner_side { result.owner_side.items ≡ owner_side matter.now.number (docs_of matter.now) (P.at parts.now) matter.now.filing.now.acts a act.now }
+    ensures others { persons result.others ≡ others matter.now.journal.now.receipts matter.now.number (docs_of matter.now) (P.at parts.now) a act.now }
 {
     Consenters {
         affected: affected(parts, matter, a, act),
@@ -36,7 +36,7 @@ pub fn needed<'a, P: Parts>(
 /// Whose right the act affects (GBO § 19).
 fn affected<P: Parts>(parts: &P, matter: &Matter, a: u8, act: &Act) -> ArrayVec<Person, 4>
     requires held { HasParts (P.holds parts.now) (P.at parts.now) act.now }
-    ensures { result.items ≡ affected matter.now.number matter.now.docs (P.at parts.now) matter.now.filing.now.acts a act.now }
+    ensures { result.items ≡ affected matter.now.number (docs_of matter.now) (P.at parts.now) matter.now.filing.now.acts a act.now }
 {
     match act {
         Act::Open { owners, .. } => people(owners),
@@ -46,7 +46,7 @@ fn affected<P: Parts>(parts: &P, matter: &Matter, a: u8, act: &Act) -> ArrayVec<
         Act::Convert { folio, .. } => owners_then(parts, matter, a, *folio),
         Act::Assign { folio, right, .. } => holder_then(parts, matter.number, *folio, *right),
         Act::Cancel { folio, right } => {
-            let proved = matter.docs.has_proof(a);
+            let proved = matter.has_proof(a);
             holder_unless(proved, parts, matter.number, *folio, *right)
         }
         Act::Exchange { folio, recede, .. } => holder_then(parts, matter.number, *folio, *recede),
@@ -57,11 +57,11 @@ fn affected<P: Parts>(parts: &P, matter: &Matter, a: u8, act: &Act) -> ArrayVec<
 /// The owners who consent beside whoever is affected (GBO § 27, BGB § 880(2)).
 fn owner_side<P: Parts>(parts: &P, matter: &Matter, a: u8, act: &Act) -> ArrayVec<Person, 4>
     requires held { HasParts (P.holds parts.now) (P.at parts.now) act.now }
-    ensures { result.items ≡ owner_side matter.now.number matter.now.docs (P.at parts.now) matter.now.filing.now.acts a act.now }
+    ensures { result.items ≡ owner_side matter.now.number (docs_of matter.now) (P.at parts.now) matter.now.filing.now.acts a act.now }
 {
     match act {
         Act::Cancel { folio, right } => {
-            let proved = matter.docs.has_proof(a);
+            let proved = matter.has_proof(a);
             owners_unless(proved, parts, matter, a, *folio, *right)
         }
         Act::Exchange { folio, recede, .. } => {
@@ -85,11 +85,11 @@ fn owner_side<P: Parts>(parts: &P, matter: &Matter, a: u8, act: &Act) -> ArrayVe
 /// (BGB § 876).
 fn others<'a, P: Parts>(parts: &'a P, matter: &Matter<'a>, a: u8, act: &Act) -> Option<Waiting<'a>>
     requires held { HasParts (P.holds parts.now) (P.at parts.now) act.now }
-    ensures { persons result ≡ others matter.now.journal.now.receipts matter.now.number matter.now.docs (P.at parts.now) a act.now }
+    ensures { persons result ≡ others matter.now.journal.now.receipts matter.now.number (docs_of matter.now) (P.at parts.now) a act.now }
 {
     match act {
         Act::Cancel { folio, right } => {
-            let proved = matter.docs.has_proof(a);
+            let proved = matter.has_proof(a);
             let part = right_part(parts, *folio, *right);
             waiting_unless(proved, matter.journal, matter.number, part)
         }

@@ -7,10 +7,9 @@ ghost use Rattle.gb_base.specs.declared.keys.Key.TheVariants.{Title, Right};
 ghost use Rattle.consent_rules.specs.Judging.{assigns_division_two, converts_full_right, exchanges_unfit_right, is_barred_from_exchange, is_beyond_limit, is_open_as_of, lacks_folio, lacks_reservation, lacks_right, opens, reserves_less};
 ghost use Rattle.consent_rules.specs.inner.Held.{HasParts};
 
-use crate::matters::Matter;
 use crate::parts_read::{live_right, lives, right_part, title_part};
 use crate::persons::acts_before;
-use act_model::{Act, Journal, new_right, shares_its_group};
+use act_model::{Act, Journal, Matter, new_right, shares_its_group};
 use folio_sections::{Created, Parts};
 use gb_base::{Cents, FolioId, RightId};
 

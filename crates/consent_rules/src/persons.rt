@@ -3,9 +3,8 @@ ghost use Rattle.std.specs.Prelude.{◌≡◌, fold, IsTrue};
 ghost use Rattle.gb_base.specs.declared.keys.Key.TheVariants.{Title, Right};
 ghost use Rattle.consent_rules.specs.Persons.{acts_before, holder_then, owners_as_of, owners_named, owners_then};
 
-use crate::matters::Matter;
 use crate::parts_read::{right_part, title_part};
-use act_model::{Act, Owners};
+use act_model::{Act, Matter, Owners};
 use arrayvec::ArrayVec;
 use folio_sections::Parts;
 use gb_base::{FolioId, Person, ReceiptNo, RightId};

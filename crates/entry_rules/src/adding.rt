@@ -1,38 +1,18 @@
 //! Entries that are added to the parts of a register.
 ghost use Rattle.std.specs.Prelude.{◌≡◌, ◌≤◌, [], ◌∷◌, length, IsTrue};
-ghost use Rattle.act_model.specs.Receiving.{day_of};
 ghost use Rattle.folio_sections.specs.Adding.{AddsList, HasRoom};
 ghost use Rattle.folio_sections.specs.Entries.{entry_by};
 
-use act_model::{Filing, Journal};
-use folio_sections::{Entry, Parts, What, add, day_of, entry_by};
-use gb_base::{Day, Key, ReceiptNo};
+use act_model::Matter;
+use folio_sections::{Entry, Parts, What, add, entry_by};
+use gb_base::Key;
 
-/// Which filing is entered, and by which item.
-#[derive(Clone, Copy)]
-pub struct Entering<'a> {
-    pub journal: &'a Journal,
-    pub item: ReceiptNo,
-    pub number: ReceiptNo,
-    pub filing: &'a Filing,
-}
-
-impl<'a> Entering<'a> {
-    /// The stamp day of the item.
-    pub fn day(&self) -> Day
-        requires { self.now.item ≤ length self.now.journal.now.receipts }
-        ensures { result ≡ day_of self.now.journal.now.receipts self.now.item }
-    {
-        day_of(self.journal, self.item)
-    }
-
-    /// An entry by the item.
-    pub fn entry(&self, key: Key, what: What) -> Entry
-        requires { self.now.item ≤ length self.now.journal.now.receipts }
-        ensures { result ≡ entry_by self.now.journal.now.receipts self.now.item key what }
-    {
-        entry_by(self.journal, self.item, key, what)
-    }
+/// An entry by the item that enters the filing.
+pub fn entry(matter: &Matter, key: Key, what: What) -> Entry
+    requires { matter.now.item ≤ length matter.now.journal.now.receipts }
+    ensures { result ≡ entry_by matter.now.journal.now.receipts matter.now.item key what }
+{
+    entry_by(matter.journal, matter.item, key, what)
 }
 
 /// Adds two entries, one after the other.

@@ -9,21 +9,21 @@ ghost use Rattle.folio_sections.specs.Entries.{entry_by};
 ghost use Rattle.folio_sections.specs.Places.{places, places_among};
 ghost use Rattle.folio_sections.specs.declared.entries.What.TheVariants as what;
 
-use crate::adding::Entering;
-use act_model::{Act, RightSpec, has_equal, new_right};
-use folio_sections::{Created, Entry, Parts, RightForm, What, behind, own_place};
+use crate::adding::entry;
+use act_model::{Act, Matter, RightSpec, has_equal, new_right};
+use folio_sections::{Created, Entry, Parts, RightForm, What, behind, day_of, own_place};
 use gb_base::{Cents, Day, FolioId, Key, RightId};
 
 /// The entry of the right of this description that act a creates, on the places that stand at the
 /// title of its folio.
-pub fn creation<P: Parts>(parts: &P, by: &Entering, a: u8, act: &Act, spec: RightSpec) -> Entry
+pub fn creation<P: Parts>(parts: &P, matter: &Matter, a: u8, act: &Act, spec: RightSpec) -> Entry
     requires from_one { 1 ≤ a }
     requires to_eight { a ≤ most_acts }
-    requires received { by.now.item ≤ length by.now.journal.now.receipts }
+    requires received { matter.now.item ≤ length matter.now.journal.now.receipts }
     requires held { IsTrue (P.holds parts.now (Title (folio_of act.now))) }
-    ensures { result ≡ entry_by by.now.journal.now.receipts by.now.item (Right (folio_of act.now) (new_right by.now.number a))
-        (what.Created (as_entered by.now.journal.now.receipts by.now.number by.now.filing.now.acts by.now.item
-        (places by.now.journal.now.receipts (P.at parts.now) (folio_of act.now)) a act.now spec)) }
+    ensures { result ≡ entry_by matter.now.journal.now.receipts matter.now.item (Right (folio_of act.now) (new_right matter.now.number a))
+        (what.Created (as_entered matter.now.journal.now.receipts matter.now.number matter.now.filing.now.acts matter.now.item
+        (places matter.now.journal.now.receipts (P.at parts.now) (folio_of act.now)) a act.now spec)) }
 {
     let folio = act.folio();
     let standing = parts.title(folio).unwrap().entries();
@@ -33,12 +33,12 @@ pub fn creation<P: Parts>(parts: &P, by: &Entering, a: u8, act: &Act, spec: Righ
         form: form_created(act),
         reserve: reserve_of(act),
         ahead_of: right_behind(act),
-        placed: day_placed(by, folio, standing),
-        behind: behind(by.journal, folio, standing, third, by.number),
-        equal: has_equal(by.filing.acts.list(), a, act),
+        placed: day_placed(matter, folio, standing),
+        behind: behind(matter.journal, folio, standing, third, matter.number),
+        equal: has_equal(matter.filing.acts.list(), a, act),
     };
-    let key = Key::Right(folio, new_right(by.number, a));
-    by.entry(key, What::Created(made))
+    let key = Key::Right(folio, new_right(matter.number, a));
+    entry(matter, key, What::Created(made))
 }
 
 /// The form in which a creating act enters its right (BGB § 883).
@@ -94,12 +94,12 @@ fn right_behind(act: &Act) -> Option<RightId>
 }
 
 /// The day of the filing's place at the title; that of the item where it has none.
-fn day_placed(by: &Entering, folio: FolioId, standing: &[Entry]) -> Day
-    requires { by.now.item ≤ length by.now.journal.now.receipts }
-    ensures { result ≡ day_placed by.now.journal.now.receipts by.now.number by.now.item (places_among by.now.journal.now.receipts folio standing.now) }
+fn day_placed(matter: &Matter, folio: FolioId, standing: &[Entry]) -> Day
+    requires { matter.now.item ≤ length matter.now.journal.now.receipts }
+    ensures { result ≡ day_placed matter.now.journal.now.receipts matter.now.number matter.now.item (places_among matter.now.journal.now.receipts folio standing.now) }
 {
-    match own_place(by.journal, folio, standing, by.number) {
+    match own_place(matter.journal, folio, standing, matter.number) {
         Some(place) => place.day,
-        None => by.day(),
+        None => day_of(matter.journal, matter.item),
     }
 }

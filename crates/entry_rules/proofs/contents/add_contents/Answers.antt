@@ -13,10 +13,10 @@ use Rattle.entry_rules.proofs.contents.add_contents.Goals as goal
 
 pub loop-index-preserved : goal.loop-index-preserved
 loop-index-preserved g c =
-    let journal = c.args.by.now.journal.now.receipts in
-    let m = c.args.by.now.number in
-    let i = c.args.by.now.item in
-    let f = c.args.by.now.filing.now in
+    let journal = c.args.matter.now.journal.now.receipts in
+    let m = c.args.matter.now.number in
+    let i = c.args.matter.now.item in
+    let f = c.args.matter.now.filing.now in
     let n = c.loop-index.index in
     let act = c.act-item.result in
     let rest = drop (n + 1) f.acts in

@@ -7,5 +7,5 @@ use Rattle.entry_rules.proofs.placing.add_places.Given as goal
 
 abbrev pub invariant-loop-key : goal.invariant-loop-key
 invariant-loop-key g l =
-    Progress Key (placed_at l.by.journal.now.receipts l.by.number l.by.item) KeepsNotices l.key-items (drop l.key-index l.key-items)
+    Progress Key (placed_at l.matter.journal.now.receipts l.matter.number l.matter.item) KeepsNotices l.key-items (drop l.key-index l.key-items)
     (g.P.Parts.at l.fn.parts) (g.P.Parts.at l.parts) (g.P.Parts.room l.fn.parts) (g.P.Parts.room l.parts) (g.P.Parts.holds l.fn.parts) (g.P.Parts.holds l.parts)
