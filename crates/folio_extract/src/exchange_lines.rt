@@ -22,7 +22,11 @@ pub(crate) fn add_exercise_lines(text: &mut String, exercises: &[Knot]) -> Resul
     ensures { OnOk result (string_bytes text.new ≡ string_bytes text.old ++ flat_map exercise_line exercises.now) }
 {
     for exercise in exercises {
-        writeln!(text, "exercise {} {}", exercise.reserved, exercise.exercised)?;
+        writeln!(
+            text,
+            "exercise {} {}",
+            exercise.reserved, exercise.exercised
+        )?;
     }
     Ok(())
 }

@@ -1,6 +1,6 @@
 //! Orders, notices and lapses in small journals of 2024.
 use crate::testing::{
-    charge, close, day, entries, entry, filing, is_notice, is_pending, is_settled, lapse_item,
+    charge, close, day, ends_waiting, entries, entry, filing, is_notice, is_pending, lapse_item,
     lapsed, notices, one_charge, order, parts_of, receipt, receive, right_key, state_at, title_key,
 };
 use crate::{FilingState, Lapse};
@@ -56,7 +56,7 @@ fn waited(rt: &impl Abort, found: &[Entry]) -> bool {
     match found {
         [first, last] => {
             is_pending(first, receipt(rt, 1), day(rt, 4, 3))
-                && is_settled(last, receipt(rt, 1))
+                && ends_waiting(last, receipt(rt, 1))
                 && last.receipt == receipt(rt, 2)
                 && last.day == day(rt, 3, 5)
         }
@@ -91,7 +91,7 @@ fn notices_of_two_filings(rt: HostRuntime) -> Result<(), Fail> {
 
 /// A filing that waits no longer gets no notice.
 #[test]
-fn no_notice_of_a_settled_filing(rt: HostRuntime) -> Result<(), Fail> {
+fn no_notice_once_the_waiting_has_ended(rt: HostRuntime) -> Result<(), Fail> {
     let mut journal = Journal::new(rt.alloc());
     receive(&rt, &mut journal, 1, day(&rt, 3, 1), &one_charge(&rt, 8));
     receive(&rt, &mut journal, 2, day(&rt, 3, 1), &one_charge(&rt, 8));
@@ -139,7 +139,7 @@ fn lapses_around_the_deadline(rt: HostRuntime) -> Result<(), Fail> {
     assert_eq!(rt; entries(&rt, &parts, title_key(&rt, 8)).len(), 2);
     assert!(rt; lapsed(&rt, &mut parts, &journal, 5)? == Lapse::Rejected);
     let ended = entry(&rt, &parts, title_key(&rt, 8), 2);
-    assert!(rt; is_settled(ended, receipt(&rt, 2)));
+    assert!(rt; ends_waiting(ended, receipt(&rt, 2)));
     assert!(rt; ended.receipt == receipt(&rt, 5));
     assert!(rt; lapsed(&rt, &mut parts, &journal, 6)? == Lapse::NotPending);
     assert_eq!(rt; entries(&rt, &parts, title_key(&rt, 8)).len(), 3);

@@ -13,7 +13,7 @@ ghost use Rattle.registrar.specs.ItemKeys.{keys_by_item};
 ghost use Rattle.registrar.specs.inner.Exchanges.{KnowsItsExchanges};
 
 use crate::Verdict;
-use act_model::{Item, Journal};
+use act_model::{Item, Journal, Matter, filing_at};
 use consent_rules::{Judgement, judge};
 use entry_rules::enter;
 use folio_sections::Parts;
@@ -38,8 +38,14 @@ pub(crate) fn settle<P: Parts>(
     ensures held { P.holds parts.new ≡ P.holds parts.old }
 {
     match received {
-        Item::Filing(_) => {
-            let judgement = judge(parts, journal, item, item);
+        Item::Filing(filing) => {
+            let as_filed = Matter {
+                journal,
+                item,
+                number: item,
+                filing,
+            };
+            let judgement = judge(parts, &as_filed);
             settle_filing(parts, journal, item, judgement)
         }
         Item::Cure { filing, .. } => settle_cure(parts, journal, item, *filing),
@@ -70,7 +76,13 @@ fn settle_filing<P: Parts>(
 {
     match judgement {
         Judgement::Enter => {
-            enter_with_notices(parts, journal, filing, filing);
+            let matter = Matter {
+                journal,
+                item: filing,
+                number: filing,
+                filing: filing_at(journal, filing).unwrap(),
+            };
+            enter_with_notices(parts, &matter);
             Verdict::Entered
         }
         Judgement::Reject(section) => Verdict::Rejected(section),
@@ -100,63 +112,57 @@ fn settle_cure<P: Parts>(
 {
     match state(parts, journal, item, filing) {
         FilingState::Pending { .. } => {
-            // `judge` takes the filing first, and then up to which receipt documents count.
-            let judgement = judge(parts, journal, filing, item);
-            settle_waiting(parts, journal, item, filing, judgement)
+            let with_cures = Matter {
+                journal,
+                item,
+                number: filing,
+                filing: filing_at(journal, filing).unwrap(),
+            };
+            let judgement = judge(parts, &with_cures);
+            settle_waiting(parts, &with_cures, judgement)
         }
         FilingState::NotPending => Verdict::NotPending,
     }
 }
 
 /// A filing that waits, and is judged anew with a cure, is entered, rejected or waits on.
-fn settle_waiting<P: Parts>(
-    parts: &mut P,
-    journal: &Journal,
-    item: ReceiptNo,
-    filing: ReceiptNo,
-    judgement: Judgement,
-) -> Verdict
-    requires filing { IsSome (filing_at journal.now.receipts filing) }
-    requires received { item ≤ length journal.now.receipts }
-    requires held { (k : Key) → Contains (keys_of_filing journal.now.receipts filing) k → IsTrue (P.holds parts.old k) }
-    requires room { HasRoom (P.room parts.old) (brought_by_cure journal.now.receipts filing item (P.at parts.old) judgement).entries }
-    ensures verdict { result ≡ (brought_by_cure journal.now.receipts filing item (P.at parts.old) judgement).verdict }
+fn settle_waiting<P: Parts>(parts: &mut P, matter: &Matter, judgement: Judgement) -> Verdict
+    requires filing { filing_at matter.now.journal.now.receipts matter.now.number ≡ Some matter.now.filing.now }
+    requires received { matter.now.item ≤ length matter.now.journal.now.receipts }
+    requires held { (k : Key) → Contains (keys_of_filing matter.now.journal.now.receipts matter.now.number) k → IsTrue (P.holds parts.old k) }
+    requires room { HasRoom (P.room parts.old) (brought_by_cure matter.now.journal.now.receipts matter.now.number matter.now.item (P.at parts.old) judgement).entries }
+    ensures verdict { result ≡ (brought_by_cure matter.now.journal.now.receipts matter.now.number matter.now.item (P.at parts.old) judgement).verdict }
     ensures added { AddsList (P.at parts.old) (P.at parts.new) (P.room parts.old) (P.room parts.new)
-        (brought_by_cure journal.now.receipts filing item (P.at parts.old) judgement).entries }
+        (brought_by_cure matter.now.journal.now.receipts matter.now.number matter.now.item (P.at parts.old) judgement).entries }
     ensures held { P.holds parts.new ≡ P.holds parts.old }
 {
     match judgement {
         Judgement::Enter => {
-            enter_with_notices(parts, journal, item, filing);
-            close_order(parts, journal, item, filing);
+            enter_with_notices(parts, matter);
+            close_order(parts, matter.journal, matter.item, matter.number);
             Verdict::Cured
         }
         Judgement::Reject(section) => {
-            close_order(parts, journal, item, filing);
+            close_order(parts, matter.journal, matter.item, matter.number);
             Verdict::CureRejected(section)
         }
         Judgement::Interim(defects) => Verdict::StillOpen(defects),
     }
 }
 
-/// Enters a filing by this item: official notices for those that wait, its places, and the contents
-/// of its acts.
-fn enter_with_notices<P: Parts>(
-    parts: &mut P,
-    journal: &Journal,
-    item: ReceiptNo,
-    filing: ReceiptNo,
-)
-    requires filing { IsSome (filing_at journal.now.receipts filing) }
-    requires received { item ≤ length journal.now.receipts }
-    requires held { (k : Key) → Contains (keys_of_filing journal.now.receipts filing) k → IsTrue (P.holds parts.old k) }
-    requires room { HasRoom (P.room parts.old) (enters journal.now.receipts filing item (P.at parts.old)) }
+/// Enters a filing by the item that settles it: official notices for those that wait, its places,
+/// and the contents of its acts.
+fn enter_with_notices<P: Parts>(parts: &mut P, matter: &Matter)
+    requires filing { filing_at matter.now.journal.now.receipts matter.now.number ≡ Some matter.now.filing.now }
+    requires received { matter.now.item ≤ length matter.now.journal.now.receipts }
+    requires held { (k : Key) → Contains (keys_of_filing matter.now.journal.now.receipts matter.now.number) k → IsTrue (P.holds parts.old k) }
+    requires room { HasRoom (P.room parts.old) (enters matter.now.journal.now.receipts matter.now.number matter.now.item (P.at parts.old)) }
     ensures added { AddsList (P.at parts.old) (P.at parts.new) (P.room parts.old) (P.room parts.new)
-        (enters journal.now.receipts filing item (P.at parts.old)) }
+        (enters matter.now.journal.now.receipts matter.now.number matter.now.item (P.at parts.old)) }
     ensures held { P.holds parts.new ≡ P.holds parts.old }
 {
-    enter_notices(parts, journal, item, filing);
-    enter(parts, journal, item, filing);
+    enter_notices(parts, matter);
+    enter(parts, matter);
 }
 
 /// What becomes of a lapse by its answer.
