@@ -1,6 +1,5 @@
 -- Rights stand at the places of their filings, and places that are added behind change nothing of those ahead.
 use Rattle.std.proofs.Common.{◌≡◌, ℕ, true, false, cond, eqb, Bool, List, [], ◌∷◌, ◌++◌, IfSome, IsSomeAnd, Option, Some, None, fold, is_some, option_and_then, refl, sym, ap, subst, ◌∙◌}
-use Rattle.std.specs.List.{AllByRecursion}
 use Rattle.std.proofs.lemmas.Bool.{false≢true}
 use Rattle.std.proofs.lemmas.List.Elements.{recursion_from_All}
 use Rattle.gb_base.specs.RightNo.{RightNo}

@@ -1,9 +1,8 @@
 -- A filing for which no ground of rejection and no defect holds is entered, by its own item or by a cure.
-use Rattle.std.proofs.Common.{◌≡◌, ℕ, List, [], ◌++◌, Option, Some, None, is_some, option_and_then, option_map, refl, sym, ap, subst, ◌∙◌}
+use Rattle.std.proofs.Common.{◌≡◌, ℕ, List, [], ◌++◌, Option, Some, None, is_some, option_and_then, option_map, ap, ◌∙◌}
 use Rattle.std.specs.Option.{option_map_or}
 use Rattle.std.proofs.lemmas.Bool.{false≢true}
 use Rattle.gb_base.specs.declared.keys.Key.{Key}
-use Rattle.gb_base.specs.declared.sections.Section.{Section}
 use Rattle.act_model.specs.Documents.{documents}
 use Rattle.act_model.specs.Receiving.{receipt_at}
 use Rattle.act_model.specs.Touches.{filing_at, filing_in}
@@ -13,12 +12,11 @@ use Rattle.act_model.specs.declared.items.Item.{Item}
 use Rattle.act_model.specs.declared.items.Item.TheVariants as item
 use Rattle.act_model.specs.declared.receipts.Receipt.{Receipt}
 use Rattle.consent_rules.specs.Judging.{defects, judged_filing, judgement_by, rejection}
-use Rattle.consent_rules.specs.declared.judgements.Defect.{Defect}
 use Rattle.consent_rules.specs.declared.judgements.Judgement.TheVariants.{Enter}
 use Rattle.folio_sections.specs.declared.entries.Entry.{Entry}
 use Rattle.interim_orders.specs.Orders.{end_brought, state_of}
 use Rattle.interim_orders.specs.declared.states.FilingState.TheVariants.{Pending}
-use Rattle.registrar.specs.Brings.{Brought, brings, brought_by_cure, brought_by_filing, brought_by_item, brought_in_state, nothing_pending}
+use Rattle.registrar.specs.Brings.{brings, brought_by_cure, brought_by_filing, brought_by_item, brought_in_state, nothing_pending}
 use Rattle.registrar.specs.Enters.{enters}
 use Rattle.registrar.specs.declared.verdicts.Verdict.TheVariants as verdict
 

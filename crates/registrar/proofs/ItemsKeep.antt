@@ -1,21 +1,12 @@
 -- What an item brings leaves a kept register.
-use Rattle.std.proofs.Common.{◌≡◌, ℕ, ◌-◌, eqb, Bool, true, false, cond, List, [], ◌∷◌, All, IsTrue, zero, suc, Option, Some, None, option_and_then, is_some, refl, sym, ap, subst, ◌∙◌}
-use Rattle.std.specs.List.{slice_get}
-use Rattle.std.specs.Option.{option_map_or}
+use Rattle.std.proofs.Common.{◌≡◌, ℕ, Bool, true, false, List, Option, Some, None, refl, sym, ap, ◌∙◌}
 use Rattle.std.proofs.lemmas.Bool.{false≢true}
-use Rattle.std.proofs.lemmas.List.Elements.{All-head, All-tail}
 use Rattle.gb_base.specs.declared.keys.Key.{Key}
-use Rattle.act_model.specs.Receiving.{IsJournal}
-use Rattle.act_model.specs.Touches.{filing_at, filing_in}
-use Rattle.act_model.specs.WellFormed.{is_filing, well_formed}
 use Rattle.act_model.specs.declared.items.Filing.{Filing}
-use Rattle.act_model.specs.declared.items.Item.{Item}
-use Rattle.act_model.specs.declared.items.Item.TheVariants as item
 use Rattle.act_model.specs.declared.receipts.Receipt.{Receipt}
 use Rattle.act_model.specs.Documents.{documents}
 use Rattle.consent_rules.specs.Judging.{defects, judged_filing, judgement_by, rejection}
 use Rattle.folio_sections.specs.declared.entries.Entry.{Entry}
-use Rattle.kept_registers.proofs.WellFiled.{well_filed}
 use Rattle.consent_rules.specs.declared.judgements.Defect.{Defect}
 use Rattle.consent_rules.specs.declared.judgements.Judgement.{Judgement}
 use Rattle.consent_rules.specs.declared.judgements.Judgement.TheVariants.{Enter, Interim, Reject}

@@ -1,4 +1,4 @@
-use Rattle.std.proofs.Common.{sym, ap, is_some, rules}
+use Rattle.std.proofs.Common.{sym, ap, rules}
 use Rattle.gb_base.specs.declared.keys.Key.TheVariants.{Right}
 use Rattle.folio_sections.specs.Rights.{is_live}
 use Rattle.folio_line.proofs.folio_reads.is_live.Goals as goal

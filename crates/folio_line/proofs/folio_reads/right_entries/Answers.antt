@@ -1,4 +1,4 @@
-use Rattle.std.proofs.Common.{sym, ap, is_some, rules}
+use Rattle.std.proofs.Common.{sym, rules}
 use Rattle.gb_base.specs.declared.keys.Key.TheVariants.{Right}
 use Rattle.folio_line.proofs.folio_reads.right_entries.Goals as goal
 

@@ -1,7 +1,7 @@
-use Rattle.std.proofs.Common.{◌≤◌, All, None, sym, ap, map, subst, ◌∙◌}
+use Rattle.std.proofs.Common.{◌≤◌, All, None, sym, ap, subst, ◌∙◌}
 use Rattle.gb_base.specs.Limits.{most_cents}
 use Rattle.rank_slots.specs.declared.places.Place.{Place}
-use Rattle.folio_line.specs.FolioSlots.{capital_at, is_gone, swap_of}
+use Rattle.folio_line.specs.FolioSlots.{capital_at, is_gone}
 use Rattle.folio_line.specs.inner.PlaceByPlace.{places_behind}
 use Rattle.folio_line.proofs.FolioFills.{can_fill, capitals_from, line_is}
 use Rattle.folio_line.proofs.slots.folio_slots.Goals as goal
