@@ -1,29 +1,12 @@
 -- The words of the command line.
-use Rattle.std.specs.Prelude.{ℕ, ◌≤◌, ◌+◌, ◌-◌, ◌*◌, Bool, ◌&&◌, if◌then◌else◌, List, [], ◌∷◌, length, codes, Option, Some, None}
-use Rattle.std.specs.List.{list_all}
+use Rattle.std.specs.Prelude.{ℕ, ◌≤◌, ◌&&◌, if◌then◌else◌, List, [], ◌∷◌, map, codes, Option, Some, None}
+use Rattle.std.specs.Rc.{rc_str_bytes}
 use Rattle.std.specs.Str.{bytes_eq}
-use Rattle.gb_base.specs.Limits.{is_between}
-use Rattle.registry_office.specs.declared.intakes.Intake.TheVariants.{Lines, OpeningList}
+use Rattle.std_alloc.specs.declared.wrapped.RcStr.{RcStr}
+use Rattle.opening_lists.specs.Numerals.{number_in}
+use Rattle.intake.specs.declared.intakes.Intake.TheVariants.{Lines, OpeningList}
 use Rattle.registry_office.specs.declared.words.Command.{Command}
 use Rattle.registry_office.specs.declared.words.Command.TheVariants.{Settle, SettleLines, Receive}
-
--- the byte is an ASCII digit
-abbrev pub is_digit : ℕ → Bool
-is_digit b = is_between 48 57 b
-
--- 1 to 10 digits
-abbrev pub is_numeral : List ℕ → Bool
-is_numeral text = is_between 1 10 (length text) && list_all is_digit text
-
--- the number that these digits write behind those of `before`
-abbrev pub value_from : ℕ → List ℕ → ℕ
-value_from before [] = before
-value_from before (b ∷ bs) = value_from (before * 10 + (b - 48)) bs
-
--- the number that 1 to 10 digits write, where it is in the range
-abbrev pub number_in : ℕ → ℕ → List ℕ → Option ℕ
-number_in low high text =
-    if is_numeral text && is_between low high (value_from 0 text) then Some (value_from 0 text) else None
 
 -- to settle the disk's journal by so many desks
 abbrev pub settle_by : Option ℕ → Option Command
@@ -56,3 +39,7 @@ abbrev pub HasDesks : Command → Type 0
 HasDesks (Settle desks) = (1 ≤ desks) × (desks ≤ 64)
 HasDesks (SettleLines desks) = (1 ≤ desks) × (desks ≤ 64)
 HasDesks (Receive intake) = Unit {0}
+
+-- the command of the words of a run; none where they are none
+abbrev pub commanded : {Z : Type 0} → List (RcStr Z) → Option Command
+commanded words = command_of (map rc_str_bytes words)

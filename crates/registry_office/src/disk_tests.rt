@@ -1,4 +1,4 @@
-// The journal of a disk that is settled, and disks that have none.
+//! The journal of a disk that is settled, and disks that have none.
 ghost use Rattle.std.specs.Prelude.{IfOk, IsTrue};
 ghost use Rattle.act_model.specs.WellFormed.{well_formed};
 

@@ -1,4 +1,4 @@
-// Opening lists that are received onto a disk, and what stands there afterwards.
+//! Opening lists that are received onto a disk, and what stands there afterwards.
 use crate::Status;
 use crate::test_runs::done;
 use gb_outside::MemDisk;

@@ -1,8 +1,8 @@
-// How a run ends.
+//! How a run ends.
 ghost use Rattle.std.specs.Prelude.{◌≡◌};
 ghost use Rattle.registry_office.specs.inner.Ends.{status_of, status_of_fault, status_of_writing};
 
-use crate::faults::{OutputFault, SessionFault};
+use intake::{OutputFault, SessionFault};
 use receipt_journal::BookFault;
 
 /// How a run of the office ended.

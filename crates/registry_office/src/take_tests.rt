@@ -1,4 +1,4 @@
-// Lines that are taken onto a disk, and what stands there afterwards.
+//! Lines that are taken onto a disk, and what stands there afterwards.
 use crate::Status;
 use crate::test_runs::done;
 use gb_outside::MemDisk;

@@ -1,4 +1,4 @@
-// Runs over objects in memory, for the tests.
+//! Runs over objects in memory, for the tests.
 use crate::{Status, run};
 use gb_base::{Day, NoMemory, Stamp};
 use gb_outside::{ListClock, MemDisk, MemSink, MemSource, OpenGate, SureListener};

@@ -1,4 +1,4 @@
-// Runs over lines of an input, with reads and writes that fail.
+//! Runs over lines of an input, with reads and writes that fail.
 use crate::{Status, run};
 use gb_base::{Day, NoMemory, Stamp};
 use gb_outside::{ListClock, MemSink, MemSource, OpenGate, SureDisk, SureListener};

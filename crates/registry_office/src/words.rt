@@ -1,10 +1,11 @@
-// The words of the command line.
+//! The words of the command line.
 ghost use Rattle.std.specs.Prelude.{◌≡◌, ◌≤◌, map, IfSome};
 ghost use Rattle.std.specs.Rc.{rc_str_bytes};
-ghost use Rattle.registry_office.specs.Words.{HasDesks, command_of, opening_by, settle_by, settle_lines_by, number_in};
+ghost use Rattle.opening_lists.specs.Numerals.{number_in};
+ghost use Rattle.registry_office.specs.Words.{HasDesks, command_of, opening_by, settle_by, settle_lines_by};
 
-use crate::intakes::Intake;
-use crate::numerals::number_in;
+use intake::Intake;
+use opening_lists::number_in;
 use std::rc::RcStr;
 
 /// What the office is to do.

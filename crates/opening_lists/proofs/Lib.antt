@@ -1,0 +1,3 @@
+-- Lemmas.
+pub mod CsvSteps
+pub mod OpeningRows

@@ -1,0 +1,4 @@
+-- What contracts cite.
+pub mod Numerals
+pub mod OpeningLists
+pub mod inner

@@ -1,0 +1,3 @@
+-- What clauses of private functions say.
+pub mod CsvRecords
+pub mod Rows

@@ -1,0 +1,12 @@
+//! Opening lists: a CSV text whose rows each open a folio for one owner, and what they ask.
+#![tactic(auto)]
+
+mod csv_records;
+mod lists;
+mod numerals;
+mod openings;
+#[cfg(test)]
+mod tests;
+
+pub use lists::OpeningList;
+pub use numerals::number_in;

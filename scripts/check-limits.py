@@ -1,0 +1,62 @@
+#!/usr/bin/env python3
+"""Tries at its full size what may want memory: a line of 65,536 bytes, 200,000 lines and 200,000 rows."""
+
+import pathlib
+import tempfile
+
+import checks
+import wrong_lines
+
+LINES = ["settle", "--desks", "1", "--lines"]
+MOST_LINE = 65_536
+MOST_RECEIPTS = 200_000
+
+
+def replies(word, count):
+    return [f"{word} {number}" for number in range(1, count + 1)]
+
+
+def check_line(look):
+    """A line may have 65,536 bytes and no byte more."""
+    for size, wanted in ((MOST_LINE, "accepted 1"), (MOST_LINE + 1, "malformed length")):
+        line = checks.stamped(1).encode().ljust(size)
+        status, said, _ = checks.run(LINES, input=line + b"\n")
+        look.same(f"a line of {size} bytes", (status, said.split(b"\n")[0].decode()), (0, wanted))
+
+
+def check_lines(look):
+    """The journal in memory takes 200,000 receipts; a known number is answered also when it is full."""
+    lapse = {"kind": "lapse", "filing": 1}
+    numbers = [*range(1, MOST_RECEIPTS + 2), 7]
+    line = {"day": "2024-03-01", "minute": 540, "sender": 1}
+    lines = "".join(wrong_lines.compact({**line, "reference": number, "item": lapse}) + "\n" for number in numbers)
+    status, said, _ = checks.run(LINES, input=lines.encode())
+    text = said.decode().splitlines()
+    look.same("200,001 lines: the status", status, 0)
+    look.same("200,001 lines: the replies", text[: len(numbers)], [*replies("accepted", MOST_RECEIPTS), "full", "repeated 7"])
+    look.same("200,001 lines: the end", text[-1], f"end receipts {MOST_RECEIPTS} folios 0")
+
+
+def check_rows(look):
+    """A list of 200,001 rows is read whole; its first 200,000 stand in the file already."""
+    file, _ = checks.journal_of_openings(MOST_RECEIPTS)
+    rows = "".join(f"{folio},1,{folio},0,500,10\n" for folio in range(1, MOST_RECEIPTS + 2))
+    with tempfile.TemporaryDirectory() as folder:
+        (pathlib.Path(folder) / checks.JOURNAL).write_bytes(file)
+        opening = ["opening", "--sender", "1"]
+        status, said, _ = checks.run(opening, folder, input=f"folio,district,parcel,sub,area,owner\n{rows}".encode())
+        look.same("200,001 rows: the status", status, 0)
+        look.same("200,001 rows: the replies", said.decode().splitlines(), [*replies("repeated", MOST_RECEIPTS), "full"])
+
+
+def main():
+    checks.build()
+    look = checks.Checks()
+    check_line(look)
+    check_lines(look)
+    check_rows(look)
+    look.end()
+
+
+if __name__ == "__main__":
+    main()
