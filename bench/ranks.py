@@ -79,7 +79,7 @@ def measure(peer, random_pairs, count):
 
 def main():
     most = int(sys.argv[1]) if len(sys.argv) > 1 else 20_000
-    subprocess.run([PROGRAM], capture_output=True)
+    subprocess.run([PROGRAM, "--build"], check=True)
     with tempfile.TemporaryDirectory() as folder:
         peer = Path(folder) / "ranks"
         subprocess.run(["rustc", "-O", "-o", peer, HERE / "ranks.rs"], check=True)

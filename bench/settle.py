@@ -27,7 +27,7 @@ def measure(shape, count):
 
 def main():
     count = int(sys.argv[1]) if len(sys.argv) > 1 else 2_000
-    subprocess.run([PROGRAM], capture_output=True)
+    subprocess.run([PROGRAM, "--build"], check=True)
     for shape in ("one-folio", "many-folios", "waiting"):
         measure(shape, count)
 

@@ -1,5 +1,5 @@
 #!/usr/bin/env python3
-"""Tries at its full size what may want memory: a line of 65,536 bytes, 200,000 lines and 200,000 rows."""
+"""Tries at its full size what may want memory: a line of 65,536 bytes, 200,000 lines, 200,000 rows, and a folio of 256 rights."""
 
 import pathlib
 import tempfile
@@ -10,6 +10,7 @@ import wrong_lines
 LINES = ["settle", "--desks", "1", "--lines"]
 MOST_LINE = 65_536
 MOST_RECEIPTS = 200_000
+MOST_RIGHTS = 256
 
 
 def replies(word, count):
@@ -49,12 +50,33 @@ def check_rows(look):
         look.same("200,001 rows: the replies", said.decode().splitlines(), [*replies("repeated", MOST_RECEIPTS), "full"])
 
 
+def charge(number):
+    return {
+        "act": "create", "folio": 7, "kind": "land-charge", "rate": 500,
+        "capital": 100_000 + number, "holder": 20, "group": 1,
+    }
+
+
+def check_rights(look):
+    """A folio takes 256 rights; each stands in its extract, its ranks and its cents."""
+    acts = [checks.opening(7), *(charge(number) for number in range(2, MOST_RIGHTS + 3))]
+    lines = "".join(wrong_lines.compact(checks.filing(number, act)) + "\n" for number, act in enumerate(acts, 1))
+    status, said, _ = checks.run(LINES, input=lines.encode())
+    text = said.decode().splitlines()
+    look.same("257 rights of a folio: the status", status, 0)
+    for word, wanted in (("right ", MOST_RIGHTS), ("rank ", MOST_RIGHTS), ("cents ", MOST_RIGHTS)):
+        look.same(f"257 rights of a folio: lines of {word.strip()}", sum(line.startswith(word) for line in text), wanted)
+    verdicts = [line.split(" ", 2)[2] for line in text if line.startswith("receipt ")]
+    look.same("257 rights of a folio: the last is beyond the limit", (verdicts.count("entered"), verdicts[-1][:8]), (MOST_RIGHTS + 1, "rejected"))
+
+
 def main():
     checks.build()
     look = checks.Checks()
     check_line(look)
     check_lines(look)
     check_rows(look)
+    check_rights(look)
     look.end()
 
 

@@ -47,6 +47,13 @@ class Checks:
         else:
             self.differs(what, f"{shortened(got)}, and not {shortened(wanted)}")
 
+    def at_most(self, what, got, most):
+        """Whether what was counted is no more than this."""
+        if got <= most:
+            self.ok(f"{what}: {got}")
+        else:
+            self.differs(what, f"{got}, and at most {most}")
+
     def add(self, passed, failed, skipped):
         self.passed += passed
         self.failed += failed

@@ -1,4 +1,5 @@
-// Acts, with what an opening says of the land.
+//! Acts, with what an opening says of the land.
+//! Why so: docs/DECISIONS.md, "Two readers of one grammar name its parts alike".
 ghost use Rattle.std.specs.Prelude.{◌≡◌, ◌≤◌, length, ◌++◌, OnOk};
 ghost use Rattle.std.specs.List.{AllByRecursion, flat_map};
 ghost use Rattle.std.specs.Option.{option_map};

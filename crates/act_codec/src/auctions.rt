@@ -1,4 +1,4 @@
-// What a seizure rests on, and what is registered.
+//! What a seizure rests on, and what is registered.
 ghost use Rattle.std.specs.Prelude.{◌≡◌, ◌++◌, OnOk};
 ghost use Rattle.act_codec.specs.Spelling.{basis_bytes, registration_bytes};
 ghost use Rattle.act_codec.specs.Values.{IsBasis, IsRegistration};

@@ -1,4 +1,5 @@
-// Items.
+//! Items.
+//! Why so: docs/DECISIONS.md, "A format's table is one long match".
 ghost use Rattle.std.specs.Prelude.{◌≡◌, ◌++◌, OnOk};
 ghost use Rattle.act_codec.specs.Spelling.{condition_bytes, filing_bytes, item_bytes};
 ghost use Rattle.act_codec.specs.Values.{IsFiling, IsItem};

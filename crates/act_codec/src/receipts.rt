@@ -1,4 +1,4 @@
-// Receipts, whole.
+//! Receipts, whole.
 ghost use Rattle.std.specs.Prelude.{◌≡◌, ◌≢◌, ◌↔◌, IfSome, IsNone, IfOk, OnOk, IsTrue, ◌≤◌, length, ◌++◌};
 ghost use Rattle.act_model.specs.WellFormed.{well_formed};
 ghost use Rattle.act_model.specs.declared.receipts.Receipt.{Receipt};

@@ -1,4 +1,4 @@
-// Rights, and what a right is to be.
+//! Rights, and what a right is to be.
 ghost use Rattle.std.specs.Prelude.{◌≡◌, ◌++◌, OnOk};
 ghost use Rattle.act_codec.specs.Spelling.{right_bytes, kind_bytes, spec_bytes, reserve_bytes};
 ghost use Rattle.act_codec.specs.Values.{IsRight, IsKind, IsSpec, IsReserve};

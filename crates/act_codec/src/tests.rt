@@ -1,4 +1,4 @@
-// The bytes are written out by hand from the table of the format.
+//! The bytes are written out by hand from the table of the format.
 use crate::{decode, encode};
 use act_model::{
     Act, Acts, Basis, Doc, Docs, Filing, Form, Inventory, Item, Owners, Receipt, Registration,

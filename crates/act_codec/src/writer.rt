@@ -1,4 +1,4 @@
-// Bytes that are written.
+//! Bytes that are written.
 ghost use Rattle.std.specs.Prelude.{◌≡◌, ◌<◌, ◌^◌, [], IfOk, ◌++◌, OnOk};
 ghost use Rattle.act_codec.specs.Spelling.{u8_bytes, u16_bytes, u32_bytes, u64_bytes};
 ghost use Rattle.act_codec.specs.Values.{IsNumber, IsDay, IsCents};

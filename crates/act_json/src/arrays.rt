@@ -1,4 +1,4 @@
-// Arrays and their elements.
+//! Arrays and their elements.
 ghost use Rattle.std.specs.Prelude.{◌≡◌, ◌+◌, ◌<◌, ◌≤◌, List, length, IfErr, IfOk, MatchResult, Ok, Err, IsTrue};
 ghost use Rattle.std.specs.List.{list_all};
 ghost use Rattle.act_json.specs.Reading.{within, elements, array_of};

@@ -1,4 +1,4 @@
-// Dates, written YYYY-MM-DD.
+//! Dates, written YYYY-MM-DD.
 use crate::Path;
 use crate::reading::FromJson;
 use gb_base::Day;

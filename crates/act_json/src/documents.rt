@@ -1,4 +1,4 @@
-// The documents of a filing or a cure.
+//! The documents of a filing or a cure.
 ghost use Rattle.std.specs.Prelude.{◌≡◌, ◌≤◌, length, IfErr, IfOk, IsTrue};
 ghost use Rattle.gb_base.specs.Limits.{is_between};
 ghost use Rattle.act_model.specs.WellFormed.{is_doc};

@@ -1,4 +1,4 @@
-// The items. A reader of an item takes the whole object.
+//! The items. A reader of an item takes the whole object.
 ghost use Rattle.std.specs.Prelude.{◌≡◌, ◌≤◌, length, IfErr, IfOk, IsTrue};
 ghost use Rattle.act_model.specs.WellFormed.{well_formed, keeps_rules, is_doc, is_act};
 ghost use Rattle.act_json.specs.Grammar.{read_filing, read_cure, read_lapse, read_seize, read_register, read_open_bids, read_award, read_distribute};

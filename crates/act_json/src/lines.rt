@@ -1,4 +1,4 @@
-// Lines of JSON, with or without the stamp of their receipt.
+//! Lines of JSON, with or without the stamp of their receipt.
 ghost use Rattle.std.specs.Prelude.{◌≡◌, ◌≤◌, length, codes, IfOk, IsTrue};
 ghost use Rattle.act_model.specs.WellFormed.{well_formed};
 ghost use Rattle.act_json.specs.inner.Helpers.{widest};

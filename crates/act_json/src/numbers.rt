@@ -1,4 +1,4 @@
-// Numbers of persons, folios and receipts, and amounts.
+//! Numbers of persons, folios and receipts, and amounts.
 ghost use Rattle.std.specs.Prelude.{◌≡◌, ◌<◌, [], IfErr, IfOk};
 ghost use Rattle.act_json.specs.Grammar.{serial};
 ghost use Rattle.serde_json.specs.View.{view};

@@ -1,4 +1,4 @@
-// Paths in a line.
+//! Paths in a line.
 ghost use Rattle.std.specs.Prelude.{◌≡◌, ◌+◌, ◌<◌, ◌≤◌, [], length};
 ghost use Rattle.std.specs.Prelude.{codes, decimal, IfErr, IfOk};
 ghost use Rattle.act_json.specs.Reading.{below};

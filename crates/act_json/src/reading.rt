@@ -1,4 +1,4 @@
-// What a JSON value is read as, and the members of an object.
+//! What a JSON value is read as, and the members of an object.
 ghost use Rattle.std.specs.Prelude.{◌≡◌, ◌+◌, ◌<◌, ◌≤◌, [], length, map, None, Some, MatchResult, IfErr, IfOk, IsTrue, string_bytes, ◌++◌, ◌||◌};
 ghost use Rattle.std.specs.List.{list_all};
 ghost use Rattle.std.specs.BTreeMap.{keys};

@@ -1,4 +1,4 @@
-// Rights and owners.
+//! Rights and owners.
 ghost use Rattle.std.specs.Prelude.{◌≡◌, ◌≤◌, List, ◌∷◌, [], length, map, codes, IfErr, IfOk, IsTrue};
 ghost use Rattle.act_model.specs.Acts.{is_in_division_three};
 ghost use Rattle.act_model.specs.WellFormed.{is_right_spec, is_right_kind};

@@ -1,4 +1,4 @@
-// The words that tell apart the kinds of an object.
+//! The words that tell apart the kinds of an object.
 ghost use Rattle.std.specs.Prelude.{◌≡◌};
 ghost use Rattle.act_json.specs.Reading.{look_up};
 ghost use Rattle.act_json.specs.Grammar.{right_words, act_words, doc_words, forms, basis_words, registration_words, item_words};

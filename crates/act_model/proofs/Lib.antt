@@ -1,6 +1,7 @@
 -- Lemmas.
 pub mod CreationOrder
 pub mod CreationRanks
+pub mod CureOrder
 mod DerivedEquality
 mod FolioLemmas
 mod ItemEquality

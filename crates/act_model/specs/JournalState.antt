@@ -1,4 +1,5 @@
 -- What is seen of a journal.
+-- Why so: docs/DECISIONS.md, "A journal in contracts is the list of its receipts".
 use Rattle.std.specs.Prelude.{Bool, false, List, Option}
 use Rattle.std.specs.Option.{option_map_or}
 use Rattle.act_model.specs.declared.items.Item.{Item}

@@ -1,4 +1,5 @@
 -- How a journal receives an item (GBO § 13): one number acts once, and stamps never fall.
+-- Why so: docs/DECISIONS.md, "An early line gets the last receipt's stamp".
 use Rattle.std.specs.Prelude.{◌≡◌, ℕ, ◌+◌, ◌-◌, ◌≤◌, Bool, true, false, ◌&&◌, ◌||◌, ◌==◌, nat_lt, nat_le, if◌then◌else◌, List, [], ◌∷◌, ◌++◌, length, slice_get, All, AllPairs, IsTrue, Option, Some, None}
 use Rattle.std.specs.Option.{option_map_or}
 use Rattle.gb_base.specs.DayMinute.{DayMinute}

@@ -1,4 +1,5 @@
 -- When two items are the same.
+-- Why so: docs/DECISIONS.md, "A repeated item is compared as read".
 use Rattle.std.specs.Prelude.{Bool}
 use Rattle.act_model.specs.declared.items.Item.{Item}
 use Rattle.act_model.specs.contracts.items.ItemPartialEq.TheImpl as items

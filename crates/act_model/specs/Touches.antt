@@ -1,5 +1,5 @@
 -- The keys that a filing touches. They follow from the receipts up to it alone (law keys_stay), whatever became of these.
-use Rattle.std.specs.Prelude.{ℕ, ◌+◌, ◌-◌, Bool, false, ◌==◌, nat_lt, if◌then◌else◌, List, [], ◌∷◌, ◌++◌, map, slice_get, Option, Some, None, option_and_then}
+use Rattle.std.specs.Prelude.{ℕ, ◌+◌, ◌-◌, Bool, false, ◌==◌, nat_lt, if◌then◌else◌, List, [], ◌∷◌, ◌++◌, map, slice_get, Option, Some, None, option_and_then, option_map}
 use Rattle.std.specs.Option.{option_map_or}
 use Rattle.std.specs.FinMap.{from_entries, keys}
 use Rattle.gb_base.specs.RightNo.{RightNo}
@@ -11,10 +11,10 @@ use Rattle.act_model.specs.declared.filing_acts.Act.{Act}
 use Rattle.act_model.specs.declared.filing_acts.Act.TheVariants.{Open, Transfer, Create, NoticeFor, Convert, Assign, Cancel, Exchange, Exercise}
 use Rattle.act_model.specs.declared.items.Filing.{Filing}
 use Rattle.act_model.specs.declared.items.Item.{Item}
-use Rattle.act_model.specs.declared.items.Item.TheVariants as item
 use Rattle.act_model.specs.declared.receipts.Receipt.{Receipt}
 use Rattle.act_model.specs.Acts.{folio_of, right_created, is_in_division_three}
 use Rattle.act_model.specs.Receiving.{receipt_at}
+use Rattle.act_model.specs.declared.items.Item.TheVariants as item
 
 -- the filing that an item is; none where it is another item
 abbrev pub filing_in : Item → Option Filing
@@ -87,3 +87,11 @@ in_key_order ks = keys (from_entries {X = Unit {0}} {R = key_cmp} (map (λ k. (k
 -- the keys of filing m in ascending order, each once
 abbrev pub keys_in_order : List Receipt → ℕ → List Key
 keys_in_order journal m = in_key_order (keys_of_filing journal m)
+
+-- the applicant of filing n; none where receipt n is no filing
+abbrev pub applicant_of : List Receipt → ℕ → Option ℕ
+applicant_of journal n = option_map (λ f. f.applicant) (filing_at journal n)
+
+-- the act of this right's number in its filing
+abbrev pub act_of_right : List Receipt → RightNo → Option Act
+act_of_right journal right = option_and_then (λ f. act_at f right.act) (filing_at journal right.receipt)

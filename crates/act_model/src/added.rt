@@ -1,4 +1,4 @@
-// The journal's answers.
+//! The journal's answers.
 use gb_base::ReceiptNo;
 
 /// What a journal answers to an item.

@@ -1,4 +1,4 @@
-// What seizures and registrations say.
+//! What seizures and registrations say.
 use gb_base::{Cents, Day, Person, RightId};
 
 /// What a seizure rests on (ZVG § 10).

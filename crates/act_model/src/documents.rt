@@ -1,4 +1,4 @@
-// Documents, and lists of them.
+//! Documents, and lists of them.
 ghost use Rattle.std.specs.Prelude.{◌≡◌, ◌≤◌, length};
 
 use arrayvec::ArrayVec;

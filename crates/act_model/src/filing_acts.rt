@@ -1,4 +1,4 @@
-// Acts, and lists of them.
+//! Acts, and lists of them.
 ghost use Rattle.std.specs.Prelude.{◌≡◌, ◌≤◌, length};
 
 use crate::{Inventory, Owners, RightSpec};

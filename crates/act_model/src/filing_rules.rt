@@ -1,4 +1,4 @@
-// The rules over a whole filing.
+//! The rules over a whole filing.
 ghost use Rattle.std.specs.Prelude.{◌≡◌, ◌≤◌, ◌==◌, ◌&&◌, ◌||◌, not, length, map};
 ghost use Rattle.std.specs.List.{filter_map, flat_map, list_all, list_any};
 ghost use Rattle.gb_base.specs.Limits.{most_acts};

@@ -1,13 +1,13 @@
-// Filings of the journal, their acts, and the rights that these create.
+//! Filings of the journal, their acts, and the rights that these create.
 ghost use Rattle.std.specs.Prelude.{◌≡◌, ◌≤◌, IsTrue, IfSome};
 ghost use Rattle.std.specs.Option.{option_copied};
 ghost use Rattle.gb_base.specs.Limits.{most_acts};
 ghost use Rattle.act_model.specs.Creations.{folio_of_right};
 ghost use Rattle.act_model.specs.WellFormed.{is_filing, well_formed};
-ghost use Rattle.act_model.specs.Touches.{filing_in, filing_at, acts_of, act_at, created_in, created_before, new_right};
+ghost use Rattle.act_model.specs.Touches.{applicant_of, filing_in, filing_at, acts_of, act_at, created_in, created_before, new_right};
 
 use crate::{Act, Filing, Item, Journal, RightSpec};
-use gb_base::{FolioId, ReceiptNo, RightId};
+use gb_base::{FolioId, Person, ReceiptNo, RightId};
 
 /// Filing m; None where receipt m is no filing.
 pub fn filing_at(journal: &Journal, m: ReceiptNo) -> Option<&Filing>
@@ -98,5 +98,15 @@ fn created_in(folio: FolioId, act: &Act) -> Option<RightSpec>
         act.right_created()
     } else {
         None
+    }
+}
+
+/// The applicant of filing n; None where receipt n is no filing.
+pub fn applicant_of(journal: &Journal, n: ReceiptNo) -> Option<Person>
+    ensures { result ≡ applicant_of journal.now.receipts n }
+{
+    match filing_at(journal, n) {
+        Some(filing) => Some(filing.applicant),
+        None => None,
     }
 }

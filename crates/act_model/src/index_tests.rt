@@ -1,4 +1,4 @@
-// The cures of filings and the creating acts of folios, in small journals.
+//! The cures of filings and the creating acts of folios, in small journals.
 use crate::tests::{filing, folio, land_charge, lapse, opening, receipt, stamp};
 use crate::{Act, Added, Docs, Item, Journal, RightKind, RightSpec, well_formed};
 use arrayvec::ArrayVec;

@@ -1,4 +1,5 @@
-// The indexes of a journal by what its items say.
+//! The indexes of a journal by what its items say.
+//! Why so: docs/DECISIONS.md, "The journal's index may lag by its last receipt".
 ghost use Rattle.std.specs.Prelude.{◌≡◌, ◌≤◌, ◌+◌, ℕ, [], length, OnOk};
 ghost use Rattle.gb_base.specs.Limits.{most_acts};
 ghost use Rattle.act_model.specs.inner.ItemIndexes.{cures_by, creations_by, creations_by_acts, AreIndexesOf, HaveRoomFor};

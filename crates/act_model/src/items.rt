@@ -1,4 +1,5 @@
-// Filings and the other items.
+//! Filings and the other items.
+//! Why so: docs/DECISIONS.md, "`clone` answers a `Result`, `copy` does not".
 use crate::{Acts, Basis, Docs, Registration};
 use gb_base::{Cents, Day, FolioId, Person, ReceiptNo};
 

@@ -1,4 +1,5 @@
-// The journal of the office.
+//! The journal of the office.
+//! Why so: docs/DECISIONS.md, "Room is kept for one item".
 ghost use Rattle.std.specs.Prelude.{◌≡◌, ◌⊎◌, ◌≤◌, ◌+◌, ◌-◌, ◌*◌, true, false, [], option_map, position, length, drop, IsTrue, IsOk, OnOk, OnErr, IfSome};
 ghost use Rattle.std.specs.Option.{option_copied};
 ghost use Rattle.act_model.specs.Receiving.{answer_again, stamp_after, IsJournal};

@@ -1,4 +1,4 @@
-// What an opening says of the land.
+//! What an opening says of the land.
 /// A parcel as the inventory of its folio describes it (GBO § 2).
 #[derive(Clone, Copy, Debug, PartialEq, Eq)]
 pub struct Inventory {

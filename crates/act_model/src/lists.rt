@@ -1,4 +1,4 @@
-// Lists of values under numbers.
+//! Lists of values under numbers.
 ghost use Rattle.std.specs.Prelude.{◌≡◌, ◌+◌, ◌++◌, ◌∷◌, ◌≤◌, ℕ, [], if◌then◌else◌, ◌==◌, OnOk};
 ghost use Rattle.act_model.specs.inner.Lists.{listed, room, Widens};
 

@@ -1,4 +1,4 @@
-// Owners.
+//! Owners.
 ghost use Rattle.std.specs.Prelude.{◌≡◌, ◌↔◌, ◌≤◌, length, IsSome, IfSome, IsTrue};
 ghost use Rattle.act_model.specs.Persons.{AreOwners, is_distinct};
 

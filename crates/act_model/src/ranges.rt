@@ -1,4 +1,4 @@
-// Whether an item is well formed.
+//! Whether an item is well formed.
 ghost use Rattle.std.specs.Prelude.{◌≡◌};
 ghost use Rattle.std.specs.List.{list_all};
 ghost use Rattle.act_model.specs.WellFormed.{is_act_number, is_amount, is_inventory, is_right_kind, is_right_spec, is_reserve, is_act, is_doc, is_filing, is_basis, is_registration, well_formed};

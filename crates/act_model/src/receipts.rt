@@ -1,4 +1,4 @@
-// Items as they are received.
+//! Items as they are received.
 use crate::Item;
 use gb_base::Stamp;
 

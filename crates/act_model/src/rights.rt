@@ -1,4 +1,4 @@
-// Rights as acts describe them.
+//! Rights as acts describe them.
 ghost use Rattle.std.specs.Prelude.{◌≡◌};
 
 use gb_base::{Cents, Person};

@@ -1,4 +1,4 @@
-// Numbers, stamps, room and keys of small journals.
+//! Numbers, stamps, room and keys of small journals.
 use crate::{
     Act, Acts, Added, Docs, Filing, Inventory, Item, Journal, Owners, RightKind, RightSpec,
     filing_keys, well_formed,

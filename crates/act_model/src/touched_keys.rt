@@ -1,4 +1,4 @@
-// The keys that a filing touches.
+//! The keys that a filing touches.
 ghost use Rattle.std.specs.Prelude.{◌≡◌, ◌≤◌, IsTrue, [], insert, length};
 ghost use Rattle.gb_base.specs.Limits.{most_acts};
 ghost use Rattle.act_model.specs.WellFormed.{names_few_folios};

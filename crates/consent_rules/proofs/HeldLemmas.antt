@@ -13,12 +13,12 @@ use Rattle.act_model.specs.declared.filing_acts.Act.{Act}
 use Rattle.act_model.specs.declared.filing_acts.Act.TheVariants.{Open, Transfer, Create, NoticeFor, Convert, Assign, Cancel, Exchange, Exercise}
 use Rattle.act_model.specs.declared.items.Filing.{Filing}
 use Rattle.act_model.specs.declared.receipts.Receipt.{Receipt}
-use Rattle.folio_sections.specs.Judging.{defects, judged, judged_filing, judgement_by, rejection, IsKnownExchange, KnowsExchanges}
-use Rattle.folio_sections.specs.Documents.{documents}
+use Rattle.consent_rules.specs.Judging.{defects, judged, judged_filing, judgement_by, rejection, IsKnownExchange, KnowsExchanges}
+use Rattle.act_model.specs.Documents.{documents}
 use Rattle.folio_sections.specs.Rights.{live_right}
 use Rattle.folio_sections.specs.declared.entries.Created.{Created}
 use Rattle.folio_sections.specs.declared.entries.Entry.{Entry}
-use Rattle.folio_sections.specs.declared.judgements.Judgement.{Judgement}
+use Rattle.consent_rules.specs.declared.judgements.Judgement.{Judgement}
 use Rattle.act_model.specs.declared.documents.Doc.{Doc}
 use Rattle.consent_rules.specs.inner.Held.{HasParts, TitleAndRight}
 

@@ -7,7 +7,8 @@ use Rattle.std.proofs.lemmas.Bool.{and_from, and_parts, cases_Bool, eqb-true, fa
 use Rattle.std.proofs.lemmas.Bool.Decides.{same_from_decides}
 use Rattle.gb_base.proofs.Members.{in_range, of_range}
 use Rattle.act_model.specs.declared.receipts.Receipt.{Receipt}
-use Rattle.folio_sections.specs.Persons.{applicant_of, waiting_applicants}
+use Rattle.act_model.specs.Touches.{applicant_of}
+use Rattle.consent_rules.specs.Persons.{waiting_applicants}
 use Rattle.folio_sections.specs.Waiting.{is_pending, until_by, waiting_before}
 use Rattle.folio_sections.specs.declared.entries.Entry.{Entry}
 use Rattle.folio_sections.specs.declared.entries.What.{What}

@@ -1,2 +1,5 @@
 -- What contracts cite.
+pub mod Judging
+pub mod Limits
+pub mod Persons
 pub mod inner

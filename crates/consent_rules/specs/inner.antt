@@ -3,4 +3,3 @@ pub mod Held
 pub mod Lacks
 pub mod Needed
 pub mod WaitingAt
-pub mod WithBefore

@@ -1,4 +1,4 @@
-// Acts in a folio that is not open, and on a right that does not stand yet (GBO § 3, BGB § 873).
+//! Acts in a folio that is not open, and on a right that does not stand yet (GBO § 3, BGB § 873).
 use crate::test_register::{
     certified, charge, create, filing, folio, one_owner, person, rejects, right, two, verdict,
     verdict_on,

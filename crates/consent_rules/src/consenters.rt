@@ -1,15 +1,14 @@
-// Whose consent an act needs (GBO §§ 19, 22, 27; BGB §§ 876, 880(2)).
+//! Whose consent an act needs (GBO §§ 19, 22, 27; BGB §§ 876, 880(2)).
 ghost use Rattle.std.specs.Prelude.{◌≡◌, ◌==◌};
 ghost use Rattle.std.specs.List.{list_any};
-ghost use Rattle.folio_sections.specs.Persons.{persons};
+ghost use Rattle.consent_rules.specs.Persons.{persons};
 ghost use Rattle.consent_rules.specs.inner.Lacks.{is_lacking};
 ghost use Rattle.consent_rules.specs.inner.Needed.{everyone};
 
 use crate::lacks::{Lack, some_are_lacking};
 use crate::waiting::Waiting;
-use act_model::Doc;
+use act_model::{Doc, DocFilter};
 use arrayvec::ArrayVec;
-use folio_sections::DocFilter;
 use gb_base::Person;
 
 /// All whose consent an act needs.
@@ -83,7 +82,7 @@ pub struct Stranger<'a> {
 }
 
 impl<'a> DocFilter for Stranger<'a> {
-    ghost use Rattle.folio_sections.specs.Documents.{is_strangers_consent};
+    ghost use Rattle.act_model.specs.Documents.{is_strangers_consent};
     ghost use Rattle.consent_rules.specs.inner.Needed.{everyone};
 
     ghost test = { λ s d. is_strangers_consent s.act (everyone s.needed.now) d };

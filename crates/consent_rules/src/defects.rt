@@ -1,17 +1,17 @@
-// The curable defects, of which all that hold are listed (GBO § 18).
-ghost use Rattle.std.specs.Prelude.{◌≡◌, ◌+◌, ◌≤◌, ◌<◌, ◌++◌, length, All};
-ghost use Rattle.folio_sections.specs.Judging.{defects, defects_under, is_defective};
+//! The curable defects, of which all that hold are listed (GBO § 18).
+ghost use Rattle.std.specs.Prelude.{◌≡◌, ◌+◌, ◌≤◌, ◌++◌, length, All};
+ghost use Rattle.consent_rules.specs.Judging.{defects, defects_under, is_defective};
 ghost use Rattle.consent_rules.specs.inner.Held.{HasParts};
 
+use crate::Defect;
 use crate::consent::{
     has_stranger, lacks_clearance, lacks_consent, lacks_others, lacks_owner,
     lacks_owner_of_exchange, wants_form,
 };
 use crate::matters::Matter;
-use crate::needed::number_behind;
 use act_model::Act;
 use arrayvec::ArrayVec;
-use folio_sections::{Defect, Parts};
+use folio_sections::Parts;
 use gb_base::Section;
 
 /// The sections of the defects, in the order in which they are listed.
@@ -48,36 +48,28 @@ fn add_defects<P: Parts>(
     ensures added { list.new.items ≡ list.old.items ++ defects_under matter.now.journal.now.receipts matter.now.number matter.now.filing.now matter.now.docs (P.at parts.now) section }
     ensures few { length list.new.items ≤ length list.old.items + 8 }
 {
-    let acts = matter.filing.acts.list();
-    for (index, act) in acts.iter().enumerate() {
-        if is_defective(parts, matter, section, &acts[..index], act) {
-            let act = number_behind(&acts[..index]);
-            list.push(Defect { section, act });
+    for (index, act) in matter.filing.acts.list().iter().enumerate() {
+        let a = index as u8 + 1;
+        if is_defective(parts, matter, section, a, act) {
+            list.push(Defect { section, act: a });
         }
     }
 }
 
-/// Whether the defect is there at an act, given the acts before it.
-fn is_defective<P: Parts>(
-    parts: &P,
-    matter: &Matter,
-    section: Section,
-    before: &[Act],
-    act: &Act,
-) -> bool
-    requires few { length before.now < 8 }
+/// Whether the defect is there at act a of the filing. Only the sections of `CURABLES` are asked.
+fn is_defective<P: Parts>(parts: &P, matter: &Matter, section: Section, a: u8, act: &Act) -> bool
     requires held { HasParts (P.holds parts.now) (P.at parts.now) act.now }
-    ensures { result ≡ is_defective matter.now.journal.now.receipts matter.now.number matter.now.docs (P.at parts.now) section before.now act.now }
+    ensures { result ≡ is_defective matter.now.journal.now.receipts matter.now.number matter.now.filing.now matter.now.docs (P.at parts.now) section a act.now }
 {
     match section {
-        Section::Gbo29 => wants_form(parts, matter, before, act),
+        Section::Gbo29 => wants_form(parts, matter, a, act),
         Section::Gbo39 => {
-            lacks_consent(parts, matter, before, act) && has_stranger(parts, matter, before, act)
+            lacks_consent(parts, matter, a, act) && has_stranger(parts, matter, a, act)
         }
-        Section::Gbo27 => lacks_owner(parts, matter, before, act),
-        Section::Bgb876 => lacks_others(parts, matter, before, act),
-        Section::Bgb880 => lacks_owner_of_exchange(parts, matter, before, act),
-        Section::Grest22 => lacks_clearance(&matter.docs, before, act),
+        Section::Gbo27 => lacks_owner(parts, matter, a, act),
+        Section::Bgb876 => lacks_others(parts, matter, a, act),
+        Section::Bgb880 => lacks_owner_of_exchange(parts, matter, a, act),
+        Section::Grest22 => lacks_clearance(&matter.docs, a, act),
         _ => false,
     }
 }

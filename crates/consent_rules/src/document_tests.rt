@@ -1,4 +1,4 @@
-// Documents of cures, official notices, and filings that wait.
+//! Documents of cures, official notices, and filings that wait.
 use crate::Judgement;
 use crate::test_register::{
     TestRegister, certified, charge, create, defect, enters, filing, folio, judged, one, one_owner,

@@ -1,7 +1,8 @@
-// The grounds for rejection, of which the first that holds is named (GBO § 18).
-ghost use Rattle.std.specs.Prelude.{◌≡◌, ◌<◌, length, find, All};
-ghost use Rattle.std.specs.List.{list_any};
-ghost use Rattle.folio_sections.specs.Judging.{holds, is_rejected_under, rejection, with_before};
+//! The grounds for rejection, of which the first that holds is named (GBO § 18).
+ghost use Rattle.std.specs.Prelude.{◌≡◌, ◌≤◌, find, All};
+ghost use Rattle.std.specs.List.{enumerate_from, list_any};
+ghost use Rattle.gb_base.specs.Limits.{most_acts};
+ghost use Rattle.consent_rules.specs.Judging.{holds, is_rejected_under, rejection};
 ghost use Rattle.consent_rules.specs.inner.Held.{HasParts};
 
 use crate::applying::may_not_apply;
@@ -58,38 +59,36 @@ fn is_rejected_under<P: Parts>(parts: &P, matter: &Matter, section: Section) -> 
 /// Whether the ground holds for some act of the filing.
 fn holds_for_some<P: Parts>(parts: &P, matter: &Matter, section: Section) -> bool
     requires held { All (HasParts (P.holds parts.now) (P.at parts.now)) matter.now.filing.now.acts }
-    ensures { result ≡ list_any (λ p. holds matter.now.journal.now.receipts matter.now.number matter.now.filing.now matter.now.docs (P.at parts.now) section p.0 p.1) (with_before matter.now.filing.now.acts) }
+    ensures { result ≡ list_any (λ p. holds matter.now.journal.now.receipts matter.now.number matter.now.filing.now matter.now.docs (P.at parts.now) section p.0 p.1) (enumerate_from 1 matter.now.filing.now.acts) }
 {
-    let acts = matter.filing.acts.list();
-    for (index, act) in acts.iter().enumerate() {
-        if holds(parts, matter, section, &acts[..index], act) {
+    for (index, act) in matter.filing.acts.list().iter().enumerate() {
+        if holds(parts, matter, section, index as u8 + 1, act) {
             return true;
         }
     }
     false
 }
 
-/// Whether the ground holds for an act, given the acts before it.
-fn holds<P: Parts>(parts: &P, matter: &Matter, section: Section, before: &[Act], act: &Act) -> bool
-    requires few { length before.now < 8 }
+/// Whether the ground holds for act a of the filing. Only the grounds of an act are asked, which
+/// are all of `GROUNDS` but the first.
+fn holds<P: Parts>(parts: &P, matter: &Matter, section: Section, a: u8, act: &Act) -> bool
+    requires from_one { 1 ≤ a }
+    requires to_eight { a ≤ most_acts }
     requires held { HasParts (P.holds parts.now) (P.at parts.now) act.now }
-    ensures { result ≡ holds matter.now.journal.now.receipts matter.now.number matter.now.filing.now matter.now.docs (P.at parts.now) section before.now act.now }
+    ensures { result ≡ holds matter.now.journal.now.receipts matter.now.number matter.now.filing.now matter.now.docs (P.at parts.now) section a act.now }
 {
     match section {
-        Section::Limit => is_beyond_limit(matter.journal, matter.number, before),
-        Section::Gbo3 => lacks_folio(parts, before, act),
+        Section::Limit => is_beyond_limit(matter, a),
+        Section::Gbo3 => lacks_folio(parts, matter, a, act),
         Section::Bgb873 => lacks_right(parts, act),
         Section::Bgb883 => converts_full_right(parts, act),
         Section::Bgb880 => exchanges_unfit_right(parts, matter.journal, act),
         Section::Bgb881 => lacks_reservation(parts, act),
         Section::Bgb1059 => assigns_division_two(parts, act),
-        Section::Gbo13 => {
-            let applicant = matter.filing.applicant;
-            may_not_apply(parts, matter.number, applicant, before, act)
-        }
-        Section::Gbo20 => lacks_agreement(&matter.docs, before, act),
+        Section::Gbo13 => may_not_apply(parts, matter, a, act),
+        Section::Gbo20 => lacks_agreement(&matter.docs, a, act),
         Section::Gbo19 => {
-            lacks_consent(parts, matter, before, act) && !has_stranger(parts, matter, before, act)
+            lacks_consent(parts, matter, a, act) && !has_stranger(parts, matter, a, act)
         }
         _ => false,
     }

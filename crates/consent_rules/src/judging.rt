@@ -1,20 +1,35 @@
-// How a filing is judged on the register as it stands (GBO § 18).
+//! How a filing is judged on the register as it stands (GBO § 18).
+//! Why so: docs/DECISIONS.md, "`judge` asks for no more than it needs".
 ghost use Rattle.std.specs.Prelude.{◌≡◌, ◌≤◌, Some, length, IsSome, IsTrue, All, Contains};
 ghost use Rattle.gb_base.specs.declared.keys.Key.{Key};
 ghost use Rattle.act_model.specs.Touches.{filing_at, keys_of_filing};
-ghost use Rattle.folio_sections.specs.Judging.{defects, interim_or_enter, judged, judgement_by, rejection, KnowsExchanges};
+ghost use Rattle.consent_rules.specs.Judging.{defects, interim_or_enter, judged, judgement_by, rejection, KnowsExchanges};
 ghost use Rattle.consent_rules.specs.inner.Held.{HasParts};
 
 use crate::defects::defects;
 use crate::grounds::rejection;
 use crate::matters::Matter;
-use act_model::{Journal, filing_at};
+use crate::{Defect, Defects, Judgement};
+use act_model::{Documents, Journal, filing_at};
 use arrayvec::ArrayVec;
-use folio_sections::{Defect, Defects, Documents, Judgement, Parts};
+use folio_sections::Parts;
 use gb_base::ReceiptNo;
 
 /// Filing `filing`, judged on the register as it stands, with its documents and those of its cures
-/// up to receipt `upto` (GBO § 18). `can_be_judged` tests what this asks. Takes no memory.
+/// up to receipt `upto` (GBO § 18). It wants the parts of the filing's keys, and of each right that
+/// recedes that it is as an earlier filing creates it; `can_be_judged` tests both, and that there is
+/// such a filing. It takes no memory and cannot fail.
+///
+/// ```
+/// if can_be_judged(&parts, &journal, filing) {
+///     // As it was filed, without a cure.
+///     match judge(&parts, &journal, filing, filing) {
+///         Judgement::Enter => {}
+///         Judgement::Reject(section) => assert!(section != Section::Gbo29),
+///         Judgement::Interim(defects) => assert!(!defects.list().is_empty()),
+///     }
+/// }
+/// ```
 pub fn judge<P: Parts>(
     parts: &P,
     journal: &Journal,

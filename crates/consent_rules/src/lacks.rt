@@ -1,10 +1,9 @@
-// What the consents of several persons to an act may lack.
+//! What the consents of several persons to an act may lack.
 ghost use Rattle.std.specs.Prelude.{◌≡◌};
 ghost use Rattle.std.specs.List.{list_any};
 ghost use Rattle.consent_rules.specs.inner.Lacks.{is_lacking};
 
-use act_model::Form;
-use folio_sections::Documents;
+use act_model::{Documents, Form};
 use gb_base::Person;
 
 /// What somebody's consent to an act may lack.

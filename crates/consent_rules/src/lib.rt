@@ -11,6 +11,7 @@ mod defects;
 #[cfg(test)]
 mod document_tests;
 mod grounds;
+mod judgements;
 mod judging;
 mod lacks;
 mod matters;
@@ -33,6 +34,6 @@ mod test_register;
 mod tests;
 mod waiting;
 
-pub use folio_sections::{Defect, Defects, Judgement};
+pub use judgements::{Defect, Defects, Judgement};
 pub use judging::judge;
 pub use premises::can_be_judged;

@@ -1,6 +1,5 @@
-// A filing that is judged.
-use act_model::{Filing, Journal};
-use folio_sections::Documents;
+//! A filing that is judged.
+use act_model::{Documents, Filing, Journal};
 use gb_base::ReceiptNo;
 
 /// A filing that is judged, with the journal and the documents that count for it.

@@ -1,7 +1,7 @@
-// Whose consent each act needs (GBO §§ 19, 22, 27; BGB §§ 876, 880(2)).
-ghost use Rattle.std.specs.Prelude.{◌≡◌, ◌≤◌, ◌<◌, ◌&&◌, not, if◌then◌else◌, [], length, IsTrue};
+//! Whose consent each act needs (GBO §§ 19, 22, 27; BGB §§ 876, 880(2)).
+ghost use Rattle.std.specs.Prelude.{◌≡◌, ◌&&◌, not, if◌then◌else◌, [], IsTrue};
 ghost use Rattle.gb_base.specs.declared.keys.Key.TheVariants.{Title, Right};
-ghost use Rattle.folio_sections.specs.Persons.{affected, holder_then, number_behind, others, owner_side, owners_then, persons, stands_in_division_three, waiting_applicants};
+ghost use Rattle.consent_rules.specs.Persons.{affected, holder_then, others, owner_side, owners_then, persons, stands_in_division_three, waiting_applicants};
 ghost use Rattle.consent_rules.specs.inner.Held.{HasParts};
 
 use crate::consenters::Consenters;
@@ -11,117 +11,96 @@ use crate::persons::{holder_then, owners_then, people};
 use crate::waiting::Waiting;
 use act_model::{Act, Journal};
 use arrayvec::ArrayVec;
-use folio_sections::{Documents, Parts, RightPart};
+use folio_sections::{Parts, RightPart};
 use gb_base::{FolioId, Person, ReceiptNo, RightId};
 
-/// The number of an act behind these.
-pub fn number_behind(before: &[Act]) -> u8
-    requires few { length before.now < 8 }
-    ensures value { result ≡ number_behind before.now }
-    ensures bound { result ≤ 8 }
-{
-    before.len() as u8 + 1
-}
-
-/// All whose consent the act needs.
+/// All whose consent act a of the filing needs.
 pub fn needed<'a, P: Parts>(
     parts: &'a P,
     matter: &'a Matter<'a>,
-    before: &[Act],
+    a: u8,
     act: &Act,
 ) -> Consenters<'a>
-    requires few { length before.now < 8 }
     requires held { HasParts (P.holds parts.now) (P.at parts.now) act.now }
-    ensures affected { result.affected.items ≡ affected matter.now.number matter.now.docs (P.at parts.now) before.now act.now }
-    ensures owner_side { result.owner_side.items ≡ owner_side matter.now.number matter.now.docs (P.at parts.now) before.now act.now }
-    ensures others { persons result.others ≡ others matter.now.journal.now.receipts matter.now.number matter.now.docs (P.at parts.now) before.now act.now }
+    ensures affected { result.affected.items ≡ affected matter.now.number matter.now.docs (P.at parts.now) matter.now.filing.now.acts a act.now }
+    ensures owner_side { result.owner_side.items ≡ owner_side matter.now.number matter.now.docs (P.at parts.now) matter.now.filing.now.acts a act.now }
+    ensures others { persons result.others ≡ others matter.now.journal.now.receipts matter.now.number matter.now.docs (P.at parts.now) a act.now }
 {
-    let (journal, number) = (matter.journal, matter.number);
-    let docs = &matter.docs;
     Consenters {
-        affected: affected(parts, number, docs, before, act),
-        owner_side: owner_side(parts, number, docs, before, act),
-        others: others(parts, journal, number, docs, before, act),
+        affected: affected(parts, matter, a, act),
+        owner_side: owner_side(parts, matter, a, act),
+        others: others(parts, matter, a, act),
     }
 }
 
 /// Whose right the act affects (GBO § 19).
-fn affected<P: Parts>(
-    parts: &P,
-    filing: ReceiptNo,
-    docs: &Documents,
-    before: &[Act],
-    act: &Act,
-) -> ArrayVec<Person, 4>
-    requires few { length before.now < 8 }
+fn affected<P: Parts>(parts: &P, matter: &Matter, a: u8, act: &Act) -> ArrayVec<Person, 4>
     requires held { HasParts (P.holds parts.now) (P.at parts.now) act.now }
-    ensures { result.items ≡ affected filing docs.now (P.at parts.now) before.now act.now }
+    ensures { result.items ≡ affected matter.now.number matter.now.docs (P.at parts.now) matter.now.filing.now.acts a act.now }
 {
     match act {
         Act::Open { owners, .. } => people(owners),
-        Act::Transfer { folio, .. } => owners_then(parts, filing, before, *folio),
-        Act::Create { folio, .. } => owners_then(parts, filing, before, *folio),
-        Act::NoticeFor { folio, .. } => owners_then(parts, filing, before, *folio),
-        Act::Convert { folio, .. } => owners_then(parts, filing, before, *folio),
-        Act::Assign { folio, right, .. } => holder_then(parts, filing, *folio, *right),
+        Act::Transfer { folio, .. } => owners_then(parts, matter, a, *folio),
+        Act::Create { folio, .. } => owners_then(parts, matter, a, *folio),
+        Act::NoticeFor { folio, .. } => owners_then(parts, matter, a, *folio),
+        Act::Convert { folio, .. } => owners_then(parts, matter, a, *folio),
+        Act::Assign { folio, right, .. } => holder_then(parts, matter.number, *folio, *right),
         Act::Cancel { folio, right } => {
-            let proved = docs.has_proof(number_behind(before));
-            holder_unless(proved, parts, filing, *folio, *right)
+            let proved = matter.docs.has_proof(a);
+            holder_unless(proved, parts, matter.number, *folio, *right)
         }
-        Act::Exchange { folio, recede, .. } => holder_then(parts, filing, *folio, *recede),
-        Act::Exercise { folio, .. } => owners_then(parts, filing, before, *folio),
+        Act::Exchange { folio, recede, .. } => holder_then(parts, matter.number, *folio, *recede),
+        Act::Exercise { folio, .. } => owners_then(parts, matter, a, *folio),
     }
 }
 
 /// The owners who consent beside whoever is affected (GBO § 27, BGB § 880(2)).
-fn owner_side<P: Parts>(
-    parts: &P,
-    filing: ReceiptNo,
-    docs: &Documents,
-    before: &[Act],
-    act: &Act,
-) -> ArrayVec<Person, 4>
-    requires few { length before.now < 8 }
+fn owner_side<P: Parts>(parts: &P, matter: &Matter, a: u8, act: &Act) -> ArrayVec<Person, 4>
     requires held { HasParts (P.holds parts.now) (P.at parts.now) act.now }
-    ensures { result.items ≡ owner_side filing docs.now (P.at parts.now) before.now act.now }
+    ensures { result.items ≡ owner_side matter.now.number matter.now.docs (P.at parts.now) matter.now.filing.now.acts a act.now }
 {
     match act {
         Act::Cancel { folio, right } => {
-            let proved = docs.has_proof(number_behind(before));
-            owners_unless(proved, parts, filing, before, *folio, *right)
+            let proved = matter.docs.has_proof(a);
+            owners_unless(proved, parts, matter, a, *folio, *right)
         }
         Act::Exchange { folio, recede, .. } => {
             if stands_in_division_three(parts, *folio, *recede) {
-                owners_then(parts, filing, before, *folio)
+                owners_then(parts, matter, a, *folio)
             } else {
                 ArrayVec::new()
             }
         }
-        _ => ArrayVec::new(),
+        Act::Open { .. }
+        | Act::Transfer { .. }
+        | Act::Create { .. }
+        | Act::NoticeFor { .. }
+        | Act::Convert { .. }
+        | Act::Assign { .. }
+        | Act::Exercise { .. } => ArrayVec::new(),
     }
 }
 
 /// The applicants of the earlier filings that wait at a right that is cancelled without a proof
 /// (BGB § 876).
-fn others<'a, P: Parts>(
-    parts: &'a P,
-    journal: &'a Journal,
-    filing: ReceiptNo,
-    docs: &Documents,
-    before: &[Act],
-    act: &Act,
-) -> Option<Waiting<'a>>
-    requires few { length before.now < 8 }
+fn others<'a, P: Parts>(parts: &'a P, matter: &Matter<'a>, a: u8, act: &Act) -> Option<Waiting<'a>>
     requires held { HasParts (P.holds parts.now) (P.at parts.now) act.now }
-    ensures { persons result ≡ others journal.now.receipts filing docs.now (P.at parts.now) before.now act.now }
+    ensures { persons result ≡ others matter.now.journal.now.receipts matter.now.number matter.now.docs (P.at parts.now) a act.now }
 {
     match act {
         Act::Cancel { folio, right } => {
-            let proved = docs.has_proof(number_behind(before));
+            let proved = matter.docs.has_proof(a);
             let part = right_part(parts, *folio, *right);
-            waiting_unless(proved, journal, filing, part)
+            waiting_unless(proved, matter.journal, matter.number, part)
         }
-        _ => None,
+        Act::Open { .. }
+        | Act::Transfer { .. }
+        | Act::Create { .. }
+        | Act::NoticeFor { .. }
+        | Act::Convert { .. }
+        | Act::Assign { .. }
+        | Act::Exchange { .. }
+        | Act::Exercise { .. } => None,
     }
 }
 
@@ -148,17 +127,17 @@ fn holder_unless<P: Parts>(
 fn owners_unless<P: Parts>(
     proved: bool,
     parts: &P,
-    filing: ReceiptNo,
-    before: &[Act],
+    matter: &Matter,
+    a: u8,
     folio: FolioId,
     right: RightId,
 ) -> ArrayVec<Person, 4>
     requires title { IsTrue (P.holds parts.now (Title folio)) }
     requires right { IsTrue (P.holds parts.now (Right folio right)) }
-    ensures { result.items ≡ (if not proved && stands_in_division_three (P.at parts.now) folio right then owners_then filing (P.at parts.now) before.now folio else []) }
+    ensures { result.items ≡ (if not proved && stands_in_division_three (P.at parts.now) folio right then owners_then matter.now.number (P.at parts.now) matter.now.filing.now.acts a folio else []) }
 {
     if !proved && stands_in_division_three(parts, folio, right) {
-        owners_then(parts, filing, before, folio)
+        owners_then(parts, matter, a, folio)
     } else {
         ArrayVec::new()
     }

@@ -1,56 +1,59 @@
-// Why an act cannot be entered, whoever consents (GBO § 3; BGB §§ 873, 880, 881, 883, 1059).
-ghost use Rattle.std.specs.Prelude.{◌≡◌, ◌<◌, ◌||◌, length, is_some, true, false, IsTrue};
+//! Why an act cannot be entered, whoever consents (GBO § 3; BGB §§ 873, 880, 881, 883, 1059).
+ghost use Rattle.std.specs.Prelude.{◌≡◌, ◌≤◌, ◌||◌, is_some, true, false, IsTrue};
 ghost use Rattle.std.specs.List.{list_any};
 ghost use Rattle.std.specs.Option.{option_map_or};
+ghost use Rattle.gb_base.specs.Limits.{most_acts};
 ghost use Rattle.gb_base.specs.declared.keys.Key.TheVariants.{Title, Right};
-ghost use Rattle.folio_sections.specs.Judging.{assigns_division_two, converts_full_right, exchanges_unfit_right, is_barred_from_exchange, is_beyond_limit, is_open_as_of, lacks_folio, lacks_reservation, lacks_right, opens, reserves_less};
+ghost use Rattle.consent_rules.specs.Judging.{assigns_division_two, converts_full_right, exchanges_unfit_right, is_barred_from_exchange, is_beyond_limit, is_open_as_of, lacks_folio, lacks_reservation, lacks_right, opens, reserves_less};
 ghost use Rattle.consent_rules.specs.inner.Held.{HasParts};
 
-use crate::needed::number_behind;
+use crate::matters::Matter;
 use crate::parts_read::{live_right, lives, right_part, title_part};
-use act_model::{Act, Journal};
-use folio_sections::{Created, Parts, shares_its_group};
-use gb_base::{Cents, FolioId, ReceiptNo, RightId};
+use crate::persons::acts_before;
+use act_model::{Act, Journal, new_right, shares_its_group};
+use folio_sections::{Created, Parts};
+use gb_base::{Cents, FolioId, RightId};
 
 /// How many creating acts a folio has at most, whatever became of their filings.
 const MAX_CREATIONS: u32 = 256;
 
-/// Whether the act behind these is a creating act beyond the 256th of its folio.
-pub fn is_beyond_limit(journal: &Journal, filing: ReceiptNo, before: &[Act]) -> bool
-    requires few { length before.now < 8 }
-    ensures { result ≡ is_beyond_limit journal.now.receipts filing before.now }
+/// Whether act a is a creating act beyond the 256th of its folio.
+pub fn is_beyond_limit(matter: &Matter, a: u8) -> bool
+    requires from_one { 1 ≤ a }
+    requires to_eight { a ≤ most_acts }
+    ensures { result ≡ is_beyond_limit matter.now.journal.now.receipts matter.now.number a }
 {
-    let right = RightId::new(filing, number_behind(before)).unwrap();
-    match journal.creating_rank(right) {
+    match matter.journal.creating_rank(new_right(matter.number, a)) {
         Some(rank) => rank > MAX_CREATIONS,
         None => false,
     }
 }
 
 /// Whether the act opens a folio that is open, or names one that is not (GBO § 3).
-pub fn lacks_folio<P: Parts>(parts: &P, before: &[Act], act: &Act) -> bool
+pub fn lacks_folio<P: Parts>(parts: &P, matter: &Matter, a: u8, act: &Act) -> bool
     requires held { HasParts (P.holds parts.now) (P.at parts.now) act.now }
-    ensures { result ≡ lacks_folio (P.at parts.now) before.now act.now }
+    ensures { result ≡ lacks_folio (P.at parts.now) matter.now.filing.now.acts a act.now }
 {
     match act {
         Act::Open { folio, .. } => title_part(parts, *folio).is_open(),
-        Act::Transfer { folio, .. } => !is_open_as_of(parts, before, *folio),
-        Act::Create { folio, .. } => !is_open_as_of(parts, before, *folio),
-        Act::NoticeFor { folio, .. } => !is_open_as_of(parts, before, *folio),
-        Act::Convert { folio, .. } => !is_open_as_of(parts, before, *folio),
+        Act::Transfer { folio, .. } => !is_open_as_of(parts, matter, a, *folio),
+        Act::Create { folio, .. } => !is_open_as_of(parts, matter, a, *folio),
+        Act::NoticeFor { folio, .. } => !is_open_as_of(parts, matter, a, *folio),
+        Act::Convert { folio, .. } => !is_open_as_of(parts, matter, a, *folio),
         Act::Assign { .. } => false,
-        Act::Cancel { folio, .. } => !is_open_as_of(parts, before, *folio),
+        Act::Cancel { folio, .. } => !is_open_as_of(parts, matter, a, *folio),
         Act::Exchange { .. } => false,
-        Act::Exercise { folio, .. } => !is_open_as_of(parts, before, *folio),
+        Act::Exercise { folio, .. } => !is_open_as_of(parts, matter, a, *folio),
     }
 }
 
-/// Whether the folio is open, or opened by one of the acts before.
-fn is_open_as_of<P: Parts>(parts: &P, before: &[Act], folio: FolioId) -> bool
+/// Whether the folio is open, or opened by one of the acts before act a.
+fn is_open_as_of<P: Parts>(parts: &P, matter: &Matter, a: u8, folio: FolioId) -> bool
     requires held { IsTrue (P.holds parts.now (Title folio)) }
-    ensures { result ≡ is_open_as_of (P.at parts.now) before.now folio }
+    ensures { result ≡ is_open_as_of (P.at parts.now) matter.now.filing.now.acts a folio }
 {
-    title_part(parts, folio).is_open() || is_opened_by(before, folio)
+    title_part(parts, folio).is_open()
+        || is_opened_by(acts_before(matter.filing.acts.list(), a), folio)
 }
 
 fn is_opened_by(acts: &[Act], folio: FolioId) -> bool
@@ -64,7 +67,14 @@ fn opens(act: &Act, opened: FolioId) -> bool
 {
     match act {
         Act::Open { folio, .. } => *folio == opened,
-        _ => false,
+        Act::Transfer { .. }
+        | Act::Create { .. }
+        | Act::NoticeFor { .. }
+        | Act::Convert { .. }
+        | Act::Assign { .. }
+        | Act::Cancel { .. }
+        | Act::Exchange { .. }
+        | Act::Exercise { .. } => false,
     }
 }
 
@@ -83,7 +93,8 @@ pub fn lacks_right<P: Parts>(parts: &P, act: &Act) -> bool
             rise,
         } => !lives(parts, *folio, *recede) || !lives(parts, *folio, *rise),
         Act::Exercise { folio, behind, .. } => !lives(parts, *folio, *behind),
-        _ => false,
+        Act::Open { .. } | Act::Transfer { .. } | Act::Create { .. } | Act::NoticeFor { .. } =>
+            false,
     }
 }
 
@@ -94,7 +105,14 @@ pub fn converts_full_right<P: Parts>(parts: &P, act: &Act) -> bool
 {
     match act {
         Act::Convert { folio, right } => right_part(parts, *folio, *right).full(),
-        _ => false,
+        Act::Open { .. }
+        | Act::Transfer { .. }
+        | Act::Create { .. }
+        | Act::NoticeFor { .. }
+        | Act::Assign { .. }
+        | Act::Cancel { .. }
+        | Act::Exchange { .. }
+        | Act::Exercise { .. } => false,
     }
 }
 
@@ -112,7 +130,14 @@ pub fn exchanges_unfit_right<P: Parts>(parts: &P, journal: &Journal, act: &Act) 
             is_barred_from_exchange(parts, journal, *folio, *recede)
                 || is_barred_from_exchange(parts, journal, *folio, *rise)
         }
-        _ => false,
+        Act::Open { .. }
+        | Act::Transfer { .. }
+        | Act::Create { .. }
+        | Act::NoticeFor { .. }
+        | Act::Convert { .. }
+        | Act::Assign { .. }
+        | Act::Cancel { .. }
+        | Act::Exercise { .. } => false,
     }
 }
 
@@ -156,7 +181,14 @@ pub fn lacks_reservation<P: Parts>(parts: &P, act: &Act) -> bool
             let part = right_part(parts, *folio, *behind);
             part.spent() || lacks_reserve_for(live_right(part), spec.capital)
         }
-        _ => false,
+        Act::Open { .. }
+        | Act::Transfer { .. }
+        | Act::Create { .. }
+        | Act::NoticeFor { .. }
+        | Act::Convert { .. }
+        | Act::Assign { .. }
+        | Act::Cancel { .. }
+        | Act::Exchange { .. } => false,
     }
 }
 
@@ -192,6 +224,13 @@ pub fn assigns_division_two<P: Parts>(parts: &P, act: &Act) -> bool
                 None => false,
             }
         }
-        _ => false,
+        Act::Open { .. }
+        | Act::Transfer { .. }
+        | Act::Create { .. }
+        | Act::NoticeFor { .. }
+        | Act::Convert { .. }
+        | Act::Cancel { .. }
+        | Act::Exchange { .. }
+        | Act::Exercise { .. } => false,
     }
 }

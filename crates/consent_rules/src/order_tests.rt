@@ -1,4 +1,4 @@
-// The order of grounds and of defects, where two acts have some.
+//! The order of grounds and of defects, where two acts have some.
 use crate::test_register::{
     certified, charge, create, defect, filing, folio, person, plain, rejects, right, two,
     verdict_on, waits,

@@ -1,4 +1,4 @@
-// A folio of two owners, each of whom consents.
+//! A folio of two owners, each of whom consents.
 use crate::Judgement;
 use crate::test_register::{
     certified, charge, create, defect, enters, filing, folio, judged_now, one, plain, put, rejects,

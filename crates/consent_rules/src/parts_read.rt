@@ -1,8 +1,8 @@
-// What is read from the parts at an act's keys.
+//! What is read from the parts at an act's keys.
 ghost use Rattle.std.specs.Prelude.{◌≡◌, IsTrue};
 ghost use Rattle.gb_base.specs.declared.keys.Key.TheVariants.{Title, Right};
-ghost use Rattle.folio_sections.specs.Judging.{lives};
-ghost use Rattle.folio_sections.specs.Persons.{stands_in_division_three};
+ghost use Rattle.consent_rules.specs.Judging.{lives};
+ghost use Rattle.consent_rules.specs.Persons.{stands_in_division_three};
 ghost use Rattle.folio_sections.specs.Rights.{live_right};
 
 use folio_sections::{Created, Parts, RightPart, TitlePart};

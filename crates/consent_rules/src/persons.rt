@@ -1,26 +1,35 @@
-// Whom an act concerns: the owners as of the act, and the holder of a right (GBO §§ 18(2), 19).
+//! Whom an act concerns: the owners as of the act, and the holder of a right (GBO §§ 18(2), 19).
 ghost use Rattle.std.specs.Prelude.{◌≡◌, fold, IsTrue};
 ghost use Rattle.gb_base.specs.declared.keys.Key.TheVariants.{Title, Right};
-ghost use Rattle.folio_sections.specs.Persons.{holder_then, owners_as_of, owners_named, owners_then};
+ghost use Rattle.consent_rules.specs.Persons.{acts_before, holder_then, owners_as_of, owners_named, owners_then};
 
+use crate::matters::Matter;
 use crate::parts_read::{right_part, title_part};
 use act_model::{Act, Owners};
 use arrayvec::ArrayVec;
 use folio_sections::Parts;
 use gb_base::{FolioId, Person, ReceiptNo, RightId};
 
-/// The owners as of an act: named by an act before it in that folio, else those at the title whom
+/// The acts before act a.
+pub fn acts_before(acts: &[Act], a: u8) -> &[Act]
+    ensures { result.now ≡ acts_before a acts.now }
+{
+    let many = (a as usize).saturating_sub(1);
+    &acts[..many.min(acts.len())]
+}
+
+/// The owners as of act a: named by an act before it in that folio, else those at the title whom
 /// the filing concerns; none where there are none.
 pub fn owners_then<P: Parts>(
     parts: &P,
-    filing: ReceiptNo,
-    before: &[Act],
+    matter: &Matter,
+    a: u8,
     folio: FolioId,
 ) -> ArrayVec<Person, 4>
     requires held { IsTrue (P.holds parts.now (Title folio)) }
-    ensures { result.items ≡ owners_then filing (P.at parts.now) before.now folio }
+    ensures { result.items ≡ owners_then matter.now.number (P.at parts.now) matter.now.filing.now.acts a folio }
 {
-    match owners_as_of(parts, filing, before, folio) {
+    match owners_as_of(parts, matter, a, folio) {
         Some(owners) => people(&owners),
         None => ArrayVec::new(),
     }
@@ -33,17 +42,12 @@ pub fn people(owners: &Owners) -> ArrayVec<Person, 4>
     ArrayVec::try_from(owners.list()).unwrap()
 }
 
-fn owners_as_of<P: Parts>(
-    parts: &P,
-    filing: ReceiptNo,
-    before: &[Act],
-    folio: FolioId,
-) -> Option<Owners>
+fn owners_as_of<P: Parts>(parts: &P, matter: &Matter, a: u8, folio: FolioId) -> Option<Owners>
     requires held { IsTrue (P.holds parts.now (Title folio)) }
-    ensures { result ≡ owners_as_of filing (P.at parts.now) before.now folio }
+    ensures { result ≡ owners_as_of matter.now.number (P.at parts.now) matter.now.filing.now.acts a folio }
 {
-    let owners = title_part(parts, folio).owners_for(filing);
-    owners_behind(folio, owners, before)
+    let owners = title_part(parts, folio).owners_for(matter.number);
+    owners_behind(folio, owners, acts_before(matter.filing.acts.list(), a))
 }
 
 /// The owners of a folio behind these acts.
@@ -61,7 +65,15 @@ fn owners_named(of: FolioId, before: Option<Owners>, act: &Act) -> Option<Owners
     match act {
         Act::Open { folio, owners, .. } if *folio == of => Some(owners.copy()),
         Act::Transfer { folio, owners } if *folio == of => Some(owners.copy()),
-        _ => before,
+        Act::Open { .. }
+        | Act::Transfer { .. }
+        | Act::Create { .. }
+        | Act::NoticeFor { .. }
+        | Act::Convert { .. }
+        | Act::Assign { .. }
+        | Act::Cancel { .. }
+        | Act::Exchange { .. }
+        | Act::Exercise { .. } => before,
     }
 }
 

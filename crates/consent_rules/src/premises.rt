@@ -1,9 +1,9 @@
-// Whether a filing can be judged on parts that are lent.
+//! Whether a filing can be judged on parts that are lent.
 ghost use Rattle.std.specs.Prelude.{◌≡◌, true, All, IsSome, IsTrue, Contains, Some};
 ghost use Rattle.std.specs.List.{list_all};
 ghost use Rattle.gb_base.specs.declared.keys.Key.{Key};
 ghost use Rattle.act_model.specs.Touches.{created_before, filing_at, keys_of_filing};
-ghost use Rattle.folio_sections.specs.Judging.{IsKnownExchange, KnowsExchanges};
+ghost use Rattle.consent_rules.specs.Judging.{IsKnownExchange, KnowsExchanges};
 ghost use Rattle.consent_rules.specs.inner.Held.{HasParts};
 
 use crate::parts_read::live_right;
@@ -12,7 +12,8 @@ use folio_sections::Parts;
 use gb_base::{FolioId, Key, ReceiptNo, RightId};
 
 /// Whether the filing can be judged on these parts: it is there, the parts of its keys are held,
-/// and each right that recedes in it, where it is live, is as an earlier filing creates it.
+/// and each right that recedes in it, where it is live, is as an earlier filing creates it. Takes
+/// no memory.
 pub fn can_be_judged<P: Parts>(parts: &P, journal: &Journal, filing: ReceiptNo) -> bool
     ensures filing { result ≡ true → IsSome (filing_at journal.now.receipts filing) }
     ensures held { result ≡ true → (k : Key) → Contains (keys_of_filing journal.now.receipts filing) k → IsTrue (P.holds parts.now k) }
@@ -78,7 +79,14 @@ fn knows_exchange<P: Parts>(parts: &P, journal: &Journal, filing: ReceiptNo, act
             },
             None => false,
         },
-        _ => true,
+        Act::Open { .. }
+        | Act::Transfer { .. }
+        | Act::Create { .. }
+        | Act::NoticeFor { .. }
+        | Act::Convert { .. }
+        | Act::Assign { .. }
+        | Act::Cancel { .. }
+        | Act::Exercise { .. } => true,
     }
 }
 

@@ -1,5 +1,5 @@
-// Which rights take part in an exchange of ranks, and which reservations are there to be used (BGB
-// §§ 880, 881).
+//! Which rights take part in an exchange of ranks, and which reservations are there to be used (BGB
+//! §§ 880, 881).
 use crate::Judgement;
 use crate::test_register::{
     TestRegister, certified, charge, create, enters, filing, folio, judged, judged_now, made, one,

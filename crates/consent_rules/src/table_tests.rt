@@ -1,5 +1,5 @@
-// Each act with each of its documents missing, in plain form, and by a stranger. The answers are
-// written down by hand from the rules.
+//! Each act with each of its documents missing, in plain form, and by a stranger. The answers are
+//! written down by hand from the rules.
 use crate::test_register::{
     agreement, certified, charge, clearance, create, defect, enters, folio, one_owner, opening,
     person, plain, rejects, right, verdict, waits,

@@ -1,4 +1,4 @@
-// A small register for tests: folio 7 with its owner and four rights, and what is filed on it.
+//! A small register for tests: folio 7 with its owner and four rights, and what is filed on it.
 use crate::premises::{can_be_judged, is_held};
 use crate::{Defect, Judgement, judge};
 use act_model::{

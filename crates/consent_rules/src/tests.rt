@@ -1,4 +1,4 @@
-// Filings whose judgement is known from the rules.
+//! Filings whose judgement is known from the rules.
 use crate::Judgement;
 use crate::test_register::{
     agreement, certified, charge, clearance, create, defect, enters, filing, folio, judged, one,

@@ -1,13 +1,13 @@
-// The earlier filings that wait at a right (BGB § 876).
+//! The earlier filings that wait at a right (BGB § 876).
 ghost use Rattle.std.specs.Prelude.{◌≡◌, ◌==◌};
 ghost use Rattle.std.specs.List.{list_any};
-ghost use Rattle.folio_sections.specs.Persons.{waiting_applicants};
+ghost use Rattle.consent_rules.specs.Persons.{waiting_applicants};
 ghost use Rattle.consent_rules.specs.inner.Lacks.{is_lacking};
 ghost use Rattle.consent_rules.specs.inner.WaitingAt.{applicant_at};
 
 use crate::lacks::{Lack, is_lacking};
-use act_model::Journal;
-use folio_sections::{Entry, RightPart, What, applicant_of};
+use act_model::{Journal, applicant_of};
+use folio_sections::{Entry, RightPart, What};
 use gb_base::{Person, ReceiptNo};
 use std::marker::Model;
 
@@ -22,7 +22,7 @@ pub struct Waiting<'a> {
 
 impl<'a> Model for Waiting<'a> {
     ghost use Rattle.std.specs.Prelude.{List, ℕ};
-    ghost use Rattle.folio_sections.specs.Persons.{waiting_applicants};
+    ghost use Rattle.consent_rules.specs.Persons.{waiting_applicants};
 
     ghost Value = { List ℕ };
 
@@ -30,7 +30,7 @@ impl<'a> Model for Waiting<'a> {
 }
 
 impl<'a> Waiting<'a> {
-    ghost use Rattle.folio_sections.specs.Persons.{waiting_applicants};
+    ghost use Rattle.consent_rules.specs.Persons.{waiting_applicants};
 
     /// The applicants of the filings before this one that wait at the right.
     pub fn new(journal: &'a Journal, before: ReceiptNo, part: &'a RightPart) -> Waiting<'a>

@@ -1,4 +1,4 @@
-// Filings in folio 7, their acts and their documents.
+//! Filings in folio 7, their acts and their documents.
 ghost use Rattle.std.specs.Prelude.{◌<◌, ◌≤◌, length};
 
 use act_model::{

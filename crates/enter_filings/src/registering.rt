@@ -1,4 +1,5 @@
-// What the one registrar leaves of a journal, counted by verdict.
+//! What the one registrar leaves of a journal, counted by verdict.
+//! Why so: docs/DECISIONS.md, "What becomes of a journal is said by `registrar` alone".
 use act_model::Journal;
 use anyhow::Result;
 use registrar::{Verdict, alone};

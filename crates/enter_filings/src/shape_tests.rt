@@ -1,4 +1,4 @@
-// What becomes of the journals that the one registrar settles.
+//! What becomes of the journals that the one registrar settles.
 use crate::registering::{Counts, counted};
 use crate::shapes::{journal_of_openings, journal_of_waiting};
 use std::test::Fail;

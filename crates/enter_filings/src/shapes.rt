@@ -1,5 +1,5 @@
-// Journals for the one registrar: openings of folios, and filings in one folio that wait, are cured
-// and lapse.
+//! Journals for the one registrar: openings of folios, and filings in one folio that wait, are cured
+//! and lapse.
 ghost use Rattle.std.specs.Prelude.{◌<◌};
 
 use crate::filings::{

@@ -7,7 +7,7 @@ use Rattle.act_model.specs.declared.items.Filing.{Filing}
 use Rattle.act_model.specs.declared.receipts.Receipt.{Receipt}
 use Rattle.act_model.specs.Touches.{filing_at, keys_of_acts, keys_of_filing}
 use Rattle.folio_sections.specs.Adding.{AddsAll, AddsList}
-use Rattle.folio_sections.specs.Entering.{contents_brought, entered, places_brought, with_places}
+use Rattle.entry_rules.specs.Entering.{contents_brought, entered, places_brought, with_places}
 use Rattle.folio_sections.specs.declared.entries.Entry.{Entry}
 use Rattle.folio_sections.proofs.Additions.{adds_then}
 use Rattle.entry_rules.specs.inner.Acting.{Held}

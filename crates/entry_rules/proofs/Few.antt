@@ -20,9 +20,9 @@ use Rattle.act_model.specs.declared.filing_acts.Act.{Act}
 use Rattle.act_model.specs.declared.filing_acts.Act.TheVariants.{Open, Transfer, Create, NoticeFor, Convert, Assign, Cancel, Exchange, Exercise}
 use Rattle.act_model.specs.declared.items.Filing.{Filing}
 use Rattle.act_model.specs.declared.receipts.Receipt.{Receipt}
-use Rattle.folio_sections.specs.Entering.{contents_brought, entry_by, placed_at, places_brought}
-use Rattle.folio_sections.specs.Entries.{at}
-use Rattle.folio_sections.specs.Places.{create_in_division, creates_there}
+use Rattle.entry_rules.specs.Entering.{contents_brought, placed_at, places_brought}
+use Rattle.folio_sections.specs.Entries.{entry_by, at}
+use Rattle.act_model.specs.Divisions.{create_in_division, creates_there}
 use Rattle.folio_sections.specs.Waiting.{notice}
 use Rattle.folio_sections.specs.declared.entries.Entry.{Entry}
 use Rattle.folio_sections.specs.declared.entries.What.TheVariants as what

@@ -10,9 +10,10 @@ use Rattle.act_model.specs.declared.filing_acts.Act.TheVariants.{Open, Transfer,
 use Rattle.act_model.specs.declared.items.Filing.{Filing}
 use Rattle.act_model.specs.declared.receipts.Receipt.{Receipt}
 use Rattle.act_model.specs.declared.rights.RightSpec.{RightSpec}
-use Rattle.folio_sections.specs.Entering.{as_entered, entry_by, placed_at}
-use Rattle.folio_sections.specs.Entries.{at}
-use Rattle.folio_sections.specs.Places.{create_in_division, creates_there, places, places_among}
+use Rattle.entry_rules.specs.Entering.{as_entered, placed_at}
+use Rattle.folio_sections.specs.Entries.{entry_by, at}
+use Rattle.act_model.specs.Divisions.{create_in_division, creates_there}
+use Rattle.folio_sections.specs.Places.{places, places_among}
 use Rattle.folio_sections.specs.Waiting.{notice}
 use Rattle.folio_sections.specs.declared.entries.Entry.{Entry}
 use Rattle.folio_sections.specs.declared.entries.What.TheVariants as what

@@ -1,3 +1,4 @@
 -- What contracts cite.
+pub mod Entering
 pub mod Limits
 pub mod inner

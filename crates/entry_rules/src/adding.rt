@@ -1,8 +1,8 @@
-// Entries that are added to the parts of a register.
+//! Entries that are added to the parts of a register.
 ghost use Rattle.std.specs.Prelude.{◌≡◌, ◌≤◌, [], ◌∷◌, length, IsTrue};
 ghost use Rattle.act_model.specs.Receiving.{day_of};
 ghost use Rattle.folio_sections.specs.Adding.{AddsList, HasRoom};
-ghost use Rattle.folio_sections.specs.Entering.{entry_by};
+ghost use Rattle.folio_sections.specs.Entries.{entry_by};
 
 use act_model::{Filing, Journal};
 use folio_sections::{Entry, Parts, What, add, day_of, entry_by};

@@ -1,4 +1,4 @@
-// What single acts bring when their filing is entered.
+//! What single acts bring when their filing is entered.
 use crate::testing::{
     at_title, created, entered, folio, is_place, journal_of, land_charge, only_entry, person,
     receipt, right, title,

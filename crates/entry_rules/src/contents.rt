@@ -1,15 +1,15 @@
-// What the acts of a filing bring when it is entered.
+//! What the acts of a filing bring when it is entered.
 ghost use Rattle.std.specs.Prelude.{◌≡◌, ◌≤◌, ℕ, length};
 ghost use Rattle.gb_base.specs.Limits.{most_acts};
 ghost use Rattle.act_model.specs.Touches.{keys_of_act, keys_of_acts};
 ghost use Rattle.folio_sections.specs.Adding.{AddsList, HasRoom};
-ghost use Rattle.folio_sections.specs.Entering.{content, contents_brought};
+ghost use Rattle.entry_rules.specs.Entering.{content, contents_brought};
 ghost use Rattle.entry_rules.specs.inner.Acting.{Held, brought_by};
 
 use crate::adding::{Entering, add_both};
 use crate::creations::creation;
-use act_model::{Act, new_right};
-use folio_sections::{Documents, Parts, What, add};
+use act_model::{Act, Documents, new_right};
+use folio_sections::{Parts, What, add};
 use gb_base::Key;
 
 /// Adds what the acts of the filing bring, in their order.

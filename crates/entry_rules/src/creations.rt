@@ -1,16 +1,17 @@
-// The rights that acts create, as they are entered.
+//! The rights that acts create, as they are entered.
 ghost use Rattle.std.specs.Prelude.{◌≡◌, ◌≤◌, length, IsTrue};
 ghost use Rattle.gb_base.specs.Limits.{most_acts};
 ghost use Rattle.gb_base.specs.declared.keys.Key.TheVariants.{Title, Right};
-ghost use Rattle.act_model.specs.Acts.{folio_of};
+ghost use Rattle.act_model.specs.Acts.{folio_of, reserve_of, right_behind};
 ghost use Rattle.act_model.specs.Touches.{new_right};
-ghost use Rattle.folio_sections.specs.Entering.{as_entered, day_placed, entry_by, form_created, reserve_of, right_behind};
+ghost use Rattle.entry_rules.specs.Entering.{as_entered, day_placed, form_created};
+ghost use Rattle.folio_sections.specs.Entries.{entry_by};
 ghost use Rattle.folio_sections.specs.Places.{places, places_among};
 ghost use Rattle.folio_sections.specs.declared.entries.What.TheVariants as what;
 
 use crate::adding::Entering;
-use act_model::{Act, RightSpec, new_right};
-use folio_sections::{Created, Entry, Parts, RightForm, What, behind, has_equal, own_place};
+use act_model::{Act, RightSpec, has_equal, new_right};
+use folio_sections::{Created, Entry, Parts, RightForm, What, behind, own_place};
 use gb_base::{Cents, Day, FolioId, Key, RightId};
 
 /// The entry of the right of this description that act a creates, on the places that stand at the
@@ -46,7 +47,14 @@ fn form_created(act: &Act) -> RightForm
 {
     match act {
         Act::NoticeFor { .. } => RightForm::Notice,
-        _ => RightForm::Full,
+        Act::Open { .. } => RightForm::Full,
+        Act::Transfer { .. } => RightForm::Full,
+        Act::Create { .. } => RightForm::Full,
+        Act::Convert { .. } => RightForm::Full,
+        Act::Assign { .. } => RightForm::Full,
+        Act::Cancel { .. } => RightForm::Full,
+        Act::Exchange { .. } => RightForm::Full,
+        Act::Exercise { .. } => RightForm::Full,
     }
 }
 
@@ -57,7 +65,14 @@ fn reserve_of(act: &Act) -> Option<Cents>
 {
     match act {
         Act::Create { reserve, .. } => *reserve,
-        _ => None,
+        Act::Open { .. } => None,
+        Act::Transfer { .. } => None,
+        Act::NoticeFor { .. } => None,
+        Act::Convert { .. } => None,
+        Act::Assign { .. } => None,
+        Act::Cancel { .. } => None,
+        Act::Exchange { .. } => None,
+        Act::Exercise { .. } => None,
     }
 }
 
@@ -67,7 +82,14 @@ fn right_behind(act: &Act) -> Option<RightId>
 {
     match act {
         Act::Exercise { behind, .. } => Some(*behind),
-        _ => None,
+        Act::Open { .. } => None,
+        Act::Transfer { .. } => None,
+        Act::Create { .. } => None,
+        Act::NoticeFor { .. } => None,
+        Act::Convert { .. } => None,
+        Act::Assign { .. } => None,
+        Act::Cancel { .. } => None,
+        Act::Exchange { .. } => None,
     }
 }
 

@@ -1,9 +1,10 @@
-// The entry of a filing.
+//! The entry of a filing.
+//! Why so: docs/DECISIONS.md, "`enter` asks for just the room that its entry takes".
 ghost use Rattle.std.specs.Prelude.{◌≡◌, ◌≤◌, length, Contains, IsSome, IsTrue};
 ghost use Rattle.gb_base.specs.declared.keys.Key.{Key};
 ghost use Rattle.act_model.specs.Touches.{filing_at, keys_of_filing};
 ghost use Rattle.folio_sections.specs.Adding.{AddsList, HasRoom};
-ghost use Rattle.folio_sections.specs.Entering.{entered};
+ghost use Rattle.entry_rules.specs.Entering.{entered};
 
 use crate::adding::Entering;
 use crate::contents::add_contents;

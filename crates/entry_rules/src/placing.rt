@@ -1,15 +1,15 @@
-// The places that the entry of a filing brings (BGB § 879).
+//! The places that the entry of a filing brings (BGB § 879).
 ghost use Rattle.std.specs.Prelude.{◌≡◌, ◌≤◌, length, Contains, IsTrue, is_none};
 ghost use Rattle.gb_base.specs.declared.keys.Key.{Key};
 ghost use Rattle.gb_base.specs.declared.keys.Key.TheVariants.{Title};
 ghost use Rattle.act_model.specs.Touches.{keys_of_filing};
 ghost use Rattle.folio_sections.specs.Adding.{AddsList, HasRoom};
 ghost use Rattle.folio_sections.specs.Waiting.{notice};
-ghost use Rattle.folio_sections.specs.Entering.{placed_at, placed_in, places_brought};
+ghost use Rattle.entry_rules.specs.Entering.{placed_at, placed_in, places_brought};
 
 use crate::adding::Entering;
-use act_model::filing_keys;
-use folio_sections::{Parts, What, add, creates_in_division};
+use act_model::{creates_in_division, filing_keys};
+use folio_sections::{Parts, What, add};
 use gb_base::{FolioId, Key, ReceiptNo};
 
 /// Sets the place of the filing in each folio in which it creates a right, unless an official

@@ -1,4 +1,4 @@
-// Filings, journals and parts for the tests.
+//! Filings, journals and parts for the tests.
 ghost use Rattle.std.specs.Prelude.{◌≡◌, Contains, IsTrue};
 ghost use Rattle.gb_base.specs.declared.keys.Key.{Key};
 ghost use Rattle.folio_sections.specs.Held.{is_held};

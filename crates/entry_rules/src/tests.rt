@@ -1,4 +1,4 @@
-// What filings bring when they are entered, in small journals.
+//! What filings bring when they are entered, in small journals.
 use crate::testing::{
     at_title, cancellation, charge, created, creation, cure, day, entered, entered_in, entered_on,
     exchange, exercise, filing, folio, is_cancelled, is_exchange, is_opening, is_place,

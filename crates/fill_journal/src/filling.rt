@@ -1,4 +1,4 @@
-// Filling a journal and opening it again.
+//! Filling a journal and opening it again.
 ghost use Rattle.journal_disk.specs.Layout.{IsBody};
 
 use gb_outside::Disk;

@@ -5,8 +5,8 @@ use Rattle.gb_base.specs.declared.keys.Key.TheVariants.{Case, Right, Title}
 use Rattle.folio_sections.specs.Titles.{inventory, owners}
 use Rattle.folio_sections.specs.declared.entries.Entry.{Entry}
 use Rattle.folio_extract.specs.Extracts.{extract_text, heading_line, inventory_line, owners_line, right_lines, sale_line, waiting_lines}
-use Rattle.folio_extract.specs.FolioRights.{live_rights}
-use Rattle.folio_extract.specs.declared.folio_rights.CreatedRight.{CreatedRight}
+use Rattle.folio_line.specs.FolioRights.{live_rights}
+use Rattle.folio_line.specs.declared.folio_rights.CreatedRight.{CreatedRight}
 
 in_a_row : (t a b c d e f : List ℕ) → ((t ++ (a ++ (b ++ (c ++ d)))) ++ e) ++ f ≡ t ++ (a ++ (b ++ (c ++ (d ++ (e ++ f)))))
 in_a_row t a b c d e f =

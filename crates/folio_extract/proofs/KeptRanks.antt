@@ -4,15 +4,17 @@ use Rattle.std.specs.List.{AllByRecursion}
 use Rattle.gb_base.specs.declared.keys.Key.{Key}
 use Rattle.act_model.specs.Receiving.{IsJournal}
 use Rattle.act_model.specs.declared.receipts.Receipt.{Receipt}
-use Rattle.folio_sections.specs.Kept.{Kept}
+use Rattle.kept_registers.specs.Kept.{Kept}
 use Rattle.folio_sections.specs.Places.{places}
 use Rattle.folio_sections.specs.declared.entries.Entry.{Entry}
 use Rattle.folio_sections.proofs.FilteredLists.{all_in}
-use Rattle.folio_sections.proofs.KeptOrder.{kept_is_order}
-use Rattle.folio_extract.specs.FolioRights.{live_rights, lives}
-use Rattle.folio_extract.specs.RankTables.{rank_lines, stands_ahead}
-use Rattle.folio_extract.specs.inner.RankWalk.{is_filed_before, ranked_lines}
-use Rattle.folio_extract.proofs.PlacedOrder.{of_placed_rights, placed_rights_ascend}
+use Rattle.kept_registers.proofs.KeptOrder.{kept_is_order}
+use Rattle.folio_line.specs.FolioRights.{live_rights, lives}
+use Rattle.folio_extract.specs.RankTables.{rank_lines}
+use Rattle.folio_line.specs.RightRanks.{stands_ahead}
+use Rattle.folio_line.specs.inner.RightOrder.{is_filed_before}
+use Rattle.folio_extract.specs.inner.RankWalk.{ranked_lines}
+use Rattle.folio_line.proofs.PlacedOrder.{of_placed_rights, placed_rights_ascend}
 use Rattle.folio_extract.proofs.RankWalks.{ranks_in_order}
 
 pub kept_ranks : (journal : List Receipt) (at : Key → List Entry) (folio : ℕ) → IsJournal journal → Kept journal at

@@ -5,11 +5,13 @@ use Rattle.std.proofs.lemmas.Bool.{cases_Bool, cond-false, cond-true}
 use Rattle.folio_sections.specs.declared.title_places.TitlePlace.{TitlePlace}
 use Rattle.folio_sections.proofs.FilteredLists.{filter_alike, filter_none, filter_skips, filter_takes, flat_map_alike, none_left}
 use Rattle.folio_sections.proofs.Unchanged.{all_weaker}
-use Rattle.folio_extract.specs.FolioRights.{has_same_place}
-use Rattle.folio_extract.specs.RankTables.{different_places, rank_line, rank_lines, rank_of, stands_ahead}
-use Rattle.folio_extract.specs.inner.RankWalk.{Ascends, is_filed_before, rank_behind, ranked_lines}
-use Rattle.folio_extract.specs.declared.folio_rights.CreatedRight.{CreatedRight}
-use Rattle.folio_extract.proofs.RightOrder.{before_later, before_like, before_not_same, before_on, before_self}
+use Rattle.folio_line.specs.FolioRights.{has_same_place}
+use Rattle.folio_line.specs.RightRanks.{different_places, rank_of, stands_ahead}
+use Rattle.folio_extract.specs.RankTables.{rank_line, rank_lines}
+use Rattle.folio_line.specs.inner.RightOrder.{Ascends, is_filed_before}
+use Rattle.folio_extract.specs.inner.RankWalk.{rank_behind, ranked_lines}
+use Rattle.folio_line.specs.declared.folio_rights.CreatedRight.{CreatedRight}
+use Rattle.folio_line.proofs.RightOrder.{before_later, before_like, before_not_same, before_on, before_self}
 
 -- how many different places stand before the right
 abbrev places_before : List CreatedRight → CreatedRight → ℕ

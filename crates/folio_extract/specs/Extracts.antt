@@ -1,4 +1,5 @@
 -- The extract of a folio: its parcel, its owners, the filings that wait, and its rights.
+-- Why so: docs/DECISIONS.md, "A line for each filing that waits at a title or a live right".
 use Rattle.std.specs.Prelude.{ℕ, Bool, true, false, ◌&&◌, if◌then◌else◌, List, [], ◌++◌, codes, flat_map, Option, Some, None, is_none}
 use Rattle.std.specs.Fmt.{decimal}
 use Rattle.gb_base.specs.Texts.{date_text, euro, right_text}
@@ -13,9 +14,9 @@ use Rattle.folio_sections.specs.Rights.{capital, holder, is_full, is_spent}
 use Rattle.folio_sections.specs.Titles.{inventory, is_open, owners}
 use Rattle.folio_sections.specs.declared.entries.Created.{Created}
 use Rattle.folio_sections.specs.declared.entries.Entry.{Entry}
-use Rattle.folio_extract.specs.FolioRights.{live_rights}
+use Rattle.folio_line.specs.FolioRights.{live_rights}
 use Rattle.folio_extract.specs.WaitingFilings.{waiting_filings}
-use Rattle.folio_extract.specs.declared.folio_rights.CreatedRight.{CreatedRight}
+use Rattle.folio_line.specs.declared.folio_rights.CreatedRight.{CreatedRight}
 use Rattle.folio_extract.specs.declared.waiting.WaitingFiling.{WaitingFiling}
 
 -- ---- the folio

@@ -1,6 +1,6 @@
 -- The rank table of a folio: the ranks of its rights, the exchanges and exercised reservations that count, and the cents after the exchanges.
-use Rattle.std.specs.Prelude.{ℕ, ◌+◌, Bool, if◌then◌else◌, List, [], ◌∷◌, ◌++◌, codes, filter, flat_map, Option, Some, None}
-use Rattle.std.specs.List.{list_any}
+-- Why so: docs/DECISIONS.md, "Printed ranks are those of the places".
+use Rattle.std.specs.Prelude.{ℕ, if◌then◌else◌, List, ◌++◌, codes, flat_map, Option, Some, None}
 use Rattle.std.specs.Fmt.{decimal}
 use Rattle.gb_base.specs.RightNo.{RightNo}
 use Rattle.gb_base.specs.Texts.{right_text}
@@ -8,32 +8,19 @@ use Rattle.gb_base.specs.declared.keys.Key.{Key}
 use Rattle.gb_base.specs.declared.keys.Key.TheVariants.{Title}
 use Rattle.act_model.specs.declared.receipts.Receipt.{Receipt}
 use Rattle.folio_sections.specs.Places.{places}
-use Rattle.folio_sections.specs.Ranks.{is_ahead, ranked}
 use Rattle.folio_sections.specs.Titles.{is_open}
 use Rattle.folio_sections.specs.declared.entries.Entry.{Entry}
 use Rattle.folio_sections.specs.declared.title_places.TitlePlace.{TitlePlace}
 use Rattle.rank_slots.specs.declared.places.Knot.{Knot}
 use Rattle.folio_extract.specs.CentTexts.{line_text}
-use Rattle.folio_extract.specs.Exchanges.{counted_exchanges, counted_knots}
-use Rattle.folio_extract.specs.FolioSlots.{folio_filled}
-use Rattle.folio_extract.specs.FolioRights.{has_same_place, live_rights}
-use Rattle.folio_extract.specs.declared.exchanges.Exchange.{Exchange}
-use Rattle.folio_extract.specs.declared.folio_rights.CreatedRight.{CreatedRight}
+use Rattle.folio_line.specs.Exchanges.{counted_exchanges, counted_knots}
+use Rattle.folio_line.specs.FolioSlots.{folio_filled}
+use Rattle.folio_line.specs.FolioRights.{live_rights}
+use Rattle.folio_line.specs.RightRanks.{rank_of}
+use Rattle.folio_line.specs.declared.exchanges.Exchange.{Exchange}
+use Rattle.folio_line.specs.declared.folio_rights.CreatedRight.{CreatedRight}
 
 -- ---- ranks
-
--- how many different places, each a filing and a group, these rights have
-abbrev pub different_places : List CreatedRight → ℕ
-different_places [] = 0
-different_places (x ∷ xs) = if list_any (has_same_place x) xs then different_places xs else different_places xs + 1
-
--- right x stands ahead of right y on these places
-abbrev pub stands_ahead : List TitlePlace → CreatedRight → CreatedRight → Bool
-stands_ahead standing x y = is_ahead standing (ranked x.id x.made) (ranked y.id y.made)
-
--- one more than the number of different places ahead (BGB § 879)
-abbrev pub rank_of : List TitlePlace → List CreatedRight → CreatedRight → ℕ
-rank_of standing rights y = 1 + different_places (filter (λ x. stands_ahead standing x y) rights)
 
 -- a right with this rank
 abbrev pub rank_line : ℕ → CreatedRight → List ℕ

@@ -2,7 +2,7 @@
 use Rattle.std.specs.Prelude.{ℕ, List, [], ◌∷◌, ◌++◌, codes, flat_map}
 use Rattle.std.specs.Fmt.{decimal}
 use Rattle.gb_base.specs.Texts.{date_text, section_text}
-use Rattle.folio_sections.specs.declared.judgements.Defect.{Defect}
+use Rattle.consent_rules.specs.declared.judgements.Defect.{Defect}
 use Rattle.registrar.specs.declared.verdicts.Verdict.{Verdict}
 use Rattle.registrar.specs.declared.verdicts.Verdict.TheVariants as verdict
 

@@ -1,5 +1,4 @@
 -- What only private clauses and proofs use.
-pub mod FilingRuns
 pub mod PieceRuns
 pub mod RankWalk
 pub mod Waits

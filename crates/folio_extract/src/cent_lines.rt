@@ -1,4 +1,4 @@
-// The cents that the rights of a folio take in turn, piece by piece.
+//! The cents that the rights of a folio take in turn, piece by piece.
 ghost use Rattle.std.specs.Prelude.{◌≡◌, ◌+◌, ◌<◌, ◌≤◌, ◌^◌, ◌++◌, OnOk, codes, flat_map, length, sum_by};
 ghost use Rattle.std.specs.String.{string_bytes};
 ghost use Rattle.gb_base.specs.Texts.{right_text};

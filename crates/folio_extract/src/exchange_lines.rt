@@ -1,9 +1,9 @@
-// The lines of a folio's exchanges of rank and exercised reservations (BGB §§ 880, 881).
+//! The lines of a folio's exchanges of rank and exercised reservations (BGB §§ 880, 881).
 ghost use Rattle.std.specs.Prelude.{◌≡◌, ◌++◌, OnOk, flat_map};
 ghost use Rattle.std.specs.String.{string_bytes};
 ghost use Rattle.folio_extract.specs.RankTables.{exchange_line, exercise_line};
 
-use crate::exchanges::Exchange;
+use folio_line::Exchange;
 use gb_base::NoMemory;
 use rank_slots::Knot;
 

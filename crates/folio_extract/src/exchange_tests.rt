@@ -1,4 +1,4 @@
-// Rank tables with exchanges and exercised reservations, written down by hand from the rules.
+//! Rank tables with exchanges and exercised reservations, written down by hand from the rules.
 use crate::testing::{
     by_owner, charge, consent, create, docs, filing, folio, has_table, opened_by_one, plain,
     receipt, receive, right, spec,

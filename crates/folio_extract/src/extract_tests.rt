@@ -1,7 +1,6 @@
-// Extracts, each part of each line present and absent.
+//! Extracts, each part of each line present and absent.
 use crate::extract;
 use crate::folio_reads::awaits_award;
-use crate::folio_rights::CreatedRight;
 use crate::right_lines::add_right_line;
 use crate::testing::{
     assignment, by_owners, cents, consent, creation, day, docs, filing, folio, opened, person,
@@ -9,6 +8,7 @@ use crate::testing::{
 };
 use act_model::{Act, Acts, Doc, Filing, Item, Journal, RightKind, RightSpec};
 use arrayvec::ArrayVec;
+use folio_line::CreatedRight;
 use folio_sections::{CasePart, Created, Entry, RightForm, RightPart, What};
 use gb_base::{FolioId, Key, NoMemory};
 use registrar::alone;

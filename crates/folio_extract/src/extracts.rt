@@ -1,4 +1,4 @@
-// The extract of a folio: its parcel, its owners, the filings that wait, and its rights.
+//! The extract of a folio: its parcel, its owners, the filings that wait, and its rights.
 ghost use Rattle.std.specs.Prelude.{◌≡◌, ◌++◌, All, IfOk, IsTrue, OnOk, codes, flat_map, option_map};
 ghost use Rattle.std.specs.Fmt.{decimal};
 ghost use Rattle.std.specs.String.{string_bytes};
@@ -8,11 +8,11 @@ ghost use Rattle.folio_sections.specs.Titles.{inventory, owners};
 ghost use Rattle.folio_extract.specs.Extracts.{extract, extract_text, heading_line, inventory_line, owners_line, right_lines, sale_line, waiting_lines};
 
 use crate::folio_reads::{has_sale_note, inventory_of, is_open, owners_of, title_entries};
-use crate::folio_rights::{CreatedRight, live_rights};
 use crate::right_lines::add_right_line;
 use crate::waiting::waiting_filings;
 use crate::waiting_lines::{WaitsAt, add_waiting_lines};
 use act_model::{Inventory, Owners};
+use folio_line::{CreatedRight, live_rights};
 use folio_sections::{Parts, RightPart};
 use gb_base::{FolioId, NoMemory, Person};
 use registrar::Register;

@@ -5,14 +5,12 @@ mod cent_lines;
 mod exchange_lines;
 #[cfg(test)]
 mod exchange_tests;
-mod exchanges;
 #[cfg(test)]
 mod extract_tests;
 mod extracts;
 mod folio_reads;
-mod folio_rights;
-mod folio_slots;
-mod knots;
+#[cfg(test)]
+mod full_line_tests;
 mod rank_lines;
 #[cfg(test)]
 mod rank_table_tests;

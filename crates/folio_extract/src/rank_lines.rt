@@ -1,9 +1,10 @@
-// The ranks of a folio's rights, which stand in the order of their filings and groups (BGB § 879).
+//! The ranks of a folio's rights, which stand in the order of their filings and groups (BGB § 879).
+//! Why so: docs/DECISIONS.md, "The rank table rests on the order of places".
 ghost use Rattle.std.specs.Prelude.{◌≡◌, ◌+◌, ◌<◌, ◌≤◌, ◌^◌, ◌++◌, None, OnOk};
 ghost use Rattle.std.specs.String.{string_bytes};
 ghost use Rattle.folio_extract.specs.inner.RankWalk.{rank_behind, ranked_lines};
 
-use crate::folio_rights::{CreatedRight, has_same_place};
+use folio_line::{CreatedRight, has_same_place};
 use gb_base::NoMemory;
 
 /// Adds each right with its rank.

@@ -1,4 +1,4 @@
-// Rank tables written down by hand from the rules.
+//! Rank tables written down by hand from the rules.
 use crate::rank_table;
 use crate::testing::{
     charge, consent, create, creation_in_group, docs, filing, folio, has_table, opened_by_one,

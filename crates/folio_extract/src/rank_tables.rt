@@ -1,25 +1,24 @@
-// The rank table of a folio: the ranks of its rights, the exchanges and exercised reservations that
-// count, and the cents after the exchanges.
+//! The rank table of a folio: the ranks of its rights, the exchanges and exercised reservations that
+//! count, and the cents after the exchanges.
 ghost use Rattle.std.specs.Prelude.{◌≡◌, ◌++◌, IfOk, None, OnOk, codes, flat_map, option_map};
 ghost use Rattle.std.specs.Fmt.{decimal};
 ghost use Rattle.std.specs.String.{string_bytes};
 ghost use Rattle.folio_sections.specs.Held.{entries_at};
-ghost use Rattle.folio_sections.specs.Kept.{Kept};
+ghost use Rattle.kept_registers.specs.Kept.{Kept};
 ghost use Rattle.folio_extract.specs.CentTexts.{line_text};
-ghost use Rattle.folio_extract.specs.Exchanges.{counted_exchanges, counted_knots};
-ghost use Rattle.folio_extract.specs.FolioSlots.{filled_by};
+ghost use Rattle.folio_line.specs.Exchanges.{counted_exchanges, counted_knots};
+ghost use Rattle.folio_line.specs.FolioSlots.{folio_filled};
 ghost use Rattle.folio_extract.specs.RankTables.{exercise_line, rank_table, rank_table_text};
 ghost use Rattle.folio_extract.specs.inner.RankWalk.{ranked_lines};
 
 use crate::cent_lines::add_cent_lines;
 use crate::exchange_lines::{add_exchange_lines, add_exercise_lines};
-use crate::exchanges::{Exchange, counted_exchanges};
 use crate::folio_reads::is_open;
-use crate::folio_rights::{CreatedRight, live_rights};
-use crate::folio_slots::folio_slots;
-use crate::knots::counted_knots;
 use crate::rank_lines::add_rank_lines;
 use act_model::Journal;
+use folio_line::{
+    CreatedRight, Exchange, counted_exchanges, counted_knots, folio_slots, live_rights,
+};
 use gb_base::{FolioId, NoMemory};
 use registrar::Register;
 use std::alloc::Global;
@@ -58,7 +57,7 @@ pub(crate) fn add_rank_table(
     prove!(receipts <= Journal::MAX);
     let rights = live_rights(alloc, register, folio)?;
     add_ranks(text, folio, &rights)?;
-    let exchanges = counted_exchanges(alloc, register, folio, &rights)?;
+    let exchanges = counted_exchanges(alloc, register, journal, folio, &rights)?;
     add_exchange_lines(text, &exchanges)?;
     add_exercises(alloc, text, register, folio)?;
     add_cents(alloc, text, register, journal, folio, &exchanges)
@@ -99,7 +98,7 @@ fn add_cents(
     requires kept { Kept journal.now.receipts (entries_at register.now.parts) }
     requires counted { exchanges.now ≡ counted_exchanges (entries_at register.now.parts) folio }
     ensures { OnOk result (string_bytes text.new ≡ string_bytes text.old
-        ++ line_text (filled_by exchanges.now (entries_at register.now.parts) folio)) }
+        ++ line_text (folio_filled (entries_at register.now.parts) folio)) }
 {
     let slots = folio_slots(alloc, register, journal, folio, exchanges)?;
     add_cent_lines(text, &slots)

@@ -1,4 +1,4 @@
-// Reports written down by hand from the rules.
+//! Reports written down by hand from the rules.
 use crate::testing::{by_owner, folio, opening_by, receipt, receive, spec};
 use crate::{extract, report, verdict_line};
 use act_model::{Act, Journal, RightKind};

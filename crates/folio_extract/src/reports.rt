@@ -1,8 +1,9 @@
-// The report: what becomes of each receipt, the texts of each open folio, and a line that ends it.
+//! The report: what becomes of each receipt, the texts of each open folio, and a line that ends it.
+//! Why so: docs/DECISIONS.md, "The report is made whole before its first byte is written".
 ghost use Rattle.std.specs.Prelude.{◌≡◌, ◌++◌, IfOk, OnOk, length};
 ghost use Rattle.std.specs.String.{string_bytes};
 ghost use Rattle.folio_sections.specs.Held.{entries_at};
-ghost use Rattle.folio_sections.specs.Kept.{Kept};
+ghost use Rattle.kept_registers.specs.Kept.{Kept};
 ghost use Rattle.folio_extract.specs.Reports.{Tells, end_line, folio_texts, report, report_text};
 ghost use Rattle.registrar.specs.Settling.{Settled};
 

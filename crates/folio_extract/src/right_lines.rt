@@ -1,4 +1,4 @@
-// The line of a right.
+//! The line of a right.
 ghost use Rattle.std.specs.Prelude.{◌≡◌, ◌++◌, OnOk, codes};
 ghost use Rattle.std.specs.Fmt.{decimal};
 ghost use Rattle.std.specs.String.{string_bytes};
@@ -6,8 +6,8 @@ ghost use Rattle.gb_base.specs.Texts.{euro, right_text};
 ghost use Rattle.folio_sections.specs.Rights.{capital, holder, is_full};
 ghost use Rattle.folio_extract.specs.Extracts.{division_text, form_text, kind_text, notes, rate_part, right_line, word_if, word_part};
 
-use crate::folio_rights::CreatedRight;
 use act_model::RightKind;
+use folio_line::CreatedRight;
 use folio_sections::{Created, RightPart};
 use gb_base::{Cents, NoMemory, Person, ReceiptNo, RightId};
 

@@ -1,4 +1,4 @@
-// Journals for the tests.
+//! Journals for the tests.
 ghost use Rattle.std.specs.Prelude.{◌≤◌, length};
 
 use crate::rank_table;

@@ -1,11 +1,11 @@
-// What becomes of a receipt, as a line.
+//! What becomes of a receipt, as a line.
 ghost use Rattle.std.specs.Prelude.{◌≡◌, ◌++◌, IfOk, OnOk, codes, option_map};
 ghost use Rattle.std.specs.String.{string_bytes};
 ghost use Rattle.gb_base.specs.Texts.{date_text};
 ghost use Rattle.registrar.specs.RegisterState.{verdict_among};
 ghost use Rattle.folio_extract.specs.VerdictLines.{defect_text, defects_text, verdict_line, verdict_lines, verdict_text};
 
-use folio_sections::Defect;
+use consent_rules::Defect;
 use gb_base::{Day, NoMemory, ReceiptNo};
 use registrar::{Register, Verdict};
 use std::alloc::Global;

@@ -1,7 +1,7 @@
-// The line of each verdict.
+//! The line of each verdict.
 use crate::verdict_lines::add_verdict_line;
 use arrayvec::ArrayVec;
-use folio_sections::{Defect, Defects};
+use consent_rules::{Defect, Defects};
 use gb_base::{Day, NoMemory, Section};
 use registrar::Verdict;
 use std::alloc::Global;

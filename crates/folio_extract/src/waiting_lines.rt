@@ -1,4 +1,4 @@
-// The lines of the filings that wait at a title or at a right.
+//! The lines of the filings that wait at a title or at a right.
 ghost use Rattle.std.specs.Prelude.{◌≡◌, ◌++◌, OnOk, Some, flat_map};
 ghost use Rattle.std.specs.String.{string_bytes};
 ghost use Rattle.folio_extract.specs.Extracts.{notice_part, waiting_line};

@@ -1,18 +1,13 @@
 -- Lemmas.
 pub mod Additions
 pub mod Below
-pub mod Cures
 pub mod DistinctLists
 pub mod FilteredLists
 pub mod HeldParts
 pub mod HeldRights
 pub mod Indexes
-pub mod KeptOrder
 pub mod ListLemmas
-pub mod PlaceDays
-pub mod PlaceOrder
 pub mod Progress
-pub mod RankOrder
 pub mod ReceiptNumbers
 pub mod Unchanged
 pub mod Unnoticed

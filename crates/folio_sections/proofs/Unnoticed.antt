@@ -6,8 +6,7 @@ use Rattle.std.proofs.lemmas.Bool.{and_parts, cases_Bool, eqb-true, false≢true
 use Rattle.std.proofs.lemmas.Bool.Decides.{nat_tests}
 use Rattle.std.proofs.lemmas.List.Elements.{filter-append}
 use Rattle.std.proofs.lemmas.List.Folds.{find-append}
-use Rattle.folio_sections.specs.Entering.{waiting_unnoticed}
-use Rattle.folio_sections.specs.Waiting.{below, is_above, is_pending, notice, pending, until_by}
+use Rattle.folio_sections.specs.Waiting.{waiting_unnoticed, below, is_above, is_pending, notice, pending, until_by}
 use Rattle.folio_sections.specs.declared.entries.Entry.{Entry}
 use Rattle.folio_sections.specs.declared.entries.What.{What}
 use Rattle.folio_sections.specs.declared.entries.What.TheVariants as what

@@ -1,4 +1,5 @@
 -- The rights of a folio whose parts are held.
+-- Why so: docs/DECISIONS.md, "The extract is read from the register alone".
 use Rattle.std.specs.Prelude.{ℕ, List, filter, flat_map, map}
 use Rattle.std.specs.List.{range_with_len}
 use Rattle.gb_base.specs.Limits.{most_acts}

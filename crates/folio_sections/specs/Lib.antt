@@ -1,25 +1,13 @@
 -- What contracts cite.
 pub mod Adding
 pub mod Cases
-pub mod Documents
-pub mod Entering
 pub mod Entries
-pub mod Groups
 pub mod Held
 pub mod HeldRights
-pub mod Judging
-pub mod Kept
-pub mod KeptCases
-pub mod KeptEntries
-pub mod KeptPlaces
-pub mod KeptRights
 pub mod Limits
 pub mod PartState
-pub mod Persons
 pub mod Places
-pub mod Ranks
 pub mod Rights
-pub mod Sought
 pub mod Titles
 pub mod Waiting
 pub mod inner

@@ -1,13 +1,9 @@
--- How many rights a folio takes, how many defects a filing has at most, how much a case of a forced sale holds, and how many entries a key.
+-- How many rights a folio takes, how much a case of a forced sale holds, and how many entries a key.
 use Rattle.std.specs.Prelude.{ℕ}
 
 -- the most creating acts of a folio, whatever became of their filings
 abbrev pub most_creations : ℕ
 most_creations = 256
-
--- the most curable defects of a filing: six sections, eight acts
-abbrev pub most_defects : ℕ
-most_defects = 48
 
 -- the most seizures in a case
 abbrev pub most_seizures : ℕ

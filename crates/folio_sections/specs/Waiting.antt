@@ -1,5 +1,5 @@
 -- Filings that wait at a key for cures, and the official notices that keep their places (GBO § 18). All is read from the entries at the key.
-use Rattle.std.specs.Prelude.{ℕ, ◌-◌, Bool, true, false, ◌==◌, nat_lt, if◌then◌else◌, List, filter, find, fold, Option, Some, None, option_map, is_some}
+use Rattle.std.specs.Prelude.{ℕ, ◌-◌, Bool, true, false, ◌==◌, nat_lt, if◌then◌else◌, List, filter, find, fold, Option, Some, None, option_map, is_some, is_none}
 use Rattle.std.specs.List.{before_first, after_first, range_with_len}
 use Rattle.folio_sections.specs.declared.entries.Entry.{Entry}
 use Rattle.folio_sections.specs.declared.entries.What.{What}
@@ -49,3 +49,7 @@ after_notice m entries = after_first (λ e. is_notice_of m e.what) entries
 abbrev pub is_above : Option ℕ → ℕ → Bool
 is_above None n = true
 is_above (Some m) n = nat_lt m n
+
+-- the earlier filings than m that wait at a key without a notice, ascending
+abbrev pub waiting_unnoticed : ℕ → List Entry → List ℕ
+waiting_unnoticed m entries = filter (λ n. is_none (notice n entries)) (waiting_before m entries)

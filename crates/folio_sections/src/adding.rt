@@ -1,9 +1,9 @@
-// Entries that an item adds to the parts of a register.
+//! Entries that an item adds to the parts of a register.
 ghost use Rattle.std.specs.Prelude.{◌≡◌, ◌≤◌, [], ◌∷◌, length, IsTrue};
 ghost use Rattle.gb_base.specs.DayMinute.{IsStampDay};
 ghost use Rattle.act_model.specs.Receiving.{day_of};
 ghost use Rattle.folio_sections.specs.Adding.{AddsList, HasRoom};
-ghost use Rattle.folio_sections.specs.Entering.{entry_by};
+ghost use Rattle.folio_sections.specs.Entries.{entry_by};
 
 use crate::{Entry, Parts, What};
 use act_model::Journal;

@@ -1,4 +1,4 @@
-// A part of any kind, so that one list holds all of them.
+//! A part of any kind, so that one list holds all of them.
 ghost use Rattle.std.specs.Prelude.{◌≡◌, ◌+◌, ◌≤◌, [], ◌∷◌, ◌++◌, IsOk, OnOk, OnErr, IfSome, is_some, length};
 ghost use Rattle.folio_sections.specs.Limits.{most_at_a_key};
 ghost use Rattle.folio_sections.specs.inner.Kinds.{is_title, is_right, is_case};

@@ -1,4 +1,6 @@
-// The part of a register at the forced sale of a folio.
+//! The part of a register at the forced sale of a folio.
+//! Why so: docs/DECISIONS.md, "A part counts its seizures up to the greatest `u32`".
+//! Why so: docs/DECISIONS.md, "The part of a forced sale answers like the others".
 ghost use Rattle.std.specs.Prelude.{◌≡◌, ◌+◌, ◌≤◌, [], ◌∷◌, ◌++◌, All, IsOk, OnOk, OnErr, min};
 ghost use Rattle.folio_sections.specs.Cases.{is_distribution, case, is_seizure, award_by, call_by};
 
@@ -25,8 +27,7 @@ impl Model for CasePart {
 impl CasePart {
     ghost use Rattle.std.specs.List.{find};
     ghost use Rattle.folio_sections.specs.Cases.{is_running, seizures, award, call};
-    ghost use Rattle.folio_sections.specs.Entering.{waiting_unnoticed};
-    ghost use Rattle.folio_sections.specs.Waiting.{pending, is_above};
+    ghost use Rattle.folio_sections.specs.Waiting.{waiting_unnoticed, pending, is_above};
 
     /// The empty part at a key.
     pub fn new(alloc: Global, key: Key) -> CasePart

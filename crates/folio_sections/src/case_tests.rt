@@ -1,4 +1,4 @@
-// What is read at a forced sale, over lists written by hand.
+//! What is read at a forced sale, over lists written by hand.
 use crate::tests::{cents, day, entry, folio, person, receipt};
 use crate::{CasePart, What};
 use gb_base::{Key, NoMemory};

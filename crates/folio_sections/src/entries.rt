@@ -1,4 +1,5 @@
-// The register's entries, each by an item at a key.
+//! The register's entries, each by an item at a key.
+//! Why so: docs/DECISIONS.md, "Some names stay that a newcomer stumbles over".
 use act_model::{Inventory, Owners, RightSpec};
 use gb_base::{Cents, Day, Key, Person, ReceiptNo, RightId};
 

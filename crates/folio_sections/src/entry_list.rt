@@ -1,4 +1,5 @@
-// The entries at one key, which each part wraps.
+//! The entries at one key, which each part wraps.
+//! Why so: docs/DECISIONS.md, "The common calls of parts stand in each part".
 ghost use Rattle.std.specs.Prelude.{◌≡◌, ◌+◌, ◌≤◌, [], ◌∷◌, ◌++◌, All, IsOk, OnOk, OnErr};
 
 use crate::Entry;

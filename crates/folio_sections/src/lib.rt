@@ -1,6 +1,6 @@
 //! The parts of a folio: what stands at its title, at its rights and at its forced sale, and what
-//! is read from them; the documents of a filing, and the definitions that the crates of the rules
-//! share.
+//! is read from them.
+//! Why so: docs/DECISIONS.md, "A definition stands in the crate whose code it defines".
 #![tactic(auto)]
 
 mod adding;
@@ -8,13 +8,8 @@ mod any_part;
 mod case_part;
 #[cfg(test)]
 mod case_tests;
-mod documents;
 mod entries;
 mod entry_list;
-mod filings;
-mod groups;
-mod judgements;
-pub mod laws;
 mod map_parts;
 #[cfg(test)]
 mod map_tests;
@@ -22,7 +17,6 @@ mod parts;
 mod right_part;
 #[cfg(test)]
 mod right_tests;
-mod sought;
 #[cfg(test)]
 mod tests;
 mod title_part;
@@ -33,14 +27,9 @@ mod waiting;
 
 pub use adding::{add, day_of, entry_by};
 pub use case_part::CasePart;
-pub use documents::Documents;
 pub use entries::{Created, Entry, RightForm, What};
-pub use filings::applicant_of;
-pub use groups::{has_equal, shares_its_group};
-pub use judgements::{Defect, Defects, Judgement};
 pub use map_parts::MapParts;
 pub use parts::Parts;
 pub use right_part::RightPart;
-pub use sought::{DocFilter, Sought};
 pub use title_part::TitlePart;
-pub use title_places::{TitlePlace, behind, creates_in_division, own_place};
+pub use title_places::{TitlePlace, behind, own_place};

@@ -1,4 +1,4 @@
-// Parts over keys that are given, found by key in logarithmic time.
+//! Parts over keys that are given, found by key in logarithmic time.
 ghost use Rattle.std.specs.Prelude.{◌≡◌, ◌||◌, ℕ, ◌≤◌, [], All, List, IsTrue, IfOk, IsOk, OnOk, OnErr, IfSome, filter_map, is_some, length, find, position};
 ghost use Rattle.std.specs.BTreeMap.{IsOrdered};
 ghost use Rattle.std.specs.BTreeMap.Range.{IsEntryInRange, IsLeBy};

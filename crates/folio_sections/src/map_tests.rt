@@ -1,4 +1,4 @@
-// Parts over given keys.
+//! Parts over given keys.
 ghost use Rattle.std.specs.Prelude.{◌≡◌, ◌≤◌, IsTrue};
 
 use crate::tests::{entry, folio, receipt, right};

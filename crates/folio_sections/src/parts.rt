@@ -1,4 +1,4 @@
-// What the rules read and write of a register: the parts that they are lent.
+//! What the rules read and write of a register: the parts that they are lent.
 ghost use Rattle.std.specs.Prelude.{◌≡◌};
 
 use crate::{CasePart, Entry, RightPart, TitlePart};

@@ -1,4 +1,4 @@
-// The part of a register at a right.
+//! The part of a register at a right.
 ghost use Rattle.std.specs.Prelude.{◌≡◌, ◌+◌, ◌≤◌, [], ◌∷◌, ◌++◌, All, IsOk, OnOk, OnErr, fold, None};
 ghost use Rattle.std.specs.List.{list_any};
 ghost use Rattle.folio_sections.specs.Rights.{created_by, created, live_by, is_conversion, new_holder_by, holder, remaining_by, is_exercise};
@@ -25,9 +25,8 @@ impl Model for RightPart {
 
 impl RightPart {
     ghost use Rattle.std.specs.List.{find};
-    ghost use Rattle.folio_sections.specs.Entering.{waiting_unnoticed};
+    ghost use Rattle.folio_sections.specs.Waiting.{waiting_unnoticed, pending, is_above, notice};
     ghost use Rattle.folio_sections.specs.Rights.{created, is_live, is_full, holder, holder_for, capital, is_spent};
-    ghost use Rattle.folio_sections.specs.Waiting.{pending, is_above, notice};
 
     /// The empty part at a key.
     pub fn new(alloc: Global, key: Key) -> RightPart

@@ -1,4 +1,4 @@
-// What is read at a right, over lists written by hand.
+//! What is read at a right, over lists written by hand.
 use crate::tests::{cents, charge, day, entry, folio, person, receipt, right};
 use crate::{Created, RightForm, RightPart, What};
 use gb_base::{Key, NoMemory};

@@ -1,4 +1,4 @@
-// What the tests share: numbers, and entries at a key.
+//! What the tests share: numbers, and entries at a key.
 ghost use Rattle.std.specs.Prelude.{◌≡◌};
 
 use crate::{Entry, What};

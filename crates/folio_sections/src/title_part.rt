@@ -1,4 +1,4 @@
-// The part of a register at the title of a folio.
+//! The part of a register at the title of a folio.
 ghost use Rattle.std.specs.Prelude.{◌≡◌, ◌+◌, ◌≤◌, [], ◌∷◌, ◌++◌, All, IsOk, OnOk, OnErr};
 ghost use Rattle.std.specs.List.{list_any};
 ghost use Rattle.folio_sections.specs.Titles.{is_opening, inventory_by, owners_by, owners, is_award_owner};
@@ -27,9 +27,8 @@ impl Model for TitlePart {
 
 impl TitlePart {
     ghost use Rattle.std.specs.List.{find};
-    ghost use Rattle.folio_sections.specs.Entering.{waiting_unnoticed};
+    ghost use Rattle.folio_sections.specs.Waiting.{waiting_unnoticed, pending, is_above, notice};
     ghost use Rattle.folio_sections.specs.Titles.{is_open, inventory, owners, owners_for};
-    ghost use Rattle.folio_sections.specs.Waiting.{pending, is_above, notice};
 
     /// The empty part at a key.
     pub fn new(alloc: Global, key: Key) -> TitlePart

@@ -1,12 +1,10 @@
-// The places that stand at the title of a folio (BGB § 879, GBO § 45).
-ghost use Rattle.std.specs.Prelude.{◌≡◌, ◌==◌, false, fold};
+//! The places that stand at the title of a folio (BGB § 879, GBO § 45).
+ghost use Rattle.std.specs.Prelude.{◌≡◌, ◌==◌, fold};
 ghost use Rattle.std.specs.List.{before_first};
-ghost use Rattle.std.specs.Option.{option_map_or};
-ghost use Rattle.act_model.specs.Touches.{acts_of};
-ghost use Rattle.folio_sections.specs.Places.{behind, behind_by, create_in_division, creates_in_division, creates_there, is_of_division, noticed_place, own_place, place_by, places_among};
+ghost use Rattle.folio_sections.specs.Places.{behind, behind_by, noticed_place, own_place, place_by, places_among};
 
 use crate::{Entry, What};
-use act_model::{Act, Journal, RightSpec, acts_of};
+use act_model::{Journal, creates_in_division};
 use gb_base::{Day, FolioId, ReceiptNo};
 
 /// The place of a filing at a title.
@@ -19,43 +17,6 @@ pub struct TitlePlace {
     pub second: bool,
     /// Whether it is one for rights of division III.
     pub third: bool,
-}
-
-/// Whether filing n creates a right of division III, or else of division II, in the folio.
-pub fn creates_in_division(journal: &Journal, third: bool, folio: FolioId, n: ReceiptNo) -> bool
-    ensures { result ≡ create_in_division third folio (acts_of journal.now.receipts n) }
-{
-    acts_of(journal, n)
-        .iter()
-        .any(|act| is_creation(third, folio, act))
-}
-
-/// Whether the act creates a right of division III, or else of division II, in the folio.
-fn is_creation(third: bool, folio: FolioId, act: &Act) -> bool
-    ensures { result ≡ creates_in_division third folio act.now }
-{
-    act.folio() == folio && has_division(third, act.right_created())
-}
-
-/// Whether there is a right, and it is of division III, or else of division II.
-fn has_division(third: bool, right: Option<RightSpec>) -> bool
-    ensures { result ≡ option_map_or (is_of_division third) right false }
-{
-    match right {
-        Some(spec) => is_of_division(third, spec),
-        None => false,
-    }
-}
-
-/// Whether the right is of division III, or else of division II.
-fn is_of_division(third: bool, right: RightSpec) -> bool
-    ensures { result ≡ is_of_division third right }
-{
-    if third {
-        right.kind.is_in_division_three()
-    } else {
-        !right.kind.is_in_division_three()
-    }
 }
 
 /// The place that an entry at the title sets; None where it sets none.

@@ -1,4 +1,4 @@
-// What is read at a title, over lists written by hand.
+//! What is read at a title, over lists written by hand.
 use crate::tests::{day, entry, folio, owner, parcel, person, receipt};
 use crate::{TitlePart, What};
 use gb_base::{Key, NoMemory, Person, ReceiptNo};

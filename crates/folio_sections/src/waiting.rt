@@ -1,8 +1,8 @@
-// Filings that wait at a key, as its entries say.
+//! Filings that wait at a key, as its entries say.
+//! Why so: docs/DECISIONS.md, "A part is asked for the next filing that waits without a notice".
 ghost use Rattle.std.specs.Prelude.{◌≡◌, ◌≤◌, ◌&&◌, None, fold, length, option_map};
 ghost use Rattle.std.specs.List.{find, position_or_len};
-ghost use Rattle.folio_sections.specs.Entering.{waiting_unnoticed};
-ghost use Rattle.folio_sections.specs.Waiting.{until_by, pending, is_above, is_notice_of, notice, before_notice, after_notice};
+ghost use Rattle.folio_sections.specs.Waiting.{waiting_unnoticed, until_by, pending, is_above, is_notice_of, notice, before_notice, after_notice};
 ghost use Rattle.folio_sections.specs.inner.Unnoticed.{lacks_notice, least_by, least_with};
 
 use crate::{Entry, What};

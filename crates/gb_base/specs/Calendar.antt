@@ -1,4 +1,5 @@
 -- Days as dates of the Gregorian calendar.
+-- Why so: docs/DECISIONS.md, "A date out of the range is zeros".
 use Rattle.std.specs.Prelude.{◌≡◌, ℕ, ◌+◌, ◌-◌, ◌≤◌, Bool, List, map, flat_map, find, Option, Some, None, pos}
 use Rattle.std.specs.List.{range_with_len}
 use Rattle.std.specs.Ordering.{int_eq}

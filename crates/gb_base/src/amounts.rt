@@ -1,4 +1,4 @@
-// Amounts of money, in cents.
+//! Amounts of money, in cents.
 ghost use Rattle.std.specs.Prelude.{◌≡◌, ◌≤◌, ◌↔◌, IsSome, IfSome};
 ghost use Rattle.gb_base.specs.Limits.{most_cents};
 

@@ -1,4 +1,4 @@
-// Dates as texts, YYYY-MM-DD.
+//! Dates as texts, YYYY-MM-DD.
 ghost use Rattle.std.specs.Prelude.{◌≡◌, ◌≤◌, Some, IfSome};
 ghost use Rattle.gb_base.specs.Texts.{date_text, day_written};
 ghost use Rattle.gb_base.specs.inner.DateReading.{digits_read, day_numbered, day_of_digits, day_read};

@@ -1,4 +1,5 @@
-// Days, as numbers and as dates.
+//! Days, as numbers and as dates.
+//! Why so: docs/DECISIONS.md, "Dates rest on `jiff`".
 ghost use Rattle.std.specs.Prelude.{◌≡◌, ◌≤◌, ◌↔◌, IsSome, IfSome, pos};
 ghost use Rattle.gb_base.specs.Calendar.{IsDateOfRange, IsCivilDay, date_of};
 ghost use Rattle.gb_base.specs.Limits.{last_day, first_year, last_year};

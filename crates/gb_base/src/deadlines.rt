@@ -1,4 +1,4 @@
-// Deadlines: the days behind which a lapse ends the waiting of a filing (GBO § 18).
+//! Deadlines: the days behind which a lapse ends the waiting of a filing (GBO § 18).
 ghost use Rattle.std.specs.Prelude.{◌≡◌, ◌≤◌, ◌+◌};
 ghost use Rattle.jiff_core.specs.Weekday.{monday_zero};
 ghost use Rattle.gb_base.specs.DayMinute.{IsStampDay};

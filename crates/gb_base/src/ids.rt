@@ -1,4 +1,4 @@
-// Numbers that name something, from 1. In contracts each is its number.
+//! Numbers that name something, from 1. In contracts each is its number.
 ghost use Rattle.std.specs.Prelude.{◌≡◌, ◌<◌, ◌≤◌, ◌↔◌, IsNone, IsSome, IfSome};
 ghost use Rattle.gb_base.specs.Limits.{most_acts};
 

@@ -1,4 +1,5 @@
-// What items touch, and what entries stand at.
+//! What items touch, and what entries stand at.
+//! Why so: docs/DECISIONS.md, "Keys are equal as their order reads them".
 ghost use Rattle.std.specs.Prelude.{◌≡◌};
 ghost use Rattle.std.proofs.Common.{rules};
 ghost use Rattle.std.specs.Cmp.{partial_order_from_own_ties};

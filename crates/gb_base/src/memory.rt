@@ -1,4 +1,6 @@
-// Want of memory.
+//! Want of memory.
+//! Why so: docs/DECISIONS.md, "`NoMemory` is std's `AllocError`".
+//! Why so: docs/DECISIONS.md, "What allocates takes `Global`".
 use std::alloc::AllocError;
 
 /// Want of memory: no memory was found for what a call had to allocate.

@@ -1,4 +1,4 @@
-// The sections that answers name.
+//! The sections that answers name.
 /// The sections of the statutes that answers name, and the office's own limit.
 #[derive(Clone, Copy, Debug, PartialEq, Eq, PartialOrd, Ord)]
 pub enum Section {

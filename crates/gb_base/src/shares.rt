@@ -1,4 +1,4 @@
-// How money is shared in proportion among claims of equal rank.
+//! How money is shared in proportion among claims of equal rank.
 ghost use Rattle.std.specs.Prelude.{◌≡◌, ◌*◌, ◌/◌, ◌<◌, ◌≤◌, length, sum, All};
 ghost use Rattle.gb_base.specs.Limits.{most_sharing, most_sum};
 ghost use Rattle.gb_base.specs.Shares.{claim_at, left_over, share};

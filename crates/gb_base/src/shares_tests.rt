@@ -1,4 +1,4 @@
-// Tests of how money is shared.
+//! Tests of how money is shared.
 ghost use Rattle.std.specs.Prelude.{◌<◌, ◌≤◌, sum, All};
 ghost use Rattle.gb_base.specs.Limits.{most_sum};
 

@@ -1,4 +1,4 @@
-// When receipts came in.
+//! When receipts came in.
 ghost use Rattle.std.specs.Prelude.{◌≡◌, ◌≤◌, ◌<◌, ◌↔◌, IsSome, IfSome};
 ghost use Rattle.gb_base.specs.DayMinute.{IsStampDay};
 ghost use Rattle.gb_base.specs.Limits.{minutes_of_day};

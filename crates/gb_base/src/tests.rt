@@ -1,4 +1,4 @@
-// Tests of ranges, dates, texts, deadlines and the order of keys.
+//! Tests of ranges, dates, texts, deadlines and the order of keys.
 use crate::{Cents, Day, FolioId, Key, Person, ReceiptNo, RightId, Stamp, deadline};
 use std::test::Fail;
 

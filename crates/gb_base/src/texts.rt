@@ -1,4 +1,4 @@
-// How values are printed. Contracts see the bytes.
+//! How values are printed. Contracts see the bytes.
 ghost use Rattle.std.specs.Prelude.{◌≡◌, Some};
 ghost use Rattle.std.specs.Fmt.{decimal};
 ghost use Rattle.gb_base.specs.Texts.{euro, right_text, section_text};

@@ -1,4 +1,4 @@
-// The calls of objects in memory.
+//! The calls of objects in memory.
 ghost use Rattle.std.specs.Prelude.{◌≡◌, ◌==◌};
 ghost use Rattle.std.specs.List.{list_any};
 ghost use Rattle.gb_outside.specs.InMemory.{fails_next, after_call};

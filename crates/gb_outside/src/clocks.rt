@@ -1,4 +1,4 @@
-// Clocks.
+//! Clocks.
 use gb_base::Stamp;
 
 /// A clock that stamps receipts.

@@ -1,4 +1,4 @@
-// The door that links come through.
+//! The door that links come through.
 use crate::Link;
 
 /// What a listener answers.

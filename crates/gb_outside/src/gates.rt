@@ -1,4 +1,4 @@
-// The gate of a desk.
+//! The gate of a desk.
 use gb_base::ReceiptNo;
 
 /// Stands at each desk: called with an item while the desk holds the item's folios, before the

@@ -1,4 +1,4 @@
-// Connections in memory, and the door that they come through.
+//! Connections in memory, and the door that they come through.
 use crate::{Door, Got, Link, Listener, MemLink, MemListener, Wrote};
 use std::test::Fail;
 

@@ -1,4 +1,4 @@
-// Links, which read and write.
+//! Links, which read and write.
 use crate::{Got, Wrote};
 
 /// A connection: bytes that come in and bytes that go out, with one count of faults.

@@ -1,4 +1,4 @@
-// A clock that gives the stamps of a list.
+//! A clock that gives the stamps of a list.
 ghost use Rattle.std.specs.Prelude.{◌≡◌, ◌<◌, Some, length};
 
 use crate::Clock;

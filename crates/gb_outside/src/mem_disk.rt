@@ -1,4 +1,5 @@
-// A disk in memory with a record of all calls, by which tests stop it and let it fail.
+//! A disk in memory with a record of all calls, by which tests stop it and let it fail.
+//! Why so: docs/DECISIONS.md, "A disk in memory has its limits in fields".
 ghost use Rattle.std.specs.Prelude.{◌≡◌, ◌+◌, ◌≤◌, [], length, nat_le, vec_len, vec_capacity, IfOk, is_err, true, false};
 ghost use Rattle.gb_outside.specs.Faults.{Counts};
 ghost use Rattle.gb_outside.specs.Images.{Only};

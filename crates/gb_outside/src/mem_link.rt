@@ -1,4 +1,4 @@
-// A connection in memory, by which tests and proofs see what is written to it.
+//! A connection in memory, by which tests and proofs see what is written to it.
 ghost use Rattle.std.specs.Prelude.{◌≡◌, Some, [], IfOk};
 
 use crate::calls::Calls;

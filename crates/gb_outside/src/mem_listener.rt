@@ -1,4 +1,4 @@
-// A door in memory, by which tests and proofs see what was written to each connection.
+//! A door in memory, by which tests and proofs see what was written to each connection.
 ghost use Rattle.std.specs.Prelude.{◌≡◌, Some, [], All, IfOk};
 ghost use Rattle.gb_outside.specs.InMemory.{IsUnused, bytes_waiting, pairs_served};
 

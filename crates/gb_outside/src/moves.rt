@@ -1,4 +1,4 @@
-// Moves bytes from one slice to another.
+//! Moves bytes from one slice to another.
 ghost use Rattle.std.specs.Prelude.{◌≡◌, length, take, drop, min};
 
 /// Moves as many of the bytes as there is room for, from their front, and answers what is left.

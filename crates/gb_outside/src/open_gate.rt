@@ -1,4 +1,4 @@
-// A gate that is always open.
+//! A gate that is always open.
 use crate::DeskGate;
 use gb_base::ReceiptNo;
 

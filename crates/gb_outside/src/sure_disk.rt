@@ -1,4 +1,4 @@
-// A disk that never fails.
+//! A disk that never fails.
 ghost use Rattle.std.specs.Prelude.{◌≡◌, false};
 ghost use Rattle.gb_outside.specs.declared.sure_disk.SureDisk.{SureDisk};
 

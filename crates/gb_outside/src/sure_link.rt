@@ -1,4 +1,4 @@
-// A link that never fails.
+//! A link that never fails.
 ghost use Rattle.std.specs.Prelude.{◌≡◌, Some, None};
 ghost use Rattle.gb_outside.specs.declared.sure_link.SureLink.{SureLink};
 

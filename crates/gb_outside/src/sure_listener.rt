@@ -1,4 +1,4 @@
-// A listener that never fails.
+//! A listener that never fails.
 ghost use Rattle.std.specs.Prelude.{◌≡◌, Some, None, [], map, unwrap_or};
 ghost use Rattle.gb_outside.specs.declared.sure_listener.SureListener.{SureListener};
 

@@ -1,4 +1,4 @@
-// A sink that never fails.
+//! A sink that never fails.
 ghost use Rattle.std.specs.Prelude.{◌≡◌, None};
 ghost use Rattle.gb_outside.specs.declared.sure_sink.SureSink.{SureSink};
 

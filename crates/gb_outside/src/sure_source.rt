@@ -1,4 +1,4 @@
-// A source that never fails.
+//! A source that never fails.
 ghost use Rattle.std.specs.Prelude.{◌≡◌, Some};
 ghost use Rattle.gb_outside.specs.declared.sure_source.SureSource.{SureSource};
 

@@ -1,4 +1,4 @@
-// Tests of the objects in memory, and of those that never fail.
+//! Tests of the objects in memory, and of those that never fail.
 ghost use Rattle.std.specs.Prelude.{◌≡◌, ◌<◌, length, false, IfOk, is_err};
 ghost use Rattle.gb_outside.specs.Bytes.{read_failed};
 ghost use Rattle.gb_outside.specs.Faults.{Counts};

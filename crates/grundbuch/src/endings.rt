@@ -1,4 +1,4 @@
-// How the program ends: the exit status, and the line on standard error.
+//! How the program ends: the exit status, and the line on standard error.
 ghost use Rattle.std.specs.Prelude.{◌≡◌, Some};
 ghost use Rattle.grundbuch.specs.Endings.{exit_status, ending_text};
 

@@ -1,4 +1,4 @@
-// Files for the tests: they keep no bytes, but note what is asked of them.
+//! Files for the tests: they keep no bytes, but note what is asked of them.
 use crate::held_file::Lock;
 use std::alloc::Allocator;
 use std::cell::RefCell;

@@ -1,4 +1,5 @@
-// How the adapters count the faults of what stands outside.
+//! How the adapters count the faults of what stands outside.
+//! Why so: docs/DECISIONS.md, "The standard streams repeat some lines of each other".
 ghost use Rattle.std.specs.Prelude.{◌≡◌, is_err};
 ghost use Rattle.gb_outside.specs.Faults.{Counts, faults_after};
 

@@ -1,4 +1,6 @@
-// A file of the system that one program at a time has.
+//! A file of the system that one program at a time has.
+//! Why so: docs/DECISIONS.md, "The file is locked at its first use, without waiting".
+//! Why so: docs/DECISIONS.md, "The file lies beside the standard streams".
 use std::fs::{File, OpenFile, OpenOptions};
 use std::io;
 use std::os::unix::fs::FileExt;

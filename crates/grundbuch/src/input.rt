@@ -1,4 +1,4 @@
-// Standard input as the office's source.
+//! Standard input as the office's source.
 ghost use Rattle.std.specs.Prelude.{◌≢◌, IfErr};
 ghost use Rattle.std.specs.Io.{ReadsAtMost};
 ghost use Rattle.std.specs.IoError.{error_kind};

@@ -1,4 +1,6 @@
-// The journal's file as the office's disk.
+//! The journal's file as the office's disk.
+//! Why so: docs/DECISIONS.md, "After a failed sync every later one fails".
+//! Why so: docs/DECISIONS.md, "Only a failed sync gives the file up".
 ghost use Rattle.std.specs.Prelude.{◌≡◌, ◌⊎◌, None, is_err, IsOk, IsErr, IsTrue};
 ghost use Rattle.gb_outside.specs.Faults.{Counts, faults_after};
 

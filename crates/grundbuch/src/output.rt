@@ -1,4 +1,4 @@
-// Standard output as the office's sink.
+//! Standard output as the office's sink.
 ghost use Rattle.std.specs.Prelude.{◌<◌, ◌≢◌, IfErr, IfOk, length};
 ghost use Rattle.std.specs.IoError.{error_kind};
 ghost use Rattle.std.specs.Io.{WritesAtMost};

@@ -1,4 +1,4 @@
-// The system's clock as the office's clock.
+//! The system's clock as the office's clock.
 ghost use Rattle.std.specs.Prelude.{◌≡◌};
 ghost use Rattle.grundbuch.specs.Clock.{first_stamp, stamp_at, stamp_of};
 

@@ -1,4 +1,5 @@
 -- What an input asks whose items are received onto the disk.
+-- Why so: docs/DECISIONS.md, "What an input asks is said by an `Intake`".
 use Rattle.std.specs.Prelude.{ℕ, List, []}
 use Rattle.opening_lists.specs.OpeningLists.{row_requests}
 use Rattle.intake.specs.Sessions.{line_requests, ended_requests}

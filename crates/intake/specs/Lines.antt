@@ -1,4 +1,5 @@
 -- What a line of an input asks.
+-- Why so: docs/DECISIONS.md, "A blank line has no limit of length".
 use Rattle.std.specs.Prelude.{ℕ, Bool, true, false, ◌||◌, ◌==◌, nat_lt, if◌then◌else◌, List, [], ◌++◌, length, codes, Result, Ok, Err, Option, Some, None}
 use Rattle.std.specs.List.{list_all}
 use Rattle.gb_base.specs.DayMinute.{DayMinute}

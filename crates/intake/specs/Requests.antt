@@ -1,4 +1,6 @@
 -- What requests are answered, and what is held after them.
+-- Why so: docs/DECISIONS.md, "One state serves the session over a journal and a book".
+-- Why so: docs/DECISIONS.md, "Two definitions give a clock's ticks".
 use Rattle.std.specs.Prelude.{ℕ, Bool, true, false, List, [], ◌∷◌, ◌++◌, codes, Some, None}
 use Rattle.std.specs.Fmt.{decimal}
 use Rattle.gb_base.specs.DayMinute.{DayMinute}

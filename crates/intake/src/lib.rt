@@ -7,6 +7,7 @@ mod built;
 mod faults;
 mod inputs;
 mod intakes;
+pub mod laws;
 mod lines;
 mod list_session;
 mod receivers;

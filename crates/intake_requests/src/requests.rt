@@ -1,4 +1,5 @@
 //! What one line or row of an input asks.
+//! Why so: docs/DECISIONS.md, "A refused request holds its whole reply".
 use act_model::Item;
 use gb_base::{NoMemory, Stamp};
 use std::alloc::Global;

@@ -13,9 +13,9 @@ use Rattle.gb_base.specs.declared.keys.Key.{Key}
 use Rattle.act_model.specs.declared.receipts.Receipt.{Receipt}
 use Rattle.act_model.proofs.KeyOrder.{ties}
 use Rattle.folio_sections.specs.Adding.{AddsList, HasRoom}
-use Rattle.folio_sections.specs.Entering.{entry_by, notices_at, waiting_unnoticed}
-use Rattle.folio_sections.specs.Entries.{at}
-use Rattle.folio_sections.specs.Waiting.{below, is_above}
+use Rattle.folio_sections.specs.Entries.{entry_by, at}
+use Rattle.interim_orders.specs.Notices.{notices_at}
+use Rattle.folio_sections.specs.Waiting.{waiting_unnoticed, below, is_above}
 use Rattle.folio_sections.specs.declared.entries.Entry.{Entry}
 use Rattle.folio_sections.specs.declared.entries.What.TheVariants as what
 use Rattle.folio_sections.specs.inner.Unnoticed.{lacks_notice}

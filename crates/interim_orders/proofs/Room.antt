@@ -17,9 +17,9 @@ use Rattle.act_model.specs.Receiving.{day_of}
 use Rattle.act_model.specs.Touches.{keys_in_order, keys_of_filing}
 use Rattle.act_model.specs.declared.receipts.Receipt.{Receipt}
 use Rattle.folio_sections.specs.Adding.{HasRoom}
-use Rattle.folio_sections.specs.Entering.{entry_by, notices_at, notices_brought, waiting_unnoticed}
-use Rattle.folio_sections.specs.Entries.{at}
-use Rattle.folio_sections.specs.Waiting.{below}
+use Rattle.folio_sections.specs.Entries.{entry_by, at}
+use Rattle.interim_orders.specs.Notices.{notices_at, notices_brought}
+use Rattle.folio_sections.specs.Waiting.{waiting_unnoticed, below}
 use Rattle.folio_sections.specs.declared.entries.Entry.{Entry}
 use Rattle.folio_sections.specs.declared.entries.What.TheVariants as what
 use Rattle.folio_sections.specs.inner.Unnoticed.{lacks_notice}

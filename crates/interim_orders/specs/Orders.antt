@@ -5,7 +5,7 @@ use Rattle.gb_base.specs.declared.keys.Key.{Key}
 use Rattle.act_model.specs.Receiving.{day_of}
 use Rattle.act_model.specs.Touches.{keys_in_order}
 use Rattle.act_model.specs.declared.receipts.Receipt.{Receipt}
-use Rattle.folio_sections.specs.Entering.{entry_by}
+use Rattle.folio_sections.specs.Entries.{entry_by}
 use Rattle.folio_sections.specs.Waiting.{pending}
 use Rattle.folio_sections.specs.declared.entries.Entry.{Entry}
 use Rattle.folio_sections.specs.declared.entries.What.TheVariants as what

@@ -1,4 +1,4 @@
-// How lapses are answered.
+//! How lapses are answered.
 use gb_base::Day;
 
 /// How a lapse is answered.

@@ -1,4 +1,4 @@
-// The lapse of a filing that still waits behind its deadline (GBO § 18(1)).
+//! The lapse of a filing that still waits behind its deadline (GBO § 18(1)).
 ghost use Rattle.std.specs.Prelude.{◌≡◌, ◌≤◌, ◌<◌, ℕ, length, Contains, IsTrue, Some};
 ghost use Rattle.gb_base.specs.declared.keys.Key.{Key};
 ghost use Rattle.act_model.specs.Receiving.{day_of};

@@ -1,11 +1,11 @@
-// Official notices, which keep the places of filings that wait (GBO § 18(2)).
+//! Official notices, which keep the places of filings that wait (GBO § 18(2)).
 ghost use Rattle.std.specs.Prelude.{◌≡◌, ◌≤◌, length, Contains, IsTrue};
 ghost use Rattle.std.specs.List.{find};
 ghost use Rattle.gb_base.specs.declared.keys.Key.{Key};
 ghost use Rattle.act_model.specs.Touches.{keys_of_filing};
 ghost use Rattle.folio_sections.specs.Adding.{AddsList, HasRoom};
-ghost use Rattle.folio_sections.specs.Entering.{notices_at, notices_brought, waiting_unnoticed};
-ghost use Rattle.folio_sections.specs.Waiting.{is_above};
+ghost use Rattle.interim_orders.specs.Notices.{notices_at, notices_brought};
+ghost use Rattle.folio_sections.specs.Waiting.{waiting_unnoticed, is_above};
 
 use act_model::{Journal, filing_keys};
 use folio_sections::{Parts, What, add, entry_by};

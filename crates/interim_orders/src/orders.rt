@@ -1,4 +1,4 @@
-// Interim orders, and their end.
+//! Interim orders, and their end.
 ghost use Rattle.std.specs.Prelude.{◌≡◌, ◌≤◌, length, Contains, IsSome, IsTrue};
 ghost use Rattle.gb_base.specs.declared.keys.Key.{Key};
 ghost use Rattle.act_model.specs.Touches.{filing_at, keys_of_filing};

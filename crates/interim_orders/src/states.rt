@@ -1,4 +1,5 @@
-// Whether a filing waits for cures.
+//! Whether a filing waits for cures.
+//! Why so: docs/DECISIONS.md, "Whether a filing waits is read at its first key".
 ghost use Rattle.std.specs.Prelude.{◌≡◌, ◌<◌, Contains, IsTrue};
 ghost use Rattle.gb_base.specs.declared.keys.Key.{Key};
 ghost use Rattle.act_model.specs.Touches.{keys_of_filing};

@@ -1,4 +1,4 @@
-// Journals and parts for the tests, and calls on them that keep what they want.
+//! Journals and parts for the tests, and calls on them that keep what they want.
 ghost use Rattle.std.specs.Prelude.{◌≡◌, ◌<◌, ℕ, Contains, IsTrue, Some};
 ghost use Rattle.gb_base.specs.declared.keys.Key.{Key};
 ghost use Rattle.act_model.specs.Touches.{keys_of_filing};

@@ -1,4 +1,4 @@
-// Orders, notices and lapses in small journals of 2024.
+//! Orders, notices and lapses in small journals of 2024.
 use crate::testing::{
     charge, close, day, entries, entry, filing, is_notice, is_pending, is_settled, lapse_item,
     lapsed, notices, one_charge, order, parts_of, receipt, receive, right_key, state_at, title_key,

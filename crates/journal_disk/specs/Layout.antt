@@ -1,4 +1,5 @@
 -- The journal file: a mark, a heading, frames, and a gate that is not open.
+-- Why so: docs/DECISIONS.md, "The heading is a parameter of the layout".
 use Rattle.std.specs.Prelude.{◌≡◌, ◌≢◌, ◌⊎◌, ℕ, ◌+◌, ◌<◌, ◌≤◌, List, [], ◌∷◌, ◌++◌, length, drop, All, codes}
 use Rattle.std.specs.Int.{w32, to_be_bytes, from_be_bytes}
 use Rattle.journal_disk.specs.FrameAt.{FrameAt}

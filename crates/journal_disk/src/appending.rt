@@ -1,4 +1,4 @@
-// Appends a frame at a closed gate.
+//! Appends a frame at a closed gate.
 ghost use Rattle.std.specs.Prelude.{◌≡◌, ◌+◌, ◌<◌, ◌≤◌, ◌^◌, ◌++◌, [], ◌∷◌, ℕ, List, IsTrue, OnOk, is_err, length, take};
 ghost use Rattle.std.specs.Int.{w32, to_be_bytes};
 ghost use Rattle.gb_outside.specs.Faults.{Counts};

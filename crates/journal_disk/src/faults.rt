@@ -1,4 +1,4 @@
-// Why a journal could not be opened, or a frame not be appended.
+//! Why a journal could not be opened, or a frame not be appended.
 ghost use Rattle.std.specs.Prelude.{◌≡◌};
 ghost use Rattle.journal_disk.specs.declared.faults.OpenFault.TheVariants.{Disk, Memory};
 

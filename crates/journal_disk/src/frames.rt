@@ -1,4 +1,4 @@
-// A frame of the file.
+//! A frame of the file.
 use std::marker::Model;
 
 /// A frame of the file: a body that was appended, and the offset of its gate.

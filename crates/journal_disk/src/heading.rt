@@ -1,4 +1,4 @@
-// What stands at the head of a file.
+//! What stands at the head of a file.
 ghost use Rattle.std.specs.Prelude.{◌≡◌, ◌<◌, ◌≤◌, ℕ, List, IsTrue, IfOk, is_err, length, take};
 ghost use Rattle.gb_outside.specs.Faults.{Counts};
 ghost use Rattle.journal_disk.specs.inner.Reading.{OnlyReads};

@@ -1,4 +1,4 @@
-// The journal file's layout: a mark, a heading, frames, and a gate that is not open.
+//! The journal file's layout: a mark, a heading, frames, and a gate that is not open.
 
 /// The offset of the first gate: the mark and the heading stand ahead of it.
 pub(crate) const FIRST_GATE: u64 = 9;

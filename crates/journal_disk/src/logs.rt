@@ -1,4 +1,4 @@
-// The log: opening it, and appending to it.
+//! The log: opening it, and appending to it.
 ghost use Rattle.std.specs.Prelude.{◌≡◌, ◌↔◌, ◌+◌, ◌≤◌, ◌++◌, ◌^◌, [], ◌∷◌, ℕ, List, true, false, IsTrue, IfOk, IfErr, OnOk, length, drop};
 ghost use Rattle.gb_outside.specs.Faults.{Counts};
 ghost use Rattle.gb_outside.specs.Images.{Holds, Torn, Only, LeavesOnly};

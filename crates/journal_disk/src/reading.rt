@@ -1,4 +1,4 @@
-// Reads the frames of a made file, block by block.
+//! Reads the frames of a made file, block by block.
 ghost use Rattle.std.specs.Prelude.{◌≡◌, ◌+◌, ◌<◌, ◌≤◌, ◌^◌, IsTrue, IfOk, IfErr, OnOk, length, take, drop, vec_len};
 ghost use Rattle.gb_outside.specs.Faults.{Counts};
 ghost use Rattle.journal_disk.specs.Layout.{the_heading, first_gate, IsMade};

@@ -1,4 +1,4 @@
-// What no clause says: the bytes of the worked files, and an opening of each file round the edges.
+//! What no clause says: the bytes of the worked files, and an opening of each file round the edges.
 ghost use Rattle.std.specs.Prelude.{◌<◌, ◌≤◌};
 
 use crate::layout::{FILE_LIMIT, FIRST_GATE, FRAME_HEAD, HEADING, LONGEST_BODY, MARK, OPEN};

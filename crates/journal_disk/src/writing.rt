@@ -1,4 +1,4 @@
-// Writes of which each is on the disk before the next begins.
+//! Writes of which each is on the disk before the next begins.
 ghost use Rattle.std.specs.Prelude.{◌≡◌, ◌+◌, ◌≤◌, ◌++◌, [], ◌∷◌, IsTrue, OnOk, is_err, length, drop};
 ghost use Rattle.gb_outside.specs.Faults.{Counts};
 ghost use Rattle.gb_outside.specs.Images.{Holds, Torn, Only, LeavesOnly};

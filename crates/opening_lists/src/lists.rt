@@ -6,9 +6,9 @@ ghost use Rattle.intake_requests.specs.Asking.{asks_well};
 
 use crate::csv_records::Records;
 use crate::openings::{filing_for, is_header, read_opening};
-use intake_requests::{Request, SenderReference};
 use csv::ByteRecord;
 use gb_base::NoMemory;
+use intake_requests::{Request, SenderReference};
 use std::alloc::Global;
 use std::marker::Model;
 

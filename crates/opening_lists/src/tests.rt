@@ -1,8 +1,8 @@
 //! Opening lists, and what their records ask.
 use crate::OpeningList;
-use intake_requests::Request;
 use act_model::{Act, Item};
 use gb_base::NoMemory;
+use intake_requests::Request;
 use std::alloc::Global;
 use std::test::Fail;
 

@@ -2,7 +2,7 @@
 use Rattle.std.proofs.Common.{◌≡◌, ℕ, ◌≤◌, true, false, cond, ◌||◌, List, [], ◌∷◌, ◌++◌, All, Some, find, flat_map, length, sum_by, refl, sym, ap, ◌∙◌, subst, arith, length-append}
 use Rattle.std.specs.List.{AllByRecursion, list_any}
 use Rattle.std.specs.Option.{option_map_or}
-use Rattle.std.proofs.lemmas.Bool.{both_ways, false≢true, or_parts}
+use Rattle.std.proofs.lemmas.Bool.{both_ways, false≢true, or_parts, true_from_ne_false}
 use Rattle.std.proofs.lemmas.List.Elements.{All-from_recursion, recursion_from_All}
 use Rattle.std.proofs.lemmas.List.Folds.{list_any-append}
 use Rattle.std.proofs.lemmas.List.Sums.{sum_by-append}
@@ -11,7 +11,7 @@ use Rattle.gb_base.proofs.SameRights.{right_is}
 use Rattle.rank_slots.specs.CanFill.{StandsAlone}
 use Rattle.rank_slots.specs.Groups.{group_of, groups, is_of, joins, with_first}
 use Rattle.rank_slots.specs.declared.places.Place.{Place}
-use Rattle.rank_slots.proofs.LineCounts.{counted, counted_both, none_from_count, some_counted}
+use Rattle.rank_slots.proofs.LineCounts.{counted, counted_both, counted_is, none_from_count, some_counted}
 use Rattle.rank_slots.proofs.PlaceLines.{AreDifferent, places_few}
 
 -- the places of these groups
@@ -135,6 +135,24 @@ in_apart (g ∷ gs) a r few one other =
           ]
     ] refl one
 
+-- ---- members of one group
+
+-- the group of a member is the same
+in_same : (gs : List (List Place)) (a r : RightNo) → counted (is_of a) (members gs) ≤ 1 → list_any (is_of a) (group_in gs r) ≡ true → group_in gs a ≡ group_in gs r
+in_same [] a r few there = refl
+in_same (g ∷ gs) a r few there =
+    let both = counted_both (is_of a) g (members gs) in
+    elim (list_any (is_of r) g)
+    as (λ b. list_any (is_of a) (option_map_or (λ h. h) (cond b (Some g) (find (list_any (is_of r)) gs)) []) ≡ true → group_in (g ∷ gs) a ≡ option_map_or (λ h. h) (cond b (Some g) (find (list_any (is_of r)) gs)) []) [
+      | true ↦ λ here. λ i. option_map_or (λ h. h) (cond (here i) (Some g) (find (list_any (is_of a)) gs)) []
+      | false ↦ λ behind.
+          let later : list_any (is_of a) (members gs) ≡ true =
+          true_from_ne_false (list_any (is_of a) (members gs)) (λ none. both_ways (list_any (is_of a) (group_in gs r)) (in_none gs a r none) behind) in
+          let some = some_counted (is_of a) (members gs) later in
+          let none : list_any (is_of a) g ≡ false = none_from_count (is_of a) g (omega arith) in
+          (λ i. option_map_or (λ h. h) (cond (none i) (Some g) (find (list_any (is_of a)) gs)) []) ∙ in_same gs a r (omega arith) behind
+    ] there
+
 -- ---- the same of the groups of places
 
 pub alone_group : (places : List Place) (a : RightNo) → StandsAlone places a → IsAlone (group_of places a) a
@@ -157,3 +175,12 @@ pub group_all : (P : Place → Type 0) (places : List Place) (r : RightNo) → A
 group_all P places r all =
     All-from_recursion P (group_of places r)
     (in_all P (groups places) r (subst (AllByRecursion P) (sym (members_are places)) (recursion_from_All P places all)))
+
+pub same_group : (places : List Place) (a r : RightNo) → AreDifferent places → list_any (is_of a) (group_of places r) ≡ true → group_of places a ≡ group_of places r
+same_group places a r differ there =
+    in_same (groups places) a r (subst (λ ps. counted (is_of a) ps ≤ 1) (sym (members_are places)) (places_few a places differ)) there
+
+-- no right has two places in a group
+pub group_few : (places : List Place) (a r : RightNo) → AreDifferent places → counted (is_of a) (group_of places r) ≤ 1
+group_few places a r differ =
+    omega (arith, group_sum (λ p. cond (is_of a p) 1 0) places r, counted_is (is_of a) (group_of places r), counted_is (is_of a) places, places_few a places differ)

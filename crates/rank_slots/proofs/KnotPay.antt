@@ -1,18 +1,18 @@
 -- What a right gets by the knot that ties it.
-use Rattle.std.proofs.Common.{◌≡◌, ℕ, ◌≤◌, Bool, true, false, cond, ◌||◌, List, [], ◌∷◌, All, Contains, Some, None, refl, sym, ap, ◌∙◌, subst}
+use Rattle.std.proofs.Common.{◌≡◌, ℕ, ◌+◌, ◌-◌, ◌≤◌, Bool, true, false, cond, ◌||◌, List, [], ◌∷◌, All, Contains, Some, None, refl, sym, ap, ◌∙◌, subst, arith}
 use Rattle.std.specs.List.{AllByRecursion, IsDistinct, list_any}
-use Rattle.std.proofs.lemmas.Bool.{both_ways, cond-false, cond-true, false≢true}
-use Rattle.std.proofs.lemmas.List.Elements.{All-head, All-tail, All-weaker}
+use Rattle.std.proofs.lemmas.Bool.{both_ways, cond-false, cond-true, false≢true, or_left, or_right}
+use Rattle.std.proofs.lemmas.List.Elements.{All-contains, All-from_recursion, All-head, All-tail, All-weaker}
 use Rattle.std.proofs.lemmas.List.Folds.{list_any_at}
 use Rattle.std.proofs.lemmas.Map.Keys.{IsDistinct-head, IsDistinct-tail}
 use Rattle.gb_base.proofs.Members.{find_sound}
 use Rattle.gb_base.specs.RightNo.{RightNo, same_right}
 use Rattle.gb_base.proofs.SameRights.{others_turned, right_is, right_self}
 use Rattle.rank_slots.specs.CanFill.{CanFill, CanKnot, knotted}
-use Rattle.rank_slots.specs.Filled.{Filled}
+use Rattle.rank_slots.specs.Filled.{Filled, without_knots}
 use Rattle.rank_slots.specs.Payments.{claim_of, knot_of, pay, pay_by, pay_exercised, pay_reserved, plain_pay}
 use Rattle.rank_slots.specs.declared.places.Knot.{Knot}
-use Rattle.rank_slots.proofs.KnotTies.{AreTied, are_tied, exercised_within}
+use Rattle.rank_slots.proofs.KnotTies.{AreTied, are_tied, exercised_within, reserved_grows}
 
 -- the knot ties the right
 abbrev pub ties : RightNo → Knot → Bool
@@ -68,6 +68,52 @@ found_all P (j ∷ ks) r k all found =
       | true ↦ λ h. let same : j ≡ k = cc h in subst P same (All-head P j ks all)
       | false ↦ λ h. found_all P ks r k (All-tail P j ks all) h
     ] found
+
+-- ---- the knot that a search finds is the one that ties the right
+
+-- each of the two rights has this knot
+abbrev IsFoundIn : List Knot → Knot → Type 0
+IsFoundIn ks k = (knot_of ks k.reserved ≡ Some k) × (knot_of ks k.exercised ≡ Some k)
+
+past : (j : Knot) (ks : List Knot) (r : RightNo) → same_right j.reserved r ≡ false → same_right j.exercised r ≡ false → knot_of (j ∷ ks) r ≡ knot_of ks r
+past j ks r first last = cond-false (ties r j) (Some j) (knot_of ks r) (λ i. first i || last i)
+
+found_behind : (j : Knot) (all ks : List Knot) → AllByRecursion (λ y. same_right j.reserved y ≡ false) (knotted ks) → AllByRecursion (λ y. same_right j.exercised y ≡ false) (knotted ks)
+    → AllByRecursion (IsFoundIn all) ks → AllByRecursion (IsFoundIn (j ∷ all)) ks
+found_behind j all [] first last found = tt
+found_behind j all (k ∷ ks) first last found =
+    ((past j all k.reserved first.0 last.0 ∙ found.0.0, past j all k.exercised first.1.0 last.1.0 ∙ found.0.1), found_behind j all ks first.1.1 last.1.1 found.1)
+
+each_found : (ks : List Knot) → IsDistinct same_right (knotted ks) → AllByRecursion (IsFoundIn ks) ks
+each_found [] once = tt
+each_found (k ∷ ks) once =
+    let others = IsDistinct-head same_right k.reserved (k.exercised ∷ knotted ks) once in
+    let later = IsDistinct-tail same_right k.reserved (k.exercised ∷ knotted ks) once in (
+      (
+        cond-true (ties k.reserved k) (Some k) (knot_of ks k.reserved) (or_left (same_right k.reserved k.reserved) (same_right k.exercised k.reserved) (right_self k.reserved)),
+        cond-true (ties k.exercised k) (Some k) (knot_of ks k.exercised) (or_right (same_right k.reserved k.exercised) (same_right k.exercised k.exercised) (right_self k.exercised)),
+      ),
+      found_behind k ks ks others.1 (IsDistinct-head same_right k.exercised (knotted ks) later) (each_found ks (IsDistinct-tail same_right k.exercised (knotted ks) later)),
+    )
+
+-- ---- what is taken off is never more than there is, and so both get together what they get without the knot
+
+pub uncut : (filled : Filled) (k : Knot) (t : ℕ) → CanFill filled → Contains filled.knots k → pay_reserved filled k t ≤ plain_pay filled k.reserved t + plain_pay filled k.exercised t
+uncut filled k t fits there =
+    let knot = All-contains (CanKnot filled.places filled.swaps) filled.knots k fits.knots there in
+    let grows = reserved_grows filled k (are_tied filled k fits.places knot) (t - claim_of filled.places k.exercised) t (omega arith) in
+    omega arith
+
+pub two_get : (filled : Filled) (k : Knot) (t : ℕ) → CanFill filled → Contains filled.knots k
+    → pay filled k.reserved t + pay filled k.exercised t ≡ pay (without_knots filled) k.reserved t + pay (without_knots filled) k.exercised t
+two_get filled k t fits there =
+    let knot = All-contains (CanKnot filled.places filled.swaps) filled.knots k fits.knots there in
+    let tied = are_tied filled k fits.places knot in
+    let found = All-contains (IsFoundIn filled.knots) filled.knots k (All-from_recursion (IsFoundIn filled.knots) filled.knots (each_found filled.knots fits.once)) there in
+    let one = found_reserved filled k.reserved t k found.0 (right_self k.reserved) in
+    let two = found_exercised filled k.exercised t k found.1 tied.two in
+    let grows = uncut filled k t fits there in
+    (λ i. one i + two i) ∙ omega arith
 
 -- ---- an exercised right gets no more than its claim
 

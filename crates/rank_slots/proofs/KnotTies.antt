@@ -1,9 +1,7 @@
 -- The two rights of a knot on the line: the reserved one's cents stand ahead of the exercised one's.
-use Rattle.std.proofs.Common.{◌≡◌, ℕ, ◌-◌, ◌≤◌, true, false, not, List, take, sym, ◌∙◌, subst, arith}
-use Rattle.std.proofs.lemmas.Bool.{both_ways, false_from_ne_true, not_from_false}
-use Rattle.gb_base.specs.RightNo.{RightNo, same_right}
-use Rattle.gb_base.proofs.SameRights.{right_is}
-use Rattle.rank_slots.specs.CanFill.{ArePlaces, CanKnot, CanTie}
+use Rattle.std.proofs.Common.{◌≡◌, ℕ, ◌-◌, ◌≤◌, false, not, List, take, arith}
+use Rattle.gb_base.specs.RightNo.{same_right}
+use Rattle.rank_slots.specs.CanFill.{ArePlaces, CanKnot}
 use Rattle.rank_slots.specs.CentLine.{cent_line, exchange_all, is_dropped, written}
 use Rattle.rank_slots.specs.Filled.{Filled, line}
 use Rattle.rank_slots.specs.Payments.{claim_of, pay_exercised, plain_pay}
@@ -11,21 +9,12 @@ use Rattle.rank_slots.specs.declared.places.Knot.{Knot}
 use Rattle.rank_slots.specs.declared.places.Place.{Place}
 use Rattle.rank_slots.specs.declared.places.Swap.{Swap}
 use Rattle.rank_slots.proofs.GroupMembers.{alone_group}
-use Rattle.rank_slots.proofs.LineCounts.{counted, counted_kept, counted_longer}
-use Rattle.rank_slots.proofs.LineSwaps.{counted_exchange_all, precedes_exchange_all}
+use Rattle.rank_slots.proofs.LineCents.{apart_rights, has_cents, kept_cents}
+use Rattle.rank_slots.proofs.LineCounts.{counted, counted_longer}
+use Rattle.rank_slots.proofs.LineSwaps.{precedes_exchange_all}
 use Rattle.rank_slots.proofs.LonePay.{lone_pay}
-use Rattle.rank_slots.proofs.PlaceLines.{AreDifferent, ahead_differ, claim_least, claim_written, kept_listed, kept_undropped, precedes_written}
+use Rattle.rank_slots.proofs.PlaceLines.{AreDifferent, ahead_differ, claim_least, kept_listed, precedes_written}
 use Rattle.rank_slots.proofs.Precedence.{AreApart, Precedes, precedes_filter, window_below}
-
--- ---- a right that may be tied has all cents of its claim in the line
-
-tied_cents : (places : List Place) (swaps : List Swap) (r : RightNo) → AreDifferent places → CanTie places swaps r → counted (same_right r) (cent_line places swaps) ≡ claim_of places r
-unfolding cent_line
-tied_cents places swaps r differ tie =
-    counted_kept (λ c. not (is_dropped places c)) (same_right r)
-    (λ c own. subst (λ z. not (is_dropped places z) ≡ true) (right_is r c own) (not_from_false (is_dropped places r) (kept_undropped r places differ tie.kept)))
-    (exchange_all (written places) swaps)
-    ∙ (counted_exchange_all r swaps (written places) tie.unswapped ∙ claim_written r places differ)
 
 tied_order : (places : List Place) (swaps : List Swap) (k : Knot) → AreDifferent places → CanKnot places swaps k → Precedes (same_right k.reserved) (same_right k.exercised) (cent_line places swaps)
 unfolding cent_line
@@ -47,22 +36,17 @@ pub record AreTied (filled : Filled) (k : Knot) : Type 0 where
   pub claim : counted (same_right k.exercised) (line filled) ≡ claim_of filled.places k.exercised
   pub least : 1 ≤ claim_of filled.places k.exercised
 
-apart_rights : (a c : RightNo) → same_right a c ≡ false → AreApart (same_right a) (same_right c)
-apart_rights a c two x last =
-    false_from_ne_true (same_right a x) (λ own. both_ways (same_right a c) two (subst (λ z. same_right a z ≡ true) (sym (right_is c x last)) own))
-
 pub are_tied : (filled : Filled) (k : Knot) → ArePlaces filled.places → CanKnot filled.places filled.swaps k → AreTied filled k
 are_tied filled k places knot =
     let two = ahead_differ filled.places k.reserved k.exercised knot.ahead in
-    let own = tied_cents filled.places filled.swaps k.reserved places.distinct knot.reserved in
     record {
       reserved = lone_pay filled k.reserved (alone_group filled.places k.reserved knot.reserved.alone);
       exercised = lone_pay filled k.exercised (alone_group filled.places k.exercised knot.exercised.alone);
       two = two;
       apart = apart_rights k.reserved k.exercised two;
       ahead = tied_order filled.places filled.swaps k places.distinct knot;
-      first = subst (λ n. 1 ≤ n) (sym own) (claim_least k.reserved filled.places places.claims (kept_listed k.reserved filled.places knot.reserved.kept));
-      claim = tied_cents filled.places filled.swaps k.exercised places.distinct knot.exercised;
+      first = has_cents filled k.reserved places knot.reserved.kept;
+      claim = kept_cents filled.places filled.swaps k.exercised places.distinct knot.exercised.kept;
       least = claim_least k.exercised filled.places places.claims (kept_listed k.exercised filled.places knot.exercised.kept);
     }
 

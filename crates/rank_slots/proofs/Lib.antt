@@ -1,9 +1,11 @@
 -- Lemmas.
 pub mod Ahead
 pub mod EmptySums
+pub mod ExchangedCents
 pub mod Exchanges
 pub mod FillTests
 pub mod Filling
+pub mod GroupCents
 pub mod GroupMembers
 pub mod GroupShares
 pub mod GroupSteps
@@ -12,11 +14,13 @@ pub mod Joined
 pub mod KnotPay
 pub mod KnotRoom
 pub mod KnotTies
+pub mod LineCents
 pub mod LineCounts
 pub mod LineSwaps
 pub mod Lines
 pub mod LonePay
 pub mod PlaceLines
 pub mod Precedence
+pub mod SharedCents
 pub mod TakenOut
 pub mod ThirdRights

@@ -116,14 +116,15 @@ none_ahead p (suc t) (x ∷ xs) few =
     ] few
 
 -- and one with it
-pub one_with_first : {X : Type 0} (p : X → Bool) (xs : List X) → position_or_len p xs < length xs → 1 ≤ counted p (take (position_or_len p xs + 1) xs)
+pub one_with_first : {X : Type 0} (p : X → Bool) (xs : List X) → position_or_len p xs < length xs → counted p (take (position_or_len p xs + 1) xs) ≡ 1
 one_with_first p [] room = absurd (omega arith)
 one_with_first p (x ∷ xs) room =
-    elim (p x) as (λ b. p x ≡ b → cond (not b) (1 + position_or_len p xs) 0 < suc (length xs) → 1 ≤ counted p (take (cond (not b) (1 + position_or_len p xs) 0 + 1) (x ∷ xs))) [
+    elim (p x) as (λ b. p x ≡ b → cond (not b) (1 + position_or_len p xs) 0 < suc (length xs) → counted p (take (cond (not b) (1 + position_or_len p xs) 0 + 1) (x ∷ xs)) ≡ 1) [
       | true ↦ λ pass h. let here : tally (p x) ≡ 1 = ap tally pass in omega arith
       | false ↦ λ fails h.
           let next : 1 + position_or_len p xs + 1 ≡ suc (position_or_len p xs + 1) = omega arith in
-          subst (λ j. 1 ≤ counted p (take j (x ∷ xs))) (sym next) (omega (arith, one_with_first p xs (omega arith)))
+          let none : tally (p x) ≡ 0 = ap tally fails in
+          subst (λ j. counted p (take j (x ∷ xs)) ≡ 1) (sym next) (omega (arith, one_with_first p xs (omega arith)))
     ] refl room
 
 pub first_within : {X : Type 0} (p : X → Bool) (xs : List X) → 1 ≤ counted p xs → position_or_len p xs < length xs

@@ -90,12 +90,6 @@ unswapped s ss r none =
     let two = or_parts (same_right s.recede r) (same_right s.rise r) parts.0 in
     (record { recede = others_turned s.recede r two.0; rise = others_turned s.rise r two.1 }, parts.1)
 
-pub counted_exchange_all : (r : RightNo) (ss : List Swap) (line : List RightNo) → is_swapped ss r ≡ false → counted (same_right r) (exchange_all line ss) ≡ counted (same_right r) line
-counted_exchange_all r [] line none = refl
-counted_exchange_all r (s ∷ ss) line none =
-    let parts = unswapped s ss r none in
-    counted_exchange_all r ss (exchange line s) parts.1 ∙ counted_exchanged (same_right r) s parts.0 (cents_of s.rise line) line
-
 pub precedes_exchange_all : (a c : RightNo) (ss : List Swap) (line : List RightNo) → is_swapped ss a ≡ false → is_swapped ss c ≡ false
     → Precedes (same_right a) (same_right c) line → Precedes (same_right a) (same_right c) (exchange_all line ss)
 precedes_exchange_all a c [] line first last ahead = ahead

@@ -1,4 +1,5 @@
 -- The places of a line, and the groups of equal rank among them (GBO § 45(1), (3)).
+-- Why so: docs/DECISIONS.md, "The cent line is defined by rights, not by owners".
 use Rattle.std.specs.Prelude.{Bool, false, not, ◌&&◌, if◌then◌else◌, List, [], ◌∷◌, find}
 use Rattle.std.specs.List.{before_first, list_any}
 use Rattle.std.specs.Option.{option_map_or}

@@ -1,5 +1,5 @@
 -- What each right gets of a sum that is paid along the cent line (BGB §§ 879, 881).
-use Rattle.std.specs.Prelude.{ℕ, ◌+◌, ◌-◌, Bool, ◌==◌, ◌||◌, not, if◌then◌else◌, List, [], ◌∷◌, Option, Some, None, count_by, filter, find, length, map, sum_by, take}
+use Rattle.std.specs.Prelude.{ℕ, ◌+◌, ◌-◌, Bool, ◌==◌, ◌||◌, not, if◌then◌else◌, List, Option, Some, None, count_by, filter, find, length, map, sum_by, take}
 use Rattle.std.specs.List.{list_any, position_or_len, prefix_len, range_with_len}
 use Rattle.std.specs.Option.{option_map_or}
 use Rattle.gb_base.specs.RightNo.{RightNo, same_right}
@@ -15,8 +15,9 @@ is_of_group group c = list_any (is_of c) group
 
 -- what a right gets of the cents of its group: all where it stands alone, else its share
 abbrev pub share_in_group : List Place → RightNo → ℕ → ℕ
-share_in_group (p ∷ []) right cents = cents
-share_in_group group right cents = share cents (map (λ p. p.claim) group) (position_or_len (is_of right) group)
+share_in_group group right cents =
+    if length group == 1 then cents
+    else share cents (map (λ p. p.claim) group) (position_or_len (is_of right) group)
 
 -- what a right gets of the first t cents of the line, knots apart
 abbrev pub plain_pay : Filled → RightNo → ℕ → ℕ

@@ -1,4 +1,5 @@
 -- Which of two rights stands ahead of the other.
+-- Why so: docs/DECISIONS.md, "A right is of one rank with itself".
 use Rattle.std.specs.Prelude.{Bool, ◌&&◌, ◌||◌, if◌then◌else◌, List, filter, Option, Some, None}
 use Rattle.std.specs.List.{last_or, list_any}
 use Rattle.gb_base.specs.RightNo.{RightNo, same_right}
@@ -29,10 +30,11 @@ relation_by None places x y =
     if shares_group places x y then Equal
     else (if is_listed_ahead places x y then Ahead else Behind)
 
--- How right x stands to right y: a knot of the two puts the exercised one ahead (BGB § 881), else their last exchange decides
--- (BGB § 880), else group and place do (BGB § 879).
+-- How right x stands to right y: one right is of one rank with itself; of two a knot puts the exercised one ahead (BGB § 881), else
+-- their last exchange decides (BGB § 880), else group and place do (BGB § 879).
 abbrev pub relation : Filled → RightNo → RightNo → Relation
 relation filled x y =
-    if is_exercised_over filled.knots x y then Ahead
+    if same_right x y then Equal
+    else (if is_exercised_over filled.knots x y then Ahead
     else (if is_exercised_over filled.knots y x then Behind
-    else relation_by (last_between x y filled.swaps) filled.places x y)
+    else relation_by (last_between x y filled.swaps) filled.places x y))

@@ -1,5 +1,5 @@
-// Lines that are written cent by cent, and what each right gets of them as the rules say it. Sums
-// saturate, so that none of a test wants a proof.
+//! Lines that are written cent by cent, and what each right gets of them as the rules say it. Sums
+//! saturate, so that none of a test wants a proof.
 use crate::drawn::{Drawn, Draws};
 use crate::testing::{filled, paid, threshold};
 use crate::{Knot, Piece, Place, Slots, Swap};

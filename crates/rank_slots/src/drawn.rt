@@ -1,4 +1,4 @@
-// Small lines, drawn by a generator that gives the same ones each time.
+//! Small lines, drawn by a generator that gives the same ones each time.
 ghost use Rattle.std.specs.Prelude.{◌<◌, ◌≤◌};
 
 use crate::fitting::{are_tied, can_knot, can_swap, stands_alone};

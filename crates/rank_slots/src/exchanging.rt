@@ -1,4 +1,5 @@
-// How a line is made: its claims are written, exchanged and taken out, piece by piece.
+//! How a line is made: its claims are written, exchanged and taken out, piece by piece.
+//! Why so: docs/DECISIONS.md, "Exchanges walk the pieces of the whole line".
 ghost use Rattle.std.specs.Prelude.{◌≡◌, ◌+◌, ◌<◌, ◌≤◌, filter, length, min, not, sum_by, vec_capacity, vec_len};
 ghost use Rattle.rank_slots.specs.CentLine.{cents_of, exchange, exchange_all, is_dropped, written};
 ghost use Rattle.gb_base.specs.Limits.{most_sum};

@@ -1,4 +1,4 @@
-// Whether a line can be filled with these places, exchanges and knots.
+//! Whether a line can be filled with these places, exchanges and knots.
 ghost use Rattle.std.specs.Prelude.{◌≡◌, ◌==◌, ◌<◌, ◌||◌, ◌≤◌, true, false, All, length, sum_by};
 ghost use Rattle.std.specs.List.{IsDistinct, list_any};
 ghost use Rattle.gb_base.specs.Limits.{most_sum};
@@ -12,7 +12,7 @@ use crate::{Knot, Place, Swap};
 use gb_base::RightId;
 
 /// Sums of cents stay below this.
-const MOST_SUM: u64 = 1_000_000_000_000_000_000;
+pub const MOST_SUM: u64 = 1_000_000_000_000_000_000;
 
 /// Whether a line can be filled with these.
 pub fn can_fill(places: &[Place], swaps: &[Swap], knots: &[Knot]) -> bool

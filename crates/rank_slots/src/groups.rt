@@ -1,4 +1,4 @@
-// The groups of equal rank among the places of a line (GBO § 45(1), (3)).
+//! The groups of equal rank among the places of a line (GBO § 45(1), (3)).
 ghost use Rattle.std.specs.Prelude.{◌≡◌, ◌≤◌, length};
 ghost use Rattle.std.specs.List.{list_any, position_or_len, prefix_len};
 ghost use Rattle.rank_slots.specs.Groups.{group_of, is_listed_ahead, is_of};

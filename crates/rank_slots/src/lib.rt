@@ -11,6 +11,8 @@ mod exchanging;
 mod fitting;
 mod groups;
 pub mod laws;
+#[cfg(test)]
+mod longest_lines;
 mod paying;
 mod pieces;
 mod places;

@@ -1,4 +1,4 @@
-// What a right gets of a sum that is paid along the line.
+//! What a right gets of a sum that is paid along the line.
 ghost use Rattle.std.specs.Prelude.{◌≡◌, ◌<◌, ◌≤◌, true, All, length, map, sum_by};
 ghost use Rattle.std.specs.List.{list_any};
 ghost use Rattle.rank_slots.specs.CanFill.{CanFill, CanKnot, StandsAlone};
@@ -18,7 +18,14 @@ impl Slots {
     /// How many of the first t cents the right gets. One of a group gets its share of the group's
     /// cents; the reserved right of a knot gets what it would, knots apart, of a sum that is
     /// smaller by the exercised one's claim, and the exercised one what is left of both
-    /// (BGB § 881(4)).
+    /// (BGB § 881(4)). Takes no memory.
+    ///
+    /// ```
+    /// // With A, B and C as in `Slots::fill`.
+    /// assert_eq!(slots.pay(c, 100), 80);
+    /// assert_eq!(slots.pay(a, 100), 20);
+    /// assert_eq!(slots.pay(b, 100), 0);
+    /// ```
     pub fn pay(&self, right: RightId, t: u64) -> u64
         requires kept { keeps_place self.now.filled.places right ≡ true }
         ensures value { result ≡ pay self.now.filled right t }

@@ -1,4 +1,4 @@
-// The pieces of a line: neighbouring cents of one right are joined.
+//! The pieces of a line: neighbouring cents of one right are joined.
 ghost use Rattle.std.specs.Prelude.{◌≡◌, ◌+◌, ◌<◌, ◌≤◌, ◌++◌, count_by, length, replicate, sum_by, take, vec_capacity, vec_len};
 ghost use Rattle.std.specs.List.{position_or_len};
 ghost use Rattle.gb_base.specs.Limits.{most_sum};

@@ -1,4 +1,4 @@
-// What a line is filled with, and what it is made of.
+//! What a line is filled with, and what it is made of.
 
 use gb_base::RightId;
 

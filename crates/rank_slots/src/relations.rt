@@ -1,4 +1,4 @@
-// Which of two rights stands ahead.
+//! Which of two rights stands ahead.
 ghost use Rattle.std.specs.Prelude.{◌≡◌, true};
 ghost use Rattle.rank_slots.specs.Groups.{keeps_place};
 ghost use Rattle.rank_slots.specs.Relations.{is_exercised_over, last_between, relation, relation_by, swaps_both};
@@ -18,13 +18,22 @@ pub enum Relation {
 impl Slots {
     /// How right x stands to right y: an exercised right ahead of the one that reserved its rank
     /// (BGB § 881), else as their last exchange puts it (BGB § 880), else as group and place do
-    /// (BGB § 879).
+    /// (BGB § 879). A right is equal to itself. Takes no memory.
+    ///
+    /// ```
+    /// // With A, B and C as in `Slots::fill`.
+    /// assert_eq!(slots.relation(c, a), Relation::Ahead);
+    /// assert_eq!(slots.relation(b, c), Relation::Ahead);
+    /// assert_eq!(slots.relation(b, a), Relation::Behind);
+    /// ```
     pub fn relation(&self, x: RightId, y: RightId) -> Relation
         requires x { keeps_place self.now.filled.places x ≡ true }
         requires y { keeps_place self.now.filled.places y ≡ true }
         ensures value { result ≡ relation self.now.filled x y }
     {
-        if is_exercised_over(&self.knots, x, y) {
+        if x == y {
+            Relation::Equal
+        } else if is_exercised_over(&self.knots, x, y) {
             Relation::Ahead
         } else if is_exercised_over(&self.knots, y, x) {
             Relation::Behind

@@ -1,4 +1,5 @@
-// The slots of a line.
+//! The slots of a line.
+//! Why so: docs/DECISIONS.md, "`Slots` has one call more than it needs to pay".
 ghost use Rattle.std.specs.Prelude.{◌≡◌, ◌<◌, ◌≤◌, All, IfOk, length, sum_by, vec_capacity};
 ghost use Rattle.rank_slots.specs.CanFill.{CanFill};
 ghost use Rattle.rank_slots.specs.CentLine.{pieces_of};
@@ -51,7 +52,12 @@ impl Model for Slots {
 }
 
 impl Slots {
-    /// An empty line, with room for so many places and so many exchanges among them.
+    /// An empty line, with room for so many places and so many exchanges among them. Wants memory,
+    /// and is the only call of a line that does.
+    ///
+    /// ```
+    /// let mut slots = Slots::with_room(rt.alloc(), 3, 1)?;
+    /// ```
     pub fn with_room(alloc: Global, places: usize, swaps: usize) -> Result<Slots, NoMemory>
         ensures places { IfOk result (λ slots. places ≤ slots.place_room) }
         ensures swaps { IfOk result (λ slots. swaps ≤ slots.swap_room) }
@@ -70,7 +76,14 @@ impl Slots {
     }
 
     /// Fills the line anew: the claims of the places in order, with these exchanges in turn and
-    /// these exercised reservations.
+    /// these exercised reservations. Takes no memory.
+    ///
+    /// ```
+    /// // A has a claim of 100 cents, B of 50 and C of 80, each in a group of its own.
+    /// let places = [place(a, 100), place(b, 50), place(c, 80)];
+    /// // A recedes, and C rises.
+    /// slots.fill(&places, &[Swap { recede: a, rise: c }], &[]);
+    /// ```
     pub fn fill(&mut self, places: &[Place], swaps: &[Swap], knots: &[Knot])
         requires places { length places.now ≤ self.old.place_room }
         requires swaps { length swaps.now ≤ self.old.swap_room }
@@ -89,7 +102,12 @@ impl Slots {
         mem::swap(&mut self.pieces, &mut self.spare);
     }
 
-    /// How many cents the line has.
+    /// How many cents the line has. Takes no memory.
+    ///
+    /// ```
+    /// // With A, B and C as in `fill`.
+    /// assert_eq!(slots.length(), 230);
+    /// ```
     pub fn length(&self) -> u64
         ensures value { result ≡ length (line self.now.filled) }
         ensures bound { result < most_sum }
@@ -98,7 +116,12 @@ impl Slots {
     }
 
     /// The places of equal rank with this right's, itself among them, in order; none where it has
-    /// no place here.
+    /// no place here. Takes no memory.
+    ///
+    /// ```
+    /// // With A, B and C as in `fill`.
+    /// assert_eq!(slots.group(b), &[place(b, 50)]);
+    /// ```
     pub fn group(&self, right: RightId) -> &[Place]
         ensures value { result.now ≡ group_of self.now.filled.places right }
     {
@@ -106,7 +129,13 @@ impl Slots {
     }
 
     /// The pieces of the line, in order. The cents of a group stand as the whole claims of its
-    /// members, in their order.
+    /// members, in their order. Takes no memory.
+    ///
+    /// ```
+    /// // With A, B and C as in `fill`: C has the first 80 of the cents that were A's, and A those
+    /// // that were C's.
+    /// assert_eq!(slots.pieces(), &[piece(c, 80), piece(a, 20), piece(b, 50), piece(a, 80)]);
+    /// ```
     pub fn pieces(&self) -> &[Piece]
         ensures value { result.now ≡ pieces_of (line self.now.filled) }
         ensures some { All (λ p. 1 ≤ p.cents) result.now }

@@ -1,4 +1,4 @@
-// Lines for the tests.
+//! Lines for the tests.
 ghost use Rattle.std.specs.Prelude.{◌≡◌};
 ghost use Rattle.rank_slots.specs.Groups.{keeps_place};
 

@@ -1,4 +1,4 @@
-// The lines of examples by hand: A is right 1, B right 2, C right 3.
+//! The lines of examples by hand: A is right 1, B right 2, C right 3.
 use crate::testing::{
     dropped, filled, joined, knot, paid, piece, place, relation, right, swap, threshold,
 };
@@ -49,6 +49,10 @@ fn the_right_between_keeps_its_rank(rt: HostRuntime) -> Result<(), Fail> {
     pays(&rt, &slots, 100, [20, 0, 80]);
     pays(&rt, &slots, 200, [70, 50, 80]);
     assert_eq!(rt; slots.length(), 230);
+    get_nothing_up_to(&rt, &slots, [80, 100, 0]);
+    stands(&rt, &slots, 3, Relation::Ahead, 1);
+    stands(&rt, &slots, 2, Relation::Ahead, 3);
+    stands(&rt, &slots, 2, Relation::Behind, 1);
     Ok(())
 }
 
@@ -104,6 +108,16 @@ fn exchanges_are_made_in_turn(rt: HostRuntime) -> Result<(), Fail> {
     get_nothing_up_to(&rt, &slots, [130, 80, 0]);
     stands(&rt, &slots, 1, Relation::Behind, 2);
     stands(&rt, &slots, 2, Relation::Ahead, 3);
+    Ok(())
+}
+
+#[test]
+fn an_exchange_of_a_right_with_itself_is_none(rt: HostRuntime) -> Result<(), Fail> {
+    let places = [place(&rt, 1, 100), place(&rt, 2, 50)];
+    let slots = filled(&rt, rt.alloc(), &places, &[swap(&rt, 1, 1)], &[]);
+    has_pieces(&rt, &slots, &[piece(&rt, 1, 100), piece(&rt, 2, 50)]);
+    stands(&rt, &slots, 1, Relation::Equal, 1);
+    stands(&rt, &slots, 1, Relation::Ahead, 2);
     Ok(())
 }
 

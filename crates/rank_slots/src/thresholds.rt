@@ -1,4 +1,4 @@
-// From which sum on a right gets something.
+//! From which sum on a right gets something.
 ghost use Rattle.std.specs.Prelude.{◌≡◌, ◌<◌, true};
 ghost use Rattle.rank_slots.specs.Filled.{line};
 ghost use Rattle.rank_slots.specs.Groups.{group_of, keeps_place};
@@ -12,7 +12,14 @@ use gb_base::RightId;
 
 impl Slots {
     /// The greatest sum, in cents, up to which the right gets nothing; for one of a group how many
-    /// cents stand ahead of the group.
+    /// cents stand ahead of the group. Takes no memory.
+    ///
+    /// ```
+    /// // With A, B and C as in `Slots::fill`.
+    /// assert_eq!(slots.threshold(c), 0);
+    /// assert_eq!(slots.threshold(a), 80);
+    /// assert_eq!(slots.threshold(b), 100);
+    /// ```
     pub fn threshold(&self, right: RightId) -> u64
         requires kept { keeps_place self.now.filled.places right ≡ true }
         ensures value { result ≡ threshold self.now.filled right }

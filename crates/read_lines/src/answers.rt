@@ -1,4 +1,4 @@
-// What each line is.
+//! What each line is.
 use crate::receipts::{MAX_LINE, receipt_of};
 use act_codec::{decode, encode};
 use act_json::{LineFault, read_item};

@@ -1,4 +1,4 @@
-// The receipt of a stamped line.
+//! The receipt of a stamped line.
 ghost use Rattle.std.specs.Prelude.{◌≤◌, IfOk, IsTrue, length};
 ghost use Rattle.act_model.specs.WellFormed.{well_formed};
 

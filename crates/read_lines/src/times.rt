@@ -1,4 +1,4 @@
-// How long reading and spelling take.
+//! How long reading and spelling take.
 use crate::receipts::{MAX_LINE, receipt_of};
 use act_codec::{decode, encode};
 use anyhow::Result;

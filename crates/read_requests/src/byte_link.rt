@@ -1,4 +1,4 @@
-// A connection that gives one byte a read.
+//! A connection that gives one byte a read.
 use gb_outside::{Got, Link, Wrote};
 
 /// A connection that gives the bytes of a slice, one a read, and takes all that is written.

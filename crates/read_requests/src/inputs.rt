@@ -1,4 +1,4 @@
-// The bytes of requests.
+//! The bytes of requests.
 use std::alloc::{AllocError, Global};
 
 fn push_many(bytes: &mut Vec<u8>, count: usize) -> Result<(), AllocError> {

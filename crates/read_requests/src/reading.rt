@@ -1,4 +1,4 @@
-// Reading a link to its end.
+//! Reading a link to its end.
 use gb_outside::{Got, Link};
 use registry_http::{Next, next_request};
 use std::alloc::Global;

@@ -1,4 +1,4 @@
-// The book: a journal and the log that keeps it.
+//! The book: a journal and the log that keeps it.
 ghost use Rattle.std.specs.Prelude.{◌≡◌, ◌↔◌, ◌+◌, ◌≤◌, true, false, ◌||◌, IsTrue, IfOk, IfErr, OnOk, length};
 ghost use Rattle.std.specs.Option.{option_copied};
 ghost use Rattle.gb_outside.specs.Faults.{Counts};

@@ -1,4 +1,4 @@
-// Why a book could not be opened.
+//! Why a book could not be opened.
 
 /// Why a book could not be opened.
 #[derive(Clone, Copy, Debug, PartialEq, Eq)]

@@ -1,4 +1,5 @@
 //! Laws of the journal's file.
+//! Why so: docs/DECISIONS.md, "A file's standing is said as not none".
 ghost use Rattle.std.specs.Prelude.{◌≡◌, ◌<◌, ◌≤◌, ℕ, List, All};
 ghost use Rattle.act_model.specs.declared.receipts.Receipt.{Receipt};
 ghost use Rattle.journal_disk.specs.Layout.{the_heading, file_limit};

@@ -1,4 +1,5 @@
-// An item's spelling is short, since the types bound its lists.
+//! An item's spelling is short, since the types bound its lists.
+//! Why so: docs/DECISIONS.md, "`is_short` walks an item to learn what its types bound".
 ghost use Rattle.std.specs.Prelude.{◌≡◌, true};
 ghost use Rattle.std.specs.List.{AllByRecursion};
 ghost use Rattle.receipt_journal.specs.inner.Lists.{HasFewOwners, HasShortLists};

@@ -1,4 +1,4 @@
-// A book's answers to an item.
+//! A book's answers to an item.
 use gb_base::ReceiptNo;
 
 /// A book's answer to an item.

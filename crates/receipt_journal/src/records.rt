@@ -1,4 +1,4 @@
-// The records of a journal's file.
+//! The records of a journal's file.
 ghost use Rattle.std.specs.Prelude.{◌≡◌, [], ℕ, List, false, IfErr, OnOk};
 ghost use Rattle.journal_disk.specs.Layout.{the_heading, first_gate, frames_from};
 ghost use Rattle.receipt_journal.specs.Standing.{records, IsKeepable};

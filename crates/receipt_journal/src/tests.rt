@@ -1,4 +1,4 @@
-// What no clause says: the bytes of worked files, openings of bad ones, and devices that fail.
+//! What no clause says: the bytes of worked files, openings of bad ones, and devices that fail.
 use crate::{Book, BookFault, Received};
 use act_model::{Item, well_formed};
 use gb_base::{Day, ReceiptNo, Stamp};

@@ -10,10 +10,10 @@ use Rattle.act_model.specs.declared.documents.Doc.{Doc}
 use Rattle.act_model.specs.declared.filing_acts.Act.{Act}
 use Rattle.act_model.specs.declared.filing_acts.Act.TheVariants.{Open, Transfer, Create, NoticeFor, Convert, Assign, Cancel, Exchange, Exercise}
 use Rattle.act_model.specs.declared.receipts.Receipt.{Receipt}
-use Rattle.folio_sections.specs.Documents.{has_proof}
-use Rattle.folio_sections.specs.Groups.{shares_its_group}
-use Rattle.folio_sections.specs.Judging.{assigns_division_two, converts_full_right, exchanges_unfit_right, is_barred_from_exchange, is_open_as_of, lacks_folio, lacks_reservation, lacks_right, lives, opens, reserves_less}
-use Rattle.folio_sections.specs.Persons.{affected, applicants, holder_then, needed, number_behind, others, owner_side, owners_named, owners_then, persons, stands_in_division_three, waiting_applicants}
+use Rattle.act_model.specs.Documents.{has_proof}
+use Rattle.act_model.specs.Groups.{shares_its_group}
+use Rattle.consent_rules.specs.Judging.{assigns_division_two, converts_full_right, exchanges_unfit_right, is_barred_from_exchange, is_open_as_of, lacks_folio, lacks_reservation, lacks_right, lives, opens, reserves_less}
+use Rattle.consent_rules.specs.Persons.{acts_before, affected, applicants, holder_then, needed, others, owner_side, owners_named, owners_then, persons, stands_in_division_three, waiting_applicants}
 use Rattle.folio_sections.specs.Rights.{holder_for, is_full, is_live, is_spent, live_right}
 use Rattle.folio_sections.specs.Titles.{is_open, owners_for}
 use Rattle.folio_sections.specs.declared.entries.Entry.{Entry}
@@ -44,11 +44,11 @@ ReadsSame at0 at1 (Exercise folio behind spec) = SameTitleAndRight at0 at1 folio
 
 -- ---- at a title and at a right
 
-open_same : (at0 at1 : Key → List Entry) (before : List Act) (folio : ℕ) → at1 (Title folio) ≡ at0 (Title folio) → not (is_open_as_of at1 before folio) ≡ not (is_open_as_of at0 before folio)
-open_same at0 at1 before folio same = ap (λ es. not (is_open es || list_any (opens folio) before)) same
+open_same : (at0 at1 : Key → List Entry) (acts : List Act) (a folio : ℕ) → at1 (Title folio) ≡ at0 (Title folio) → not (is_open_as_of at1 acts a folio) ≡ not (is_open_as_of at0 acts a folio)
+open_same at0 at1 acts a folio same = ap (λ es. not (is_open es || list_any (opens folio) (acts_before a acts))) same
 
-owners_same : (m : ℕ) (at0 at1 : Key → List Entry) (before : List Act) (folio : ℕ) → at1 (Title folio) ≡ at0 (Title folio) → owners_then m at1 before folio ≡ owners_then m at0 before folio
-owners_same m at0 at1 before folio same = ap (λ es. persons (fold (owners_named folio) (owners_for m es) before)) same
+owners_same : (m : ℕ) (at0 at1 : Key → List Entry) (acts : List Act) (a folio : ℕ) → at1 (Title folio) ≡ at0 (Title folio) → owners_then m at1 acts a folio ≡ owners_then m at0 acts a folio
+owners_same m at0 at1 acts a folio same = ap (λ es. persons (fold (owners_named folio) (owners_for m es) (acts_before a acts))) same
 
 holder_same : (m : ℕ) (at0 at1 : Key → List Entry) (folio : ℕ) (right : RightNo) → at1 (Right folio right) ≡ at0 (Right folio right) → holder_then m at1 folio right ≡ holder_then m at0 folio right
 holder_same m at0 at1 folio right same = ap (λ es. option_to_list (holder_for m es)) same
@@ -61,25 +61,25 @@ barred_same journal at0 at1 folio right same =
     ap (λ es. not (is_full es) || shares_its_group journal right || option_map_or (λ made. is_some made.reserve || is_some made.ahead_of) (live_right es) false) same
 
 -- the owners, where the receding right is of division III
-owners_if : (m : ℕ) (at0 at1 : Key → List Entry) (before : List Act) (folio : ℕ) (recede rise : RightNo) → SameTwoRights at0 at1 folio recede rise
-    → cond (stands_in_division_three at1 folio recede) (owners_then m at1 before folio) [] ≡ cond (stands_in_division_three at0 folio recede) (owners_then m at0 before folio) []
-owners_if m at0 at1 before folio recede rise same =
-    chosen_same (stands_in_division_three at1 folio recede) (stands_in_division_three at0 folio recede) (owners_then m at1 before folio) (owners_then m at0 before folio) []
+owners_if : (m : ℕ) (at0 at1 : Key → List Entry) (acts : List Act) (a folio : ℕ) (recede rise : RightNo) → SameTwoRights at0 at1 folio recede rise
+    → cond (stands_in_division_three at1 folio recede) (owners_then m at1 acts a folio) [] ≡ cond (stands_in_division_three at0 folio recede) (owners_then m at0 acts a folio) []
+owners_if m at0 at1 acts a folio recede rise same =
+    chosen_same (stands_in_division_three at1 folio recede) (stands_in_division_three at0 folio recede) (owners_then m at1 acts a folio) (owners_then m at0 acts a folio) []
     (ap (λ es. option_map_or (λ made. is_in_division_three made.spec.kind) (live_right es) false) same.recede)
-    (λ stands. owners_same m at0 at1 before folio (same.title stands))
+    (λ stands. owners_same m at0 at1 acts a folio (same.title stands))
 
 -- ---- grounds for rejection
 
-pub folio_locally : (at0 at1 : Key → List Entry) (before : List Act) (act : Act) → ReadsSame at0 at1 act → lacks_folio at1 before act ≡ lacks_folio at0 before act
-folio_locally at0 at1 before (Open folio inventory owners) same = ap is_open same
-folio_locally at0 at1 before (Transfer folio owners) same = open_same at0 at1 before folio same
-folio_locally at0 at1 before (Create folio spec reserve) same = open_same at0 at1 before folio same
-folio_locally at0 at1 before (NoticeFor folio spec) same = open_same at0 at1 before folio same
-folio_locally at0 at1 before (Convert folio right) same = open_same at0 at1 before folio same.title
-folio_locally at0 at1 before (Assign folio right holder) same = refl
-folio_locally at0 at1 before (Cancel folio right) same = open_same at0 at1 before folio same.title
-folio_locally at0 at1 before (Exchange folio recede rise) same = refl
-folio_locally at0 at1 before (Exercise folio behind spec) same = open_same at0 at1 before folio same.title
+pub folio_locally : (at0 at1 : Key → List Entry) (acts : List Act) (a : ℕ) (act : Act) → ReadsSame at0 at1 act → lacks_folio at1 acts a act ≡ lacks_folio at0 acts a act
+folio_locally at0 at1 acts a (Open folio inventory owners) same = ap is_open same
+folio_locally at0 at1 acts a (Transfer folio owners) same = open_same at0 at1 acts a folio same
+folio_locally at0 at1 acts a (Create folio spec reserve) same = open_same at0 at1 acts a folio same
+folio_locally at0 at1 acts a (NoticeFor folio spec) same = open_same at0 at1 acts a folio same
+folio_locally at0 at1 acts a (Convert folio right) same = open_same at0 at1 acts a folio same.title
+folio_locally at0 at1 acts a (Assign folio right holder) same = refl
+folio_locally at0 at1 acts a (Cancel folio right) same = open_same at0 at1 acts a folio same.title
+folio_locally at0 at1 acts a (Exchange folio recede rise) same = refl
+folio_locally at0 at1 acts a (Exercise folio behind spec) same = open_same at0 at1 acts a folio same.title
 
 pub right_locally : (at0 at1 : Key → List Entry) (act : Act) → ReadsSame at0 at1 act → lacks_right at1 act ≡ lacks_right at0 act
 right_locally at0 at1 (Convert folio right) same = lives_same at0 at1 folio right same.right
@@ -110,43 +110,43 @@ assignment_locally at0 at1 other same = refl
 
 -- ---- persons
 
-pub affected_locally : (m : ℕ) (docs : List Doc) (at0 at1 : Key → List Entry) (before : List Act) (act : Act) → ReadsSame at0 at1 act → affected m docs at1 before act ≡ affected m docs at0 before act
-affected_locally m docs at0 at1 before (Open folio inventory owners) same = refl
-affected_locally m docs at0 at1 before (Transfer folio owners) same = owners_same m at0 at1 before folio same
-affected_locally m docs at0 at1 before (Create folio spec reserve) same = owners_same m at0 at1 before folio same
-affected_locally m docs at0 at1 before (NoticeFor folio spec) same = owners_same m at0 at1 before folio same
-affected_locally m docs at0 at1 before (Convert folio right) same = owners_same m at0 at1 before folio same.title
-affected_locally m docs at0 at1 before (Assign folio right holder) same = holder_same m at0 at1 folio right same
-affected_locally m docs at0 at1 before (Cancel folio right) same =
-    ap (λ people. cond (has_proof docs (number_behind before)) [] people) (holder_same m at0 at1 folio right same.right)
-affected_locally m docs at0 at1 before (Exchange folio recede rise) same = holder_same m at0 at1 folio recede same.recede
-affected_locally m docs at0 at1 before (Exercise folio behind spec) same = owners_same m at0 at1 before folio same.title
+pub affected_locally : (m : ℕ) (docs : List Doc) (at0 at1 : Key → List Entry) (acts : List Act) (a : ℕ) (act : Act) → ReadsSame at0 at1 act → affected m docs at1 acts a act ≡ affected m docs at0 acts a act
+affected_locally m docs at0 at1 acts a (Open folio inventory owners) same = refl
+affected_locally m docs at0 at1 acts a (Transfer folio owners) same = owners_same m at0 at1 acts a folio same
+affected_locally m docs at0 at1 acts a (Create folio spec reserve) same = owners_same m at0 at1 acts a folio same
+affected_locally m docs at0 at1 acts a (NoticeFor folio spec) same = owners_same m at0 at1 acts a folio same
+affected_locally m docs at0 at1 acts a (Convert folio right) same = owners_same m at0 at1 acts a folio same.title
+affected_locally m docs at0 at1 acts a (Assign folio right holder) same = holder_same m at0 at1 folio right same
+affected_locally m docs at0 at1 acts a (Cancel folio right) same =
+    ap (λ people. cond (has_proof docs a) [] people) (holder_same m at0 at1 folio right same.right)
+affected_locally m docs at0 at1 acts a (Exchange folio recede rise) same = holder_same m at0 at1 folio recede same.recede
+affected_locally m docs at0 at1 acts a (Exercise folio behind spec) same = owners_same m at0 at1 acts a folio same.title
 
-pub owner_side_locally : (m : ℕ) (docs : List Doc) (at0 at1 : Key → List Entry) (before : List Act) (act : Act) → ReadsSame at0 at1 act → owner_side m docs at1 before act ≡ owner_side m docs at0 before act
-owner_side_locally m docs at0 at1 before (Cancel folio right) same =
-    λ j. cond (not (has_proof docs (number_behind before)) && option_map_or (λ made. is_in_division_three made.spec.kind) (live_right (same.right j)) false)
-    (owners_same m at0 at1 before folio same.title j) []
-owner_side_locally m docs at0 at1 before (Exchange folio recede rise) same = owners_if m at0 at1 before folio recede rise same
-owner_side_locally m docs at0 at1 before other same = refl
+pub owner_side_locally : (m : ℕ) (docs : List Doc) (at0 at1 : Key → List Entry) (acts : List Act) (a : ℕ) (act : Act) → ReadsSame at0 at1 act → owner_side m docs at1 acts a act ≡ owner_side m docs at0 acts a act
+owner_side_locally m docs at0 at1 acts a (Cancel folio right) same =
+    λ j. cond (not (has_proof docs a) && option_map_or (λ made. is_in_division_three made.spec.kind) (live_right (same.right j)) false)
+    (owners_same m at0 at1 acts a folio same.title j) []
+owner_side_locally m docs at0 at1 acts a (Exchange folio recede rise) same = owners_if m at0 at1 acts a folio recede rise same
+owner_side_locally m docs at0 at1 acts a other same = refl
 
-pub applicants_locally : (m : ℕ) (at0 at1 : Key → List Entry) (before : List Act) (act : Act) → ReadsSame at0 at1 act → applicants m at1 before act ≡ applicants m at0 before act
-applicants_locally m at0 at1 before (Open folio inventory owners) same = refl
-applicants_locally m at0 at1 before (Transfer folio owners) same = λ j. owners_same m at0 at1 before folio same j ++ owners
-applicants_locally m at0 at1 before (Create folio spec reserve) same = λ j. owners_same m at0 at1 before folio same j ++ spec.holder ∷ []
-applicants_locally m at0 at1 before (NoticeFor folio spec) same = λ j. owners_same m at0 at1 before folio same j ++ spec.holder ∷ []
-applicants_locally m at0 at1 before (Convert folio right) same = λ j. owners_same m at0 at1 before folio same.title j ++ holder_same m at0 at1 folio right same.right j
-applicants_locally m at0 at1 before (Assign folio right holder) same = λ j. holder_same m at0 at1 folio right same j ++ holder ∷ []
-applicants_locally m at0 at1 before (Cancel folio right) same = λ j. owners_same m at0 at1 before folio same.title j ++ holder_same m at0 at1 folio right same.right j
-applicants_locally m at0 at1 before (Exchange folio recede rise) same =
-    λ j. holder_same m at0 at1 folio recede same.recede j ++ (holder_same m at0 at1 folio rise same.rise j ++ owners_if m at0 at1 before folio recede rise same j)
-applicants_locally m at0 at1 before (Exercise folio behind spec) same = λ j. owners_same m at0 at1 before folio same.title j ++ spec.holder ∷ []
+pub applicants_locally : (m : ℕ) (at0 at1 : Key → List Entry) (acts : List Act) (a : ℕ) (act : Act) → ReadsSame at0 at1 act → applicants m at1 acts a act ≡ applicants m at0 acts a act
+applicants_locally m at0 at1 acts a (Open folio inventory owners) same = refl
+applicants_locally m at0 at1 acts a (Transfer folio owners) same = λ j. owners_same m at0 at1 acts a folio same j ++ owners
+applicants_locally m at0 at1 acts a (Create folio spec reserve) same = λ j. owners_same m at0 at1 acts a folio same j ++ spec.holder ∷ []
+applicants_locally m at0 at1 acts a (NoticeFor folio spec) same = λ j. owners_same m at0 at1 acts a folio same j ++ spec.holder ∷ []
+applicants_locally m at0 at1 acts a (Convert folio right) same = λ j. owners_same m at0 at1 acts a folio same.title j ++ holder_same m at0 at1 folio right same.right j
+applicants_locally m at0 at1 acts a (Assign folio right holder) same = λ j. holder_same m at0 at1 folio right same j ++ holder ∷ []
+applicants_locally m at0 at1 acts a (Cancel folio right) same = λ j. owners_same m at0 at1 acts a folio same.title j ++ holder_same m at0 at1 folio right same.right j
+applicants_locally m at0 at1 acts a (Exchange folio recede rise) same =
+    λ j. holder_same m at0 at1 folio recede same.recede j ++ (holder_same m at0 at1 folio rise same.rise j ++ owners_if m at0 at1 acts a folio recede rise same j)
+applicants_locally m at0 at1 acts a (Exercise folio behind spec) same = λ j. owners_same m at0 at1 acts a folio same.title j ++ spec.holder ∷ []
 
-pub others_locally : (journal : List Receipt) (m : ℕ) (docs : List Doc) (at0 at1 : Key → List Entry) (before : List Act) (act : Act) → ReadsSame at0 at1 act → others journal m docs at1 before act ≡ others journal m docs at0 before act
-others_locally journal m docs at0 at1 before (Cancel folio right) same =
-    ap (λ es. cond (has_proof docs (number_behind before)) [] (waiting_applicants journal m es)) same.right
-others_locally journal m docs at0 at1 before other same = refl
+pub others_locally : (journal : List Receipt) (m : ℕ) (docs : List Doc) (at0 at1 : Key → List Entry) (a : ℕ) (act : Act) → ReadsSame at0 at1 act → others journal m docs at1 a act ≡ others journal m docs at0 a act
+others_locally journal m docs at0 at1 a (Cancel folio right) same =
+    ap (λ es. cond (has_proof docs a) [] (waiting_applicants journal m es)) same.right
+others_locally journal m docs at0 at1 a other same = refl
 
-pub needed_locally : (journal : List Receipt) (m : ℕ) (docs : List Doc) (at0 at1 : Key → List Entry) (before : List Act) (act : Act) → ReadsSame at0 at1 act → needed journal m docs at1 before act ≡ needed journal m docs at0 before act
-needed_locally journal m docs at0 at1 before act same =
-    λ j. affected_locally m docs at0 at1 before act same j
-    ++ (owner_side_locally m docs at0 at1 before act same j ++ others_locally journal m docs at0 at1 before act same j)
+pub needed_locally : (journal : List Receipt) (m : ℕ) (docs : List Doc) (at0 at1 : Key → List Entry) (acts : List Act) (a : ℕ) (act : Act) → ReadsSame at0 at1 act → needed journal m docs at1 acts a act ≡ needed journal m docs at0 acts a act
+needed_locally journal m docs at0 at1 acts a act same =
+    λ j. affected_locally m docs at0 at1 acts a act same j
+    ++ (owner_side_locally m docs at0 at1 acts a act same j ++ others_locally journal m docs at0 at1 a act same j)

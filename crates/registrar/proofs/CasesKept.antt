@@ -14,7 +14,7 @@ use Rattle.act_model.specs.Touches.{filing_at, keys_of_act, keys_of_acts, keys_o
 use Rattle.act_model.proofs.KeyOrder.{has, has_decides}
 use Rattle.folio_sections.specs.Cases.{is_seizure}
 use Rattle.folio_sections.specs.Entries.{at, with_entries}
-use Rattle.folio_sections.specs.KeptCases.{CaseInOrder, IsOpenedBefore, LeavesCents, SeizesFromOlder, StandsByItem, case_below, is_registration, register_same_arrears}
+use Rattle.kept_registers.specs.KeptCases.{CaseInOrder, IsOpenedBefore, LeavesCents, SeizesFromOlder, StandsByItem, case_below, is_registration, register_same_arrears}
 use Rattle.folio_sections.specs.Limits.{most_registrations, most_seizures}
 use Rattle.folio_sections.specs.Titles.{is_opening}
 use Rattle.folio_sections.specs.declared.entries.Entry.{Entry}

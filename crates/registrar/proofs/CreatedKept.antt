@@ -10,7 +10,7 @@ use Rattle.gb_base.specs.declared.keys.Key.TheVariants.{Title, Right, Case}
 use Rattle.act_model.proofs.CreationRanks.{has_rank}
 use Rattle.act_model.specs.Acts.{folio_of, right_created}
 use Rattle.act_model.specs.Creations.{creating_rank, folio_of_creation}
-use Rattle.act_model.specs.Touches.{keys_of_act, new_right}
+use Rattle.act_model.specs.Touches.{keys_of_act, new_right, act_of_right}
 use Rattle.act_model.specs.declared.documents.Doc.{Doc}
 use Rattle.act_model.specs.declared.filing_acts.Act.{Act}
 use Rattle.act_model.specs.declared.filing_acts.Act.TheVariants.{Open, Transfer, Create, NoticeFor, Convert, Assign, Cancel, Exchange, Exercise}
@@ -18,9 +18,10 @@ use Rattle.act_model.specs.declared.items.Filing.{Filing}
 use Rattle.act_model.specs.declared.receipts.Receipt.{Receipt}
 use Rattle.act_model.specs.declared.rights.RightSpec.{RightSpec}
 use Rattle.folio_sections.specs.Entries.{at, with_entries}
-use Rattle.folio_sections.specs.Documents.{documents}
-use Rattle.folio_sections.specs.Entering.{as_entered, content, contents_brought, enters}
-use Rattle.folio_sections.specs.KeptRights.{CreatedAsFiled, EntersAsFiled, IsAsFiled, IsCreatedAsFiled, SetsPlace, act_of_right}
+use Rattle.act_model.specs.Documents.{documents}
+use Rattle.entry_rules.specs.Entering.{as_entered, content, contents_brought}
+use Rattle.registrar.specs.Enters.{enters}
+use Rattle.kept_registers.specs.KeptRights.{CreatedAsFiled, EntersAsFiled, IsAsFiled, IsCreatedAsFiled, SetsPlace}
 use Rattle.folio_sections.specs.Limits.{most_creations}
 use Rattle.folio_sections.specs.declared.entries.Entry.{Entry}
 use Rattle.folio_sections.specs.declared.entries.What.{What}
@@ -93,7 +94,7 @@ abbrev FewCreations : List Receipt → ℕ → ℕ → Type 0
 FewCreations journal m a = IfSome (creating_rank journal (new_right m a)) (λ n. n ≤ most_creations)
 
 -- the place of filing m stands in the act's folio
-abbrev PlaceStands : List Receipt → (Key → List Entry) → ℕ → ℕ → Act → Type 0
+abbrev pub PlaceStands : List Receipt → (Key → List Entry) → ℕ → ℕ → Act → Type 0
 PlaceStands journal at1 m i act = Any (SetsPlace journal (folio_of act) m i) (at1 (Title (folio_of act)))
 
 is_created : (journal : List Receipt) (at1 : Key → List Entry) (m a i : ℕ) (acts : List Act) (places : List TitlePlace) (act : Act) (spec : RightSpec) → act_of_right journal (new_right m a) ≡ Some act → right_created act ≡ Some spec → FewCreations journal m a → PlaceStands journal at1 m i act
@@ -132,15 +133,21 @@ title_touched journal m a (Cancel folio right) spec is = absurd (cc is)
 title_touched journal m a (Exchange folio recede rise) spec is = absurd (cc is)
 title_touched journal m a (Exercise folio behind_right described) spec is = (0, omega arith, refl)
 
--- the place stands in the register behind
-place_behind : (journal : List Receipt) (m : ℕ) (f : Filing) (i : ℕ) (at0 : Key → List Entry) (a : ℕ) (act : Act) (spec : RightSpec) → Deals journal m f i at0 → IsActOf f a act → right_created act ≡ Some spec → PlaceStands journal (with_entries at0 (enters journal m i at0)) m i act
-place_behind journal m f i at0 a act spec deals own is =
+-- the place stands once the notices and the places do
+pub place_standing : (journal : List Receipt) (m : ℕ) (f : Filing) (i : ℕ) (at0 : Key → List Entry) (a : ℕ) (act : Act) (spec : RightSpec) → Deals journal m f i at0 → IsActOf f a act → right_created act ≡ Some spec → PlaceStands journal (standing journal m i at0) m i act
+place_standing journal m f i at0 a act spec deals own is =
     let title = Title (folio_of act) in
     let touched = key_touched journal m f a act title deals.filing own (title_touched journal m a act spec is) in
     let creates = filing_creates journal m f a act spec deals.filing own is in
+    place_stands journal m i (folio_of act) at0 touched creates (deals.earlier title touched)
+
+-- and so in the register behind
+place_behind : (journal : List Receipt) (m : ℕ) (f : Filing) (i : ℕ) (at0 : Key → List Entry) (a : ℕ) (act : Act) (spec : RightSpec) → Deals journal m f i at0 → IsActOf f a act → right_created act ≡ Some spec → PlaceStands journal (with_entries at0 (enters journal m i at0)) m i act
+place_behind journal m f i at0 a act spec deals own is =
+    let title = Title (folio_of act) in
     subst (λ (now : Key → List Entry). PlaceStands journal now m i act) (sym (contents_last journal m f i at0 deals.filing))
     (any_in_first (SetsPlace journal (folio_of act) m i) (standing journal m i at0 title) (at (contents_brought journal m i (standing journal m i at0) f) title)
-    (place_stands journal m i (folio_of act) at0 touched creates (deals.earlier title touched)))
+    (place_standing journal m f i at0 a act spec deals own is))
 
 pub created_entered : (journal : List Receipt) (m : ℕ) (f : Filing) (i : ℕ) (at : Key → List Entry) → Deals journal m f i at → IsFit journal m f at → CreatedAsFiled journal (with_entries at (enters journal m i at))
 created_entered journal m f i at0 deals fit =

@@ -9,11 +9,11 @@ use Rattle.act_model.specs.declared.items.Filing.{Filing}
 use Rattle.act_model.specs.declared.items.Item.{Item}
 use Rattle.act_model.specs.declared.items.Item.TheVariants as item
 use Rattle.act_model.specs.declared.receipts.Receipt.{Receipt}
-use Rattle.folio_sections.specs.Judging.{judged, judged_filing}
-use Rattle.folio_sections.specs.Kept.{Kept}
+use Rattle.consent_rules.specs.Judging.{judged, judged_filing}
+use Rattle.kept_registers.specs.Kept.{Kept}
 use Rattle.folio_sections.specs.declared.entries.Entry.{Entry}
-use Rattle.folio_sections.specs.declared.judgements.Judgement.{Judgement}
-use Rattle.folio_sections.specs.declared.judgements.Judgement.TheVariants.{Enter, Interim, Reject}
+use Rattle.consent_rules.specs.declared.judgements.Judgement.{Judgement}
+use Rattle.consent_rules.specs.declared.judgements.Judgement.TheVariants.{Enter, Interim, Reject}
 use Rattle.interim_orders.specs.Lapses.{brought_by_lapse, lapse_at, lapse_brought, lapse_by}
 use Rattle.interim_orders.specs.Orders.{end_brought, state_of}
 use Rattle.interim_orders.specs.declared.answers.Lapse.TheVariants as answer
@@ -22,7 +22,8 @@ use Rattle.interim_orders.specs.declared.states.FilingState.TheVariants.{NotPend
 use Rattle.registrar.proofs.Dealing.{Deals}
 use Rattle.registrar.proofs.Dealing.Turn.{finds, is_it}
 use Rattle.registrar.proofs.ItemRooms.{lapse_names, named, read_of_item}
-use Rattle.registrar.proofs.ItemsKeep.{filing_leaves, fit_as_judged, well_filed}
+use Rattle.kept_registers.proofs.WellFiled.{well_filed}
+use Rattle.registrar.proofs.ItemsKeep.{filing_leaves, fit_as_judged}
 use Rattle.registrar.proofs.Keeping.{Leaves, cure_leaves, end_leaves, none_leave}
 use Rattle.registrar.proofs.WaitingStates.{found_waiting, waiting_is_a_filing}
 use Rattle.registrar.specs.Brings.{brought_by_cure, brought_by_item, brought_in_state, nothing_pending}
@@ -124,4 +125,8 @@ item_leaves journal i at (item.Filing f) stands kept is before =
     filing_leaves journal i f at (judged_filing journal i f i at) (filing_deals journal i f at stands kept before is) refl
 item_leaves journal i at (item.Cure m docs) stands kept is before = cure_in_state journal m i at (state_of journal m i at) (there_is (receipt_at journal i) (item.Cure m docs) is) stands kept before refl
 item_leaves journal i at (item.Lapse m) stands kept is before = lapse_leaves journal i m at stands kept before is
-item_leaves journal i at other stands kept is before = none_leave journal i at kept
+item_leaves journal i at (item.Seize folio basis served) stands kept is before = none_leave journal i at kept
+item_leaves journal i at (item.Register folio registered) stands kept is before = none_leave journal i at kept
+item_leaves journal i at (item.OpenBids folio costs) stands kept is before = none_leave journal i at kept
+item_leaves journal i at (item.Award folio buyer bid) stands kept is before = none_leave journal i at kept
+item_leaves journal i at (item.Distribute folio) stands kept is before = none_leave journal i at kept

@@ -8,11 +8,11 @@ use Rattle.act_model.specs.Touches.{filing_at, keys_of_filing, new_right}
 use Rattle.act_model.specs.WellFormed.{is_filing}
 use Rattle.act_model.specs.declared.items.Filing.{Filing}
 use Rattle.act_model.specs.declared.receipts.Receipt.{Receipt}
-use Rattle.folio_sections.specs.Judging.{exchanges_unfit_right, lacks_reservation, lacks_right}
-use Rattle.folio_sections.specs.Kept.{Kept}
-use Rattle.folio_sections.specs.KeptCases.{LeavesCents}
-use Rattle.folio_sections.specs.KeptPlaces.{NamesEarlier}
-use Rattle.folio_sections.specs.KeptEntries.{IsCreatedInTime, IsPlacedInTime, WaitsInTime}
+use Rattle.consent_rules.specs.Judging.{exchanges_unfit_right, lacks_reservation, lacks_right}
+use Rattle.kept_registers.specs.Kept.{Kept}
+use Rattle.kept_registers.specs.KeptCases.{LeavesCents}
+use Rattle.kept_registers.specs.KeptPlaces.{NamesEarlier}
+use Rattle.kept_registers.specs.KeptEntries.{IsCreatedInTime, IsPlacedInTime, WaitsInTime}
 use Rattle.folio_sections.specs.Limits.{most_creations}
 use Rattle.folio_sections.specs.Waiting.{is_pending}
 use Rattle.folio_sections.specs.declared.entries.Entry.{Entry}

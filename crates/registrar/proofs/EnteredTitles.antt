@@ -8,9 +8,11 @@ use Rattle.gb_base.specs.declared.keys.Key.{Key}
 use Rattle.gb_base.specs.declared.keys.Key.TheVariants.{Title}
 use Rattle.act_model.specs.Touches.{acts_of}
 use Rattle.act_model.specs.declared.receipts.Receipt.{Receipt}
-use Rattle.folio_sections.specs.Entering.{entry_by, placed_in}
-use Rattle.folio_sections.specs.KeptPlaces.{is_placed}
-use Rattle.folio_sections.specs.Places.{create_in_division, creates_there, places_among}
+use Rattle.folio_sections.specs.Entries.{entry_by}
+use Rattle.entry_rules.specs.Entering.{placed_in}
+use Rattle.kept_registers.specs.KeptPlaces.{is_placed}
+use Rattle.act_model.specs.Divisions.{create_in_division, creates_there}
+use Rattle.folio_sections.specs.Places.{places_among}
 use Rattle.folio_sections.specs.Waiting.{is_pending, notice, pending}
 use Rattle.folio_sections.specs.declared.entries.Entry.{Entry}
 use Rattle.folio_sections.specs.declared.entries.What.{What}

@@ -11,10 +11,14 @@ use Rattle.act_model.specs.declared.documents.Doc.{Doc}
 use Rattle.act_model.specs.declared.filing_acts.Act.{Act}
 use Rattle.act_model.specs.declared.filing_acts.Act.TheVariants.{Open, Transfer, Create, NoticeFor, Convert, Assign, Cancel, Exchange, Exercise}
 use Rattle.act_model.specs.declared.receipts.Receipt.{Receipt}
-use Rattle.folio_sections.specs.Documents.{documents}
-use Rattle.folio_sections.specs.Entering.{as_entered, content, contents_brought, creation, entered, enters, entry_by, notices_at, notices_brought, placed_at, places_brought, waiting_unnoticed, with_notices, with_places}
-use Rattle.folio_sections.specs.Places.{create_in_division, creates_there, places_among}
-use Rattle.folio_sections.specs.Waiting.{notice}
+use Rattle.act_model.specs.Documents.{documents}
+use Rattle.entry_rules.specs.Entering.{as_entered, content, contents_brought, creation, entered, placed_at, places_brought, with_places}
+use Rattle.registrar.specs.Enters.{enters}
+use Rattle.interim_orders.specs.Notices.{notices_at, notices_brought, with_notices}
+use Rattle.folio_sections.specs.Waiting.{waiting_unnoticed, notice}
+use Rattle.folio_sections.specs.Entries.{entry_by}
+use Rattle.act_model.specs.Divisions.{create_in_division, creates_there}
+use Rattle.folio_sections.specs.Places.{places_among}
 use Rattle.folio_sections.specs.declared.entries.Entry.{Entry}
 use Rattle.folio_sections.specs.declared.entries.What.TheVariants as what
 use Rattle.folio_sections.proofs.FilteredLists.{flat_map_alike}

@@ -11,7 +11,7 @@ use Rattle.act_model.specs.Receiving.{day_of, receipt_at}
 use Rattle.act_model.specs.Touches.{keys_of_filing}
 use Rattle.act_model.proofs.KeyOrder.{has, has_decides}
 use Rattle.folio_sections.specs.Entries.{at, with_entries}
-use Rattle.folio_sections.specs.KeptEntries.{IsCreatedInTime, IsPlacedInTime, IsStamped, ReceiptsRise, WaitsInTime}
+use Rattle.kept_registers.specs.KeptEntries.{IsCreatedInTime, IsPlacedInTime, IsStamped, ReceiptsRise, WaitsInTime}
 use Rattle.folio_sections.specs.declared.entries.Entry.{Entry}
 use Rattle.folio_sections.proofs.Unchanged.{all_weaker}
 use Rattle.registrar.proofs.Added.{all_here, unchanged_elsewhere}

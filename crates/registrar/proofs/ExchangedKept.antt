@@ -7,9 +7,9 @@ use Rattle.gb_base.specs.declared.keys.Key.{Key}
 use Rattle.gb_base.specs.declared.keys.Key.TheVariants.{Right}
 use Rattle.act_model.specs.declared.items.Filing.{Filing}
 use Rattle.act_model.specs.declared.receipts.Receipt.{Receipt}
-use Rattle.folio_sections.specs.Entering.{enters}
+use Rattle.registrar.specs.Enters.{enters}
 use Rattle.folio_sections.specs.Entries.{at, with_entries}
-use Rattle.folio_sections.specs.KeptRights.{ActsOnItsKind, ExchangedArePlain}
+use Rattle.kept_registers.specs.KeptRights.{ActsOnItsKind, ExchangedArePlain}
 use Rattle.folio_sections.specs.Rights.{created}
 use Rattle.folio_sections.specs.declared.entries.Entry.{Entry}
 use Rattle.folio_sections.proofs.Unchanged.{all_at, all_weaker}

@@ -6,7 +6,7 @@ use Rattle.gb_base.specs.RightNo.{RightNo}
 use Rattle.gb_base.specs.declared.keys.Key.{Key}
 use Rattle.gb_base.specs.declared.keys.Key.TheVariants.{Title, Right, Case}
 use Rattle.act_model.specs.declared.receipts.Receipt.{Receipt}
-use Rattle.folio_sections.specs.KeptRights.{ActsOnItsKind, IsPlain, StandsAhead, StandsPlain}
+use Rattle.kept_registers.specs.KeptRights.{ActsOnItsKind, IsPlain, StandsAhead, StandsPlain}
 use Rattle.folio_sections.specs.Rights.{created, is_exercise}
 use Rattle.folio_sections.specs.declared.entries.Created.{Created}
 use Rattle.folio_sections.specs.declared.entries.Entry.{Entry}
@@ -42,7 +42,7 @@ plain_stays journal at0 at1 folio right same is =
 
 pub kind_stays : (journal : List Receipt) (at0 at1 : Key → List Entry) (folio : ℕ) (right : RightNo) (w : What) → ReadOn at0 at1 → ActsOnItsKind journal at0 folio right w → ActsOnItsKind journal at1 folio right w
 kind_stays journal at0 at1 folio right (what.Exchanged recede rise act) same is =
-    (plain_stays journal at0 at1 folio recede same is.0, plain_stays journal at0 at1 folio rise same is.1)
+    (plain_stays journal at0 at1 folio recede same is.0, plain_stays journal at0 at1 folio rise same is.1, is.2, is.3)
 kind_stays journal at0 at1 folio right (what.Exercised by) same is =
     let ahead : StandsAhead at1 folio right by =
     (ahead_by right (created (at0 (Right folio by))) (created (at1 (Right folio by))) (same folio by) is.1.0, is.1.1) in

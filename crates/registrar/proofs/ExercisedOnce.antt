@@ -18,10 +18,12 @@ use Rattle.act_model.specs.declared.filing_acts.Act.{Act}
 use Rattle.act_model.specs.declared.filing_acts.Act.TheVariants.{Open, Transfer, Create, NoticeFor, Convert, Assign, Cancel, Exchange, Exercise}
 use Rattle.act_model.specs.declared.items.Filing.{Filing}
 use Rattle.act_model.specs.declared.receipts.Receipt.{Receipt}
-use Rattle.folio_sections.specs.Documents.{documents}
-use Rattle.folio_sections.specs.Entering.{content, contents_brought, creation, enters, entry_by, notices_brought, places_brought, with_notices}
-use Rattle.folio_sections.specs.Entries.{at}
-use Rattle.folio_sections.specs.Judging.{lacks_reservation, reserves_less}
+use Rattle.act_model.specs.Documents.{documents}
+use Rattle.entry_rules.specs.Entering.{content, contents_brought, creation, places_brought}
+use Rattle.registrar.specs.Enters.{enters}
+use Rattle.interim_orders.specs.Notices.{notices_brought, with_notices}
+use Rattle.folio_sections.specs.Entries.{entry_by, at}
+use Rattle.consent_rules.specs.Judging.{lacks_reservation, reserves_less}
 use Rattle.folio_sections.specs.Rights.{is_exercise, is_spent, live_right}
 use Rattle.folio_sections.specs.declared.entries.Entry.{Entry}
 use Rattle.folio_sections.specs.declared.entries.What.TheVariants as what

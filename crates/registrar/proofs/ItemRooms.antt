@@ -9,10 +9,10 @@ use Rattle.act_model.specs.declared.items.Item.{Item}
 use Rattle.act_model.specs.declared.items.Item.TheVariants as item
 use Rattle.act_model.specs.declared.receipts.Receipt.{Receipt}
 use Rattle.folio_sections.specs.Adding.{HasRoom}
-use Rattle.folio_sections.specs.Judging.{judged, judged_filing}
+use Rattle.consent_rules.specs.Judging.{judged, judged_filing}
 use Rattle.folio_sections.specs.declared.entries.Entry.{Entry}
-use Rattle.folio_sections.specs.declared.judgements.Judgement.{Judgement}
-use Rattle.folio_sections.specs.declared.judgements.Judgement.TheVariants.{Enter, Interim, Reject}
+use Rattle.consent_rules.specs.declared.judgements.Judgement.{Judgement}
+use Rattle.consent_rules.specs.declared.judgements.Judgement.TheVariants.{Enter, Interim, Reject}
 use Rattle.interim_orders.proofs.Room.{lapse_fits}
 use Rattle.interim_orders.specs.Lapses.{lapse_at, lapse_in}
 use Rattle.interim_orders.specs.Orders.{deadline_of, state_of}
@@ -70,4 +70,8 @@ item_fits journal i at room (item.Lapse m) stands is roomy =
     lapse_fits journal i at room (λ n names earlier k there.
     let same = lapse_names journal i m n is names in
     roomy k (subst (λ x. Contains (keys_of_named journal i x) k) (sym same) (named journal i n k earlier there)))
-item_fits journal i at room other stands is roomy = no_entry room
+item_fits journal i at room (item.Seize folio basis served) stands is roomy = no_entry room
+item_fits journal i at room (item.Register folio registered) stands is roomy = no_entry room
+item_fits journal i at room (item.OpenBids folio costs) stands is roomy = no_entry room
+item_fits journal i at room (item.Award folio buyer bid) stands is roomy = no_entry room
+item_fits journal i at room (item.Distribute folio) stands is roomy = no_entry room

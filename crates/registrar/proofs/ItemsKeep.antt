@@ -12,35 +12,18 @@ use Rattle.act_model.specs.declared.items.Filing.{Filing}
 use Rattle.act_model.specs.declared.items.Item.{Item}
 use Rattle.act_model.specs.declared.items.Item.TheVariants as item
 use Rattle.act_model.specs.declared.receipts.Receipt.{Receipt}
-use Rattle.folio_sections.specs.Documents.{documents}
-use Rattle.folio_sections.specs.Judging.{defects, judged_filing, judgement_by, rejection}
+use Rattle.act_model.specs.Documents.{documents}
+use Rattle.consent_rules.specs.Judging.{defects, judged_filing, judgement_by, rejection}
 use Rattle.folio_sections.specs.declared.entries.Entry.{Entry}
-use Rattle.folio_sections.specs.declared.judgements.Defect.{Defect}
-use Rattle.folio_sections.specs.declared.judgements.Judgement.{Judgement}
-use Rattle.folio_sections.specs.declared.judgements.Judgement.TheVariants.{Enter, Interim, Reject}
+use Rattle.kept_registers.proofs.WellFiled.{well_filed}
+use Rattle.consent_rules.specs.declared.judgements.Defect.{Defect}
+use Rattle.consent_rules.specs.declared.judgements.Judgement.{Judgement}
+use Rattle.consent_rules.specs.declared.judgements.Judgement.TheVariants.{Enter, Interim, Reject}
 use Rattle.gb_base.specs.declared.sections.Section.{Section}
 use Rattle.registrar.proofs.Dealing.{Deals, IsFit}
 use Rattle.registrar.proofs.Keeping.{Leaves, entry_leaves, none_leave, order_leaves}
 use Rattle.registrar.proofs.Unrejected.{is_fit}
 use Rattle.registrar.specs.Brings.{brought_by_filing}
-
--- ---- a filing of a journal is well formed
-
-filing_well : (w : Item) (f : Filing) → IsTrue (well_formed w) → filing_in w ≡ Some f → IsTrue (is_filing f)
-filing_well (item.Filing g) f well is = subst (λ o. IsTrue (option_map_or is_filing o true)) is well
-filing_well other f well is = absurd (false≢true (ap is_some is))
-
-got_well : (rs : List Receipt) (k : ℕ) (f : Filing) → All (λ r. IsTrue (well_formed r.item)) rs → option_and_then (λ r. filing_in r.item) (slice_get rs k) ≡ Some f → IsTrue (is_filing f)
-got_well [] k f well is = absurd (false≢true (ap is_some is))
-got_well (r ∷ rs) zero f well is = filing_well r.item f (All-head (λ q. IsTrue (well_formed q.item)) r rs well) is
-got_well (r ∷ rs) (suc k) f well is = got_well rs k f (All-tail (λ q. IsTrue (well_formed q.item)) r rs well) is
-
-pub well_filed : (journal : List Receipt) (m : ℕ) (f : Filing) → IsJournal journal → filing_at journal m ≡ Some f → IsTrue (is_filing f)
-well_filed journal m f stands =
-    elim (eqb m 0) as (λ b. option_and_then (λ r. filing_in r.item) (cond b None (slice_get journal (m - 1))) ≡ Some f → IsTrue (is_filing f)) [
-      | true ↦ λ is. absurd (false≢true (ap is_some is))
-      | false ↦ λ is. got_well journal (m - 1) f stands.items is
-    ]
 
 -- ---- what is not rejected is fit
 

@@ -125,7 +125,11 @@ item_named : (journal : List Receipt) (i m : ℕ) (k : Key) (w : Item) → filin
 item_named journal i m k (item.Filing f) is there = subst (λ n. Contains (keys_of_filing journal n) k) (number_is i m is) there
 item_named journal i m k (item.Cure n docs) is there = subst (λ x. Contains (keys_of_filing journal x) k) (number_is n m is) (named_keys journal i n k there)
 item_named journal i m k (item.Lapse n) is there = subst (λ x. Contains (keys_of_filing journal x) k) (number_is n m is) (named_keys journal i n k there)
-item_named journal i m k other is there = absurd (false≢true (ap is_some is))
+item_named journal i m k (item.Seize folio basis served) is there = absurd (false≢true (ap is_some is))
+item_named journal i m k (item.Register folio registered) is there = absurd (false≢true (ap is_some is))
+item_named journal i m k (item.OpenBids folio costs) is there = absurd (false≢true (ap is_some is))
+item_named journal i m k (item.Award folio buyer bid) is there = absurd (false≢true (ap is_some is))
+item_named journal i m k (item.Distribute folio) is there = absurd (false≢true (ap is_some is))
 
 pub item_keys : (journal : List Receipt) (i m : ℕ) (k : Key) (r : Receipt) → receipt_at journal i ≡ Some r → filing_named i r.item ≡ Some m → Contains (keys_of_item journal i) k → Contains (keys_of_filing journal m) k
 item_keys journal i m k r is names there = item_named journal i m k r.item names (subst (λ ks. Contains ks k) (keys_are journal i r is) there)

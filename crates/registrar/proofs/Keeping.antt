@@ -5,9 +5,9 @@ use Rattle.std.proofs.lemmas.List.{append-nil}
 use Rattle.gb_base.specs.declared.keys.Key.{Key}
 use Rattle.act_model.specs.declared.items.Filing.{Filing}
 use Rattle.act_model.specs.declared.receipts.Receipt.{Receipt}
-use Rattle.folio_sections.specs.Entering.{enters}
+use Rattle.registrar.specs.Enters.{enters}
 use Rattle.folio_sections.specs.Entries.{with_entries}
-use Rattle.folio_sections.specs.Kept.{Kept}
+use Rattle.kept_registers.specs.Kept.{Kept}
 use Rattle.folio_sections.specs.declared.entries.Entry.{Entry}
 use Rattle.folio_sections.proofs.Unchanged.{all_both, all_weaker}
 use Rattle.interim_orders.specs.Orders.{end_brought, order_brought}
@@ -17,6 +17,7 @@ use Rattle.registrar.proofs.CreatedKept.{created_cured, created_entered, created
 use Rattle.registrar.proofs.Dealing.{Deals, IsBrought, IsFit}
 use Rattle.registrar.proofs.EntriesKept.{receipts_rise}
 use Rattle.registrar.proofs.ExchangedKept.{exchanged_cured, exchanged_entered, exchanged_stays}
+use Rattle.registrar.proofs.InPlaceKept.{in_place_cured, in_place_entered, in_place_stays}
 use Rattle.registrar.proofs.LeavingRights.{end_leaves_rights, order_leaves_rights}
 use Rattle.registrar.proofs.PlacesKept.{places_cured, places_ended, places_entered, places_ordered}
 use Rattle.registrar.proofs.WaitingKept.{waiting_cured, waiting_ended, waiting_entered, waiting_ordered}
@@ -46,6 +47,7 @@ order_leaves journal m f at deals fit =
         places_ascend = places_ordered journal m f at deals;
         pending_everywhere = waiting_ordered journal m f at deals fit.earlier;
         created_as_filed = created_stays journal at es (order_leaves_rights journal m) deals.kept.created_as_filed;
+        entered_in_place = in_place_stays journal at es (order_leaves_rights journal m) deals.kept.entered_in_place;
         exchanged_are_plain = exchanged_stays journal at es (order_leaves_rights journal m) deals.kept.exchanged_are_plain;
         case_in_order = case_in_order journal m f m at es deals brought;
       };
@@ -63,6 +65,7 @@ end_leaves journal m f i at deals =
         places_ascend = places_ended journal m f i at deals;
         pending_everywhere = waiting_ended journal m f i at deals;
         created_as_filed = created_stays journal at es (end_leaves_rights journal m i) deals.kept.created_as_filed;
+        entered_in_place = in_place_stays journal at es (end_leaves_rights journal m i) deals.kept.entered_in_place;
         exchanged_are_plain = exchanged_stays journal at es (end_leaves_rights journal m i) deals.kept.exchanged_are_plain;
         case_in_order = case_in_order journal m f i at es deals brought;
       };
@@ -80,6 +83,7 @@ entry_leaves journal m f at deals fit =
         places_ascend = places_entered journal m f at deals;
         pending_everywhere = waiting_entered journal m f m at deals;
         created_as_filed = created_entered journal m f m at deals fit;
+        entered_in_place = in_place_entered journal m f m at deals;
         exchanged_are_plain = exchanged_entered journal m f m at deals fit;
         case_in_order = case_in_order journal m f m at es deals brought;
       };
@@ -97,6 +101,7 @@ cure_leaves journal m f i at deals earlier fit =
         places_ascend = places_cured journal m f i at deals earlier;
         pending_everywhere = waiting_cured journal m f i at deals;
         created_as_filed = created_cured journal m f i at deals fit;
+        entered_in_place = in_place_cured journal m f i at deals;
         exchanged_are_plain = exchanged_cured journal m f i at deals fit;
         case_in_order = case_in_order journal m f i at es deals brought;
       };

@@ -8,22 +8,22 @@ use Rattle.gb_base.specs.RightNo.{RightNo}
 use Rattle.gb_base.specs.declared.keys.Key.{Key}
 use Rattle.gb_base.specs.declared.keys.Key.TheVariants.{Right}
 use Rattle.act_model.specs.Acts.{folio_of, right_created}
-use Rattle.act_model.specs.Touches.{acts_of, created_before, created_in, filing_at, keys_of_act, keys_of_acts, keys_of_filing}
+use Rattle.act_model.specs.Touches.{acts_of, created_before, created_in, filing_at, keys_of_act, keys_of_acts, keys_of_filing, act_of_right}
 use Rattle.act_model.specs.declared.filing_acts.Act.{Act}
 use Rattle.act_model.specs.declared.filing_acts.Act.TheVariants.{Exchange}
 use Rattle.act_model.specs.declared.receipts.Receipt.{Receipt}
-use Rattle.folio_sections.specs.Judging.{IsKnownExchange, KnowsExchanges}
-use Rattle.folio_sections.specs.Kept.{Kept}
-use Rattle.folio_sections.specs.KeptEntries.{IsCreatedInTime}
-use Rattle.folio_sections.specs.KeptPlaces.{NamesEarlier}
-use Rattle.folio_sections.specs.KeptRights.{EntersAsFiled, IsAsFiled, act_of_right}
+use Rattle.consent_rules.specs.Judging.{IsKnownExchange, KnowsExchanges}
+use Rattle.kept_registers.specs.Kept.{Kept}
+use Rattle.kept_registers.specs.KeptEntries.{IsCreatedInTime}
+use Rattle.kept_registers.specs.KeptPlaces.{NamesEarlier}
+use Rattle.kept_registers.specs.KeptRights.{EntersAsFiled, IsAsFiled}
 use Rattle.folio_sections.specs.Rights.{created, is_live, live_right}
 use Rattle.folio_sections.specs.Waiting.{is_pending}
 use Rattle.folio_sections.specs.declared.entries.Created.{Created}
 use Rattle.folio_sections.specs.declared.entries.Entry.{Entry}
 use Rattle.folio_sections.specs.declared.entries.What.{What}
 use Rattle.folio_sections.specs.declared.entries.What.TheVariants as what
-use Rattle.folio_sections.proofs.KeptOrder.{OfCreation, created_has}
+use Rattle.kept_registers.proofs.KeptOrder.{OfCreation, created_has}
 
 live_created : (F : Created → Type 0) (es : List Entry) → AllByRecursion (λ e. OfCreation F e.what) es → IfSome (live_right es) F
 live_created F es all =

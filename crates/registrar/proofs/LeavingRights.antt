@@ -5,9 +5,11 @@ use Rattle.gb_base.specs.declared.keys.Key.{Key}
 use Rattle.gb_base.specs.declared.keys.Key.TheVariants.{Title, Right, Case}
 use Rattle.act_model.specs.declared.receipts.Receipt.{Receipt}
 use Rattle.act_model.specs.Touches.{acts_of, keys_in_order}
-use Rattle.folio_sections.specs.Entering.{entry_by, notices_at, notices_brought, placed_at, places_brought, waiting_unnoticed}
-use Rattle.folio_sections.specs.Places.{create_in_division, creates_there}
-use Rattle.folio_sections.specs.Waiting.{notice}
+use Rattle.folio_sections.specs.Entries.{entry_by}
+use Rattle.interim_orders.specs.Notices.{notices_at, notices_brought}
+use Rattle.entry_rules.specs.Entering.{placed_at, places_brought}
+use Rattle.folio_sections.specs.Waiting.{waiting_unnoticed, notice}
+use Rattle.act_model.specs.Divisions.{create_in_division, creates_there}
 use Rattle.folio_sections.specs.declared.entries.Entry.{Entry}
 use Rattle.folio_sections.specs.declared.entries.What.{What}
 use Rattle.folio_sections.specs.declared.entries.What.TheVariants as what

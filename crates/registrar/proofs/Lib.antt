@@ -17,6 +17,8 @@ pub mod EntriesKept
 pub mod ExchangedKept
 pub mod ExchangesStand
 pub mod ExercisedOnce
+pub mod FitFilings
+pub mod InPlaceKept
 pub mod ItemKeysStay
 pub mod ItemRooms
 pub mod ItemsKeep

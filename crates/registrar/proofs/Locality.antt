@@ -9,12 +9,12 @@ use Rattle.act_model.specs.Touches.{filing_at, filing_in, keys_in_order, keys_of
 use Rattle.act_model.specs.declared.items.Item.{Item}
 use Rattle.act_model.specs.declared.items.Item.TheVariants as item
 use Rattle.act_model.specs.declared.receipts.Receipt.{Receipt}
-use Rattle.folio_sections.specs.Judging.{judged, judged_filing, KnowsExchanges}
-use Rattle.folio_sections.specs.Kept.{Kept}
+use Rattle.consent_rules.specs.Judging.{judged, judged_filing, KnowsExchanges}
+use Rattle.kept_registers.specs.Kept.{Kept}
 use Rattle.folio_sections.specs.Waiting.{pending}
 use Rattle.folio_sections.specs.declared.entries.Entry.{Entry}
-use Rattle.folio_sections.specs.declared.judgements.Judgement.{Judgement}
-use Rattle.folio_sections.specs.declared.judgements.Judgement.TheVariants.{Enter, Interim, Reject}
+use Rattle.consent_rules.specs.declared.judgements.Judgement.{Judgement}
+use Rattle.consent_rules.specs.declared.judgements.Judgement.TheVariants.{Enter, Interim, Reject}
 use Rattle.interim_orders.specs.Lapses.{brought_by_lapse, lapse_at, lapse_by, lapsed}
 use Rattle.interim_orders.specs.Orders.{end_brought, state_by, state_of, waits_until}
 use Rattle.interim_orders.specs.declared.answers.Lapse.TheVariants as answer
@@ -108,7 +108,11 @@ item_locally journal i at0 at1 (item.Cure m docs) kept is before agrees =
 item_locally journal i at0 at1 (item.Lapse m) kept is before agrees =
     ap {B = Brought} (λ lapse. record { entries = option_map_or (λ n. brought_by_lapse (end_brought journal n i) lapse) (lapse_at journal i) []; verdict = verdict_on_lapse lapse })
     (lapse_locally journal i m at0 at1 is agrees)
-item_locally journal i at0 at1 other kept is before agrees = refl
+item_locally journal i at0 at1 (item.Seize folio basis served) kept is before agrees = refl
+item_locally journal i at0 at1 (item.Register folio registered) kept is before agrees = refl
+item_locally journal i at0 at1 (item.OpenBids folio costs) kept is before agrees = refl
+item_locally journal i at0 at1 (item.Award folio buyer bid) kept is before agrees = refl
+item_locally journal i at0 at1 (item.Distribute folio) kept is before agrees = refl
 
 pub locality : (journal : List Receipt) (i : ℕ) (at0 at1 : Key → List Entry) → Kept journal at0 → AreEarlier i at0 (keys_of_item journal i) → AgreesAt (keys_of_item journal i) at0 at1 → brings journal i at1 ≡ brings journal i at0
 locality journal i at0 at1 kept =

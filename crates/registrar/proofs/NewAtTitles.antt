@@ -15,11 +15,13 @@ use Rattle.act_model.specs.declared.filing_acts.Act.TheVariants.{Open, Transfer,
 use Rattle.act_model.specs.declared.items.Filing.{Filing}
 use Rattle.act_model.specs.declared.receipts.Receipt.{Receipt}
 use Rattle.act_model.proofs.KeyOrder.{has, has_decides, in_key_order_members, in_key_order_sorted, itself, not_above_itself, same_is}
-use Rattle.folio_sections.specs.Documents.{documents}
-use Rattle.folio_sections.specs.Entering.{content, contents_brought, enters, entry_by, notices_at, notices_brought, placed_at, places_brought, waiting_unnoticed, with_notices, with_places}
-use Rattle.folio_sections.specs.Entries.{at, with_entries}
-use Rattle.folio_sections.specs.Places.{create_in_division, creates_there}
-use Rattle.folio_sections.specs.Waiting.{notice}
+use Rattle.act_model.specs.Documents.{documents}
+use Rattle.entry_rules.specs.Entering.{content, contents_brought, placed_at, places_brought, with_places}
+use Rattle.registrar.specs.Enters.{enters}
+use Rattle.interim_orders.specs.Notices.{notices_at, notices_brought, with_notices}
+use Rattle.folio_sections.specs.Waiting.{waiting_unnoticed, notice}
+use Rattle.folio_sections.specs.Entries.{entry_by, at, with_entries}
+use Rattle.act_model.specs.Divisions.{create_in_division, creates_there}
 use Rattle.folio_sections.specs.declared.entries.Entry.{Entry}
 use Rattle.folio_sections.specs.declared.entries.What.{What}
 use Rattle.folio_sections.specs.declared.entries.What.TheVariants as what

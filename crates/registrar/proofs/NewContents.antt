@@ -1,19 +1,24 @@
 -- What the entry of a filing brings, act by act.
-use Rattle.std.proofs.Common.{◌≡◌, ℕ, suc, zero, ◌+◌, ◌-◌, cond, eqb, List, [], ◌∷◌, ◌++◌, Contains, Some, None, option_and_then, slice_get, refl, sym, ap, subst, ◌∙◌, append_assoc, arith}
-use Rattle.std.specs.List.{AllByRecursion, enumerate_from}
+use Rattle.std.proofs.Common.{◌≡◌, ℕ, suc, zero, ◌+◌, ◌-◌, ◌≤◌, ◌&&◌, cond, eqb, List, [], ◌∷◌, ◌++◌, length, Contains, IsTrue, Some, None, option_and_then, slice_get, refl, sym, ap, subst, ◌∙◌, append_assoc, arith}
+use Rattle.std.specs.List.{AllByRecursion, enumerate_from, list_all}
 use Rattle.std.specs.Option.{option_map_or}
-use Rattle.std.proofs.lemmas.Bool.{cond-false, ne_eqb}
+use Rattle.std.proofs.lemmas.Bool.{and_parts, cond-false, ne_eqb}
+use Rattle.std.proofs.lemmas.Bool.Decides.{nat_tests}
 use Rattle.std.proofs.lemmas.List.Elements.{Contains-append_left, Contains-append_right}
+use Rattle.std.proofs.lemmas.Option.{slice_get_within}
+use Rattle.gb_base.specs.Limits.{is_between, most_acts}
 use Rattle.gb_base.specs.declared.keys.Key.{Key}
-use Rattle.act_model.specs.Touches.{act_at, filing_at, keys_of_act, keys_of_acts, keys_of_filing, new_right}
+use Rattle.act_model.specs.Touches.{act_at, filing_at, keys_of_act, keys_of_acts, keys_of_filing, new_right, act_of_right}
+use Rattle.act_model.specs.WellFormed.{is_act, is_doc, is_filing, keeps_rules}
 use Rattle.act_model.specs.declared.filing_acts.Act.{Act}
 use Rattle.act_model.specs.declared.items.Filing.{Filing}
 use Rattle.act_model.specs.declared.receipts.Receipt.{Receipt}
-use Rattle.folio_sections.specs.Documents.{documents}
-use Rattle.folio_sections.specs.Entering.{content, contents_brought, enters, notices_brought, places_brought, with_notices, with_places}
+use Rattle.act_model.specs.Documents.{documents}
+use Rattle.entry_rules.specs.Entering.{content, contents_brought, places_brought, with_places}
+use Rattle.registrar.specs.Enters.{enters}
+use Rattle.interim_orders.specs.Notices.{notices_brought, with_notices}
 use Rattle.folio_sections.specs.Entries.{at, with_entries}
 use Rattle.folio_sections.proofs.Additions.{at-append}
-use Rattle.folio_sections.specs.KeptRights.{act_of_right}
 use Rattle.folio_sections.specs.declared.entries.Entry.{Entry}
 use Rattle.folio_sections.proofs.Unchanged.{all_both, all_weaker}
 use Rattle.registrar.proofs.ContainedParts.{all_at_numbers, all_joined, all_paired, all_themselves}
@@ -77,6 +82,16 @@ at_number xs k x is =
 
 pub act_is : (f : Filing) (a : ℕ) (act : Act) → IsActOf f a act → act_at f a ≡ Some act
 act_is f a act own = subst (λ n. act_at f n ≡ Some act) own.number (at_number f.acts own.place act own.there)
+
+-- its number is that of an act of a filing
+pub act_number : (f : Filing) (a : ℕ) (act : Act) → IsTrue (is_filing f) → IsActOf f a act → (1 ≤ a) × (a ≤ most_acts)
+act_number f a act well own =
+    let ranges = and_parts (is_between 1 most_acts (length f.acts) && list_all is_act f.acts && list_all is_doc f.docs) (keeps_rules f.acts) well in
+    let acts = and_parts (is_between 1 most_acts (length f.acts) && list_all is_act f.acts) (list_all is_doc f.docs) ranges.0 in
+    let few = (and_parts (is_between 1 most_acts (length f.acts)) (list_all is_act f.acts) acts.0).0 in
+    let within = slice_get_within f.acts own.place act own.there in
+    let number = own.number in
+    (omega arith, grind (arith, nat_tests, few, within, number))
 
 pub act_of_new_right : (journal : List Receipt) (m : ℕ) (f : Filing) (a : ℕ) (act : Act) → filing_at journal m ≡ Some f → IsActOf f a act → act_of_right journal (new_right m a) ≡ Some act
 act_of_new_right journal m f a act filing own = ap (option_and_then (λ g. act_at g a)) filing ∙ act_is f a act own

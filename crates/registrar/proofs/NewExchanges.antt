@@ -1,28 +1,33 @@
 -- What a filing's entry exchanges and exercises is of its kind.
-use Rattle.std.proofs.Common.{◌≡◌, ℕ, ◌<◌, Bool, true, false, cond, not, ◌||◌, List, [], ◌++◌, Contains, IfSome, IsSome, IsSomeAnd, Option, Some, None, is_some, refl, sym, subst, arith}
+use Rattle.std.proofs.Common.{◌≡◌, ℕ, ◌<◌, ◌≤◌, Bool, true, false, cond, not, ◌||◌, List, [], ◌++◌, Contains, IfSome, IsSome, IsTrue, IsSomeAnd, Option, Some, None, is_some, refl, sym, subst, arith}
 use Rattle.std.specs.List.{AllByRecursion, enumerate_from}
 use Rattle.std.specs.Option.{option_map_or}
 use Rattle.std.proofs.lemmas.Bool.{false≢true, or_parts, not-false}
 use Rattle.std.proofs.lemmas.List.Elements.{All-head, Contains-append_right, recursion_from_All}
 use Rattle.gb_base.specs.Keys.{same_key}
+use Rattle.gb_base.specs.Limits.{most_acts}
 use Rattle.gb_base.specs.RightNo.{RightNo}
 use Rattle.gb_base.specs.declared.keys.Key.{Key}
 use Rattle.gb_base.specs.declared.keys.Key.TheVariants.{Right}
 use Rattle.act_model.proofs.KeyOrder.{itself}
-use Rattle.act_model.specs.Touches.{filing_at, new_right}
+use Rattle.act_model.specs.Touches.{filing_at, new_right, act_of_right}
+use Rattle.act_model.specs.WellFormed.{is_filing}
 use Rattle.act_model.specs.declared.documents.Doc.{Doc}
 use Rattle.act_model.specs.declared.filing_acts.Act.{Act}
 use Rattle.act_model.specs.declared.filing_acts.Act.TheVariants.{Open, Transfer, Create, NoticeFor, Convert, Assign, Cancel, Exchange, Exercise}
 use Rattle.act_model.specs.declared.items.Filing.{Filing}
 use Rattle.act_model.specs.declared.receipts.Receipt.{Receipt}
 use Rattle.act_model.specs.declared.rights.RightSpec.{RightSpec}
-use Rattle.folio_sections.specs.Documents.{documents}
-use Rattle.folio_sections.specs.Entering.{as_entered, content, contents_brought, enters, entry_by, notices_brought, places_brought, right_behind, with_notices}
-use Rattle.folio_sections.specs.Entries.{at, with_entries}
-use Rattle.folio_sections.specs.Groups.{shares_its_group}
-use Rattle.folio_sections.specs.Judging.{exchanges_unfit_right, is_barred_from_exchange, lacks_reservation, lacks_right, lives, reserves_less}
-use Rattle.folio_sections.specs.KeptPlaces.{NamesEarlier}
-use Rattle.folio_sections.specs.KeptRights.{ActsOnItsKind, CreatedAsFiled, EntersAsFiled, IsAsFiled, IsPlain, StandsAhead, StandsPlain, act_of_right}
+use Rattle.act_model.specs.Documents.{documents}
+use Rattle.entry_rules.specs.Entering.{as_entered, content, contents_brought, places_brought}
+use Rattle.registrar.specs.Enters.{enters}
+use Rattle.interim_orders.specs.Notices.{notices_brought, with_notices}
+use Rattle.folio_sections.specs.Entries.{entry_by, at, with_entries}
+use Rattle.act_model.specs.Acts.{right_behind}
+use Rattle.act_model.specs.Groups.{shares_its_group}
+use Rattle.consent_rules.specs.Judging.{exchanges_unfit_right, is_barred_from_exchange, lacks_reservation, lacks_right, lives, reserves_less}
+use Rattle.kept_registers.specs.KeptPlaces.{NamesEarlier}
+use Rattle.kept_registers.specs.KeptRights.{ActsOnItsKind, CreatedAsFiled, EntersAsFiled, IsAsFiled, IsPlain, StandsAhead, StandsPlain}
 use Rattle.folio_sections.specs.Places.{places}
 use Rattle.folio_sections.specs.Rights.{created, is_full, is_live, is_spent, live_right}
 use Rattle.folio_sections.specs.declared.entries.Created.{Created}
@@ -31,11 +36,11 @@ use Rattle.folio_sections.specs.declared.entries.What.{What}
 use Rattle.folio_sections.specs.declared.entries.What.TheVariants as what
 use Rattle.folio_sections.proofs.Indexes.{is_none_of}
 use Rattle.folio_sections.proofs.Unchanged.{all_weaker}
-use Rattle.folio_sections.proofs.KeptOrder.{OfCreation, created_has}
+use Rattle.kept_registers.proofs.KeptOrder.{OfCreation, created_has}
 use Rattle.registrar.proofs.ContainedParts.{all_numbered, all_paired, contains_kept, contains_part}
 use Rattle.registrar.proofs.Dealing.{Deals, IsFit}
 use Rattle.registrar.proofs.ExchangesStand.{ActsAt, ReadOn, leaves_acts, plain_stays, reserved_by}
-use Rattle.registrar.proofs.NewContents.{IsActOf, act_of_new_right, all_brought, all_contents, brought_is, standing}
+use Rattle.registrar.proofs.NewContents.{IsActOf, act_number, act_of_new_right, all_brought, all_contents, brought_is, standing}
 use Rattle.registrar.proofs.RightReads.{AsItsAct, created_where, live_is_created, live_right_is, same_reads}
 
 -- ---- rights that are as filed
@@ -119,7 +124,8 @@ new_stands journal m f i at0 a folio behind_right spec filing among =
 
 -- what the act exchanges or exercises may be
 abbrev ActFits : List Receipt → (Key → List Entry) → ℕ → ℕ → Act → Type 0
-ActFits journal at1 m a (Exchange folio recede rise) = StandsPlain journal at1 folio recede × StandsPlain journal at1 folio rise
+ActFits journal at1 m a (Exchange folio recede rise) =
+    StandsPlain journal at1 folio recede × StandsPlain journal at1 folio rise × (1 ≤ a) × (a ≤ most_acts)
 ActFits journal at1 m a (Exercise folio behind_right spec) = ActsOnItsKind journal at1 folio behind_right (what.Exercised (new_right m a))
 ActFits journal at1 m a other = Unit {0}
 
@@ -145,17 +151,20 @@ all_known journal m f at0 fit =
     (all_paired (λ act. lacks_right at0 act ≡ false) (λ act. exchanges_unfit_right journal at0 act ≡ false) f.acts fit.live fit.plain)
     (all_paired (λ act. lacks_reservation at0 act ≡ false) (NamesEarlier m) f.acts fit.reserved fit.earlier)
 
-act_fits : (journal : List Receipt) (m : ℕ) (f : Filing) (i : ℕ) (at0 : Key → List Entry) (a : ℕ) (act : Act) → filing_at journal m ≡ Some f → CreatedAsFiled journal (with_entries at0 (enters journal m i at0)) → IsActOf f a act → KnownOf journal m at0 act → Contains (enumerate_from 1 f.acts) (a, act)
+act_fits : (journal : List Receipt) (m : ℕ) (f : Filing) (i : ℕ) (at0 : Key → List Entry) (a : ℕ) (act : Act) → filing_at journal m ≡ Some f → IsTrue (is_filing f) → CreatedAsFiled journal (with_entries at0 (enters journal m i at0)) → IsActOf f a act → KnownOf journal m at0 act → Contains (enumerate_from 1 f.acts) (a, act)
     → ActFits journal (with_entries at0 (enters journal m i at0)) m a act
-act_fits journal m f i at0 a (Exchange folio recede rise) filing filed own known among =
+act_fits journal m f i at0 a (Exchange folio recede rise) filing well filed own known among =
     let at1 = with_entries at0 (enters journal m i at0) in
     let same = read_on journal at0 (enters journal m i at0) filed in
     let live = or_parts (not (lives at0 folio recede)) (not (lives at0 folio rise)) known.0.0 in
-    let fit = or_parts (is_barred_from_exchange journal at0 folio recede) (is_barred_from_exchange journal at0 folio rise) known.0.1 in (
+    let fit = or_parts (is_barred_from_exchange journal at0 folio recede) (is_barred_from_exchange journal at0 folio rise) known.0.1 in
+    let number = act_number f a (Exchange folio recede rise) well own in (
       plain_stays journal at0 at1 folio recede same (plain_here journal at0 folio recede live.0 fit.0),
       plain_stays journal at0 at1 folio rise same (plain_here journal at0 folio rise live.1 fit.1),
+      number.0,
+      number.1,
     )
-act_fits journal m f i at0 a (Exercise folio behind_right spec) filing filed own known among =
+act_fits journal m f i at0 a (Exercise folio behind_right spec) filing well filed own known among =
     let at1 = with_entries at0 (enters journal m i at0) in
     let same = read_on journal at0 (enters journal m i at0) filed in
     let es = at0 (Right folio behind_right) in
@@ -170,7 +179,7 @@ act_fits journal m f i at0 a (Exercise folio behind_right spec) filing filed own
       All-head (λ right. right.receipt < m) behind_right [] known.1.1,
     ) in
     (reserved, ahead)
-act_fits journal m f i at0 a other filing filed own known among = tt
+act_fits journal m f i at0 a other filing well filed own known among = tt
 
 -- all that a filing's entry brings acts on its kind
 pub all_act : (journal : List Receipt) (m : ℕ) (f : Filing) (i : ℕ) (at0 : Key → List Entry) → Deals journal m f i at0 → IsFit journal m f at0 → CreatedAsFiled journal (with_entries at0 (enters journal m i at0))
@@ -180,5 +189,5 @@ all_act journal m f i at0 deals fit filed =
     all_brought (λ e. ActsAt journal at1 e.key e) journal m f i at0 deals.filing (λ e leaves. leaves_acts journal at1 e.key e leaves)
     (all_contents (λ e. ActsAt journal at1 e.key e) (λ a act. KnownOf journal m at0 act) journal m i (standing journal m i at0) f
     (λ a act own known among. content_acts journal m i f.acts (documents journal m f i) (standing journal m i at0) at1 a act
-    (act_fits journal m f i at0 a act deals.filing filed own known among))
+    (act_fits journal m f i at0 a act deals.filing deals.well filed own known among))
     (all_numbered (KnownOf journal m at0) 1 f.acts (all_known journal m f at0 fit)))

@@ -8,10 +8,11 @@ use Rattle.std.proofs.lemmas.List.Folds.{list_any-append}
 use Rattle.gb_base.specs.declared.keys.Key.{Key}
 use Rattle.gb_base.proofs.Members.{In, in_range}
 use Rattle.act_model.specs.declared.receipts.Receipt.{Receipt}
-use Rattle.folio_sections.specs.Entering.{entry_by, waiting_unnoticed}
-use Rattle.folio_sections.specs.KeptPlaces.{is_placed}
-use Rattle.folio_sections.specs.Places.{creates_there, place_by, place_of, places_among}
-use Rattle.folio_sections.specs.Waiting.{below, is_notice_of, is_pending, notice, waiting_before}
+use Rattle.folio_sections.specs.Entries.{entry_by}
+use Rattle.folio_sections.specs.Waiting.{waiting_unnoticed, below, is_notice_of, is_pending, notice, waiting_before}
+use Rattle.kept_registers.specs.KeptPlaces.{is_placed}
+use Rattle.act_model.specs.Divisions.{creates_there}
+use Rattle.folio_sections.specs.Places.{place_by, place_of, places_among}
 use Rattle.folio_sections.specs.declared.entries.Entry.{Entry}
 use Rattle.folio_sections.specs.declared.entries.What.TheVariants as what
 use Rattle.folio_sections.specs.declared.title_places.TitlePlace.{TitlePlace}

@@ -8,9 +8,10 @@ use Rattle.std.proofs.lemmas.List.Elements.{filter_map-append}
 use Rattle.std.proofs.lemmas.List.Folds.{list_any-append}
 use Rattle.std.proofs.lemmas.List.Sums.{fold-append}
 use Rattle.act_model.specs.declared.receipts.Receipt.{Receipt}
-use Rattle.folio_sections.specs.KeptEntries.{WaitsInTime}
-use Rattle.folio_sections.specs.KeptPlaces.{is_placed}
-use Rattle.folio_sections.specs.Places.{creates_there, own_place, place_by, place_of, places_among}
+use Rattle.kept_registers.specs.KeptEntries.{WaitsInTime}
+use Rattle.kept_registers.specs.KeptPlaces.{is_placed}
+use Rattle.act_model.specs.Divisions.{creates_there}
+use Rattle.folio_sections.specs.Places.{own_place, place_by, place_of, places_among}
 use Rattle.folio_sections.specs.Waiting.{is_notice_of, is_pending, notice, pending, until_by}
 use Rattle.folio_sections.specs.declared.entries.Entry.{Entry}
 use Rattle.folio_sections.specs.declared.entries.What.{What}

@@ -14,15 +14,17 @@ use Rattle.act_model.specs.declared.filing_acts.Act.{Act}
 use Rattle.act_model.specs.declared.items.Filing.{Filing}
 use Rattle.act_model.specs.declared.receipts.Receipt.{Receipt}
 use Rattle.act_model.specs.declared.rights.RightSpec.{RightSpec}
-use Rattle.folio_sections.specs.Entering.{entry_by, notices_at, notices_brought, placed_at, places_brought, waiting_unnoticed, with_notices}
-use Rattle.folio_sections.specs.Entries.{at}
-use Rattle.folio_sections.specs.KeptRights.{SetsPlace}
-use Rattle.folio_sections.specs.Places.{create_in_division, creates_in_division, creates_there, is_of_division, place_by, place_of}
-use Rattle.folio_sections.specs.Waiting.{is_notice_of, is_pending, notice}
+use Rattle.folio_sections.specs.Entries.{entry_by, at}
+use Rattle.interim_orders.specs.Notices.{notices_at, notices_brought, with_notices}
+use Rattle.entry_rules.specs.Entering.{placed_at, places_brought}
+use Rattle.folio_sections.specs.Waiting.{waiting_unnoticed, is_notice_of, is_pending, notice}
+use Rattle.kept_registers.specs.KeptRights.{SetsPlace}
+use Rattle.act_model.specs.Divisions.{create_in_division, creates_in_division, creates_there, is_of_division}
+use Rattle.folio_sections.specs.Places.{place_by, place_of}
 use Rattle.folio_sections.specs.declared.entries.Entry.{Entry}
 use Rattle.folio_sections.specs.declared.entries.What.{What}
 use Rattle.folio_sections.specs.declared.entries.What.TheVariants as what
-use Rattle.folio_sections.proofs.KeptOrder.{own_division}
+use Rattle.kept_registers.proofs.KeptOrder.{own_division}
 use Rattle.folio_sections.proofs.Unchanged.{all_at, all_both, all_weaker}
 use Rattle.registrar.proofs.ContainedParts.{each_mapped, all_parts, any_in_first, any_in_second, any_of, contains_first, contains_kept, contains_part, list_any_of}
 use Rattle.registrar.proofs.NewContents.{IsActOf, standing}

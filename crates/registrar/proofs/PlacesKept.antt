@@ -10,13 +10,13 @@ use Rattle.act_model.specs.Touches.{keys_in_order, keys_of_filing}
 use Rattle.act_model.specs.declared.items.Filing.{Filing}
 use Rattle.act_model.specs.declared.receipts.Receipt.{Receipt}
 use Rattle.act_model.proofs.KeyOrder.{has}
-use Rattle.folio_sections.specs.Entering.{enters, entry_by, waiting_unnoticed}
-use Rattle.folio_sections.specs.Entries.{at, with_entries}
-use Rattle.folio_sections.specs.Kept.{Kept}
-use Rattle.folio_sections.specs.KeptEntries.{IsPlacedInTime, ReceiptsRise, WaitsInTime}
-use Rattle.folio_sections.specs.KeptPlaces.{PlacesAscend}
+use Rattle.registrar.specs.Enters.{enters}
+use Rattle.folio_sections.specs.Waiting.{waiting_unnoticed, is_pending}
+use Rattle.folio_sections.specs.Entries.{entry_by, at, with_entries}
+use Rattle.kept_registers.specs.Kept.{Kept}
+use Rattle.kept_registers.specs.KeptEntries.{IsPlacedInTime, ReceiptsRise, WaitsInTime}
+use Rattle.kept_registers.specs.KeptPlaces.{PlacesAscend}
 use Rattle.folio_sections.specs.Places.{places_among}
-use Rattle.folio_sections.specs.Waiting.{is_pending}
 use Rattle.folio_sections.specs.declared.entries.Entry.{Entry}
 use Rattle.folio_sections.specs.declared.entries.What.{What}
 use Rattle.folio_sections.specs.declared.entries.What.TheVariants as what

@@ -6,13 +6,13 @@ use Rattle.gb_base.specs.declared.keys.Key.TheVariants.{Right}
 use Rattle.act_model.specs.Receiving.{IsJournal}
 use Rattle.act_model.specs.declared.receipts.Receipt.{Receipt}
 use Rattle.folio_sections.specs.Entries.{at}
-use Rattle.folio_sections.specs.Kept.{Kept}
+use Rattle.kept_registers.specs.Kept.{Kept}
 use Rattle.folio_sections.specs.Places.{places}
-use Rattle.folio_sections.specs.Ranks.{is_ahead, is_filed_ahead, ranked}
+use Rattle.kept_registers.specs.Ranks.{is_ahead, is_filed_ahead, ranked}
 use Rattle.folio_sections.specs.Rights.{created, is_live, live_right}
 use Rattle.folio_sections.specs.declared.entries.Created.{Created}
 use Rattle.folio_sections.specs.declared.entries.Entry.{Entry}
-use Rattle.folio_sections.proofs.KeptOrder.{kept_is_order}
+use Rattle.kept_registers.proofs.KeptOrder.{kept_is_order}
 use Rattle.registrar.proofs.Registering.{registrar_kept}
 use Rattle.registrar.specs.Settling.{registrar}
 

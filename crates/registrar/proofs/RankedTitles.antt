@@ -10,8 +10,9 @@ use Rattle.std.proofs.lemmas.List.Folds.{list_any_at}
 use Rattle.gb_base.specs.declared.keys.Key.{Key}
 use Rattle.gb_base.specs.declared.keys.Key.TheVariants.{Title}
 use Rattle.act_model.specs.declared.receipts.Receipt.{Receipt}
-use Rattle.folio_sections.specs.KeptPlaces.{PlacesAscend, SaysDivisions, is_placed}
-use Rattle.folio_sections.specs.Places.{creates_there, place_by, places_among}
+use Rattle.kept_registers.specs.KeptPlaces.{PlacesAscend, SaysDivisions, is_placed}
+use Rattle.act_model.specs.Divisions.{creates_there}
+use Rattle.folio_sections.specs.Places.{place_by, places_among}
 use Rattle.folio_sections.specs.Waiting.{is_pending}
 use Rattle.folio_sections.specs.declared.entries.Entry.{Entry}
 use Rattle.folio_sections.specs.declared.title_places.TitlePlace.{TitlePlace}

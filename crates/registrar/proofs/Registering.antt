@@ -9,7 +9,7 @@ use Rattle.act_model.specs.declared.receipts.Receipt.{Receipt}
 use Rattle.folio_sections.specs.Adding.{AddsAll}
 use Rattle.folio_sections.specs.Entries.{at, with_entries}
 use Rattle.folio_sections.specs.Held.{entries_at}
-use Rattle.folio_sections.specs.Kept.{Kept}
+use Rattle.kept_registers.specs.Kept.{Kept}
 use Rattle.folio_sections.specs.PartState.{PartState}
 use Rattle.folio_sections.specs.declared.entries.Entry.{Entry}
 use Rattle.folio_sections.proofs.Additions.{at-append}

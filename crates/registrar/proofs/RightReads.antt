@@ -6,13 +6,14 @@ use Rattle.std.proofs.lemmas.List.Sums.{fold-append}
 use Rattle.gb_base.specs.RightNo.{RightNo}
 use Rattle.act_model.specs.declared.filing_acts.Act.{Act}
 use Rattle.act_model.specs.declared.receipts.Receipt.{Receipt}
-use Rattle.folio_sections.specs.KeptRights.{IsAsFiled, act_of_right}
+use Rattle.kept_registers.specs.KeptRights.{IsAsFiled}
+use Rattle.act_model.specs.Touches.{act_of_right}
 use Rattle.folio_sections.specs.Rights.{created, created_by, is_live, live_by, live_right}
 use Rattle.folio_sections.specs.declared.entries.Created.{Created}
 use Rattle.folio_sections.specs.declared.entries.Entry.{Entry}
 use Rattle.folio_sections.specs.declared.entries.What.{What}
 use Rattle.folio_sections.specs.declared.entries.What.TheVariants as what
-use Rattle.folio_sections.proofs.KeptOrder.{OfCreation, created_has}
+use Rattle.kept_registers.proofs.KeptOrder.{OfCreation, created_has}
 use Rattle.registrar.proofs.ContainedParts.{first_of_both}
 use Rattle.registrar.proofs.LeavingRights.{LeavesRights}
 

@@ -7,7 +7,10 @@ use Rattle.act_model.specs.Touches.{keys_of_filing}
 use Rattle.act_model.specs.declared.receipts.Receipt.{Receipt}
 use Rattle.entry_rules.proofs.Room.{room_for_all}
 use Rattle.folio_sections.specs.Adding.{HasRoom}
-use Rattle.folio_sections.specs.Entering.{entered, enters, notices_brought, waiting_unnoticed, with_notices}
+use Rattle.entry_rules.specs.Entering.{entered}
+use Rattle.registrar.specs.Enters.{enters}
+use Rattle.interim_orders.specs.Notices.{notices_brought, with_notices}
+use Rattle.folio_sections.specs.Waiting.{waiting_unnoticed}
 use Rattle.folio_sections.specs.Entries.{at as at_key}
 use Rattle.folio_sections.specs.declared.entries.Entry.{Entry}
 use Rattle.folio_sections.proofs.Additions.{length-at}

@@ -14,8 +14,8 @@ use Rattle.act_model.specs.declared.items.Item.TheVariants as item
 use Rattle.act_model.specs.declared.receipts.Receipt.{Receipt}
 use Rattle.folio_sections.specs.Adding.{AddsAll}
 use Rattle.folio_sections.specs.Entries.{at, with_entries}
-use Rattle.folio_sections.specs.Judging.{IsKnownExchange, KnowsExchanges}
-use Rattle.folio_sections.specs.Kept.{Kept}
+use Rattle.consent_rules.specs.Judging.{IsKnownExchange, KnowsExchanges}
+use Rattle.kept_registers.specs.Kept.{Kept}
 use Rattle.folio_sections.specs.Rights.{live_right}
 use Rattle.folio_sections.specs.declared.entries.Entry.{Entry}
 use Rattle.registrar.proofs.Agreeing.{AgreesAt, agrees_before, agrees_behind}
@@ -56,7 +56,12 @@ item_agrees journal i at0 at1 (item.Cure m docs) agrees known = λ until is.
     let earlier = (found_waiting journal m i at1 until is).earlier in
     exchanges_agree journal m at0 at1 (λ k there. agrees k (named journal i m k earlier there))
     (known until (sym (state_locally journal m i at0 at1 agrees) ∙ is))
-item_agrees journal i at0 at1 other agrees known = tt
+item_agrees journal i at0 at1 (item.Lapse m) agrees known = tt
+item_agrees journal i at0 at1 (item.Seize folio basis served) agrees known = tt
+item_agrees journal i at0 at1 (item.Register folio registered) agrees known = tt
+item_agrees journal i at0 at1 (item.OpenBids folio costs) agrees known = tt
+item_agrees journal i at0 at1 (item.Award folio buyer bid) agrees known = tt
+item_agrees journal i at0 at1 (item.Distribute folio) agrees known = tt
 
 -- ---- parts that stand for a register
 

@@ -8,7 +8,7 @@ use Rattle.act_model.specs.declared.items.Item.TheVariants as item
 use Rattle.act_model.specs.declared.receipts.Receipt.{Receipt}
 use Rattle.folio_sections.specs.Adding.{AddsAll, HasRoom}
 use Rattle.folio_sections.specs.Entries.{with_entries}
-use Rattle.folio_sections.specs.Kept.{Kept}
+use Rattle.kept_registers.specs.Kept.{Kept}
 use Rattle.folio_sections.specs.declared.entries.Entry.{Entry}
 use Rattle.registrar.proofs.CuresKeep.{AreEarlier, item_leaves}
 use Rattle.registrar.proofs.ItemRooms.{item_fits}
@@ -42,7 +42,12 @@ exchanges_known journal i at (item.Filing f) kept before = known_when_filed jour
 exchanges_known journal i at (item.Cure m docs) kept before = λ until is.
     let waits = (found_waiting journal m i at until is).waits in
     known_while_waiting journal at m waits.key kept waits.there (ap is_some waits.waits)
-exchanges_known journal i at other kept before = tt
+exchanges_known journal i at (item.Lapse m) kept before = tt
+exchanges_known journal i at (item.Seize folio basis served) kept before = tt
+exchanges_known journal i at (item.Register folio registered) kept before = tt
+exchanges_known journal i at (item.OpenBids folio costs) kept before = tt
+exchanges_known journal i at (item.Award folio buyer bid) kept before = tt
+exchanges_known journal i at (item.Distribute folio) kept before = tt
 
 pub step_knows : (journal : List Receipt) (i : ℕ) (at : Key → List Entry) (r : Receipt) → Kept journal at → receipt_at journal i ≡ Some r → AreEarlier i at (keys_of_item journal i) → KnowsItsExchanges journal i at r.item
 step_knows journal i at r kept is before = exchanges_known journal i at r.item kept (earlier_by_item journal i at r is before)

@@ -3,8 +3,7 @@ use Rattle.std.proofs.Common.{◌≡◌, ℕ, suc, zero, ◌+◌, ◌-◌, ◌<�
 use Rattle.std.specs.List.{list_any, range_with_len}
 use Rattle.std.proofs.lemmas.Bool.{cases_Bool, eqb-true, false≢true}
 use Rattle.std.proofs.lemmas.List.Sums.{count_by-le-length, length-filter}
-use Rattle.folio_sections.specs.Entering.{waiting_unnoticed}
-use Rattle.folio_sections.specs.Waiting.{below, is_pending, notice, pending, until_by, waiting_before}
+use Rattle.folio_sections.specs.Waiting.{waiting_unnoticed, below, is_pending, notice, pending, until_by, waiting_before}
 use Rattle.folio_sections.specs.declared.entries.Entry.{Entry}
 use Rattle.folio_sections.specs.declared.entries.What.{What}
 use Rattle.folio_sections.specs.declared.entries.What.TheVariants as what

@@ -1,5 +1,5 @@
 -- What holds of the acts of a filing that is not rejected.
-use Rattle.std.proofs.Common.{◌≡◌, ℕ, ◌+◌, ◌<◌, ◌≤◌, Bool, true, false, not, cond, nat_lt, List, [], ◌∷◌, take, length, map, find, fold, All, Contains, IsTrue, IfSome, Option, Some, None, refl, sym, ap, subst, length-take-le, arith}
+use Rattle.std.proofs.Common.{◌≡◌, ℕ, ◌+◌, ◌<◌, ◌≤◌, Bool, true, false, not, cond, nat_lt, List, [], ◌∷◌, find, fold, All, Contains, IsTrue, IfSome, Option, Some, None, refl, sym, ap, subst, arith}
 use Rattle.std.specs.List.{AllByRecursion, enumerate_from, list_any}
 use Rattle.std.specs.Option.{option_map_or}
 use Rattle.std.proofs.lemmas.Bool.{false≢true, or_parts, not-false}
@@ -15,11 +15,10 @@ use Rattle.act_model.specs.declared.items.Filing.{Filing}
 use Rattle.act_model.specs.declared.receipts.Receipt.{Receipt}
 use Rattle.act_model.specs.Creations.{creating_rank}
 use Rattle.act_model.specs.Touches.{acts_of, filing_at, keys_of_act, keys_of_acts, keys_of_filing, new_right}
-use Rattle.folio_sections.specs.Judging.{exchanges_unfit_right, grounds, is_beyond_limit, is_rejected_under, lacks_reservation, lacks_right, lives, rejection, with_before}
-use Rattle.folio_sections.specs.KeptEntries.{IsCreatedInTime}
-use Rattle.folio_sections.specs.KeptPlaces.{NamesEarlier}
+use Rattle.consent_rules.specs.Judging.{exchanges_unfit_right, grounds, is_beyond_limit, is_rejected_under, lacks_reservation, lacks_right, lives, rejection}
+use Rattle.kept_registers.specs.KeptEntries.{IsCreatedInTime}
+use Rattle.kept_registers.specs.KeptPlaces.{NamesEarlier}
 use Rattle.folio_sections.specs.Limits.{most_creations}
-use Rattle.folio_sections.specs.Persons.{number_behind}
 use Rattle.folio_sections.specs.Rights.{is_live, live_by}
 use Rattle.folio_sections.specs.Waiting.{is_pending}
 use Rattle.folio_sections.specs.declared.entries.Entry.{Entry}
@@ -47,15 +46,14 @@ not_any p (x ∷ xs) is =
     let parts = or_parts (p x) (list_any p xs) is in
     (parts.0, not_any p xs parts.1)
 
--- what holds of each act with those before it, and asks nothing of these, holds of each act
-of_acts : (p : Act → Bool) (before : ℕ → List Act) (n : ℕ) (acts : List Act)
-    → AllByRecursion (λ (pair : List Act × Act). p pair.1 ≡ false) (map (λ (numbered : ℕ × Act). (before numbered.0, numbered.1)) (enumerate_from n acts))
+-- what holds of each numbered act, and asks nothing of its number, holds of each act
+of_acts : (p : Act → Bool) (n : ℕ) (acts : List Act) → AllByRecursion (λ (numbered : ℕ × Act). p numbered.1 ≡ false) (enumerate_from n acts)
     → AllByRecursion (λ act. p act ≡ false) acts
-of_acts p before n [] all = tt
-of_acts p before n (act ∷ acts) all = (all.0, of_acts p before (n + 1) acts all.1)
+of_acts p n [] all = tt
+of_acts p n (act ∷ acts) all = (all.0, of_acts p (n + 1) acts all.1)
 
-no_act : (p : Act → Bool) (acts : List Act) → list_any (λ (pair : List Act × Act). p pair.1) (with_before acts) ≡ false → AllByRecursion (λ act. p act ≡ false) acts
-no_act p acts is = of_acts p (λ n. take n acts) 0 acts (not_any (λ (pair : List Act × Act). p pair.1) (with_before acts) is)
+no_act : (p : Act → Bool) (acts : List Act) → list_any (λ (numbered : ℕ × Act). p numbered.1) (enumerate_from 1 acts) ≡ false → AllByRecursion (λ act. p act ≡ false) acts
+no_act p acts is = of_acts p 1 acts (not_any (λ (numbered : ℕ × Act). p numbered.1) (enumerate_from 1 acts) is)
 
 -- ---- the numbers of the rights that are created
 
@@ -63,16 +61,10 @@ in_limit : (rank : Option ℕ) → option_map_or (nat_lt most_creations) rank fa
 in_limit None is = tt
 in_limit (Some n) is = grind (arith, nat_tests, is)
 
-few_from : (journal : List Receipt) (m : ℕ) (acts : List Act) (n : ℕ) (rest : List Act) → n + length rest ≤ length acts
-    → AllByRecursion (λ (pair : List Act × Act). is_beyond_limit journal m pair.0 ≡ false) (map (λ (numbered : ℕ × Act). (take numbered.0 acts, numbered.1)) (enumerate_from n rest))
-    → AllByRecursion (λ (numbered : ℕ × Act). IfSome (creating_rank journal (new_right m numbered.0)) (λ k. k ≤ most_creations)) (enumerate_from (n + 1) rest)
-few_from journal m acts n [] within all = tt
-few_from journal m acts n (act ∷ rest) within all =
-    let behind : number_behind (take n acts) ≡ n + 1 = ap (λ k. k + 1) (length-take-le n acts (omega arith)) in (
-      subst (λ a. IfSome (creating_rank journal (new_right m a)) (λ k. k ≤ most_creations)) behind
-          (in_limit (creating_rank journal (new_right m (number_behind (take n acts)))) all.0),
-      few_from journal m acts (n + 1) rest (omega arith) all.1,
-    )
+few_from : (journal : List Receipt) (m n : ℕ) (acts : List Act) → AllByRecursion (λ (numbered : ℕ × Act). is_beyond_limit journal m numbered.0 ≡ false) (enumerate_from n acts)
+    → AllByRecursion (λ (numbered : ℕ × Act). IfSome (creating_rank journal (new_right m numbered.0)) (λ k. k ≤ most_creations)) (enumerate_from n acts)
+few_from journal m n [] all = tt
+few_from journal m n (act ∷ acts) all = (in_limit (creating_rank journal (new_right m n)) all.0, few_from journal m (n + 1) acts all.1)
 
 -- ---- rights that acts name are of earlier filings
 
@@ -183,6 +175,6 @@ is_fit journal m f i docs at deals none =
       live = live;
       plain = no_act (exchanges_unfit_right journal at) f.acts tested.1.1.1.1.1.0;
       reserved = no_act (lacks_reservation at) f.acts tested.1.1.1.1.1.1.0;
-      few = few_from journal m f.acts 0 f.acts (omega arith) (not_any (λ (pair : List Act × Act). is_beyond_limit journal m pair.0) (with_before f.acts) tested.1.0);
+      few = few_from journal m 1 f.acts (not_any (λ (numbered : ℕ × Act). is_beyond_limit journal m numbered.0) (enumerate_from 1 f.acts) tested.1.0);
       earlier = names_earlier journal m f i at deals live deals.turn;
     }

@@ -10,9 +10,9 @@ use Rattle.act_model.specs.declared.items.Filing.{Filing}
 use Rattle.act_model.specs.declared.receipts.Receipt.{Receipt}
 use Rattle.act_model.specs.Touches.{acts_of, keys_in_order, keys_of_filing}
 use Rattle.act_model.proofs.KeyOrder.{has, has_decides, in_key_order_members}
-use Rattle.folio_sections.specs.Entering.{enters, entry_by}
-use Rattle.folio_sections.specs.Entries.{at, with_entries}
-use Rattle.folio_sections.specs.KeptPlaces.{NamesEarlier, PendingEverywhere}
+use Rattle.registrar.specs.Enters.{enters}
+use Rattle.folio_sections.specs.Entries.{entry_by, at, with_entries}
+use Rattle.kept_registers.specs.KeptPlaces.{NamesEarlier, PendingEverywhere}
 use Rattle.folio_sections.specs.Waiting.{is_pending, pending, until_by}
 use Rattle.folio_sections.specs.declared.entries.Entry.{Entry}
 use Rattle.folio_sections.specs.declared.entries.What.{What}

@@ -13,11 +13,13 @@ use Rattle.act_model.specs.declared.items.Filing.{Filing}
 use Rattle.act_model.specs.declared.receipts.Receipt.{Receipt}
 use Rattle.act_model.specs.Touches.{acts_of, filing_at, keys_in_order}
 use Rattle.act_model.proofs.KeyOrder.{has}
-use Rattle.folio_sections.specs.Documents.{documents}
-use Rattle.folio_sections.specs.Entering.{content, contents_brought, enters, entered, entry_by, notices_at, notices_brought, placed_at, places_brought, waiting_unnoticed, with_notices, with_places}
-use Rattle.folio_sections.specs.Entries.{at}
-use Rattle.folio_sections.specs.Places.{create_in_division, creates_there}
-use Rattle.folio_sections.specs.Waiting.{notice, pending, until_by}
+use Rattle.act_model.specs.Documents.{documents}
+use Rattle.entry_rules.specs.Entering.{content, contents_brought, entered, placed_at, places_brought, with_places}
+use Rattle.registrar.specs.Enters.{enters}
+use Rattle.interim_orders.specs.Notices.{notices_at, notices_brought, with_notices}
+use Rattle.folio_sections.specs.Waiting.{waiting_unnoticed, notice, pending, until_by}
+use Rattle.folio_sections.specs.Entries.{entry_by, at}
+use Rattle.act_model.specs.Divisions.{create_in_division, creates_there}
 use Rattle.folio_sections.specs.declared.entries.Entry.{Entry}
 use Rattle.folio_sections.specs.declared.entries.What.{What}
 use Rattle.folio_sections.specs.declared.entries.What.TheVariants as what

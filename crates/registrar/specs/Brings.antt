@@ -1,4 +1,5 @@
 -- What an item brings about: entries and a verdict (GBO §§ 16 to 18).
+-- Why so: docs/DECISIONS.md, "Items of a forced sale bring nothing".
 use Rattle.std.specs.Prelude.{ℕ, List, [], ◌++◌}
 use Rattle.std.specs.Option.{option_map_or}
 use Rattle.gb_base.specs.declared.keys.Key.{Key}
@@ -6,11 +7,11 @@ use Rattle.act_model.specs.Receiving.{receipt_at}
 use Rattle.act_model.specs.declared.items.Item.{Item}
 use Rattle.act_model.specs.declared.items.Item.TheVariants as item
 use Rattle.act_model.specs.declared.receipts.Receipt.{Receipt}
-use Rattle.folio_sections.specs.Entering.{enters}
-use Rattle.folio_sections.specs.Judging.{judged, judged_filing}
+use Rattle.registrar.specs.Enters.{enters}
+use Rattle.consent_rules.specs.Judging.{judged, judged_filing}
 use Rattle.folio_sections.specs.declared.entries.Entry.{Entry}
-use Rattle.folio_sections.specs.declared.judgements.Judgement.{Judgement}
-use Rattle.folio_sections.specs.declared.judgements.Judgement.TheVariants.{Enter, Reject, Interim}
+use Rattle.consent_rules.specs.declared.judgements.Judgement.{Judgement}
+use Rattle.consent_rules.specs.declared.judgements.Judgement.TheVariants.{Enter, Reject, Interim}
 use Rattle.interim_orders.specs.Lapses.{lapse_brought, lapsed}
 use Rattle.interim_orders.specs.Orders.{deadline_of, end_brought, order_brought, state_of}
 use Rattle.interim_orders.specs.declared.answers.Lapse.{Lapse}
@@ -45,7 +46,8 @@ brought_by_cure journal m i at (Reject section) =
     record { entries = end_brought journal m i; verdict = verdict.CureRejected section }
 brought_by_cure journal m i at (Interim defects) = record { entries = []; verdict = verdict.StillOpen defects }
 
--- the same, by the state in which cure i finds filing m
+-- The same, by the state in which cure i finds filing m. Only a filing has keys at which it waits, so what waits is judged, and
+-- that there is no judgement never comes about.
 abbrev pub brought_in_state : List Receipt → ℕ → ℕ → (Key → List Entry) → FilingState → Brought
 brought_in_state journal m i at (Pending until) =
     option_map_or (brought_by_cure journal m i at) (judged journal m i at) nothing_pending
@@ -63,7 +65,11 @@ brought_by_item journal i at (item.Filing f) = brought_by_filing journal i at (j
 brought_by_item journal i at (item.Cure m docs) = brought_in_state journal m i at (state_of journal m i at)
 brought_by_item journal i at (item.Lapse m) =
     record { entries = lapse_brought journal i at; verdict = verdict_on_lapse (lapsed journal i at) }
-brought_by_item journal i at other = nothing_pending
+brought_by_item journal i at (item.Seize folio basis served) = nothing_pending
+brought_by_item journal i at (item.Register folio registered) = nothing_pending
+brought_by_item journal i at (item.OpenBids folio costs) = nothing_pending
+brought_by_item journal i at (item.Award folio buyer bid) = nothing_pending
+brought_by_item journal i at (item.Distribute folio) = nothing_pending
 
 -- what receipt i brings; nothing where there is none
 abbrev pub brings : List Receipt → ℕ → (Key → List Entry) → Brought

@@ -1,4 +1,5 @@
 -- The keys that an item touches (GBO § 17). They follow from the receipts up to it alone, whatever became of these.
+-- Why so: docs/DECISIONS.md, "The keys of items are defined with the settling".
 use Rattle.std.specs.Prelude.{ℕ, ◌+◌, nat_lt, if◌then◌else◌, List, [], ◌∷◌, filter, flat_map, length, map, take}
 use Rattle.std.specs.Option.{option_map_or}
 use Rattle.gb_base.specs.RightNo.{RightNo}

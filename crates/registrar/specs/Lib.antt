@@ -1,5 +1,6 @@
 -- What contracts cite.
 pub mod Brings
+pub mod Enters
 pub mod ItemKeys
 pub mod OpenFolios
 pub mod RegisterState

@@ -6,7 +6,7 @@ use Rattle.act_model.specs.Receiving.{receipt_at}
 use Rattle.act_model.specs.declared.items.Item.{Item}
 use Rattle.act_model.specs.declared.items.Item.TheVariants as item
 use Rattle.act_model.specs.declared.receipts.Receipt.{Receipt}
-use Rattle.folio_sections.specs.Entering.{waiting_unnoticed}
+use Rattle.folio_sections.specs.Waiting.{waiting_unnoticed}
 use Rattle.folio_sections.specs.declared.entries.Entry.{Entry}
 use Rattle.registrar.specs.ItemKeys.{keys_of_item}
 
@@ -20,13 +20,19 @@ most_brought = 3
 abbrev pub room_to_enter : ℕ → List Entry → ℕ
 room_to_enter m entries = most_brought + length (waiting_unnoticed m entries)
 
--- What item i wants at one of its keys. An item of a forced sale brings nothing yet, and one entry is asked for all the same.
+-- What item i wants at one of its keys: a lapse the end of a waiting. An item of a forced sale brings nothing yet, and one entry
+-- is asked for all the same.
 abbrev pub room_by_item : ℕ → Item → List Entry → ℕ
 room_by_item i (item.Filing f) entries = room_to_enter i entries
 room_by_item i (item.Cure m docs) entries = room_to_enter m entries
-room_by_item i other entries = 1
+room_by_item i (item.Lapse m) entries = 1
+room_by_item i (item.Seize folio basis served) entries = 1
+room_by_item i (item.Register folio registered) entries = 1
+room_by_item i (item.OpenBids folio costs) entries = 1
+room_by_item i (item.Award folio buyer bid) entries = 1
+room_by_item i (item.Distribute folio) entries = 1
 
--- the same of receipt i
+-- the same of receipt i; what is settled is an item of the journal, so there is one
 abbrev pub room_wanted : List Receipt → ℕ → List Entry → ℕ
 room_wanted journal i entries = option_map_or (λ r. room_by_item i r.item entries) (receipt_at journal i) 1
 

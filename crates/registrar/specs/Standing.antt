@@ -1,8 +1,9 @@
 -- The registers that parts stand for.
+-- Why so: docs/DECISIONS.md, "A step speaks of every register that its parts stand for".
 use Rattle.std.specs.Prelude.{◌≡◌, Bool, List, IsTrue}
 use Rattle.gb_base.specs.declared.keys.Key.{Key}
 use Rattle.act_model.specs.declared.receipts.Receipt.{Receipt}
-use Rattle.folio_sections.specs.Kept.{Kept}
+use Rattle.kept_registers.specs.Kept.{Kept}
 use Rattle.folio_sections.specs.declared.entries.Entry.{Entry}
 
 -- at each key that is held the parts say what the register says

@@ -1,29 +1,52 @@
 //! What holds of the settling of all journals.
-ghost use Rattle.std.specs.Prelude.{◌≡◌, ◌+◌, ◌<◌, ◌≤◌, ◌++◌, ◌&&◌, ℕ, nat_le, List, Some, All, Contains, is_some, length};
+ghost use Rattle.std.specs.Prelude.{◌≡◌, ◌+◌, ◌<◌, ◌≤◌, ◌++◌, ◌&&◌, ℕ, nat_le, List, [], None, Some, All, Contains, is_some, length, option_map};
 ghost use Rattle.gb_base.specs.RightNo.{RightNo};
 ghost use Rattle.gb_base.specs.declared.keys.Key.{Key};
 ghost use Rattle.gb_base.specs.declared.keys.Key.TheVariants.{Right};
-ghost use Rattle.act_model.specs.Receiving.{IsJournal};
+ghost use Rattle.act_model.specs.Documents.{documents};
+ghost use Rattle.act_model.specs.Receiving.{IsJournal, receipt_at};
+ghost use Rattle.act_model.specs.Touches.{filing_at};
+ghost use Rattle.act_model.specs.declared.documents.Doc.{Doc};
+ghost use Rattle.act_model.specs.declared.items.Filing.{Filing};
+ghost use Rattle.act_model.specs.declared.items.Item.TheVariants.{Cure};
 ghost use Rattle.act_model.specs.declared.receipts.Receipt.{Receipt};
+ghost use Rattle.consent_rules.specs.Judging.{defects, rejection};
 ghost use Rattle.folio_sections.specs.Entries.{at, with_entries};
-ghost use Rattle.folio_sections.specs.Kept.{Kept};
+ghost use Rattle.kept_registers.specs.Kept.{Kept};
 ghost use Rattle.folio_sections.specs.Places.{places};
-ghost use Rattle.folio_sections.specs.Ranks.{is_ahead, is_filed_ahead, ranked};
+ghost use Rattle.kept_registers.specs.Ranks.{is_ahead, is_filed_ahead, ranked};
 ghost use Rattle.folio_sections.specs.Rights.{live_right};
 ghost use Rattle.folio_sections.specs.Waiting.{below};
 ghost use Rattle.folio_sections.specs.declared.entries.Created.{Created};
 ghost use Rattle.folio_sections.specs.declared.entries.Entry.{Entry};
+ghost use Rattle.interim_orders.specs.Orders.{end_brought, state_of};
+ghost use Rattle.interim_orders.specs.declared.states.FilingState.TheVariants.{Pending};
 ghost use Rattle.registrar.specs.Brings.{brings};
+ghost use Rattle.registrar.specs.Enters.{enters};
 ghost use Rattle.registrar.specs.ItemKeys.{keys_of_item};
 ghost use Rattle.registrar.specs.RegisterState.{verdict_among};
 ghost use Rattle.registrar.specs.Schedules.{IsPermitted};
 ghost use Rattle.registrar.specs.Settling.{registrar};
+ghost use Rattle.registrar.specs.declared.verdicts.Verdict.TheVariants.{Cured, Entered};
 
-use folio_sections::laws::empty_register_is_kept;
+use kept_registers::laws::empty_register_is_kept;
 
 /// The items of a journal may be settled in the order of their receipts (GBO § 17).
 pub fn receipts_in_turn()
     ensures permitted { (journal : List Receipt) → IsPermitted journal (below (length journal + 1)) }
+{}
+
+/// A filing that nothing speaks against is entered: where no ground for rejection and no defect
+/// holds of it, its own item enters it, and where it waits, a cure with which this is so enters it
+/// and ends its waiting (GBO § 18). So it is on any register, kept or not.
+pub fn fit_filings_are_entered()
+    ensures at_once { (journal : List Receipt) (m : ℕ) (f : Filing) (register : Key → List Entry) → filing_at journal m ≡ Some f
+        → rejection journal m f (documents journal m f m) register ≡ None → defects journal m f (documents journal m f m) register ≡ []
+        → brings journal m register ≡ record { entries = enters journal m m register; verdict = Entered } }
+    ensures by_cure { (journal : List Receipt) (m i until : ℕ) (f : Filing) (docs : List Doc) (register : Key → List Entry) → filing_at journal m ≡ Some f
+        → option_map (λ r. r.item) (receipt_at journal i) ≡ Some (Cure m docs) → state_of journal m i register ≡ Pending until
+        → rejection journal m f (documents journal m f i) register ≡ None → defects journal m f (documents journal m f i) register ≡ []
+        → brings journal i register ≡ record { entries = enters journal m i register ++ end_brought journal m i; verdict = Cured } }
 {}
 
 /// What an item brings leaves a kept register kept, where all that stands at the item's keys is by

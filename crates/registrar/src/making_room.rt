@@ -1,4 +1,5 @@
-// The room that the keys of an item keep for what it brings.
+//! The room that the keys of an item keep for what it brings.
+//! Why so: docs/DECISIONS.md, "Room is kept at each key before an item is settled".
 ghost use Rattle.std.specs.Prelude.{◌≡◌, Contains, IsTrue, OnOk};
 ghost use Rattle.gb_base.specs.declared.keys.Key.{Key};
 ghost use Rattle.act_model.specs.Touches.{keys_of_filing};

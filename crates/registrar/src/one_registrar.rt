@@ -1,10 +1,11 @@
-// The one registrar, who settles a journal in the order of its receipts (GBO § 17).
+//! The one registrar, who settles a journal in the order of its receipts (GBO § 17).
+//! Why so: docs/DECISIONS.md, "A register has the parts at the keys of filings".
 ghost use Rattle.std.specs.Prelude.{◌≡◌, ◌<◌, ◌≤◌, ℕ, [], length, All, Contains, IfOk, IsTrue, OnOk};
 ghost use Rattle.gb_base.specs.declared.keys.Key.{Key};
 ghost use Rattle.act_model.specs.Touches.{keys_of_filing};
 ghost use Rattle.folio_sections.specs.Entries.{at, with_entries};
 ghost use Rattle.folio_sections.specs.Held.{entries_at, is_held, is_given};
-ghost use Rattle.folio_sections.specs.Kept.{Kept};
+ghost use Rattle.kept_registers.specs.Kept.{Kept};
 ghost use Rattle.registrar.specs.Brings.{brings};
 ghost use Rattle.registrar.specs.ItemKeys.{keys_of_filings};
 ghost use Rattle.registrar.specs.OpenFolios.{open_folios};
@@ -18,8 +19,8 @@ use crate::steps::{receipt_of, step};
 use crate::{Register, Scratch, Verdict};
 use act_model::{Item, Journal, filing_keys};
 use folio_sections::MapParts;
-use folio_sections::laws::empty_register_is_kept;
 use gb_base::{Key, NoMemory, ReceiptNo};
+use kept_registers::laws::empty_register_is_kept;
 use std::alloc::Global;
 
 /// The register that one registrar leaves who takes the items of a journal in the order of their

@@ -1,11 +1,15 @@
-// The register that the one registrar leaves.
-ghost use Rattle.std.specs.Prelude.{◌≡◌, ◌-◌, ◌<◌, IfOk, slice_get};
+//! The register that the one registrar leaves.
+//! Why so: docs/DECISIONS.md, "`Register::verdict` lends its verdict".
+ghost use Rattle.std.specs.Prelude.{◌≡◌, ◌-◌, ◌<◌, ◌≤◌, IfOk, IsTrue, slice_get};
 ghost use Rattle.std.specs.List.{enumerate_from};
 ghost use Rattle.std.specs.Option.{option_copied};
+ghost use Rattle.folio_sections.specs.Adding.{Adds};
+ghost use Rattle.folio_sections.specs.Held.{entries_at, is_held, room_at};
 ghost use Rattle.folio_sections.specs.HeldRights.{held_rights};
 ghost use Rattle.registrar.specs.RegisterState.{verdict_among};
 
 use crate::Verdict;
+use folio_line::HeldRights;
 use folio_sections::{CasePart, Entry, MapParts, Parts, RightPart, TitlePart};
 use gb_base::{FolioId, NoMemory, ReceiptNo, RightId};
 use std::alloc::Global;
@@ -84,6 +88,16 @@ fn at_number(verdicts: &[Verdict], n: ReceiptNo) -> Option<&Verdict>
     verdicts.get(n.get() as usize - 1)
 }
 
+impl HeldRights for Register {
+    ghost use Rattle.folio_line.specs.inner.NotHeld.{not_held};
+
+    fn rights_in(&self, alloc: Global, folio: FolioId) -> Result<Vec<RightId>, NoMemory> {
+        Register::rights_in(self, alloc, folio)
+    }
+
+    ghost unheld_is_empty = { λ r. not_held r.parts };
+}
+
 impl Parts for Register {
     ghost use Rattle.folio_sections.specs.Held.{is_held, entries_at, room_at};
 
@@ -105,7 +119,16 @@ impl Parts for Register {
         self.parts.case(folio)
     }
 
-    fn append(&mut self, entry: Entry) {
+    /// Adds an entry at the end of its key's part; what became of each item stays, and so does the
+    /// list of open folios.
+    fn append(&mut self, entry: Entry)
+        requires held { IsTrue (is_held self.old.parts entry.key) }
+        requires room { 1 ≤ room_at self.old.parts entry.key }
+        ensures added { Adds (entries_at self.old.parts) (entries_at self.new.parts) (room_at self.old.parts) (room_at self.new.parts) entry }
+        ensures held { is_held self.new.parts ≡ is_held self.old.parts }
+        ensures verdicts { self.new.verdicts ≡ self.old.verdicts }
+        ensures folios { self.new.folios ≡ self.old.folios }
+    {
         self.parts.append(entry);
     }
 }

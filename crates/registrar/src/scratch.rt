@@ -1,5 +1,6 @@
-// What a settlement works in.
-ghost use Rattle.std.specs.Prelude.{◌≤◌, IfOk};
+//! What a settlement works in.
+//! Why so: docs/DECISIONS.md, "`Scratch` keeps only how much it is for".
+ghost use Rattle.std.specs.Prelude.{◌≤◌, IfOk, IsOk};
 
 use gb_base::NoMemory;
 use std::alloc::Global;
@@ -22,8 +23,10 @@ impl Model for Scratch {
 }
 
 impl Scratch {
-    /// A scratch for so many rights of a folio, and for so many exchanges of ranks among them.
+    /// A scratch for so many rights of a folio, and for so many exchanges of ranks among them. It
+    /// takes no memory, and so it never wants any.
     pub fn with_room(_alloc: Global, rights: usize, swaps: usize) -> Result<Scratch, NoMemory>
+        ensures succeeds { IsOk result }
         ensures rights { IfOk result (λ scratch. rights ≤ scratch.rights) }
         ensures swaps { IfOk result (λ scratch. swaps ≤ scratch.swaps) }
     {

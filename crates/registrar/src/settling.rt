@@ -1,11 +1,11 @@
-// What an item brings, added to the parts of a register (GBO §§ 16 to 18).
+//! What an item brings, added to the parts of a register (GBO §§ 16 to 18).
 ghost use Rattle.std.specs.Prelude.{◌≡◌, ◌<◌, ◌≤◌, ℕ, Some, length, option_map, Contains, IsSome, IsTrue};
 ghost use Rattle.gb_base.specs.declared.keys.Key.{Key};
 ghost use Rattle.act_model.specs.Receiving.{receipt_at};
 ghost use Rattle.act_model.specs.Touches.{filing_at, keys_of_filing};
 ghost use Rattle.folio_sections.specs.Adding.{AddsList, HasRoom};
-ghost use Rattle.folio_sections.specs.Entering.{enters};
-ghost use Rattle.folio_sections.specs.Judging.{KnowsExchanges};
+ghost use Rattle.registrar.specs.Enters.{enters};
+ghost use Rattle.consent_rules.specs.Judging.{KnowsExchanges};
 ghost use Rattle.interim_orders.specs.Orders.{state_of};
 ghost use Rattle.interim_orders.specs.declared.states.FilingState.TheVariants.{Pending};
 ghost use Rattle.registrar.specs.Brings.{brought_by_cure, brought_by_filing, brought_by_item, brought_in_state, verdict_on_lapse};

@@ -1,10 +1,10 @@
-// One step of a registrar: an item settled on parts that stand for a kept register.
+//! One step of a registrar: an item settled on parts that stand for a kept register.
 ghost use Rattle.std.specs.Prelude.{◌≡◌, List, ◌≤◌, ◌<◌, Some, length, All, Contains, IsTrue};
 ghost use Rattle.gb_base.specs.declared.keys.Key.{Key};
 ghost use Rattle.act_model.specs.Receiving.{IsJournal, receipt_at};
 ghost use Rattle.folio_sections.specs.Adding.{AddsList};
 ghost use Rattle.folio_sections.specs.Entries.{with_entries};
-ghost use Rattle.folio_sections.specs.Kept.{Kept};
+ghost use Rattle.kept_registers.specs.Kept.{Kept};
 ghost use Rattle.folio_sections.specs.declared.entries.Entry.{Entry};
 ghost use Rattle.registrar.specs.Brings.{brings};
 ghost use Rattle.registrar.specs.ItemKeys.{keys_of_item};

@@ -1,11 +1,12 @@
-// Journals for the tests, and what is looked for in the registers that they leave.
+//! Journals for the tests, and what is looked for in the registers that they leave.
 use crate::{Register, Verdict};
 use act_model::{
     Act, Acts, Added, Doc, Docs, Filing, Form, Inventory, Item, Journal, Owners, RightKind,
     RightSpec, well_formed,
 };
 use arrayvec::ArrayVec;
-use folio_sections::{Defect, Defects, Entry, Parts, RightPart, What};
+use consent_rules::{Defect, Defects};
+use folio_sections::{Entry, Parts, RightPart, What};
 use gb_base::{Cents, Day, FolioId, Person, ReceiptNo, RightId, Section, Stamp};
 use std::alloc::Global;
 use std::process::Abort;

@@ -1,5 +1,5 @@
-// Whole journals: filings in two folios, cures that are rejected, items that name nothing that
-// waits, and what a register answers.
+//! Whole journals: filings in two folios, cures that are rejected, items that name nothing that
+//! waits, and what a register answers.
 use crate::testing::Seen::{Cancelled, Created, Notice, Opened, Pending, Placed, Settled};
 use crate::testing::{
     are, are_want_of_form, assignment, at_right, at_title, cancellation, certified,

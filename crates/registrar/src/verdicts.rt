@@ -1,5 +1,5 @@
-// What becomes of an item.
-use folio_sections::Defects;
+//! What becomes of an item.
+use consent_rules::Defects;
 use gb_base::{Day, Section};
 
 /// What becomes of an item.

@@ -1,4 +1,4 @@
-// Filings that wait, are noticed, cured and lapse, in folio 7 in 2024.
+//! Filings that wait, are noticed, cured and lapse, in folio 7 in 2024.
 use crate::alone;
 use crate::testing::Seen::{Created, Notice, Opened, Owner, Pending, Placed, Settled};
 use crate::testing::{

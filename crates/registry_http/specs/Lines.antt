@@ -1,4 +1,5 @@
 -- Where the empty line of a head stands.
+-- Why so: docs/DECISIONS.md, "Where a head's empty line stands is said without a machine".
 use Rattle.std.specs.Prelude.{◌≡◌, ℕ, ◌==◌, Bool, false, ◌||◌, ◌&&◌, List, [], ◌∷◌, ◌++◌}
 use Rattle.httparse.specs.Grammar.{LineEnd, print_end, print_blank}
 

@@ -1,4 +1,5 @@
 -- The bytes of a reply.
+-- Why so: docs/DECISIONS.md, "A reply takes a status of `http` and its phrase".
 use Rattle.std.specs.Prelude.{ℕ, Bool, true, false, List, [], ◌++◌, length, codes, unwrap_or, Result, Ok, Err}
 use Rattle.std.specs.Fmt.{decimal}
 use Rattle.http.specs.StatusCode.{reason_phrase}

@@ -1,4 +1,4 @@
-// A connection in memory that gives few bytes a read.
+//! A connection in memory that gives few bytes a read.
 use gb_outside::{Got, Link, Wrote};
 
 /// A connection that gives at most so many of its bytes at the next read, and so many at each one

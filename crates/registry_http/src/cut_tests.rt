@@ -1,4 +1,4 @@
-// Requests of links that give few bytes a read.
+//! Requests of links that give few bytes a read.
 use crate::cut_link::CutLink;
 use crate::tests::spell;
 use crate::{Next, next_request};

@@ -1,4 +1,4 @@
-// The route that a request asks for.
+//! The route that a request asks for.
 ghost use Rattle.std.specs.Prelude.{◌≡◌, ◌≢◌, ◌^◌, ◌<◌, ℕ, Some, Err, IfOk, IfSome, IsNone, OnErr};
 ghost use Rattle.matchit.specs.Params.{walk};
 ghost use Rattle.registry_http.specs.Routes.{path_of, method_of, IsRoute, IsRouteNumber};

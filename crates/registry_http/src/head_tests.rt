@@ -1,4 +1,4 @@
-// Generated heads, right and spoiled, against what each of their parts brings about.
+//! Generated heads, right and spoiled, against what each of their parts brings about.
 use crate::cut_link::CutLink;
 use crate::next_request;
 use crate::tests::spell;

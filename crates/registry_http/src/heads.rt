@@ -1,4 +1,5 @@
-// The head at the front of some bytes.
+//! The head at the front of some bytes.
+//! Why so: docs/DECISIONS.md, "Room for 2,731 header lines".
 ghost use Rattle.std.specs.Prelude.{◌≡◌, ◌≤◌, length, nat_lt};
 ghost use Rattle.httparse.specs.Spans.{IsRequestWithin, IsRequestOf};
 ghost use Rattle.registry_http.specs.Heads.{longest_head, most_header_lines};

@@ -1,4 +1,4 @@
-// How far the lines of a head have come.
+//! How far the lines of a head have come.
 ghost use Rattle.std.specs.Prelude.{◌≡◌};
 ghost use Rattle.registry_http.specs.inner.Lines.{after_byte, after_bytes, are_over};
 

@@ -1,4 +1,5 @@
-// The replies that are written to a link.
+//! The replies that are written to a link.
+//! Why so: docs/DECISIONS.md, "A reply over HTTP is written from one buffer".
 ghost use Rattle.std.specs.Prelude.{◌≡◌, ◌<◌, IfOk, OnOk, OnErr, Some, Err, length};
 ghost use Rattle.std.specs.Io.KnownBytes.{Appends};
 ghost use Rattle.gb_outside.specs.Bytes.{AppendsFront};

@@ -1,4 +1,4 @@
-// A whole request.
+//! A whole request.
 ghost use Rattle.std.specs.Prelude.{◌≡◌};
 
 use http::Method;

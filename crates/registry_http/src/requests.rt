@@ -1,4 +1,4 @@
-// The requests of a link, one after another.
+//! The requests of a link, one after another.
 ghost use Rattle.std.specs.Prelude.{◌≡◌, ◌+◌, ◌<◌, ◌≤◌, OnOk, IfOk, IfErr, Ok, true, false, length, take, drop, vec_len};
 ghost use Rattle.std.specs.Io.KnownBytes.{IsAtEnd};
 ghost use Rattle.gb_outside.specs.Faults.{Counts};

@@ -1,4 +1,4 @@
-// The routes of paths and methods, and the bytes of replies.
+//! The routes of paths and methods, and the bytes of replies.
 use crate::{ReplyFault, Route, RouteFault, route, write_reply};
 use gb_base::{FolioId, ReceiptNo};
 use gb_outside::MemLink;

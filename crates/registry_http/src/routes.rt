@@ -1,4 +1,5 @@
-// The routes, each with its path and its method.
+//! The routes, each with its path and its method.
+//! Why so: docs/DECISIONS.md, "A path has a route where it is spelled as the route prints it".
 ghost use Rattle.std.specs.Prelude.{◌≡◌, Some};
 ghost use Rattle.registry_http.specs.Routes.{path_of, method_of};
 

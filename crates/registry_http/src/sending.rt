@@ -1,4 +1,4 @@
-// What threads may hand on.
+//! What threads may hand on.
 use crate::Request;
 use gb_outside::{MemLink, SureLink};
 

@@ -1,4 +1,5 @@
-// Bytes that end inside the target of a request.
+//! Bytes that end inside the target of a request.
+//! Why so: docs/DECISIONS.md, "Bytes that end inside a target count as cut".
 ghost use Rattle.std.specs.Prelude.{◌≡◌, ◌↔◌, IsTrue, length};
 ghost use Rattle.std.specs.List.{list_all};
 ghost use Rattle.httparse.specs.Grammar.{EndsInTarget, is_token_byte, is_uri_byte};

@@ -1,4 +1,4 @@
-// Requests of links in memory.
+//! Requests of links in memory.
 use crate::{Next, next_request};
 use gb_outside::MemLink;
 use std::alloc::Global;

@@ -1,4 +1,5 @@
 -- What the office writes. The number of desks occurs in none of these.
+-- Why so: docs/DECISIONS.md, "A journal with an item that is not taken is not reported".
 use Rattle.std.specs.Prelude.{◌≡◌, ℕ, Bool, true, false, if◌then◌else◌, List, [], ◌∷◌, ◌++◌, codes, Option, Some, None}
 use Rattle.std.specs.List.{list_all}
 use Rattle.gb_base.specs.DayMinute.{DayMinute}

@@ -1,4 +1,5 @@
 -- A session that receives the items of an input onto a disk.
+-- Why so: docs/DECISIONS.md, "`acknowledged` speaks of replies that are not empty".
 use Rattle.std.specs.Prelude.{◌≡◌, ◌⊎◌, ℕ, Bool, List, ◌++◌, take, Option, Some, None, IsTrue}
 use Rattle.std.specs.Io.KnownBytes.{Appends}
 use Rattle.gb_base.specs.DayMinute.{DayMinute}

@@ -1,4 +1,5 @@
 -- The words of the command line.
+-- Why so: docs/DECISIONS.md, "A number in an option may begin with zeros".
 use Rattle.std.specs.Prelude.{ℕ, ◌≤◌, ◌&&◌, if◌then◌else◌, List, [], ◌∷◌, map, codes, Option, Some, None}
 use Rattle.std.specs.Rc.{rc_str_bytes}
 use Rattle.std.specs.Str.{bytes_eq}

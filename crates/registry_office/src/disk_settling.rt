@@ -1,4 +1,6 @@
 //! The journal of a book is settled, and the command that settles the journal of the disk.
+//! Why so: docs/DECISIONS.md, "The office has no rules of its own".
+//! Why so: docs/DECISIONS.md, "`settle` takes its desks and their gate, and uses neither".
 ghost use Rattle.std.specs.Prelude.{◌≡◌, ◌≤◌, ℕ, List, true, false, OnOk, OnErr, IsTrue};
 ghost use Rattle.std.specs.List.{list_all};
 ghost use Rattle.std.specs.Io.KnownBytes.{Appends};

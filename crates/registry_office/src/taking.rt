@@ -1,4 +1,6 @@
 //! Lines, or the rows of a list, are received into the journal of a book.
+//! Why so: docs/DECISIONS.md, "`take` may be repeated with its whole input".
+//! Why so: docs/DECISIONS.md, "`take` asks that the book is durable".
 ghost use Rattle.std.specs.Prelude.{◌≡◌, ◌≤◌, ◌+◌, ℕ, List, [], Some, false, length, IsTrue, IfSome};
 ghost use Rattle.gb_base.specs.DayMinute.{DayMinute};
 ghost use Rattle.gb_outside.specs.Faults.{Counts};

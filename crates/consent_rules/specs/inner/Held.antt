@@ -4,7 +4,7 @@ use Rattle.gb_base.specs.declared.keys.Key.{Key}
 use Rattle.gb_base.specs.declared.keys.Key.TheVariants.{Title, Right}
 use Rattle.act_model.specs.declared.filing_acts.Act.{Act}
 use Rattle.act_model.specs.declared.filing_acts.Act.TheVariants.{Open, Transfer, Create, NoticeFor, Convert, Assign, Cancel, Exchange, Exercise}
-use Rattle.folio_sections.specs.Persons.{stands_in_division_three}
+use Rattle.consent_rules.specs.Persons.{stands_in_division_three}
 use Rattle.folio_sections.specs.declared.entries.Entry.{Entry}
 
 -- the title and a right of the folio are held

@@ -1,6 +1,6 @@
 -- What somebody's consent to an act may lack.
 use Rattle.std.specs.Prelude.{ℕ, Bool, is_none}
-use Rattle.folio_sections.specs.Documents.{given, is_plain}
+use Rattle.act_model.specs.Documents.{given, is_plain}
 use Rattle.consent_rules.specs.declared.lacks.Lack.{Lack}
 use Rattle.consent_rules.specs.declared.lacks.Lack.TheVariants as lack
 

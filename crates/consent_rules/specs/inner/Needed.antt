@@ -1,6 +1,6 @@
 -- All whose consent an act needs, as they are gathered.
 use Rattle.std.specs.Prelude.{ℕ, List, ◌++◌}
-use Rattle.folio_sections.specs.Persons.{persons}
+use Rattle.consent_rules.specs.Persons.{persons}
 use Rattle.consent_rules.specs.declared.consenters.Consenters.{Consenters}
 
 -- all of them

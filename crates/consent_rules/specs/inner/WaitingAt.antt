@@ -1,7 +1,7 @@
 -- The earlier filings that wait at a right, entry by entry.
 use Rattle.std.specs.Prelude.{ℕ, ◌&&◌, nat_lt, if◌then◌else◌, List, Option, Some, None, option_and_then}
 use Rattle.act_model.specs.declared.receipts.Receipt.{Receipt}
-use Rattle.folio_sections.specs.Persons.{applicant_of}
+use Rattle.act_model.specs.Touches.{applicant_of}
 use Rattle.folio_sections.specs.Waiting.{is_pending}
 use Rattle.folio_sections.specs.declared.entries.Entry.{Entry}
 use Rattle.folio_sections.specs.declared.entries.What.{What}

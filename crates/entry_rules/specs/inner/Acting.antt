@@ -5,8 +5,8 @@ use Rattle.gb_base.specs.declared.keys.Key.{Key}
 use Rattle.act_model.specs.declared.filing_acts.Act.{Act}
 use Rattle.act_model.specs.declared.items.Filing.{Filing}
 use Rattle.act_model.specs.declared.receipts.Receipt.{Receipt}
-use Rattle.folio_sections.specs.Documents.{documents}
-use Rattle.folio_sections.specs.Entering.{content}
+use Rattle.act_model.specs.Documents.{documents}
+use Rattle.entry_rules.specs.Entering.{content}
 use Rattle.folio_sections.specs.declared.entries.Entry.{Entry}
 
 -- the part of each of these keys is held

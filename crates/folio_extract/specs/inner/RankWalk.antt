@@ -1,19 +1,8 @@
 -- The ranks of rights that stand in order of filing and group, in one walk.
-use Rattle.std.specs.Prelude.{◌≡◌, ℕ, ◌+◌, Bool, false, if◌then◌else◌, List, [], ◌∷◌, ◌++◌, Option, Some, None}
-use Rattle.std.specs.List.{AllByRecursion}
-use Rattle.folio_sections.specs.Ranks.{is_filed_ahead, ranked}
-use Rattle.folio_extract.specs.FolioRights.{has_same_place}
+use Rattle.std.specs.Prelude.{ℕ, ◌+◌, if◌then◌else◌, List, [], ◌∷◌, ◌++◌, Option, Some, None}
+use Rattle.folio_line.specs.FolioRights.{has_same_place}
 use Rattle.folio_extract.specs.RankTables.{rank_line}
-use Rattle.folio_extract.specs.declared.folio_rights.CreatedRight.{CreatedRight}
-
--- right x stands before right y, by filing and group
-abbrev pub is_filed_before : CreatedRight → CreatedRight → Bool
-is_filed_before x y = is_filed_ahead (ranked x.id x.made) (ranked y.id y.made)
-
--- no right stands before an earlier one of these
-abbrev pub Ascends : List CreatedRight → Type 0
-Ascends [] = Unit {0}
-Ascends (x ∷ xs) = AllByRecursion (λ y. is_filed_before y x ≡ false) xs × Ascends xs
+use Rattle.folio_line.specs.declared.folio_rights.CreatedRight.{CreatedRight}
 
 -- the rank of a right, from that of the right before it
 abbrev pub rank_behind : ℕ → Option CreatedRight → CreatedRight → ℕ

@@ -4,7 +4,7 @@ use Rattle.gb_base.specs.declared.keys.Key.{Key}
 use Rattle.act_model.specs.declared.items.Item.{Item}
 use Rattle.act_model.specs.declared.items.Item.TheVariants as item
 use Rattle.act_model.specs.declared.receipts.Receipt.{Receipt}
-use Rattle.folio_sections.specs.Judging.{KnowsExchanges}
+use Rattle.consent_rules.specs.Judging.{KnowsExchanges}
 use Rattle.folio_sections.specs.declared.entries.Entry.{Entry}
 use Rattle.interim_orders.specs.Orders.{state_of}
 use Rattle.interim_orders.specs.declared.states.FilingState.TheVariants.{Pending}
@@ -13,4 +13,9 @@ use Rattle.interim_orders.specs.declared.states.FilingState.TheVariants.{Pending
 abbrev pub KnowsItsExchanges : List Receipt → ℕ → (Key → List Entry) → Item → Type 0
 KnowsItsExchanges journal i at (item.Filing f) = KnowsExchanges journal i at
 KnowsItsExchanges journal i at (item.Cure m docs) = (until : ℕ) → state_of journal m i at ≡ Pending until → KnowsExchanges journal m at
-KnowsItsExchanges journal i at other = Unit {0}
+KnowsItsExchanges journal i at (item.Lapse m) = Unit {0}
+KnowsItsExchanges journal i at (item.Seize folio basis served) = Unit {0}
+KnowsItsExchanges journal i at (item.Register folio registered) = Unit {0}
+KnowsItsExchanges journal i at (item.OpenBids folio costs) = Unit {0}
+KnowsItsExchanges journal i at (item.Award folio buyer bid) = Unit {0}
+KnowsItsExchanges journal i at (item.Distribute folio) = Unit {0}

@@ -8,4 +8,8 @@ abbrev pub filing_named : ℕ → Item → Option ℕ
 filing_named i (item.Filing f) = Some i
 filing_named i (item.Cure m docs) = Some m
 filing_named i (item.Lapse m) = Some m
-filing_named i other = None
+filing_named i (item.Seize folio basis served) = None
+filing_named i (item.Register folio registered) = None
+filing_named i (item.OpenBids folio costs) = None
+filing_named i (item.Award folio buyer bid) = None
+filing_named i (item.Distribute folio) = None

@@ -1,5 +1,5 @@
 use Rattle.std.proofs.Common.{◌∙◌, arith}
-use Rattle.folio_sections.specs.Judging.{curables, defects_under}
+use Rattle.consent_rules.specs.Judging.{curables, defects_under}
 use Rattle.consent_rules.proofs.ListLemmas.{brought_step}
 use Rattle.consent_rules.proofs.defects.defects.Goals as goal
 

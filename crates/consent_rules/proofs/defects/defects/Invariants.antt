@@ -1,5 +1,5 @@
 use Rattle.std.proofs.Common.{◌≡◌, ◌*◌, ◌≤◌, ◌++◌, length, drop, flat_map}
-use Rattle.folio_sections.specs.Judging.{defects, defects_under}
+use Rattle.consent_rules.specs.Judging.{defects, defects_under}
 use Rattle.consent_rules.proofs.defects.defects.Given as goal
 
 abbrev pub invariant-loop-section : goal.invariant-loop-section

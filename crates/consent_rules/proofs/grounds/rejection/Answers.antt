@@ -1,5 +1,5 @@
 use Rattle.std.proofs.Common.{sym, ◌∙◌}
-use Rattle.folio_sections.specs.Judging.{grounds, is_rejected_under}
+use Rattle.consent_rules.specs.Judging.{grounds, is_rejected_under}
 use Rattle.consent_rules.proofs.ListLemmas.{find_past}
 use Rattle.consent_rules.proofs.grounds.rejection.Goals as goal
 

@@ -1,5 +1,5 @@
 use Rattle.std.proofs.Common.{◌≡◌, drop, find}
-use Rattle.folio_sections.specs.Judging.{grounds, is_rejected_under}
+use Rattle.consent_rules.specs.Judging.{grounds, is_rejected_under}
 use Rattle.consent_rules.proofs.grounds.rejection.Given as goal
 
 abbrev pub invariant-loop-section : goal.invariant-loop-section

@@ -2,4 +2,4 @@ use Rattle.std.proofs.Common.{refl}
 use Rattle.consent_rules.proofs.needed.others.Goals as goal
 
 pub returns-in-Cancel : goal.returns-in-Cancel
-returns-in-Cancel g c = rw c.in-Cancel.is (rw (c.waiting_unless.ensures, c.has_proof-proved.ensures, c.number_behind.ensures.value, c.right_part-part.ensures) refl)
+returns-in-Cancel g c = rw c.in-Cancel.is (rw (c.waiting_unless.ensures, c.has_proof-proved.ensures, c.right_part-part.ensures) refl)

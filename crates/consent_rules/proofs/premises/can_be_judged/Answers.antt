@@ -6,7 +6,7 @@ use Rattle.act_model.proofs.KeyOrder.{in_key_order_members}
 use Rattle.act_model.specs.Touches.{filing_at, keys_in_order, keys_of_filing}
 use Rattle.act_model.specs.declared.items.Filing.{Filing}
 use Rattle.act_model.specs.declared.receipts.Receipt.{Receipt}
-use Rattle.folio_sections.specs.Judging.{IsKnownExchange}
+use Rattle.consent_rules.specs.Judging.{IsKnownExchange}
 use Rattle.consent_rules.specs.inner.Held.{HasParts}
 use Rattle.consent_rules.proofs.HeldLemmas.{all_held, keys_held, parts_of_filing}
 use Rattle.consent_rules.proofs.premises.can_be_judged.Goals as goal

@@ -1,6 +1,6 @@
 use Rattle.std.proofs.Common.{ℕ, ◌<◌, get_or}
 use Rattle.act_model.specs.declared.filing_acts.Act.{Act}
-use Rattle.folio_sections.specs.Judging.{IsKnownExchange}
+use Rattle.consent_rules.specs.Judging.{IsKnownExchange}
 use Rattle.consent_rules.proofs.premises.know_exchanges.Given as goal
 
 abbrev pub invariant-loop-act : goal.invariant-loop-act

@@ -1,7 +1,7 @@
 use Rattle.std.proofs.Common.{◌≡◌, ◌==◌, false, drop}
 use Rattle.std.specs.List.{list_any}
 use Rattle.std.specs.Option.{option_map_or}
-use Rattle.folio_sections.specs.Persons.{waiting_applicants}
+use Rattle.consent_rules.specs.Persons.{waiting_applicants}
 use Rattle.consent_rules.specs.inner.WaitingAt.{applicant_at}
 use Rattle.consent_rules.proofs.waiting.waits.Given as goal
 

@@ -2,7 +2,7 @@
 use Rattle.std.proofs.Common.{◌≡◌, ◌+◌, ◌∷◌, drop, sym, subst, ◌∙◌}
 use Rattle.gb_base.specs.declared.keys.Key.{Key}
 use Rattle.act_model.specs.Touches.{keys_in_order}
-use Rattle.folio_sections.specs.Entering.{placed_at}
+use Rattle.entry_rules.specs.Entering.{placed_at}
 use Rattle.folio_sections.specs.Adding.{HasRoom}
 use Rattle.std.specs.List.{flat_map}
 use Rattle.folio_sections.proofs.Unchanged.{KeepsNotices}

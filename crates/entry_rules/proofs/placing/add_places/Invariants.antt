@@ -1,6 +1,6 @@
 use Rattle.std.proofs.Common.{drop}
 use Rattle.gb_base.specs.declared.keys.Key.{Key}
-use Rattle.folio_sections.specs.Entering.{placed_at}
+use Rattle.entry_rules.specs.Entering.{placed_at}
 use Rattle.folio_sections.proofs.Unchanged.{KeepsNotices}
 use Rattle.folio_sections.proofs.Progress.{Progress}
 use Rattle.entry_rules.proofs.placing.add_places.Given as goal

@@ -6,7 +6,7 @@ use Rattle.gb_base.specs.declared.keys.Key.{Key}
 use Rattle.act_model.proofs.KeyOrder.{in_key_order_sorted}
 use Rattle.act_model.specs.Touches.{keys_in_order, keys_of_filing}
 use Rattle.folio_sections.specs.Adding.{HasRoom}
-use Rattle.folio_sections.specs.Entering.{notices_at}
+use Rattle.interim_orders.specs.Notices.{notices_at}
 use Rattle.folio_sections.proofs.ListLemmas.{drop_next}
 use Rattle.folio_sections.proofs.Progress.{Progress, key_held}
 use Rattle.interim_orders.proofs.Noticing.{StandsApart, key_fits, key_noticed}

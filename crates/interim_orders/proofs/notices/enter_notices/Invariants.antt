@@ -1,6 +1,6 @@
 use Rattle.std.proofs.Common.{drop}
 use Rattle.gb_base.specs.declared.keys.Key.{Key}
-use Rattle.folio_sections.specs.Entering.{notices_at}
+use Rattle.interim_orders.specs.Notices.{notices_at}
 use Rattle.folio_sections.proofs.Progress.{Progress}
 use Rattle.interim_orders.proofs.Noticing.{StandsApart}
 use Rattle.interim_orders.proofs.notices.enter_notices.Given as goal

@@ -1,6 +1,5 @@
 use Rattle.std.proofs.Common.{length, filter}
-use Rattle.folio_sections.specs.Entering.{waiting_unnoticed}
-use Rattle.folio_sections.specs.Waiting.{is_above}
+use Rattle.folio_sections.specs.Waiting.{waiting_unnoticed, is_above}
 use Rattle.interim_orders.proofs.Noticing.{Noticed}
 use Rattle.interim_orders.proofs.notices.enter_notices_at.Given as goal
 

@@ -3,7 +3,7 @@ use Rattle.std.proofs.lemmas.List.{drop_all}
 use Rattle.gb_base.specs.declared.keys.Key.{Key}
 use Rattle.act_model.specs.Touches.{keys_in_order}
 use Rattle.folio_sections.specs.Adding.{AddsList, HasRoom}
-use Rattle.folio_sections.specs.Entering.{entry_by}
+use Rattle.folio_sections.specs.Entries.{entry_by}
 use Rattle.folio_sections.specs.declared.entries.Entry.{Entry}
 use Rattle.folio_sections.proofs.ListLemmas.{drop_next}
 use Rattle.folio_sections.proofs.Progress.{Progress, ends, goes_on, has_room, key_held}

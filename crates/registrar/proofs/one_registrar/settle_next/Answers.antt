@@ -1,5 +1,5 @@
 use Rattle.std.proofs.Common.{◌<◌, All, IsTrue, refl, sym, ap, subst, ◌∙◌}
-use Rattle.folio_sections.specs.Kept.{Kept}
+use Rattle.kept_registers.specs.Kept.{Kept}
 use Rattle.folio_sections.specs.Held.{entries_at}
 use Rattle.registrar.proofs.JournalKeys.{item_keys}
 use Rattle.registrar.proofs.Registering.{added_to}

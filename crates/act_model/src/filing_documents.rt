@@ -1,0 +1,157 @@
+//! The documents that count for a filing (GBO §§ 18, 19, 29).
+ghost use Rattle.std.specs.Prelude.{◌≡◌, ◌&&◌, nat_le, filter, flat_map};
+ghost use Rattle.act_model.specs.Cures.{cures_of};
+ghost use Rattle.std.specs.List.{list_any};
+ghost use Rattle.gb_base.specs.Limits.{is_between};
+ghost use Rattle.act_model.specs.Documents.{act_of_doc, docs_by_cure, docs_of_cure};
+
+use crate::sought::{DocFilter, Sought};
+use crate::{Doc, Filing, Form, Item, Journal};
+use gb_base::{Person, ReceiptNo};
+use std::marker::Model;
+
+/// The documents of a filing, and then those of its cures up to a receipt. In contracts it is
+/// their list, without those of an act that the filing does not have.
+#[derive(Drop)]
+pub struct Documents<'a> {
+    journal: &'a Journal,
+    number: ReceiptNo,
+    filing: &'a Filing,
+    upto: ReceiptNo,
+}
+
+impl<'a> Model for Documents<'a> {
+    ghost use Rattle.std.specs.Prelude.{List};
+    ghost use Rattle.act_model.specs.declared.documents.Doc.{Doc};
+    ghost use Rattle.act_model.specs.Documents.{documents};
+
+    ghost Value = { List Doc };
+
+    ghost view = { λ a. documents a.journal.now.receipts a.number a.filing.now a.upto };
+}
+
+impl<'a> Documents<'a> {
+    ghost use Rattle.act_model.specs.Documents.{documents, given, has_proof};
+
+    /// The documents of filing `number`, with those of its cures up to receipt `upto`.
+    pub fn new(
+        journal: &'a Journal,
+        number: ReceiptNo,
+        filing: &'a Filing,
+        upto: ReceiptNo,
+    ) -> Documents<'a>
+        ensures { result ≡ documents journal.now.receipts number filing.now upto }
+    {
+        Documents {
+            journal,
+            number,
+            filing,
+            upto,
+        }
+    }
+
+    /// Whether such a document is among them.
+    pub fn has<T: DocFilter>(&self, test: &T) -> bool
+        ensures { result ≡ list_any (T.test test.now) self.now }
+    {
+        let (filing, upto) = (self.filing, self.upto);
+        let acts = filing.acts.list().len();
+        counts_among(filing.docs.list(), acts, test)
+            || cures_have(self.journal, self.number, upto, acts, test)
+    }
+
+    /// The form in which the person has consented to the act: certified where some consent is;
+    /// None where there is none (GBO § 29).
+    pub fn given(&self, act: u8, person: Person) -> Option<Form>
+        ensures { result ≡ given self.now act person }
+    {
+        if self.has(&Sought::Certified { act, person }) {
+            Some(Form::Certified)
+        } else if self.has(&Sought::Consent { act, person }) {
+            Some(Form::Plain)
+        } else {
+            None
+        }
+    }
+
+    /// Whether the act has an expiry proof (GBO § 22).
+    pub fn has_proof(&self, act: u8) -> bool
+        ensures { result ≡ has_proof self.now act }
+    {
+        self.has(&Sought::Proof { act })
+    }
+}
+
+/// Whether a cure of the filing, up to a receipt, brings such a document for one of so many acts.
+#[tactic(auto, using(crate::proofs::CureOrder::any_brought))]
+fn cures_have<T: DocFilter>(
+    journal: &Journal,
+    filing: ReceiptNo,
+    upto: ReceiptNo,
+    acts: usize,
+    test: &T,
+) -> bool
+    ensures { result ≡ list_any (T.test test.now) (filter (λ d. is_between 1 acts (act_of_doc d)) (flat_map (docs_by_cure journal.now.receipts) (filter (λ n. nat_le n upto) (cures_of journal.now.receipts filing)))) }
+{
+    // Cures ascend: none behind the receipt counts.
+    for number in journal.cures_of(filing) {
+        if *number > upto {
+            return false;
+        }
+        if counts_among(docs_by_cure(journal, *number), acts, test) {
+            return true;
+        }
+    }
+    false
+}
+
+/// Whether such a document is among these, for one of so many acts.
+fn counts_among<T: DocFilter>(docs: &[Doc], acts: usize, test: &T) -> bool
+    ensures { result ≡ list_any (T.test test.now) (filter (λ d. is_between 1 acts (act_of_doc d)) docs.now) }
+{
+    for doc in docs {
+        if counts(doc, acts) && test.passes(doc) {
+            return true;
+        }
+    }
+    false
+}
+
+/// Whether the document is for one of so many acts.
+fn counts(doc: &Doc, acts: usize) -> bool
+    ensures { result ≡ is_between 1 acts (act_of_doc doc.now) }
+{
+    let act = act_of_doc(doc);
+    1 <= act && act as usize <= acts
+}
+
+/// The act for which the document is.
+fn act_of_doc(doc: &Doc) -> u8
+    ensures { result ≡ act_of_doc doc.now }
+{
+    match doc {
+        Doc::Consent { act, .. } => *act,
+        Doc::Agreement { act } => *act,
+        Doc::TaxClearance { act } => *act,
+        Doc::ExpiryProof { act } => *act,
+    }
+}
+
+/// The documents that receipt n brings as a cure.
+fn docs_by_cure(journal: &Journal, n: ReceiptNo) -> &[Doc]
+    ensures { result.now ≡ docs_by_cure journal.now.receipts n }
+{
+    match journal.get(n) {
+        Some(receipt) => docs_of_cure(&receipt.item),
+        None => &[],
+    }
+}
+
+fn docs_of_cure(item: &Item) -> &[Doc]
+    ensures { result.now ≡ docs_of_cure item.now }
+{
+    match item {
+        Item::Cure { docs, .. } => docs.list(),
+        _ => &[],
+    }
+}

@@ -1,0 +1,99 @@
+//! What is looked for among documents.
+ghost use Rattle.std.specs.Prelude.{◌≡◌};
+ghost use Rattle.act_model.specs.Documents.{is_agreement, is_certified_consent_of, is_clearance, is_consent_of, is_proof};
+
+use crate::{Doc, Form};
+use gb_base::Person;
+
+/// A test of a document.
+pub trait DocFilter {
+    ghost use Rattle.std.specs.Prelude.{Bool};
+    ghost use Rattle.act_model.specs.declared.documents.Doc.{Doc};
+
+    /// Whether the document passes.
+    ghost test: { Self → Doc → Bool };
+
+    /// Whether the document passes.
+    fn passes(&self, doc: &Doc) -> bool
+        ensures { result ≡ test self.now doc.now };
+}
+
+/// What is looked for, for the act of this number.
+#[derive(Clone, Copy, Debug)]
+pub enum Sought {
+    /// A consent of the person, in either form.
+    Consent { act: u8, person: Person },
+    /// A certified one.
+    Certified { act: u8, person: Person },
+    /// The agreement on a transfer (GBO § 20).
+    Agreement { act: u8 },
+    /// The tax office's clearance of a transfer (GrEStG § 22).
+    Clearance { act: u8 },
+    /// The proof that a right has expired by law (GBO § 22).
+    Proof { act: u8 },
+}
+
+impl DocFilter for Sought {
+    ghost use Rattle.act_model.specs.Sought.{is_sought};
+
+    ghost test = { is_sought };
+
+    fn passes(&self, doc: &Doc) -> bool {
+        match self {
+            Sought::Consent { act, person } => is_consent_of(doc, *act, *person),
+            Sought::Certified { act, person } => is_certified_consent_of(doc, *act, *person),
+            Sought::Agreement { act } => is_agreement(doc, *act),
+            Sought::Clearance { act } => is_clearance(doc, *act),
+            Sought::Proof { act } => is_proof(doc, *act),
+        }
+    }
+}
+
+/// Whether the document is a consent of the person for the act.
+fn is_consent_of(doc: &Doc, number: u8, consenting: Person) -> bool
+    ensures { result ≡ is_consent_of number consenting doc.now }
+{
+    match doc {
+        Doc::Consent { act, person, .. } => *act == number && *person == consenting,
+        _ => false,
+    }
+}
+
+/// Whether the document is a certified consent of the person for the act (GBO § 29).
+fn is_certified_consent_of(doc: &Doc, number: u8, consenting: Person) -> bool
+    ensures { result ≡ is_certified_consent_of number consenting doc.now }
+{
+    match doc {
+        Doc::Consent { act, person, form } => {
+            *form == Form::Certified && *act == number && *person == consenting
+        }
+        _ => false,
+    }
+}
+
+fn is_agreement(doc: &Doc, number: u8) -> bool
+    ensures { result ≡ is_agreement number doc.now }
+{
+    match doc {
+        Doc::Agreement { act } => *act == number,
+        _ => false,
+    }
+}
+
+fn is_clearance(doc: &Doc, number: u8) -> bool
+    ensures { result ≡ is_clearance number doc.now }
+{
+    match doc {
+        Doc::TaxClearance { act } => *act == number,
+        _ => false,
+    }
+}
+
+fn is_proof(doc: &Doc, number: u8) -> bool
+    ensures { result ≡ is_proof number doc.now }
+{
+    match doc {
+        Doc::ExpiryProof { act } => *act == number,
+        _ => false,
+    }
+}

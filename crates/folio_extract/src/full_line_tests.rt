@@ -1,0 +1,56 @@
+//! A folio with as many rights as it may have.
+use crate::testing::{charge, consent, docs, folio, opened_by_one, person, receive};
+use act_model::{Acts, Filing, Item};
+use arrayvec::ArrayVec;
+use folio_line::{counted_exchanges, folio_slots, live_rights};
+use gb_base::NoMemory;
+use registrar::alone;
+use std::process::Abort;
+
+/// Eight land charges of 10 euros, each of its own group.
+fn eight_charges(rt: &impl Abort) -> Item {
+    let mut acts = ArrayVec::new();
+    acts.push(charge(rt, 1_000, 1));
+    acts.push(charge(rt, 1_000, 2));
+    acts.push(charge(rt, 1_000, 3));
+    acts.push(charge(rt, 1_000, 4));
+    acts.push(charge(rt, 1_000, 5));
+    acts.push(charge(rt, 1_000, 6));
+    acts.push(charge(rt, 1_000, 7));
+    acts.push(charge(rt, 1_000, 8));
+    let consents = [
+        consent(rt, 1, 10),
+        consent(rt, 2, 10),
+        consent(rt, 3, 10),
+        consent(rt, 4, 10),
+        consent(rt, 5, 10),
+        consent(rt, 6, 10),
+        consent(rt, 7, 10),
+        consent(rt, 8, 10),
+    ];
+    Item::Filing(Filing {
+        applicant: person(rt, 10),
+        conditional: false,
+        acts: Acts::new(acts),
+        docs: docs(consents.as_slice()),
+    })
+}
+
+/// 256 rights fill the line of their folio, each with a piece of its own.
+#[test]
+fn the_line_of_256_rights_is_filled(rt: HostRuntime) -> Result<(), NoMemory> {
+    let alloc = rt.alloc();
+    let mut journal = opened_by_one(&rt, alloc);
+    let filing = eight_charges(&rt);
+    for _round in 0..32 {
+        receive(&rt, &mut journal, 4, &filing);
+    }
+    let register = alone(alloc, &journal)?;
+    let seven = folio(&rt, 7);
+    let rights = live_rights(alloc, &register, seven)?;
+    assert_eq!(&rt; rights.len(), 256);
+    let exchanges = counted_exchanges(alloc, &register, &journal, seven, &rights)?;
+    let slots = folio_slots(alloc, &register, &journal, seven, &exchanges)?;
+    assert_eq!(&rt; slots.pieces().len(), 256);
+    Ok(())
+}

@@ -1,0 +1,5 @@
+-- What only private clauses and proofs use.
+pub mod FilingRuns
+pub mod NotHeld
+pub mod PlaceByPlace
+pub mod RightOrder

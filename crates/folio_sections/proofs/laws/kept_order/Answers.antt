@@ -1,5 +1,0 @@
-use Rattle.folio_sections.proofs.KeptOrder.{kept_is_order}
-use Rattle.folio_sections.proofs.laws.kept_order.Goals as goal
-
-pub returns : goal.returns
-returns c = record { order = λ journal at folio x y a b stands kept first second. kept_is_order journal at folio x y a b stands kept first second }

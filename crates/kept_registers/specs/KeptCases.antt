@@ -1,0 +1,106 @@
+-- What holds of the forced sales of a register that comes about (ZVG).
+use Rattle.std.specs.Prelude.{◌≡◌, ℕ, ◌<◌, ◌≤◌, Bool, true, false, ◌&&◌, nat_lt, List, All, Any, AllPairs, count_by, filter, slice_get, IfSome, IsTrue, IsSomeAnd, Option, Some, None, option_map, option_and_then}
+use Rattle.std.specs.Option.{option_map_or}
+use Rattle.gb_base.specs.RightNo.{RightNo, same_right}
+use Rattle.gb_base.specs.declared.keys.Key.{Key}
+use Rattle.gb_base.specs.declared.keys.Key.TheVariants.{Title, Right, Case}
+use Rattle.act_model.specs.declared.items.Item.{Item}
+use Rattle.act_model.specs.declared.receipts.Receipt.{Receipt}
+use Rattle.act_model.specs.Receiving.{receipt_at}
+use Rattle.folio_sections.specs.Cases.{case, is_seizure}
+use Rattle.folio_sections.specs.Limits.{most_registrations, most_seizures}
+use Rattle.folio_sections.specs.Titles.{is_opening}
+use Rattle.folio_sections.specs.declared.entries.Entry.{Entry}
+use Rattle.folio_sections.specs.declared.entries.What.{What}
+use Rattle.act_model.specs.declared.auctions.Basis.TheVariants as basis
+use Rattle.act_model.specs.declared.auctions.Registration.TheVariants as registration
+use Rattle.act_model.specs.declared.items.Item.TheVariants as item
+use Rattle.folio_sections.specs.declared.entries.What.TheVariants as what
+
+-- the item of receipt n
+abbrev pub item_at : List Receipt → ℕ → Option Item
+item_at journal n = option_map (λ r. r.item) (receipt_at journal n)
+
+-- the case of a forced sale on the entries below receipt n
+abbrev pub case_below : ℕ → List Entry → List Entry
+case_below n entries = case (filter (λ e. nat_lt e.receipt n) entries)
+
+-- the item is this content's, of the folio
+abbrev pub IsItsItem : ℕ → What → Item → Type 0
+IsItsItem folio what.Seized (item.Seize f basis served) = f ≡ folio
+IsItsItem folio what.Registered (item.Register f registered) = f ≡ folio
+IsItsItem folio (what.Bids costs) (item.OpenBids f c) = (f ≡ folio) × (c ≡ costs)
+IsItsItem folio (what.Awarded buyer bid) (item.Award f b c) = (f ≡ folio) × (b ≡ buyer) × (c ≡ bid)
+IsItsItem folio other its = ⊥
+
+-- a content of a forced sale stands only by its item
+abbrev pub StandsByItem : List Receipt → ℕ → ℕ → What → Type 0
+StandsByItem journal folio receipt what.Seized = IsSomeAnd (item_at journal receipt) (IsItsItem folio what.Seized)
+StandsByItem journal folio receipt what.Registered = IsSomeAnd (item_at journal receipt) (IsItsItem folio what.Registered)
+StandsByItem journal folio receipt (what.Bids costs) = IsSomeAnd (item_at journal receipt) (IsItsItem folio (what.Bids costs))
+StandsByItem journal folio receipt (what.Awarded buyer bid) = IsSomeAnd (item_at journal receipt) (IsItsItem folio (what.Awarded buyer bid))
+StandsByItem journal folio receipt other = Unit {0}
+
+-- a content registers a claim
+abbrev pub is_registration : What → Bool
+is_registration what.Registered = true
+is_registration other = false
+
+-- the right for which an item registers arrears
+abbrev pub arrears_of : Item → Option RightNo
+arrears_of (item.Register folio (registration.Arrears right from until)) = Some right
+arrears_of (item.Register folio (registration.Advance person amount)) = None
+arrears_of (item.Register folio (registration.PublicCharge person amount due)) = None
+arrears_of (item.Filing f) = None
+arrears_of (item.Cure filing docs) = None
+arrears_of (item.Lapse filing) = None
+arrears_of (item.Seize folio basis served) = None
+arrears_of (item.OpenBids folio costs) = None
+arrears_of (item.Award folio buyer bid) = None
+arrears_of (item.Distribute folio) = None
+
+-- both entries register arrears for one right
+abbrev pub register_same_arrears : List Receipt → Entry → Entry → Bool
+register_same_arrears journal e later =
+    is_registration e.what && is_registration later.what
+    && option_map_or (λ r. option_map_or (same_right r) (option_and_then arrears_of (item_at journal later.receipt)) false)
+    (option_and_then arrears_of (item_at journal e.receipt)) false
+
+-- the right from which an item seizes
+abbrev pub seized_right : Item → Option RightNo
+seized_right (item.Seize folio (basis.FromRight right) served) = Some right
+seized_right (item.Seize folio (basis.Personal creditor claim) served) = None
+seized_right (item.Filing f) = None
+seized_right (item.Cure filing docs) = None
+seized_right (item.Lapse filing) = None
+seized_right (item.Register folio registered) = None
+seized_right (item.OpenBids folio costs) = None
+seized_right (item.Award folio buyer bid) = None
+seized_right (item.Distribute folio) = None
+
+-- an entry that seizes from a right does so from one older than receipt n
+abbrev pub SeizesFromOlder : List Receipt → ℕ → Entry → Type 0
+SeizesFromOlder journal n e =
+    IsTrue (is_seizure e.what) → IfSome (option_and_then seized_right (item_at journal e.receipt)) (λ right. right.receipt < n)
+
+-- a content leaves a right at least one cent
+abbrev pub LeavesCents : What → Type 0
+LeavesCents (what.Remains capital) = 1 ≤ capital
+LeavesCents other = Unit {0}
+
+-- the folio was opened before this receipt
+abbrev pub IsOpenedBefore : ℕ → List Entry → Type 0
+IsOpenedBefore n entries = Any (λ o. IsTrue (is_opening o.what) × (o.receipt < n)) entries
+
+-- A case, as it stood below any receipt, begins with a seizure of an open folio, its entries are of their items, and its
+-- numbers keep their limits. What remains of a right is at least a cent.
+pub record CaseInOrder (journal : List Receipt) (at : Key → List Entry) : Type 0 where
+  pub remains : (folio : ℕ) (right : RightNo) → All (λ e. LeavesCents e.what) (at (Right folio right))
+  pub opened : (folio : ℕ) → All (λ e. IsTrue (is_seizure e.what) → IsOpenedBefore e.receipt (at (Title folio))) (at (Case folio))
+  pub items : (folio : ℕ) → All (λ e. StandsByItem journal folio e.receipt e.what) (at (Case folio))
+  pub begins : (folio n : ℕ) → IfSome (slice_get (case_below n (at (Case folio))) 0) (λ e. IsTrue (is_seizure e.what))
+  pub seizures : (folio n : ℕ) → count_by (λ e. is_seizure e.what) (case_below n (at (Case folio))) ≤ most_seizures
+  pub registrations : (folio n : ℕ) → count_by (λ e. is_registration e.what) (case_below n (at (Case folio))) ≤ most_registrations
+  pub arrears : (folio n : ℕ) → AllPairs (λ e later. register_same_arrears journal e later ≡ false) (case_below n (at (Case folio)))
+  pub older : (folio n : ℕ) → IfSome (slice_get (case_below n (at (Case folio))) 0)
+      (λ first. All (SeizesFromOlder journal first.receipt) (case_below n (at (Case folio))))

@@ -1,0 +1,139 @@
+#!/usr/bin/env python3
+"""Checks what documents say of the code's rooms: that the words of docs/glossary.md stand in the code,
+that each must-fail edit stands in a row of promises and each row's edits are there, that there are not
+too many, and that crates.txt has the crates in order, with a user for each library.
+
+Needs no built program.
+"""
+
+import pathlib
+import re
+
+import checks
+
+CRATES = checks.ROOT / "crates"
+GLOSSARY = checks.ROOT / "docs" / "glossary.md"
+PROMISES = checks.ROOT / "docs" / "promises.md"
+
+# No crate has more edits, nor have all of them together.
+MOST_OF_A_CRATE = 12
+MOST_OF_ALL = 200
+
+# A name in backticks, and the crate or type that it is said to be of.
+NAME = re.compile(r"`([^`]+)`(?: of `?(\w+)`?)?")
+
+# A word of the code, or of the command line.
+WORD = re.compile(r"--\w+|\w+")
+
+
+def names_of_crates():
+    return sorted(folder.parent.name for folder in CRATES.glob("*/src"))
+
+
+def cells(line):
+    return [cell.strip() for cell in line.strip().strip("|").split("|")]
+
+
+def rows(page, title):
+    """Of each row of a page's tables that have a column of this title, the first cell and that of the column."""
+    column = None
+    for line in page.read_text().splitlines():
+        if not line.startswith("|"):
+            column = None
+        elif column is None:
+            titles = cells(line)
+            column = titles.index(title) if title in titles else -1
+        elif column >= 0 and not line.startswith("|---"):
+            yield cells(line)[0], cells(line)[column]
+
+
+def words_of(crate):
+    """The words of a crate's code and definitions, without those of comments."""
+    code = [re.sub(r"//.*", "", file.read_text()) for file in (CRATES / crate / "src").glob("**/*.rt")]
+    said = [re.sub(r"--.*", "", file.read_text()) for file in (CRATES / crate / "specs").glob("**/*.antt")]
+    return {word for text in [*code, *said] for word in WORD.findall(text)}
+
+
+def stands(words, name, of):
+    """Whether a name of the glossary stands in the code: in that of a crate, where one is named."""
+    if name.endswith(".antt"):
+        return any(CRATES.glob(f"*/{name}"))
+    path = WORD.findall(name)
+    if path[0] in words:
+        return all(word in words[path[0]] for word in path[1:])
+    if of in words:
+        return all(word in words[of] for word in path)
+    return all(any(word in some for some in words.values()) for word in [*path, *filter(None, [of])])
+
+
+def check_glossary(look, crates):
+    words = {crate: words_of(crate) for crate in crates}
+    said = list(rows(GLOSSARY, "name in code"))
+    look.same("docs/glossary.md has names in code", bool(said), True)
+    for term, cell in said:
+        missing = [name for name, of in NAME.findall(cell) if not stands(words, name, of)]
+        look.same(f"names in code of {term} that are not there", missing, [])
+
+
+def edits_of(crate):
+    return {file.stem for file in (CRATES / crate / "must-fail").glob("*.edit")}
+
+
+def check_rows(look, crates):
+    """That the rows name the edits that are there, and each of them."""
+    there = {(crate, edit) for crate in crates for edit in edits_of(crate)}
+    named = set()
+    for crate, page in [*((crate, CRATES / crate / "README.md") for crate in crates), ("", PROMISES)]:
+        if not page.exists():
+            continue
+        said = {(of or crate, edit) for _, cell in rows(page, "edits") for edit, of in NAME.findall(cell)}
+        look.same(f"edits that {page.relative_to(checks.ROOT)} names and no crate has", sorted(said - there), [])
+        named |= said
+    for crate in crates:
+        nameless = sorted(edit for edit in edits_of(crate) if (crate, edit) not in named)
+        look.same(f"edits of {crate} that no row names", nameless, [])
+
+
+def check_counts(look, crates):
+    counts = {crate: len(edits_of(crate)) for crate in crates}
+    for crate, count in counts.items():
+        look.at_most(f"edits of {crate}", count, MOST_OF_A_CRATE)
+    look.at_most("edits of all crates", sum(counts.values()), MOST_OF_ALL)
+
+
+def uses_of_crates():
+    """Each crate of crates.txt in its order, with those that it uses."""
+    lines = (checks.ROOT / "crates.txt").read_text().splitlines()
+    lines = [line.partition(":") for line in lines if line.strip() and not line.startswith("#")]
+    return {crate.strip(): uses.split() for crate, _, uses in lines}
+
+
+def is_program(crate):
+    files = (CRATES / crate / "src").glob("*.rt")
+    return any(re.search(r"^\s*(pub )?fn main\b", file.read_text(), re.M) for file in files)
+
+
+def check_crates(look, crates):
+    uses = uses_of_crates()
+    look.same("the crates of crates.txt", sorted(uses), crates)
+    above = set()
+    for crate, used in uses.items():
+        look.same(f"crates below {crate} that it uses", sorted(set(used) & set(uses) - above), [])
+        above.add(crate)
+    used_by_some = {crate for used in uses.values() for crate in used}
+    unused = [crate for crate in crates if crate not in used_by_some and not is_program(crate)]
+    look.same("libraries that no crate uses", unused, [])
+
+
+def main():
+    look = checks.Checks()
+    crates = names_of_crates()
+    check_glossary(look, crates)
+    check_rows(look, crates)
+    check_counts(look, crates)
+    check_crates(look, crates)
+    look.end()
+
+
+if __name__ == "__main__":
+    main()
