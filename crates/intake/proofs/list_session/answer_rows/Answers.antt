@@ -1,8 +1,8 @@
-use Rattle.std.proofs.Common.{◌≡◌, true, false, [], ◌∷◌, ◌++◌, refl, sym, ◌∙◌, subst, append-nil}
+use Rattle.std.proofs.Common.{◌≡◌, true, false, [], ◌∷◌, ◌++◌, refl, sym, ◌∙◌, subst}
 use Rattle.std.proofs.lemmas.Result.{MatchResult-from_err}
 use Rattle.intake.specs.EarlyEnds.{EndsEarly}
 use Rattle.intake.proofs.EarlyEnds.{early_then, early_longer, early_all}
-use Rattle.intake.proofs.Replies.{answered_none, answered_then, disk_same, disk_within, disk_by_first, done_then, grows}
+use Rattle.intake.proofs.Replies.{answered_none, disk_same, disk_within, disk_by_first, done_then, grows}
 use Rattle.intake.proofs.RowsAnswered.{one_row_more, next_row}
 use Rattle.intake.proofs.SessionInputs.{if_some_at}
 use Rattle.intake.proofs.list_session.answer_rows.Goals as goal

@@ -1,13 +1,11 @@
-use Rattle.std.proofs.Common.{◌≡◌, ◌≤◌, inl, inr, ℕ, ◌+◌, List, [], ◌∷◌, ◌++◌, length, take, Some, refl, sym, ap, ◌∙◌, subst, append-nil, length-append, arith}
+use Rattle.std.proofs.Common.{◌≡◌, ◌≤◌, inl, inr, ◌+◌, [], ◌∷◌, ◌++◌, length, take, refl, sym, ap, ◌∙◌, subst, append-nil, length-append, arith}
 use Rattle.std.specs.Io.KnownBytes.{IsAtEnd}
 use Rattle.std.proofs.lemmas.Grind.{common_steps}
 use Rattle.std.proofs.lemmas.List.{take_at}
 use Rattle.std.proofs.lemmas.Result.{MatchResult-from_err}
 use Rattle.intake.specs.Answered.{Answered}
 use Rattle.intake.specs.EarlyEnds.{EndsEarly}
-use Rattle.intake.specs.Grown.{DiskGrows}
 use Rattle.intake.specs.Lines.{request_of_line}
-use Rattle.intake.specs.Requests.{Held, held_after}
 use Rattle.intake.specs.Sessions.{behind, ended_requests, line_requests}
 use Rattle.intake.proofs.LineRequests.{behind-append}
 use Rattle.intake.proofs.EarlyEnds.{early_then, early_before, early_all}
@@ -126,8 +124,7 @@ loop-preserved g c =
       counted = (let one : 1 ≤ c.in-Bytes.read = c.in-Bytes.ensures.count.0 in omega arith);
       room = c.loop.invariant.room;
       took = took_more _ _ _ (take c.in-Bytes.read c.read_block.new.block) _ _ c.loop.invariant.took c.in-Bytes.ensures.content
-          (λ read did. let size : length (read ++ (take c.in-Bytes.read c.read_block.new.block)) ≡ c.loop.count + c.in-Bytes.read = length-append read _ ∙ (let one : length (take c.in-Bytes.read c.read_block.new.block) ≡ c.in-Bytes.read = grind (arith, common_steps) in omega (arith, did.0, one)) in
-          (
+          (λ read did. let size : length (read ++ (take c.in-Bytes.read c.read_block.new.block)) ≡ c.loop.count + c.in-Bytes.read = length-append read _ ∙ (let one : length (take c.in-Bytes.read c.read_block.new.block) ≡ c.in-Bytes.read = grind (arith, common_steps) in omega (arith, did.0, one)) in (
             size,
             c.in_ok-answer_piece-in-Bytes.ensures.line ∙ ap (λ p. behind c.loop.line.items (take c.in-Bytes.read p)) same ∙ ap (λ l. behind l (take c.in-Bytes.read c.read_block.new.block)) did.1 ∙ sym (behind-append [] read (take c.in-Bytes.read c.read_block.new.block)),
             done_then g.J.Receiver.reads g.J.Receiver.moment g.J.Receiver.since c.args.receiver.now c.loop.receiver c.answer_piece.new.receiver _ _ _ _ _ _ _ (ended_requests c.args.kind [] read) (ended_requests c.args.kind c.loop.line.items (take c.in-Bytes.read c.read_block.new.block)) _

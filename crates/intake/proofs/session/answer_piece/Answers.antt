@@ -1,9 +1,9 @@
-use Rattle.std.proofs.Common.{◌≡◌, ◌∷◌, ◌++◌, [], List, Some, refl, ap, ◌∙◌, sym, subst, append-nil, append_assoc}
+use Rattle.std.proofs.Common.{◌∷◌, ◌++◌, [], List, refl, ap, ◌∙◌, sym, subst, append_assoc}
 use Rattle.std.proofs.lemmas.Result.{MatchResult-from_err}
 use Rattle.intake.specs.Answered.{Answered}
 use Rattle.intake.specs.EarlyEnds.{EndsEarly}
 use Rattle.intake.specs.Grown.{DiskGrows}
-use Rattle.intake.specs.Requests.{Held, held_after}
+use Rattle.intake.specs.Requests.{held_after}
 use Rattle.intake.specs.Sessions.{behind, ended_requests}
 use Rattle.intake_requests.specs.declared.requests.Request.{Request}
 use Rattle.intake.proofs.LineRequests.{behind-append, behind-none, requests_of_two, requests_of_piece, requests_at_end}
