@@ -7,14 +7,14 @@ use Rattle.receipt_journal.specs.Standing.{StandsForJournal}
 use Rattle.receipt_journal.proofs.Standings.{journal_once}
 use Rattle.registry_office.specs.Outcomes.{settle_output}
 use Rattle.registry_office.specs.Disks.{IsJournalFile, FindsBy}
-use Rattle.registry_office.specs.Faults.{output_failed}
+use Rattle.intake.specs.Faults.{output_failed}
 use Rattle.registry_office.specs.Statuses.{is_of_writing, is_no_journal, read_fault, write_fault, disk_fault, door_fault}
 use Rattle.registry_office.specs.inner.Ends.{status_of_writing}
 use Rattle.registry_office.specs.declared.statuses.Status.{Status}
 use Rattle.registry_office.specs.declared.statuses.Status.TheVariants as status
-use Rattle.registry_office.specs.declared.faults.OutputFault.{OutputFault}
-use Rattle.registry_office.specs.declared.faults.OutputFault.TheVariants as output
-use Rattle.registry_office.proofs.Replies.{whole_front}
+use Rattle.intake.specs.declared.faults.OutputFault.{OutputFault}
+use Rattle.intake.specs.declared.faults.OutputFault.TheVariants as output
+use Rattle.intake.proofs.Replies.{whole_front}
 
 pub whole_of_file : (written0 written1 : Option (List ℕ)) (file : List ℕ) (settled kept journal : List Receipt) → settled ≡ kept → StandsForJournal file kept → StandsForJournal file journal → Appends written0 written1 (settle_output settled) → Appends written0 written1 (settle_output journal)
 whole_of_file written0 written1 file settled kept journal same found stands wrote =

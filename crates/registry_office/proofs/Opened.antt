@@ -15,15 +15,20 @@ use Rattle.receipt_journal.specs.declared.faults.BookFault.{BookFault}
 use Rattle.receipt_journal.specs.declared.faults.BookFault.TheVariants as fault
 use Rattle.receipt_journal.proofs.Standings.{stands_by_frames, kept_frames}
 use Rattle.registry_office.specs.Disks.{IsJournalFile, FindsBy, GrowsSynced, KeepsGrown, LeftAnew}
-use Rattle.registry_office.specs.Grown.{GrownFrom, IsFront}
+use Rattle.intake.specs.Grown.{GrownFrom, IsFront}
 use Rattle.registry_office.specs.Statuses.{read_fault, write_fault, disk_fault, door_fault, is_no_journal, is_of_session, tells_of_opening}
 use Rattle.registry_office.specs.inner.Ends.{status_of_fault}
-use Rattle.registry_office.specs.Sessions.{HasWritten}
+use Rattle.registry_office.specs.Receivings.{HasWritten}
 use Rattle.registry_office.specs.declared.statuses.Status.{Status}
 use Rattle.registry_office.specs.declared.statuses.Status.TheVariants as status
-use Rattle.registry_office.proofs.Acknowledged.{first_empty}
-use Rattle.registry_office.proofs.Durable.{front_refl}
-use Rattle.registry_office.proofs.Replies.{grown_at, grown_wider}
+use Rattle.intake.proofs.Acknowledged.{first_empty}
+use Rattle.intake.proofs.Durable.{front_refl}
+use Rattle.gb_base.specs.DayMinute.{DayMinute}
+use Rattle.intake_requests.specs.declared.requests.Request.{Request}
+use Rattle.intake.specs.EarlyEnds.{EndsEarly}
+use Rattle.intake.specs.Requests.{OnDisk, Held}
+use Rattle.intake.proofs.EarlyEnds.{early_before}
+use Rattle.intake.proofs.Replies.{grown_at, grown_wider}
 
 -- a file that is kept stands for the journal that it stood for
 pub kept_journal : (file c : List ℕ) (journal : List Receipt) → StandsForJournal file journal → IsKept file c → StandsForJournal c journal
@@ -188,3 +193,9 @@ told_by_session status.DoorFault of tells = refl
 pub cut_by_source : (s : Status) → (s ≡ status.ReadFault) ⊎ (s ≡ status.InputTooLong) → disk_fault s ≡ false
 cut_by_source s (inl read) = ap disk_fault read
 cut_by_source s (inr long) = ap disk_fault long
+
+-- nothing is done, and each image stands for the journal that was held
+pub early_unopened : (held : Held) (known : Option (List DayMinute)) (w : Option (List ℕ)) (images : List ℕ → Type 0) (requests : List Request)
+    → known ≡ Some held.ticks → ((file : List ℕ) → images file → StandsForJournal file held.journal) → EndsEarly OnDisk held known w w images requests
+early_unopened held known w images requests clock stands =
+    early_before OnDisk held known w images images requests (record { ticks = clock; stands = stands; stands_now = stands })

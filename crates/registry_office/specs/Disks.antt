@@ -5,7 +5,7 @@ use Rattle.gb_outside.specs.Images.{Only, Torn, LeavesOnly}
 use Rattle.act_model.specs.declared.receipts.Receipt.{Receipt}
 use Rattle.journal_disk.specs.Layout.{the_heading, IsForeign, IsUnmade, made_from}
 use Rattle.receipt_journal.specs.Standing.{StandsForJournal, IsBadBehind, gate_behind}
-use Rattle.registry_office.specs.Grown.{GrownFrom, WritesFrames}
+use Rattle.intake.specs.Grown.{GrownFrom, WritesFrames}
 use Rattle.registry_office.specs.declared.statuses.Status.{Status}
 use Rattle.registry_office.specs.declared.statuses.Status.TheVariants as status
 

@@ -7,12 +7,14 @@ use Rattle.act_model.specs.declared.receipts.Receipt.{Receipt}
 use Rattle.receipt_journal.specs.Standing.{StandsForJournal}
 use Rattle.registrar.specs.Settling.{registrar}
 use Rattle.folio_extract.specs.Reports.{report}
-use Rattle.registry_office.specs.Built.{is_built}
-use Rattle.registry_office.specs.Intakes.{whole_of, cut_of}
-use Rattle.registry_office.specs.Requests.{InMemory, OnDisk, Held, holding, replies, held_after}
-use Rattle.registry_office.specs.Sessions.{line_requests, ended_requests}
-use Rattle.registry_office.specs.declared.lines.LineKind.TheVariants.{Stamped}
+use Rattle.intake.specs.Built.{is_built}
+use Rattle.intake.specs.Intakes.{whole_of, cut_of}
+use Rattle.intake.specs.Requests.{InMemory, OnDisk, Held, holding, replies, held_after}
+use Rattle.intake.specs.Sessions.{line_requests, ended_requests}
+use Rattle.intake.specs.declared.lines.LineKind.TheVariants.{Stamped}
 use Rattle.intake_requests.specs.declared.requests.Request.{Request}
+use Rattle.std_alloc.specs.declared.wrapped.RcStr.{RcStr}
+use Rattle.registry_office.specs.Words.{commanded}
 use Rattle.registry_office.specs.declared.words.Command.{Command}
 use Rattle.registry_office.specs.declared.words.Command.TheVariants.{Settle, SettleLines, Receive}
 
@@ -94,3 +96,9 @@ pub record Told (command : Option Command) (tells : Bool) (file : List ℕ) (lef
   pub disk_stands : uses_disk command ≡ true → StandsForJournal file held.journal
   pub source_left : uses_input command ≡ true → left ≡ Some input
   pub clock_tells : receives command ≡ true → known ≡ Some held.ticks
+
+-- A run of these words, over objects that tell what they hold: what its disk and its clock held at first, and its input.
+pub record Begins {Z : Type 0} (words : List (RcStr Z)) (tells : Bool) (file : List ℕ) (left : Option (List ℕ)) (known : Option (List DayMinute)) : Type 0 where
+  pub held : Held
+  pub input : List ℕ
+  pub told : Told (commanded words) tells file left known held input

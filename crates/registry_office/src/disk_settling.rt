@@ -10,19 +10,17 @@ ghost use Rattle.act_model.specs.declared.receipts.Receipt.{Receipt};
 ghost use Rattle.journal_disk.specs.Layout.{the_heading, made_from, IsMade, IsUnmade};
 ghost use Rattle.journal_disk.specs.Opening.{IsKept, AnswersSynced};
 ghost use Rattle.receipt_journal.specs.Standing.{StandsForJournal};
-ghost use Rattle.registry_office.specs.Built.{is_built};
+ghost use Rattle.intake.specs.Built.{is_built};
 ghost use Rattle.registry_office.specs.Disks.{FindsBy, IsJournalFile, KeepsGrown};
-ghost use Rattle.registry_office.specs.Faults.{output_failed};
+ghost use Rattle.intake.specs.Faults.{output_failed};
 ghost use Rattle.registry_office.specs.Outcomes.{settle_output};
 ghost use Rattle.registry_office.specs.Statuses.{read_fault, write_fault, disk_fault, door_fault, is_no_journal, is_of_writing, tells_of_opening};
 
-use crate::built::is_built;
-use crate::faults::OutputFault;
 use crate::settling::write_report;
 use crate::statuses::{Status, status_of_opening, status_of_writing};
-use crate::writing::write_all;
 use act_model::{Journal, Receipt};
 use gb_outside::{DeskGate, Disk, Sink};
+use intake::{OutputFault, is_built, write_all};
 use receipt_journal::Book;
 use std::alloc::Global;
 

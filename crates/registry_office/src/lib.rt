@@ -1,24 +1,12 @@
-//! The office: reads lines, receives them, settles the journal and writes the report.
+//! The office: does what the words of its command say, over the journal of a disk or in memory.
 #![tactic(auto)]
 
-mod answering;
-mod built;
 mod disk_settling;
 #[cfg(test)]
 mod disk_tests;
-mod faults;
-mod inputs;
-mod intakes;
-pub mod laws;
-mod lines;
-mod list_session;
 #[cfg(test)]
 mod list_tests;
-mod receivers;
 mod receiving;
-#[cfg(test)]
-mod row_tests;
-mod session;
 mod settling;
 mod statuses;
 #[cfg(test)]
@@ -30,7 +18,6 @@ mod test_runs;
 mod tests;
 mod top;
 mod words;
-mod writing;
 
 pub use disk_settling::settle;
 pub use statuses::Status;

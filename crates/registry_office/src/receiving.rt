@@ -8,21 +8,22 @@ ghost use Rattle.journal_disk.specs.Layout.{the_heading, IsMade};
 ghost use Rattle.journal_disk.specs.Opening.{IsKept, AnswersSynced};
 ghost use Rattle.receipt_journal.specs.Standing.{StandsForJournal};
 ghost use Rattle.registry_office.specs.Disks.{FindsBy, IsJournalFile, KeepsGrown, LeftAnew, WritesBehind};
-ghost use Rattle.registry_office.specs.EarlyEnds.{EndsEarly, AreOf};
-ghost use Rattle.registry_office.specs.Grown.{GrownFrom, IsDurable};
-ghost use Rattle.registry_office.specs.Intakes.{whole_of, cut_of};
+ghost use Rattle.intake.specs.EarlyEnds.{EndsEarly, AreOf};
+ghost use Rattle.intake.specs.Grown.{GrownFrom, IsDurable};
+ghost use Rattle.intake.specs.Intakes.{whole_of, cut_of};
 ghost use Rattle.registry_office.specs.Outcomes.{outcome, Told};
 ghost use Rattle.registry_office.specs.Receivings.{Receives};
-ghost use Rattle.registry_office.specs.Requests.{OnDisk, Held, holding, replies, held_after};
-ghost use Rattle.registry_office.specs.Sessions.{most_input, Took, AllTell, HasWritten};
+ghost use Rattle.intake.specs.Requests.{OnDisk, Held, holding, replies, held_after};
+ghost use Rattle.intake.specs.Sessions.{most_input, Took};
+ghost use Rattle.registry_office.specs.Receivings.{AllTell, HasWritten};
 ghost use Rattle.registry_office.specs.Statuses.{read_fault, write_fault, disk_fault, door_fault, is_no_journal, is_of_session, tells_of_opening};
 ghost use Rattle.intake_requests.specs.declared.requests.Request.{Request};
 ghost use Rattle.registry_office.specs.declared.words.Command.TheVariants.{Receive};
 
-use crate::intakes::Intake;
 use crate::statuses::{Status, status_of_opening};
 use crate::taking::{take, take_list};
 use gb_outside::{Clock, Disk, Sink, Source};
+use intake::Intake;
 use receipt_journal::Book;
 
 /// Receives what the input has into the journal of a book.
@@ -78,7 +79,7 @@ pub(crate) fn receive_disk<R: AllocGlobal, S: Source, K: Sink, D: Disk, C: Clock
         → AppendsFront (K.written sink.old) (K.written sink.new) (outcome (Some (Receive intake)) held input).written }
     ensures early { (held : Held) (input : List ℕ) → Told (Some (Receive intake)) D.tells (D.reads disk.old) (S.left source.old) (C.ticks clock.old) held input → (result ≡ Status.Ok → ⊥)
         → Took (S.left source.old) (S.left source.new) (λ read. (requests : List Request) × AreOf (whole_of intake) (cut_of intake) (S.left source.new) read requests
-        × EndsEarly true OnDisk held (C.ticks clock.new) (K.written sink.old) (K.written sink.new) (LeftAnew (disk_fault result) (D.images disk.old) (D.images disk.new)) requests
+        × EndsEarly OnDisk held (C.ticks clock.new) (K.written sink.old) (K.written sink.new) (LeftAnew (disk_fault result) (D.images disk.old) (D.images disk.new)) requests
         × KeepsGrown D.reads D.images D.moment D.since disk.old disk.new (disk_fault result) held.journal (held_after OnDisk held requests).journal
         × WritesBehind (tells_of_opening result) held.journal (held_after OnDisk held requests).journal (D.reads disk.old) (D.reads disk.new)) }
     ensures cut { (held : Held) (input : List ℕ) → Told (Some (Receive intake)) D.tells (D.reads disk.old) (S.left source.old) (C.ticks clock.old) held input

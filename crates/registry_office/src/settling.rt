@@ -3,29 +3,24 @@ ghost use Rattle.std.specs.Prelude.{◌≡◌, ◌⊎◌, ◌≤◌, ◌<◌, �
 ghost use Rattle.std.specs.Io.KnownBytes.{Appends, IsAtEnd};
 ghost use Rattle.gb_outside.specs.Bytes.{AppendsFront};
 ghost use Rattle.gb_outside.specs.Faults.{Counts};
-ghost use Rattle.registry_office.specs.Faults.{output_failed, session_input_failed, session_output_failed, session_disk_failed};
+ghost use Rattle.intake.specs.Faults.{output_failed, session_input_failed, session_output_failed, session_disk_failed};
 ghost use Rattle.registry_office.specs.Outcomes.{report_of, settle_lines_output};
-ghost use Rattle.registry_office.specs.Requests.{InMemory, holding, replies};
-ghost use Rattle.registry_office.specs.Sessions.{ended_requests, Took, most_input};
-ghost use Rattle.registry_office.specs.declared.lines.LineKind.TheVariants.{Stamped};
+ghost use Rattle.intake.specs.Requests.{InMemory, holding, replies};
+ghost use Rattle.intake.specs.Sessions.{ended_requests, Took, most_input};
+ghost use Rattle.intake.specs.declared.lines.LineKind.TheVariants.{Stamped};
 
-use crate::faults::{OutputFault, SessionFault};
-use crate::lines::LineKind;
-use crate::session::answer_input;
-use crate::writing::write_all;
 use act_model::Journal;
 use folio_extract::report;
 use gb_base::NoMemory;
-use gb_outside::{Clock, Disk, Sink, Source};
+use gb_outside::{Sink, Source};
+use intake::{LineKind, OutputFault, SessionFault, answer_lines, write_all};
 use registrar::alone;
 use std::alloc::Global;
 
 /// Receives the stamped lines of the input into a journal in memory, with a reply line for each,
-/// and writes the report of that journal. The disk and the clock are not used.
-pub(crate) fn settle_lines<D: Disk, C: Clock, S: Source, K: Sink>(
+/// and writes the report of that journal.
+pub(crate) fn settle_lines<S: Source, K: Sink>(
     alloc: Global,
-    disk: &mut D,
-    clock: &mut C,
     source: &mut S,
     sink: &mut K,
 ) -> Result<(), SessionFault>
@@ -41,22 +36,12 @@ pub(crate) fn settle_lines<D: Disk, C: Clock, S: Source, K: Sink>(
         AppendsFront (K.written sink.old) (K.written sink.new) (settle_lines_output input))) }
     ensures read_part { OnErr result ((IsAtEnd (S.left source.new) → ⊥) → Took (S.left source.old) (S.left source.new) (λ read.
         AppendsFront (K.written sink.old) (K.written sink.new) (replies InMemory (holding [] []) (ended_requests Stamped [] (take most_input read))))) }
-    ensures same_disk { disk.new ≡ disk.old }
-    ensures same_clock { clock.new ≡ clock.old }
     ensures no_disk { session_disk_failed result ≡ false }
     ensures read_cause { Counts (S.faults source.old) (S.faults source.new) (session_input_failed result) }
     ensures write_cause { Counts (K.faults sink.old) (K.faults sink.new) (session_output_failed result) }
 {
     let mut journal = Journal::new(alloc);
-    answer_input(
-        alloc,
-        LineKind::Stamped,
-        &mut journal,
-        disk,
-        clock,
-        source,
-        sink,
-    )?;
+    answer_lines(alloc, LineKind::Stamped, &mut journal, source, sink)?;
     write_report(alloc, &journal, sink)?;
     Ok(())
 }

@@ -2,7 +2,7 @@
 ghost use Rattle.std.specs.Prelude.{◌≡◌};
 ghost use Rattle.registry_office.specs.inner.Ends.{status_of, status_of_fault, status_of_writing};
 
-use crate::faults::{OutputFault, SessionFault};
+use intake::{OutputFault, SessionFault};
 use receipt_journal::BookFault;
 
 /// How a run of the office ended.

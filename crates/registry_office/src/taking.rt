@@ -4,24 +4,23 @@
 ghost use Rattle.std.specs.Prelude.{◌≡◌, ◌≤◌, ◌+◌, ℕ, List, [], Some, false, length, IsTrue, IfSome};
 ghost use Rattle.gb_base.specs.DayMinute.{DayMinute};
 ghost use Rattle.gb_outside.specs.Faults.{Counts};
-ghost use Rattle.registry_office.specs.Grown.{IsDurable, DiskGrows};
-ghost use Rattle.registry_office.specs.Intakes.{whole_of, cut_of};
+ghost use Rattle.intake.specs.Grown.{IsDurable, DiskGrows};
+ghost use Rattle.intake.specs.Intakes.{whole_of, cut_of};
 ghost use Rattle.registry_office.specs.Receivings.{Receives};
-ghost use Rattle.registry_office.specs.Requests.{OnDisk, holding, held_after};
-ghost use Rattle.registry_office.specs.Sessions.{most_input, Took, AllTell};
+ghost use Rattle.intake.specs.Requests.{OnDisk, holding, held_after};
+ghost use Rattle.intake.specs.Sessions.{most_input, Took};
+ghost use Rattle.registry_office.specs.Receivings.{AllTell};
 ghost use Rattle.registry_office.specs.Statuses.{read_fault, write_fault, disk_fault, is_of_session};
-ghost use Rattle.registry_office.specs.declared.intakes.Intake.TheVariants.{Lines, OpeningList as ListFrom};
+ghost use Rattle.intake.specs.declared.intakes.Intake.TheVariants.{Lines, OpeningList as ListFrom};
 
-use crate::lines::LineKind;
-use crate::list_session::answer_list;
-use crate::session::answer_input;
 use crate::statuses::{Status, status_of};
 use gb_outside::{Clock, Disk, Sink, Source};
+use intake::{BookOnDisk, LineKind, answer_lines, answer_list};
 use receipt_journal::Book;
 
 /// Receives the lines of the input into the journal of a book, with the clock's stamps and a reply
 /// line each. It answers `Ok`, `ReadFault`, `WriteFault`, `DiskFault`, `Memory` or `InputTooLong`.
-/// A receipt is on the disk before its reply is written.
+/// A receipt is on the disk before its reply is written. What it reads and receives may want memory.
 pub fn take<R: AllocGlobal, S: Source, K: Sink, D: Disk, C: Clock>(
     rt: &R,
     source: &mut S,
@@ -52,12 +51,11 @@ pub fn take<R: AllocGlobal, S: Source, K: Sink, D: Disk, C: Clock>(
     ensures disk { Counts (D.faults disk.old) (D.faults disk.new) (disk_fault result) }
     ensures others { IsTrue (is_of_session result) }
 {
-    status_of(answer_input(
+    let mut receiver = BookOnDisk { book, disk, clock };
+    status_of(answer_lines(
         rt.alloc(),
         LineKind::Unstamped,
-        book,
-        disk,
-        clock,
+        &mut receiver,
         source,
         sink,
     ))
@@ -87,5 +85,6 @@ pub(crate) fn take_list<R: AllocGlobal, S: Source, K: Sink, D: Disk, C: Clock>(
     ensures disk { Counts (D.faults disk.old) (D.faults disk.new) (disk_fault result) }
     ensures others { IsTrue (is_of_session result) }
 {
-    status_of(answer_list(rt.alloc(), sender, book, disk, clock, source, sink))
+    let mut receiver = BookOnDisk { book, disk, clock };
+    status_of(answer_list(rt.alloc(), sender, &mut receiver, source, sink))
 }

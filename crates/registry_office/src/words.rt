@@ -1,10 +1,10 @@
 //! The words of the command line.
 ghost use Rattle.std.specs.Prelude.{◌≡◌, ◌≤◌, map, IfSome};
 ghost use Rattle.std.specs.Rc.{rc_str_bytes};
-ghost use Rattle.registry_office.specs.Words.{HasDesks, command_of, opening_by, settle_by, settle_lines_by};
 ghost use Rattle.opening_lists.specs.Numerals.{number_in};
+ghost use Rattle.registry_office.specs.Words.{HasDesks, command_of, opening_by, settle_by, settle_lines_by};
 
-use crate::intakes::Intake;
+use intake::Intake;
 use opening_lists::number_in;
 use std::rc::RcStr;
 

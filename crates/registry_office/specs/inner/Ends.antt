@@ -2,10 +2,10 @@
 use Rattle.std.specs.Prelude.{Result, Ok, Err}
 use Rattle.receipt_journal.specs.declared.faults.BookFault.{BookFault}
 use Rattle.receipt_journal.specs.declared.faults.BookFault.TheVariants as fault
-use Rattle.registry_office.specs.declared.faults.OutputFault.{OutputFault}
-use Rattle.registry_office.specs.declared.faults.OutputFault.TheVariants as output
-use Rattle.registry_office.specs.declared.faults.SessionFault.{SessionFault}
-use Rattle.registry_office.specs.declared.faults.SessionFault.TheVariants as session
+use Rattle.intake.specs.declared.faults.OutputFault.{OutputFault}
+use Rattle.intake.specs.declared.faults.OutputFault.TheVariants as output
+use Rattle.intake.specs.declared.faults.SessionFault.{SessionFault}
+use Rattle.intake.specs.declared.faults.SessionFault.TheVariants as session
 use Rattle.registry_office.specs.declared.statuses.Status.{Status}
 use Rattle.registry_office.specs.declared.statuses.Status.TheVariants as status
 

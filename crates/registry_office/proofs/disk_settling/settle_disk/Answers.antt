@@ -4,7 +4,7 @@ use Rattle.journal_disk.specs.Opening.{AnswersSynced}
 use Rattle.receipt_journal.specs.Standing.{records, StandsForJournal}
 use Rattle.receipt_journal.proofs.Standings.{journal_once, stands_by_frames}
 use Rattle.registry_office.specs.Statuses.{disk_fault}
-use Rattle.registry_office.proofs.Durable.{front_refl}
+use Rattle.intake.proofs.Durable.{front_refl}
 use Rattle.registry_office.proofs.OnDisk.{whole_of_file, front_of_file, is_writing, found_by_writing}
 use Rattle.registry_office.proofs.Opened.{keeps_grown, opening_status, disk_at_opening, found_at_opening, no_front, made_of_journal}
 use Rattle.registry_office.proofs.disk_settling.settle_disk.Goals as goal

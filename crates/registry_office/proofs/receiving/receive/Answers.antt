@@ -1,8 +1,8 @@
 use Rattle.std.proofs.Common.{sym, subst}
-use Rattle.registry_office.specs.Intakes.{whole_of, cut_of}
+use Rattle.intake.specs.Intakes.{whole_of, cut_of}
 use Rattle.registry_office.specs.Receivings.{Receives}
-use Rattle.registry_office.specs.Requests.{holding}
-use Rattle.registry_office.specs.declared.intakes.Intake.{Intake}
+use Rattle.intake.specs.Requests.{holding}
+use Rattle.intake.specs.declared.intakes.Intake.{Intake}
 use Rattle.registry_office.proofs.receiving.receive.Goals as goal
 
 pub returns-in-Lines-clause-session : goal.returns-in-Lines-clause-session

@@ -4,20 +4,20 @@ use Rattle.journal_disk.specs.Opening.{AnswersSynced}
 use Rattle.receipt_journal.specs.Standing.{records, StandsForJournal}
 use Rattle.receipt_journal.proofs.Standings.{journal_once}
 use Rattle.registry_office.specs.Disks.{KeepsGrown, LeftAnew, WritesBehind}
-use Rattle.registry_office.specs.Grown.{IsFront, DiskGrows}
-use Rattle.registry_office.specs.Intakes.{whole_of, cut_of}
+use Rattle.intake.specs.Grown.{IsFront, DiskGrows}
+use Rattle.intake.specs.Intakes.{whole_of, cut_of}
 use Rattle.registry_office.specs.Outcomes.{Told}
 use Rattle.registry_office.specs.Receivings.{Receives}
-use Rattle.registry_office.specs.Requests.{OnDisk, Held, holding, held_after}
+use Rattle.intake.specs.Requests.{OnDisk, Held, holding, held_after}
 use Rattle.registry_office.specs.Statuses.{disk_fault, tells_of_opening}
 use Rattle.registry_office.specs.declared.words.Command.TheVariants.{Receive}
-use Rattle.registry_office.proofs.Durable.{durable_stands}
-use Rattle.registry_office.proofs.EarlyEnds.{early_of_fewer, early_unopened}
-use Rattle.registry_office.proofs.Opened.{grows_synced, grows_further, keeps_grown, opening_status, disk_at_opening, found_at_opening, session_not_none, found_by_session, session_no_door, session_no_usage, none_written, no_front, made_of_journal, left_by_opening, left_of, told_by_session, cut_by_source}
-use Rattle.registry_office.proofs.Replies.{grows}
-use Rattle.registry_office.proofs.SessionInputs.{took_none}
+use Rattle.intake.proofs.Durable.{durable_stands}
+use Rattle.intake.proofs.EarlyEnds.{early_of_fewer}
+use Rattle.registry_office.proofs.Opened.{early_unopened, grows_synced, grows_further, keeps_grown, opening_status, disk_at_opening, found_at_opening, session_not_none, found_by_session, session_no_door, session_no_usage, none_written, no_front, made_of_journal, left_by_opening, left_of, told_by_session, cut_by_source}
+use Rattle.intake.proofs.Replies.{grows}
+use Rattle.intake.proofs.SessionInputs.{took_none}
 use Rattle.registry_office.proofs.Takings.{part_of_session, begins_of}
-use Rattle.registry_office.proofs.WrittenFrames.{frames_after_opening, frames_unopened}
+use Rattle.registry_office.proofs.OpenedFrames.{frames_after_opening, frames_unopened}
 use Rattle.registry_office.proofs.receiving.receive_disk.Goals as goal
 
 -- the book's journal is the one that the file stood for
@@ -70,7 +70,7 @@ returns-in-Ok-clause-early g c = λ held input told other.
       did = (
         took.did.0,
         took.did.1,
-        early_of_fewer true OnDisk held (g.C.Clock.ticks c.receive.new.clock) (g.K.Sink.written c.args.sink.now) (g.K.Sink.written c.receive.new.sink) (g.D.Disk.images c.receive.new.disk) (LeftAnew (disk_fault c.receive.result) (g.D.Disk.images c.args.disk.now) (g.D.Disk.images c.receive.new.disk)) took.did.0
+        early_of_fewer OnDisk held (g.C.Clock.ticks c.receive.new.clock) (g.K.Sink.written c.args.sink.now) (g.K.Sink.written c.receive.new.sink) (g.D.Disk.images c.receive.new.disk) (LeftAnew (disk_fault c.receive.result) (g.D.Disk.images c.args.disk.now) (g.D.Disk.images c.receive.new.disk)) took.did.0
             (λ file left. left_of (disk_fault c.receive.result) (g.D.Disk.images c.args.disk.now) (g.D.Disk.images c.receive.new.disk) file left) took.did.2,
         moments g c held (held_after OnDisk held took.did.0).journal (told.disk_tells refl) (told.disk_stands refl) (grows OnDisk held took.did.0) took.did.3,
         bytes g c held (held_after OnDisk held took.did.0).journal (told.disk_tells refl) (grows OnDisk held took.did.0) took.did.3,

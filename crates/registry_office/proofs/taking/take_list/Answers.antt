@@ -1,28 +1,39 @@
 use Rattle.std.proofs.Common.{refl, sym, ◌∙◌, subst}
 use Rattle.gb_outside.specs.Faults.{Counts}
-use Rattle.registry_office.specs.Intakes.{whole_of, cut_of}
-use Rattle.registry_office.specs.declared.intakes.Intake.TheVariants.{OpeningList}
-use Rattle.registry_office.proofs.Takings.{begins_of, session_of_input, ok_by_status, long_by_status, short_by_status, of_session}
+use Rattle.intake.specs.Intakes.{whole_of, cut_of}
+use Rattle.intake.specs.declared.intakes.Intake.TheVariants.{OpeningList}
+use Rattle.intake.specs.Requests.{holding}
+use Rattle.intake.proofs.Durable.{durable_stands}
+use Rattle.intake.proofs.TakenItems.{holds_by}
+use Rattle.registry_office.specs.Statuses.{disk_fault}
+use Rattle.registry_office.proofs.Takings.{begins_of, failed_as, session_of_input, ok_by_status, long_by_status, short_by_status, of_session}
 use Rattle.registry_office.proofs.Whole.{ends_some}
 use Rattle.registry_office.proofs.taking.take_list.Goals as goal
 
+pub answer_list-requires-clause-ready : goal.answer_list-requires-clause-ready
+answer_list-requires-clause-ready g c = record { works = c.requires.works; durable = c.requires.stands; stands = λ tells file image. durable_stands _ _ _ file (c.requires.stands tells) image }
+
 pub returns-clause-session : goal.returns-clause-session
 returns-clause-session g c = λ ticks input told.
-    session_of_input (whole_of (OpeningList c.args.sender)) (cut_of (OpeningList c.args.sender)) (begins_of (OpeningList c.args.sender)) g.D.Disk.tells (g.C.Clock.ticks c.args.clock.now) (g.C.Clock.ticks c.answer_list.new.clock) c.args.book.now c.answer_list.new.receiver
+    let held = holding c.args.book.now.journal ticks in
+    let is = holds_by g.D.Disk.tells (g.C.Clock.ticks c.args.clock.now) c.args.book.now.journal ticks told.disk told.clock in
+    session_of_input (whole_of (OpeningList c.args.sender)) (cut_of (OpeningList c.args.sender)) (begins_of (OpeningList c.args.sender)) g.D.Disk.tells _ c.answer_list.new.receiver.book.now
     (g.S.Source.left c.args.source.now) (g.S.Source.left c.answer_list.new.source) (g.K.Sink.written c.args.sink.now) (g.K.Sink.written c.answer_list.new.sink)
-    g.D.Disk.reads g.D.Disk.images g.D.Disk.moment g.D.Disk.since c.args.disk.now c.answer_list.new.disk ticks input told c.answer_list.result c.status_of.result c.status_of.ensures
-    c.answer_list.ensures.all c.answer_list.ensures.cut c.answer_list.ensures.part c.answer_list.ensures.whole c.answer_list.ensures.ready
+    g.D.Disk.reads g.D.Disk.images g.D.Disk.moment g.D.Disk.since (λ r. r.disk.now) _ c.answer_list.new.receiver held input told.source (λ file tells left. g.met.D.Disk.only_now c.answer_list.new.receiver.disk.now file tells left)
+    c.answer_list.result c.status_of.result c.status_of.ensures (c.answer_list.ensures.all held is) (c.answer_list.ensures.cut held is) (c.answer_list.ensures.part held is) c.answer_list.ensures.ready
 
 pub returns-clause-works : goal.returns-clause-works
-returns-clause-works g c = c.answer_list.ensures.works ∙ sym (of_session c.answer_list.result c.status_of.result c.status_of.ensures).3
+returns-clause-works g c =
+    failed_as _ (disk_fault c.status_of.result) (λ worked. (c.answer_list.ensures.ready (sym (of_session c.answer_list.result c.status_of.result c.status_of.ensures).3 ∙ worked)).works)
+    (λ fault. c.answer_list.ensures.works (sym (of_session c.answer_list.result c.status_of.result c.status_of.ensures).3 ∙ fault))
 
 pub returns-clause-stands : goal.returns-clause-stands
-returns-clause-stands g c = λ tells worked. (c.answer_list.ensures.ready (sym (of_session c.answer_list.result c.status_of.result c.status_of.ensures).3 ∙ worked)).durable refl tells
+returns-clause-stands g c = λ tells worked. (c.answer_list.ensures.ready (sym (of_session c.answer_list.result c.status_of.result c.status_of.ensures).3 ∙ worked)).durable tells
 
 pub returns-clause-at_end : goal.returns-clause-at_end
 returns-clause-at_end g c = λ ok.
-    let all = ok_by_status c.answer_list.result c.status_of.result _ c.status_of.ensures ok c.answer_list.ensures.all in
-    ends_some (g.S.Source.left c.args.source.now) (g.S.Source.left c.answer_list.new.source) all.read all.consumed all.did.0
+    let all = ok_by_status c.answer_list.result c.status_of.result _ c.status_of.ensures ok c.answer_list.ensures.at_end in
+    ends_some (g.S.Source.left c.args.source.now) (g.S.Source.left c.answer_list.new.source) all.read all.consumed all.did
 
 pub returns-clause-short : goal.returns-clause-short
 returns-clause-short g c = λ other. c.answer_list.ensures.short (short_by_status c.answer_list.result c.status_of.result c.status_of.ensures other)

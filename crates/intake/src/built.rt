@@ -1,0 +1,15 @@
+//! Which items the office takes today.
+ghost use Rattle.std.specs.Prelude.{◌≡◌};
+ghost use Rattle.intake.specs.Built.{is_built};
+
+use act_model::Item;
+
+/// Whether the office takes the item today: a filing, a cure or a lapse.
+pub fn is_built(item: &Item) -> bool
+    ensures { result ≡ is_built item.now }
+{
+    match item {
+        Item::Filing(_) | Item::Cure { .. } | Item::Lapse { .. } => true,
+        _ => false,
+    }
+}

@@ -1,0 +1,26 @@
+//! The intake: an input is read, each of its lines or rows is answered as it comes, and what
+//! receives keeps the items.
+#![tactic(auto)]
+
+mod answering;
+mod built;
+mod faults;
+mod inputs;
+mod intakes;
+pub mod laws;
+mod lines;
+mod list_session;
+mod receivers;
+mod session;
+#[cfg(test)]
+mod tests;
+mod writing;
+
+pub use built::is_built;
+pub use faults::{OutputFault, SessionFault};
+pub use intakes::Intake;
+pub use lines::LineKind;
+pub use list_session::answer_list;
+pub use receivers::{BookOnDisk, Receiver};
+pub use session::answer_lines;
+pub use writing::write_all;

@@ -1,0 +1,115 @@
+//! One line of an input: what it asks.
+ghost use Rattle.std.specs.Prelude.{◌≡◌, ◌≤◌, ◌==◌, ◌||◌, ◌++◌, ◌≢◌, codes, length, IfOk, IsTrue};
+ghost use Rattle.act_model.specs.WellFormed.{well_formed};
+ghost use Rattle.act_json.specs.Lines.{longest_line, item_of, stamped_of};
+ghost use Rattle.intake.specs.Built.{is_built};
+ghost use Rattle.intake.specs.Lines.{is_blank, fault_text, request_of_line, request_of_item, request_of_stamped, request_of_plain};
+ghost use Rattle.intake_requests.specs.Asking.{asks_well};
+
+use crate::built::is_built;
+use act_json::{LineFault, read_item, read_stamped};
+use act_model::Item;
+use gb_base::{NoMemory, Stamp};
+use intake_requests::{Reply, Request, SenderReference};
+use std::alloc::{AllocError, Global};
+
+/// The most bytes of a line.
+const MAX_LINE: usize = 1 << 16;
+
+/// Whether the lines of an input have their stamps.
+#[derive(Clone, Copy, Debug, PartialEq, Eq)]
+pub enum LineKind {
+    /// Each item has its stamp.
+    Stamped,
+    /// The clock stamps the items.
+    Unstamped,
+}
+
+/// What a line asks. It may want memory.
+#[tactic(auto, unfolding(crate::specs::Lines::request_of_line))]
+pub fn request_of_line(alloc: Global, kind: LineKind, line: &[u8]) -> Result<Request, NoMemory>
+    ensures value { IfOk result (λ request. request ≡ request_of_line kind line.now) }
+    ensures well_formed { IfOk result (λ request. IsTrue (asks_well request)) }
+{
+    if is_blank(line) {
+        return Ok(Request::Nothing);
+    }
+    if line.len() > MAX_LINE {
+        return Request::refused(alloc, b"malformed length\n");
+    }
+    match kind {
+        LineKind::Stamped => request_of_stamped(alloc, line),
+        LineKind::Unstamped => request_of_plain(alloc, line),
+    }
+}
+
+/// Whether the line has nothing but spaces, tabs and carriage returns.
+fn is_blank(line: &[u8]) -> bool
+    ensures { result ≡ is_blank line.now }
+{
+    line.iter()
+        .all(|byte| *byte == b' ' || *byte == b'\t' || *byte == b'\r')
+}
+
+/// What a line asks that has its stamp.
+fn request_of_stamped(alloc: Global, line: &[u8]) -> Result<Request, NoMemory>
+    requires { length line.now ≤ longest_line }
+    ensures value { IfOk result (λ request. request ≡ request_of_stamped (stamped_of line.now)) }
+    ensures well_formed { IfOk result (λ request. IsTrue (asks_well request)) }
+{
+    match read_stamped(alloc, line) {
+        Ok((stamp, sender, reference, item)) => {
+            let from = SenderReference { sender, reference };
+            request_of_item(alloc, Some(stamp), from, item)
+        }
+        Err(fault) => fault_line(alloc, &fault),
+    }
+}
+
+/// What a line asks that the clock stamps.
+fn request_of_plain(alloc: Global, line: &[u8]) -> Result<Request, NoMemory>
+    requires { length line.now ≤ longest_line }
+    ensures value { IfOk result (λ request. request ≡ request_of_plain (item_of line.now)) }
+    ensures well_formed { IfOk result (λ request. IsTrue (asks_well request)) }
+{
+    match read_item(alloc, line) {
+        Ok((sender, reference, item)) => {
+            let from = SenderReference { sender, reference };
+            request_of_item(alloc, None, from, item)
+        }
+        Err(fault) => fault_line(alloc, &fault),
+    }
+}
+
+/// An item is to be received where the office takes it.
+fn request_of_item(
+    alloc: Global,
+    stamp: Option<Stamp>,
+    from: SenderReference,
+    item: Item,
+) -> Result<Request, NoMemory>
+    requires { IsTrue (well_formed item) }
+    ensures value { IfOk result (λ request. request ≡ request_of_item stamp from item) }
+    ensures well_formed { IfOk result (λ request. IsTrue (asks_well request)) }
+{
+    if is_built(&item) {
+        return Ok(Request::Receive { stamp, from, item });
+    }
+    Request::refused(alloc, b"not built\n")
+}
+
+/// A line that is no item is refused.
+fn fault_line(alloc: Global, fault: &LineFault) -> Result<Request, NoMemory>
+    ensures value { IfOk result (λ request. (request ≡ Request.Refused (fault_text fault.now ++ codes "\n")) × (fault.now ≢ LineFault.Memory)) }
+{
+    match fault {
+        LineFault::NotJson => Request::refused(alloc, b"malformed json\n"),
+        LineFault::NotItem(path) => {
+            let mut text = Vec::from_slice(alloc, b"malformed ")?;
+            text.extend_from_slice(path.text())?;
+            text.push(b'\n')?;
+            Ok(Request::Refused(Reply::new(text)))
+        }
+        LineFault::Memory => Err(AllocError),
+    }
+}

@@ -1,5 +1,0 @@
-use Rattle.registry_office.proofs.Blocks.{reads_longer}
-use Rattle.registry_office.proofs.inputs.read_block.Goals as goal
-
-pub returns-clause-content : goal.returns-clause-content
-returns-clause-content g c = reads_longer _ _ _ _ _ c.read.ensures.count c.read.ensures.content
