@@ -1,5 +1,6 @@
 -- What receives an item gives the reply that is said of it.
 use Rattle.std.proofs.Common.{◌≡◌, inl, inr, ℕ, Bool, true, false, List, [], ◌∷◌, ◌++◌, refl, sym, ap, ◌∙◌, subst, arith, Option, Some, None, IsTrue}
+use Rattle.std.proofs.lemmas.Option.{same_Some}
 use Rattle.gb_base.specs.DayMinute.{DayMinute}
 use Rattle.gb_outside.specs.Images.{LeavesOnly}
 use Rattle.gb_outside.specs.Ticks.{Ticks}
@@ -13,6 +14,7 @@ use Rattle.intake.specs.Requests.{Medium, InMemory, OnDisk, Held, Replied, holdi
 use Rattle.intake_requests.specs.Asking.{has_no_stamp}
 use Rattle.intake_requests.specs.declared.requests.SenderReference.{SenderReference}
 use Rattle.intake_requests.specs.declared.requests.Request.TheVariants.{Receive}
+use Rattle.intake.specs.inner.Shown.{held_or}
 use Rattle.intake.proofs.WrittenFrames.{frames_none}
 
 -- an answer that is no fault is the answer expected
@@ -57,10 +59,6 @@ pub record Tells (tells : Bool) (known : Option (List DayMinute)) (journal : Lis
   pub clock : known ≡ Some held.ticks
   pub same : holding journal held.ticks ≡ held
 
-held_or : Held → Option Held → Held
-held_or held None = held
-held_or held (Some other) = other
-
 pub told_by : (tells : Bool) (known : Option (List DayMinute)) (journal : List Receipt) (held : Held) → held_by tells known journal ≡ Some held → Tells tells known journal held
 told_by true (Some ticks) journal held is =
     let same : holding journal ticks ≡ held = ap (held_or held) is in record {
@@ -104,14 +102,9 @@ pub memory_takes : {R : Type 0} (old new : R) (journal0 journal1 : List Receipt)
 memory_takes {R} old new journal0 journal1 held stamp own from item answer is_own is answers receipts =
     subst (λ (h : Held). TakesItem {R = R} (λ s. []) (λ s file. ⊥) (λ s. 0) (λ s time file. ⊥) old new h (reply_of InMemory h (Receive own from item)) answer (Some (holding journal1 [])) (Some [])) (ap (held_or held) is)
     (takes_item {R = R} (λ s. []) (λ s file. ⊥) (λ s. 0) (λ s time file. ⊥) old new InMemory journal0 journal1 [] stamp own from item answer (Some []) (Some (holding journal1 []))
-    (is_stamped InMemory journal0 [] stamp own from item (Some []) (Some []) refl (λ t owned. (some_same stamp t (sym is_own ∙ owned), refl)) (λ none. let never : Some stamp ≡ None = sym is_own ∙ none in absurd cc))
-    answers receipts (λ later known. ap (λ (ticks : List DayMinute). Some (holding journal1 ticks)) (some_ticks later known))
+    (is_stamped InMemory journal0 [] stamp own from item (Some []) (Some []) refl (λ t owned. (same_Some stamp t (sym is_own ∙ owned), refl)) (λ none. let never : Some stamp ≡ None = sym is_own ∙ none in absurd cc))
+    answers receipts (λ later known. ap (λ (ticks : List DayMinute). Some (holding journal1 ticks)) (same_Some [] later known))
     (record { left = record { later = omega arith; each = λ c left. absurd left; before = λ t c le left. absurd left }; written = frames_none journal0 _ [] }) (λ file image. absurd image))
-  where
-    some_same : (a b : DayMinute) → Some a ≡ Some b → a ≡ b
-    some_same a b same = cc
-    some_ticks : (later : List DayMinute) → Some {A = List DayMinute} [] ≡ Some later → [] ≡ later
-    some_ticks later same = cc
 
 -- a book on a disk, with a clock
 pub book_takes : {R : Type 0} (reads : R → List ℕ) (images : R → List ℕ → Type 0) (moment : R → ℕ) (since : R → ℕ → List ℕ → Type 0) (old new : R) (tells : Bool) (known0 known1 : Option (List DayMinute)) (journal0 journal1 : List Receipt)

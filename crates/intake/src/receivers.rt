@@ -134,12 +134,7 @@ impl Receiver for Journal {
 }
 
 /// Receives an item with its stamp into a journal in memory.
-fn add_stamped(
-    journal: &mut Journal,
-    stamp: Stamp,
-    from: SenderReference,
-    item: &Item,
-) -> Received
+fn add_stamped(journal: &mut Journal, stamp: Stamp, from: SenderReference, item: &Item) -> Received
     requires { IsTrue (well_formed item.now) }
     ensures answer { Answers (received InMemory journal.old.receipts stamp from.sender from.reference item.now) result }
     ensures journal { journal.new.receipts ≡ journal_after journal.old.receipts stamp from.sender from.reference item.now result }

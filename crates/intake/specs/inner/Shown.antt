@@ -9,7 +9,7 @@ use Rattle.intake.specs.Receivers.{held_by, IsReady, Shows}
 use Rattle.intake.specs.Requests.{Held, holding}
 
 -- what is held, or this
-abbrev held_or : Held → Option Held → Held
+abbrev pub held_or : Held → Option Held → Held
 held_or held None = held
 held_or held (Some other) = other
 

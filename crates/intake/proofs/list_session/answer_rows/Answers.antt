@@ -2,13 +2,29 @@ use Rattle.std.proofs.Common.{◌≡◌, true, false, [], ◌∷◌, ◌++◌, r
 use Rattle.std.proofs.lemmas.Result.{MatchResult-from_err}
 use Rattle.intake.specs.EarlyEnds.{EndsEarly}
 use Rattle.intake.proofs.EarlyEnds.{early_then, early_longer, early_all}
-use Rattle.intake.proofs.Replies.{answered_then, disk_within, disk_by_first}
+use Rattle.intake.proofs.Replies.{answered_none, answered_then, disk_same, disk_within, disk_by_first, grows}
 use Rattle.intake.proofs.RowsAnswered.{one_row_more}
 use Rattle.intake.proofs.SessionInputs.{if_some_at}
 use Rattle.intake.proofs.list_session.answer_rows.Goals as goal
 
 pub answer_request-requires-clause-stamped : goal.answer_request-requires-clause-stamped
 answer_request-requires-clause-stamped g c = λ none. let never : true ≡ false = sym c.requires.clock ∙ none in absurd cc
+
+pub loop-request-init : goal.loop-request-init
+loop-request-init g c = record {
+  so_far = record {
+    done = [];
+    split = refl;
+    answered = λ held is. (
+      answered_none _ held _ _ is,
+      disk_same g.J.Receiver.reads g.J.Receiver.moment g.J.Receiver.since c.args.receiver.now _ (g.J.Receiver.images c.args.receiver.now) held _ (grows g.J.Receiver.medium held []) (g.met.J.Receiver.shows c.args.receiver.now held c.requires.ready is),
+    );
+  };
+  ready = c.requires.ready;
+  lent = refl;
+  quiet_sink = refl;
+  quiet_disk = refl;
+}
 
 pub returns-in_err-request-clause-broken : goal.returns-in_err-request-clause-broken
 returns-in_err-request-clause-broken g c = λ held is.
