@@ -1,5 +1,5 @@
 -- Requests that are answered one list after the other.
-use Rattle.std.proofs.Common.{◌≡◌, ℕ, Bool, true, false, cond, List, [], ◌∷◌, ◌++◌, refl, sym, ap, ◌∙◌, subst, append_assoc, append-nil, Option, Some, None}
+use Rattle.std.proofs.Common.{◌≡◌, ℕ, true, false, cond, List, [], ◌∷◌, ◌++◌, refl, sym, ap, ◌∙◌, subst, append_assoc, append-nil, Option, Some, None}
 use Rattle.std.specs.Io.KnownBytes.{Appends}
 use Rattle.std.proofs.KnownBytes.{Appends-nil, Appends-trans}
 use Rattle.gb_base.specs.DayMinute.{DayMinute}
@@ -151,6 +151,19 @@ module _ {D : Type 0} (reads : D → List ℕ) (moment : D → ℕ) (since : D �
       rw whole (disk_wider reads moment since old new held.journal (held_after medium held ((xs ++ ys) ++ zs)).journal held.journal (held_after medium (held_after medium held xs) ys).journal
       (front_refl held.journal) (grows medium held ((xs ++ ys) ++ zs))
       (subst (λ (h : Held). IsFront h.journal (held_after medium held ((xs ++ ys) ++ zs)).journal) (held_after-append medium held xs ys) (grows_longer medium held (xs ++ ys) zs)) back)
+
+  -- the first are answered, and then others, by whatever is held
+  pub done_then : (old mid new : D) (medium : Medium) (h0 h1 h2 : Option Held) (w0 w1 w2 : Option (List ℕ)) (xs ys all : List Request) → xs ++ ys ≡ all
+      → ((held : Held) → h0 ≡ Some held → Answered medium held h1 w0 w1 xs × DiskGrows reads moment since old mid held.journal (held_after medium held xs).journal)
+      → ((held : Held) → h1 ≡ Some held → Answered medium held h2 w1 w2 ys)
+      → ((held : Held) → h1 ≡ Some held → DiskGrows reads moment since mid new held.journal (held_after medium held ys).journal)
+      → (held : Held) → h0 ≡ Some held
+      → Answered medium held h2 w0 w2 all × DiskGrows reads moment since old new held.journal (held_after medium held all).journal
+  done_then old mid new medium h0 h1 h2 w0 w1 w2 xs ys all whole before answered grew held is =
+      let first = before held is in (
+        subst (Answered medium held h2 w0 w2) whole (answered_then medium held h1 h2 w0 w1 w2 xs ys first.0 (answered (held_after medium held xs) first.0.holds)),
+        disk_within old mid new medium held all xs ys [] (sym whole ∙ sym (append-nil (xs ++ ys))) first.1 (grew (held_after medium held xs) first.0.holds),
+      )
 
   -- what the first did to the disk is within what all do
   pub disk_by_first : (old new : D) (medium : Medium) (held : Held) (whole done rest : List Request) → whole ≡ done ++ rest

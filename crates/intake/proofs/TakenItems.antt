@@ -2,7 +2,6 @@
 use Rattle.std.proofs.Common.{◌≡◌, inl, inr, ℕ, Bool, true, false, List, [], ◌∷◌, ◌++◌, refl, sym, ap, ◌∙◌, subst, arith, Option, Some, None, IsTrue}
 use Rattle.std.proofs.lemmas.Option.{same_Some}
 use Rattle.gb_base.specs.DayMinute.{DayMinute}
-use Rattle.gb_outside.specs.Images.{LeavesOnly}
 use Rattle.gb_outside.specs.Ticks.{Ticks}
 use Rattle.act_model.specs.declared.items.Item.{Item}
 use Rattle.act_model.specs.declared.receipts.Receipt.{Receipt}
@@ -11,7 +10,6 @@ use Rattle.receipt_journal.specs.declared.received.Received.{Received}
 use Rattle.intake.specs.Grown.{GrownFrom, DiskGrows}
 use Rattle.intake.specs.Receivers.{held_by, TakesItem}
 use Rattle.intake.specs.Requests.{Medium, InMemory, OnDisk, Held, Replied, holding, received, received_text, replied, reply_of, is_fault}
-use Rattle.intake_requests.specs.Asking.{has_no_stamp}
 use Rattle.intake_requests.specs.declared.requests.SenderReference.{SenderReference}
 use Rattle.intake_requests.specs.declared.requests.Request.TheVariants.{Receive}
 use Rattle.intake.specs.inner.Shown.{held_or}

@@ -1,5 +1,5 @@
 -- Which bytes of a journal's file are written while it grows.
-use Rattle.std.proofs.Common.{◌≡◌, ℕ, ◌+◌, ◌-◌, ◌≤◌, Bool, true, false, cond, List, [], ◌∷◌, ◌++◌, refl, sym, ◌∙◌, subst, arith}
+use Rattle.std.proofs.Common.{◌≡◌, ℕ, ◌+◌, ◌-◌, ◌≤◌, Bool, true, false, cond, List, [], ◌∷◌, ◌++◌, refl, sym, subst, arith}
 use Rattle.gb_outside.specs.Images.{Torn}
 use Rattle.act_model.specs.declared.receipts.Receipt.{Receipt}
 use Rattle.journal_disk.proofs.Torn.{torn_nothing, torn_within, torn_then}

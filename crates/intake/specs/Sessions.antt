@@ -1,6 +1,6 @@
 -- An input as lines, and the requests of its lines.
 -- Why so: docs/DECISIONS.md, "Some definitions of sessions go along the input".
-use Rattle.std.specs.Prelude.{◌≡◌, ℕ, ◌==◌, if◌then◌else◌, List, [], ◌∷◌, ◌++◌, map, Option}
+use Rattle.std.specs.Prelude.{ℕ, ◌==◌, if◌then◌else◌, List, [], ◌∷◌, ◌++◌, map, Option}
 use Rattle.std.specs.Io.KnownBytes.{Consumes}
 use Rattle.intake.specs.Lines.{request_of_line}
 use Rattle.intake.specs.declared.lines.LineKind.{LineKind}

@@ -1,5 +1,6 @@
 //! What receives items: a journal in memory, whose items come with their stamps, or a book with
 //! its disk and its clock.
+//! Why so: docs/DECISIONS.md, "What receives has its disk and its clock, as one value".
 ghost use Rattle.std.specs.Prelude.{◌≡◌, false, Some, None, IsTrue};
 ghost use Rattle.gb_base.specs.DayMinute.{DayMinute};
 ghost use Rattle.gb_outside.specs.Ticks.{Ticks};

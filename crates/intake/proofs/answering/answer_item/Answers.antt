@@ -1,9 +1,8 @@
-use Rattle.std.proofs.Common.{◌≡◌, ◌++◌, ◌∷◌, [], List, ◌∙◌, refl, sym, subst}
+use Rattle.std.proofs.Common.{◌++◌, ◌∷◌, [], ◌∙◌, refl, sym, subst}
 use Rattle.std.proofs.lemmas.Result.{MatchResult-from_err}
 use Rattle.std.specs.Io.KnownBytes.{Appends}
 use Rattle.gb_outside.specs.Bytes.{AppendsFront}
-use Rattle.intake.specs.Requests.{Held, received_text, reply_of}
-use Rattle.intake_requests.specs.declared.requests.Request.{Request}
+use Rattle.intake.specs.Requests.{received_text}
 use Rattle.intake_requests.specs.declared.requests.Request.TheVariants.{Receive}
 use Rattle.intake.proofs.OneRequest.{answered_one, early_cut, early_unanswered}
 use Rattle.intake.proofs.answering.answer_item.Goals as goal

@@ -1,10 +1,9 @@
-use Rattle.std.proofs.Common.{◌≡◌, ◌∷◌, [], List, ap, sym, ◌∙◌, subst, Result, OnOk, OnErr}
+use Rattle.std.proofs.Common.{◌∷◌, [], sym, subst, OnOk, OnErr}
 use Rattle.std.proofs.lemmas.Result.{MatchResult-from_err}
 use Rattle.intake.specs.Answered.{Answered}
 use Rattle.intake.specs.EarlyEnds.{EndsEarly}
 use Rattle.intake.specs.Grown.{DiskGrows}
 use Rattle.intake.specs.Requests.{held_after}
-use Rattle.intake_requests.specs.Asking.{asks_clock}
 use Rattle.intake_requests.specs.declared.requests.Request.{Request}
 use Rattle.intake.proofs.OneRequest.{answered_nothing, answered_refused, early_refused}
 use Rattle.intake.proofs.Replies.{grows, disk_same}

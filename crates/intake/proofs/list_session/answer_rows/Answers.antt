@@ -1,9 +1,9 @@
-use Rattle.std.proofs.Common.{◌≡◌, true, false, [], ◌∷◌, ◌++◌, refl, sym, ◌∙◌, subst, append-nil}
+use Rattle.std.proofs.Common.{◌≡◌, true, false, [], ◌∷◌, ◌++◌, refl, sym, ◌∙◌, subst}
 use Rattle.std.proofs.lemmas.Result.{MatchResult-from_err}
 use Rattle.intake.specs.EarlyEnds.{EndsEarly}
 use Rattle.intake.proofs.EarlyEnds.{early_then, early_longer, early_all}
-use Rattle.intake.proofs.Replies.{answered_none, answered_then, disk_same, disk_within, disk_by_first, grows}
-use Rattle.intake.proofs.RowsAnswered.{one_row_more}
+use Rattle.intake.proofs.Replies.{answered_none, disk_same, disk_within, disk_by_first, done_then, grows}
+use Rattle.intake.proofs.RowsAnswered.{one_row_more, next_row}
 use Rattle.intake.proofs.SessionInputs.{if_some_at}
 use Rattle.intake.proofs.list_session.answer_rows.Goals as goal
 
@@ -61,39 +61,23 @@ returns-in_err-answer_request-clause-grows g c = λ held is.
 pub loop-request-preserved-in_ok-answer_request : goal.loop-request-preserved-in_ok-answer_request
 loop-request-preserved-in_ok-answer_request g c =
     let inv = c.loop-request.invariant in
-    let so = inv.so_far in record {
-      so_far = record {
-        done = so.done ++ c.in-Some.request ∷ [];
-        split = (one_row_more c.args.list.now so.done c.loop-request.list c.next.new.self c.in-Some.request so.split (if_some_at _ c.in-Some.request (λ request. c.loop-request.list ≡ request ∷ c.next.new.self) c.in-Some.is c.in_ok-request.ensures.next));
-        answered = λ held is.
-            let first = so.answered held is in (
-              answered_then _ held _ _ _ _ _ so.done (c.in-Some.request ∷ []) first.0 (c.in_ok-answer_request.ensures.answered _ first.0.holds),
-              disk_within g.J.Receiver.reads g.J.Receiver.moment g.J.Receiver.since c.args.receiver.now c.loop-request.receiver c.answer_request.new.receiver _ held (so.done ++ c.in-Some.request ∷ []) so.done (c.in-Some.request ∷ []) []
-                  (sym (append-nil (so.done ++ c.in-Some.request ∷ []))) first.1 (c.in_ok-answer_request.ensures.grows _ first.0.holds),
-            );
-      };
-      ready = c.in_ok-answer_request.ensures.ready refl;
-      lent = c.in_ok-answer_request.ensures.lent ∙ inv.lent;
-      quiet_sink = c.in_ok-answer_request.ensures.write_cause.else_same refl ∙ inv.quiet_sink;
-      quiet_disk = c.in_ok-answer_request.ensures.disk_cause.else_same refl ∙ inv.quiet_disk;
+    let now = c.in_ok-answer_request.ensures in record {
+      so_far = next_row _ _ _ c.in-Some.request _ _ (if_some_at _ c.in-Some.request (λ request. c.loop-request.list ≡ request ∷ c.next.new.self) c.in-Some.is c.in_ok-request.ensures.next)
+          (λ done before. done_then g.J.Receiver.reads g.J.Receiver.moment g.J.Receiver.since c.args.receiver.now c.loop-request.receiver c.answer_request.new.receiver _ _ _ _ _ _ _ done (c.in-Some.request ∷ []) _ refl before now.answered now.grows) inv.so_far;
+      ready = now.ready refl;
+      lent = now.lent ∙ inv.lent;
+      quiet_sink = now.write_cause.else_same refl ∙ inv.quiet_sink;
+      quiet_disk = now.disk_cause.else_same refl ∙ inv.quiet_disk;
     }
 
 pub loop-request-preserved : goal.loop-request-preserved
 loop-request-preserved g c =
     let inv = c.loop-request.invariant in
-    let so = inv.so_far in record {
-      so_far = record {
-        done = so.done ++ c.in-Some.request ∷ [];
-        split = (one_row_more c.args.list.now so.done c.loop-request.list c.next.new.self c.in-Some.request so.split (if_some_at _ c.in-Some.request (λ request. c.loop-request.list ≡ request ∷ c.next.new.self) c.in-Some.is c.in_ok-request.ensures.next));
-        answered = λ held is.
-            let first = so.answered held is in (
-              answered_then _ held _ _ _ _ _ so.done (c.in-Some.request ∷ []) first.0 (c.in_ok-answer_request.ensures.answered _ first.0.holds),
-              disk_within g.J.Receiver.reads g.J.Receiver.moment g.J.Receiver.since c.args.receiver.now c.loop-request.receiver c.answer_request.new.receiver _ held (so.done ++ c.in-Some.request ∷ []) so.done (c.in-Some.request ∷ []) []
-                  (sym (append-nil (so.done ++ c.in-Some.request ∷ []))) first.1 (c.in_ok-answer_request.ensures.grows _ first.0.holds),
-            );
-      };
-      ready = c.in_ok-answer_request.ensures.ready refl;
-      lent = c.in_ok-answer_request.ensures.lent ∙ inv.lent;
-      quiet_sink = c.in_ok-answer_request.ensures.write_cause.else_same refl ∙ inv.quiet_sink;
-      quiet_disk = c.in_ok-answer_request.ensures.disk_cause.else_same refl ∙ inv.quiet_disk;
+    let now = c.in_ok-answer_request.ensures in record {
+      so_far = next_row _ _ _ c.in-Some.request _ _ (if_some_at _ c.in-Some.request (λ request. c.loop-request.list ≡ request ∷ c.next.new.self) c.in-Some.is c.in_ok-request.ensures.next)
+          (λ done before. done_then g.J.Receiver.reads g.J.Receiver.moment g.J.Receiver.since c.args.receiver.now c.loop-request.receiver c.answer_request.new.receiver _ _ _ _ _ _ _ done (c.in-Some.request ∷ []) _ refl before now.answered now.grows) inv.so_far;
+      ready = now.ready refl;
+      lent = now.lent ∙ inv.lent;
+      quiet_sink = now.write_cause.else_same refl ∙ inv.quiet_sink;
+      quiet_disk = now.disk_cause.else_same refl ∙ inv.quiet_disk;
     }

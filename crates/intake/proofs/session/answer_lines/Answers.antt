@@ -1,17 +1,15 @@
-use Rattle.std.proofs.Common.{◌≡◌, ◌≤◌, inl, inr, ℕ, ◌+◌, List, [], ◌∷◌, ◌++◌, length, take, Some, refl, sym, ap, ◌∙◌, subst, append-nil, length-append, arith}
+use Rattle.std.proofs.Common.{◌≡◌, ◌≤◌, inl, inr, ◌+◌, [], ◌∷◌, ◌++◌, length, take, refl, sym, ap, ◌∙◌, subst, append-nil, length-append, arith}
 use Rattle.std.specs.Io.KnownBytes.{IsAtEnd}
 use Rattle.std.proofs.lemmas.Grind.{common_steps}
 use Rattle.std.proofs.lemmas.List.{take_at}
 use Rattle.std.proofs.lemmas.Result.{MatchResult-from_err}
 use Rattle.intake.specs.Answered.{Answered}
 use Rattle.intake.specs.EarlyEnds.{EndsEarly}
-use Rattle.intake.specs.Grown.{DiskGrows}
 use Rattle.intake.specs.Lines.{request_of_line}
-use Rattle.intake.specs.Requests.{Held, held_after}
 use Rattle.intake.specs.Sessions.{behind, ended_requests, line_requests}
 use Rattle.intake.proofs.LineRequests.{behind-append}
 use Rattle.intake.proofs.EarlyEnds.{early_then, early_before, early_all}
-use Rattle.intake.proofs.Replies.{answered_then, disk_within, disk_same, grows}
+use Rattle.intake.proofs.Replies.{disk_within, disk_same, done_then, grows}
 use Rattle.intake.proofs.SessionInputs.{took_none, took_more, took_same, are_ended, requests_of_more, requests_of_last, requests_of_most, requests_of_short}
 use Rattle.intake.proofs.session.answer_lines.Goals as goal
 
@@ -88,14 +86,13 @@ returns-in_err-answer_line-in-End-clause-part g c = λ held is.
 pub returns-in-End-clause-all : goal.returns-in-End-clause-all
 returns-in-End-clause-all g c = λ held is.
     took_same _ _ _ _ _ c.loop.invariant.took c.in-End.ensures.content.1
-    (λ read did. let first = did.2 held is in
-    let last = requests_of_last c.args.kind c.loop.line.items read did.1 in (
+    (λ read did. let both = done_then g.J.Receiver.reads g.J.Receiver.moment g.J.Receiver.since c.args.receiver.now c.loop.receiver c.answer_line.new.receiver _ _ _ _ _ _ _ (ended_requests c.args.kind [] read) (request_of_line c.args.kind c.loop.line.items ∷ []) _
+    (requests_of_last c.args.kind c.loop.line.items read did.1) did.2
+    (λ now holds. rw c.as_slice.ensures.value at (c.in_ok-answer_line-in-End.ensures.answered now holds)) (λ now holds. rw c.as_slice.ensures.value at (c.in_ok-answer_line-in-End.ensures.grows now holds)) held is in (
       subst IsAtEnd (sym c.in-End.ensures.content.1) c.in-End.ensures.content.0,
       omega (arith, did.0, c.loop.invariant.short),
-      subst (Answered _ held _ _ _) last
-          (answered_then _ held _ _ _ _ _ (ended_requests c.args.kind [] read) (request_of_line c.args.kind c.loop.line.items ∷ []) first.0 (rw c.as_slice.ensures.value at (c.in_ok-answer_line-in-End.ensures.answered _ first.0.holds))),
-      disk_within g.J.Receiver.reads g.J.Receiver.moment g.J.Receiver.since c.args.receiver.now c.loop.receiver c.answer_line.new.receiver _ held _ (ended_requests c.args.kind [] read) (request_of_line c.args.kind c.loop.line.items ∷ []) []
-          (sym last ∙ sym (append-nil ((ended_requests c.args.kind [] read) ++ (request_of_line c.args.kind c.loop.line.items ∷ [])))) first.1 (rw c.as_slice.ensures.value at (c.in_ok-answer_line-in-End.ensures.grows _ first.0.holds)),
+      both.0,
+      both.1,
     ))
 
 pub returns-in-End-clause-at_end : goal.returns-in-End-clause-at_end
@@ -127,15 +124,12 @@ loop-preserved g c =
       counted = (let one : 1 ≤ c.in-Bytes.read = c.in-Bytes.ensures.count.0 in omega arith);
       room = c.loop.invariant.room;
       took = took_more _ _ _ (take c.in-Bytes.read c.read_block.new.block) _ _ c.loop.invariant.took c.in-Bytes.ensures.content
-          (λ read did. let size : length (read ++ (take c.in-Bytes.read c.read_block.new.block)) ≡ c.loop.count + c.in-Bytes.read = length-append read _ ∙ (let one : length (take c.in-Bytes.read c.read_block.new.block) ≡ c.in-Bytes.read = grind (arith, common_steps) in omega (arith, did.0, one)) in
-          let more = requests_of_more c.args.kind c.loop.line.items read (take c.in-Bytes.read c.read_block.new.block) did.1 in (
+          (λ read did. let size : length (read ++ (take c.in-Bytes.read c.read_block.new.block)) ≡ c.loop.count + c.in-Bytes.read = length-append read _ ∙ (let one : length (take c.in-Bytes.read c.read_block.new.block) ≡ c.in-Bytes.read = grind (arith, common_steps) in omega (arith, did.0, one)) in (
             size,
             c.in_ok-answer_piece-in-Bytes.ensures.line ∙ ap (λ p. behind c.loop.line.items (take c.in-Bytes.read p)) same ∙ ap (λ l. behind l (take c.in-Bytes.read c.read_block.new.block)) did.1 ∙ sym (behind-append [] read (take c.in-Bytes.read c.read_block.new.block)),
-            (λ held is. let first = did.2 held is in (
-              subst (Answered _ held _ _ _) more (answered_then _ held _ _ _ _ _ (ended_requests c.args.kind [] read) (ended_requests c.args.kind c.loop.line.items (take c.in-Bytes.read c.read_block.new.block)) first.0 (rw same at (c.in_ok-answer_piece-in-Bytes.ensures.answered _ first.0.holds))),
-              disk_within g.J.Receiver.reads g.J.Receiver.moment g.J.Receiver.since c.args.receiver.now c.loop.receiver c.answer_piece.new.receiver _ held _ (ended_requests c.args.kind [] read) (ended_requests c.args.kind c.loop.line.items (take c.in-Bytes.read c.read_block.new.block)) []
-                  (sym more ∙ sym (append-nil ((ended_requests c.args.kind [] read) ++ (ended_requests c.args.kind c.loop.line.items (take c.in-Bytes.read c.read_block.new.block))))) first.1 (rw same at (c.in_ok-answer_piece-in-Bytes.ensures.grows _ first.0.holds)),
-            )),
+            done_then g.J.Receiver.reads g.J.Receiver.moment g.J.Receiver.since c.args.receiver.now c.loop.receiver c.answer_piece.new.receiver _ _ _ _ _ _ _ (ended_requests c.args.kind [] read) (ended_requests c.args.kind c.loop.line.items (take c.in-Bytes.read c.read_block.new.block)) _
+                (requests_of_more c.args.kind c.loop.line.items read (take c.in-Bytes.read c.read_block.new.block) did.1) did.2
+                (λ now holds. rw same at (c.in_ok-answer_piece-in-Bytes.ensures.answered now holds)) (λ now holds. rw same at (c.in_ok-answer_piece-in-Bytes.ensures.grows now holds)),
           ));
       ready = c.in_ok-answer_piece-in-Bytes.ensures.ready refl;
       lent = c.in_ok-answer_piece-in-Bytes.ensures.lent ∙ c.loop.invariant.lent;

@@ -1,4 +1,4 @@
-use Rattle.std.proofs.Common.{◌≡◌, ◌≤◌, ◌^◌, List, [], length, vec_len, Some}
+use Rattle.std.proofs.Common.{◌≡◌, ◌≤◌, ◌^◌, [], length, vec_len, Some}
 use Rattle.intake.specs.Answered.{Answered}
 use Rattle.intake.specs.Grown.{DiskGrows}
 use Rattle.intake.specs.Requests.{Held, held_after}

@@ -1,14 +1,14 @@
-use Rattle.std.proofs.Common.{◌≡◌, ◌∷◌, ◌++◌, [], List, Some, refl, ap, ◌∙◌, sym, subst, append-nil, append_assoc}
+use Rattle.std.proofs.Common.{◌∷◌, ◌++◌, [], List, refl, ap, ◌∙◌, sym, subst, append_assoc}
 use Rattle.std.proofs.lemmas.Result.{MatchResult-from_err}
 use Rattle.intake.specs.Answered.{Answered}
 use Rattle.intake.specs.EarlyEnds.{EndsEarly}
 use Rattle.intake.specs.Grown.{DiskGrows}
-use Rattle.intake.specs.Requests.{Held, held_after}
+use Rattle.intake.specs.Requests.{held_after}
 use Rattle.intake.specs.Sessions.{behind, ended_requests}
 use Rattle.intake_requests.specs.declared.requests.Request.{Request}
 use Rattle.intake.proofs.LineRequests.{behind-append, behind-none, requests_of_two, requests_of_piece, requests_at_end}
 use Rattle.intake.proofs.EarlyEnds.{early_then, early_longer, early_all}
-use Rattle.intake.proofs.Replies.{answered_then, disk_within}
+use Rattle.intake.proofs.Replies.{disk_within, done_then}
 use Rattle.intake.proofs.session.answer_piece.Goals as goal
 
 pub returns-in_err-answer_ended-clause-broken : goal.returns-in_err-answer_ended-clause-broken
@@ -44,12 +44,8 @@ loop-end-preserved g c =
         whole = so.whole ∙ ap (λ r. so.done ++ r) (c.in-Some.ensures.whole ∙ sym (append_assoc c.in-Some.end.now (10 ∷ []) c.in-Some.behind.now))
             ∙ sym (append_assoc so.done (c.in-Some.end.now ++ 10 ∷ []) c.in-Some.behind.now);
         line = c.in_ok-answer_ended.ensures.line ∙ ap (λ l. behind l (c.in-Some.end.now ++ 10 ∷ [])) so.line ∙ sym (behind-append c.args.line.now.items so.done (c.in-Some.end.now ++ 10 ∷ []));
-        answered = λ held is.
-            let first = so.answered held is in (
-              subst (Answered _ held _ _ _) both (answered_then _ held _ _ _ _ _ xs ys first.0 (c.in_ok-answer_ended.ensures.answered _ first.0.holds)),
-              disk_within g.J.Receiver.reads g.J.Receiver.moment g.J.Receiver.since c.args.receiver.now c.loop-end.receiver c.answer_ended.new.receiver _ held _ xs ys []
-                  (sym both ∙ sym (append-nil (xs ++ ys))) first.1 (c.in_ok-answer_ended.ensures.grows _ first.0.holds),
-            );
+        answered = done_then g.J.Receiver.reads g.J.Receiver.moment g.J.Receiver.since c.args.receiver.now c.loop-end.receiver c.answer_ended.new.receiver _ _ _ _ _ _ _ xs ys _ both
+            so.answered c.in_ok-answer_ended.ensures.answered c.in_ok-answer_ended.ensures.grows;
       };
       ready = c.in_ok-answer_ended.ensures.ready refl;
       lent = c.in_ok-answer_ended.ensures.lent ∙ inv.lent;

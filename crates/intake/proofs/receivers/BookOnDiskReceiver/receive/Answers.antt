@@ -1,4 +1,4 @@
-use Rattle.std.proofs.Common.{◌≡◌, Bool, false, ◌||◌, ℕ, List, inr, refl, sym, ap, ◌∙◌, subst, IsTrue}
+use Rattle.std.proofs.Common.{◌≡◌, Bool, false, ◌||◌, List, inr, refl, sym, ap, ◌∙◌, subst, IsTrue}
 use Rattle.gb_outside.specs.Images.{LeavesOnly}
 use Rattle.gb_outside.proofs.Moments.{started}
 use Rattle.journal_disk.specs.Layout.{the_heading, StandsFor}

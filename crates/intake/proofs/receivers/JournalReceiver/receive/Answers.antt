@@ -1,4 +1,3 @@
-use Rattle.std.proofs.Common.{sym}
 use Rattle.intake.proofs.TakenItems.{memory_takes}
 use Rattle.intake.proofs.receivers.JournalReceiver.receive.Goals as goal
 
