@@ -1,6 +1,6 @@
 //! An input is read in blocks, or whole.
 //! Why so: docs/DECISIONS.md, "A few steps of a session stand twice".
-ghost use Rattle.std.specs.Prelude.{◌≡◌, ◌⊎◌, ◌≤◌, ◌+◌, ◌++◌, false, length, OnErr, IfOk, Err, vec_len};
+ghost use Rattle.std.specs.Prelude.{◌≡◌, ◌⊎◌, ◌≤◌, ◌+◌, false, length, IfOk, Err, vec_len};
 ghost use Rattle.std.specs.Io.KnownBytes.{IsAtEnd};
 ghost use Rattle.gb_outside.specs.Bytes.{IsGot, Reads, read_failed as read_of_source_failed};
 ghost use Rattle.gb_outside.specs.Faults.{Counts};

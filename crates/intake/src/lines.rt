@@ -1,10 +1,9 @@
 //! One line of an input: what it asks.
-ghost use Rattle.std.specs.Prelude.{◌≡◌, ◌≤◌, ◌==◌, ◌||◌, ◌++◌, ◌≢◌, true, false, codes, length, IfOk, OnOk, IsTrue};
-ghost use Rattle.std.specs.List.{list_all};
+ghost use Rattle.std.specs.Prelude.{◌≡◌, ◌≤◌, ◌==◌, ◌||◌, ◌++◌, ◌≢◌, codes, length, IfOk, IsTrue};
 ghost use Rattle.act_model.specs.WellFormed.{well_formed};
 ghost use Rattle.act_json.specs.Lines.{longest_line, item_of, stamped_of};
 ghost use Rattle.intake.specs.Built.{is_built};
-ghost use Rattle.intake.specs.Lines.{is_blank, fault_text, request_of_line, request_of_item, request_of_stamped, request_of_plain, request_read};
+ghost use Rattle.intake.specs.Lines.{is_blank, fault_text, request_of_line, request_of_item, request_of_stamped, request_of_plain};
 ghost use Rattle.intake_requests.specs.Asking.{asks_well};
 
 use crate::built::is_built;

@@ -1,5 +1,5 @@
 //! The session of an opening list: it is read whole, and then each of its rows is answered.
-ghost use Rattle.std.specs.Prelude.{◌≡◌, ◌⊎◌, ◌≤◌, ◌+◌, List, [], Some, true, false, length, take, OnOk, OnErr, Err};
+ghost use Rattle.std.specs.Prelude.{◌≡◌, ◌⊎◌, ◌≤◌, ◌+◌, List, Some, true, false, length, take, OnOk, OnErr, Err};
 ghost use Rattle.std.specs.Io.KnownBytes.{IsAtEnd};
 ghost use Rattle.gb_outside.specs.Faults.{Counts};
 ghost use Rattle.opening_lists.specs.OpeningLists.{row_requests};

@@ -1,8 +1,7 @@
 //! The session of an input of lines: each is answered as it comes.
-ghost use Rattle.std.specs.Prelude.{◌≡◌, ◌⊎◌, ◌≤◌, ◌<◌, ◌+◌, ◌^◌, ◌++◌, ◌∷◌, [], ◌==◌, true, false, List, length, take, Some, OnOk, OnErr, IfOk, IfSome, IfNone, IsTrue, Err, vec_len};
+ghost use Rattle.std.specs.Prelude.{◌≡◌, ◌⊎◌, ◌≤◌, ◌+◌, ◌++◌, ◌∷◌, [], ◌==◌, true, false, List, length, take, Some, OnOk, OnErr, IfSome, IfNone, Err};
 ghost use Rattle.std.specs.List.{list_any};
 ghost use Rattle.std.specs.Io.KnownBytes.{IsAtEnd};
-ghost use Rattle.gb_outside.specs.Bytes.{IsGot, Reads, read_failed as read_of_source_failed};
 ghost use Rattle.gb_outside.specs.Faults.{Counts};
 ghost use Rattle.intake.specs.Answered.{Answered};
 ghost use Rattle.intake.specs.EarlyEnds.{AreOf, EndsEarly};
