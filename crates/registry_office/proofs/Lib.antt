@@ -1,4 +1,5 @@
 -- Lemmas.
+pub mod Lent
 pub mod OnDisk
 pub mod Opened
 pub mod OpenedFrames

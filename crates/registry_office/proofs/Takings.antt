@@ -49,7 +49,6 @@ pub acknowledged : (held : Held) (known : Option (List DayMinute)) (w0 w1 : Opti
 acknowledged held known None w1 images requests front back file early split wrote image = absurd wrote
 acknowledged held known (Some a) None images requests front back file early split wrote image = absurd wrote
 acknowledged held known (Some a) (Some b) images requests front back file early split wrote image =
-    let held = holding journal ticks in
     let text = replies OnDisk held front in
     let begun = early.replied ++ early.last in
     let part = front_of_early OnDisk held known (Some a) (Some b) images requests early in

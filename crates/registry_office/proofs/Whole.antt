@@ -21,7 +21,7 @@ use Rattle.registry_office.proofs.Takings.{read_part_of_early}
 pub nothing_held : (journal : List Receipt) → journal ≡ [] → Some (holding journal []) ≡ Some (holding [] [])
 nothing_held journal empty = ap (λ (j : List Receipt). Some (holding j [])) empty
 
-held_or : Held → Option Held → Held
+abbrev held_or : Held → Option Held → Held
 held_or held None = held
 held_or held (Some other) = other
 
@@ -39,51 +39,54 @@ handed_on (Ok value) came fault is from = absurd is
 handed_on (Err e) came fault is from = ap Err is ∙ sym from
 
 -- a source that was read to its end
-pub ends_some : (left0 left1 : Option (List ℕ)) (read : List ℕ) → Consumes left0 left1 read → IsAtEnd left1 → IfSome left0 (λ input. left1 ≡ Some [])
+ends_some : (left0 left1 : Option (List ℕ)) (read : List ℕ) → Consumes left0 left1 read → IsAtEnd left1 → IfSome left0 (λ input. left1 ≡ Some [])
 ends_some None left1 read consumed end = tt
 ends_some (Some x) None read consumed end = absurd consumed
 ends_some (Some x) (Some y) read consumed end = ap (λ (l : List ℕ). Some l) end
 
--- ---- a session in memory over an input, which begins with the empty journal and leaves this one
+pub end_of_input : (left0 left1 : Option (List ℕ)) → Took left0 left1 (λ read. IsAtEnd left1) → IfSome left0 (λ input. left1 ≡ Some [])
+end_of_input left0 left1 took = ends_some left0 left1 took.read took.consumed took.did
 
-module _ (journal : List Receipt) (known : Option (List DayMinute)) (left0 left1 w0 w1 : Option (List ℕ)) (images : List ℕ → Type 0) (Grew : List Request → Type 0) where
+-- ---- a session in memory over an input, which begins with the empty journal
+
+module _ (journal : List Receipt) (left0 left1 w0 w1 : Option (List ℕ)) where
   abbrev Did : List Request → Type 0
   Did requests = Answered InMemory (holding [] []) (Some (holding journal [])) w0 w1 requests
 
-  abbrev Early : List Request → Type 0
-  Early requests = EndsEarly InMemory (holding [] []) known w0 w1 images requests
+  abbrev AllTaken : (List ℕ → Type 0) → Type 0
+  AllTaken Grew = Took left0 left1 (λ read. IsAtEnd left1 × (length read ≤ 67108864) × Did (line_requests Stamped read) × Grew read)
 
-  abbrev AllTaken : Type 0
-  AllTaken = Took left0 left1 (λ read. IsAtEnd left1 × (length read ≤ 67108864) × Did (line_requests Stamped read) × Grew (line_requests Stamped read))
-
-  abbrev PartTaken : Type 0
-  PartTaken = Took left0 left1 (λ read. (requests : List Request) × AreOf (line_requests Stamped) (ended_requests Stamped []) left1 read requests × Early requests × Grew requests)
-
-  all_of_input : AllTaken → IfSome left0 (λ input. Did (line_requests Stamped input))
-  all_of_input took = of_whole (line_requests Stamped) left0 left1 Did (record { read = took.read; consumed = took.consumed; did = (took.did.0, took.did.1, took.did.2) })
-
-  pub end_of_input : AllTaken → IfSome left0 (λ input. left1 ≡ Some [])
-  end_of_input took = ends_some left0 left1 took.read took.consumed took.did.0
+  all_of_input : (Grew : List ℕ → Type 0) → AllTaken Grew → IfSome left0 (λ input. Did (line_requests Stamped input))
+  all_of_input Grew took = of_whole (line_requests Stamped) left0 left1 Did (record { read = took.read; consumed = took.consumed; did = (took.did.0, took.did.1, took.did.2) })
 
   -- the replies and the report
-  pub whole_output : (w2 : Option (List ℕ)) → AllTaken → Appends w1 w2 (report_of journal) → IfSome left0 (λ input. Appends w0 w2 (settle_lines_output input))
-  whole_output w2 took report =
+  pub whole_output : (w2 : Option (List ℕ)) (Grew : List ℕ → Type 0) → AllTaken Grew → Appends w1 w2 (report_of journal) → IfSome left0 (λ input. Appends w0 w2 (settle_lines_output input))
+  whole_output w2 Grew took report =
       if_some left0 (λ input. Did (line_requests Stamped input)) (λ input. Appends w0 w2 (settle_lines_output input))
       (λ input did. let requests = line_requests Stamped input in
       Appends-trans w0 w1 w2 (replies InMemory (holding [] []) requests) (report_of (held_after InMemory (holding [] []) requests).journal)
-      did.wrote (subst (λ (k : List Receipt). Appends w1 w2 (report_of k)) (journal_of journal (held_after InMemory (holding [] []) requests) did.holds) report)) (all_of_input took)
+      did.wrote (subst (λ (k : List Receipt). Appends w1 w2 (report_of k)) (journal_of journal (held_after InMemory (holding [] []) requests) did.holds) report)) (all_of_input Grew took)
 
   -- the replies and a front of the report
-  pub front_of_report : (w2 : Option (List ℕ)) → AllTaken → AppendsFront w1 w2 (report_of journal) → IfSome left0 (λ input. AppendsFront w0 w2 (settle_lines_output input))
-  front_of_report w2 took part =
+  pub front_of_report : (w2 : Option (List ℕ)) (Grew : List ℕ → Type 0) → AllTaken Grew → AppendsFront w1 w2 (report_of journal) → IfSome left0 (λ input. AppendsFront w0 w2 (settle_lines_output input))
+  front_of_report w2 Grew took part =
       if_some left0 (λ input. Did (line_requests Stamped input)) (λ input. AppendsFront w0 w2 (settle_lines_output input))
       (λ input did. let requests = line_requests Stamped input in
       front_of_more w0 w1 w2 (replies InMemory (holding [] []) requests) (report_of (held_after InMemory (holding [] []) requests).journal)
-      did.wrote (subst (λ (k : List Receipt). AppendsFront w1 w2 (report_of k)) (journal_of journal (held_after InMemory (holding [] []) requests) did.holds) part)) (all_of_input took)
+      did.wrote (subst (λ (k : List Receipt). AppendsFront w1 w2 (report_of k)) (journal_of journal (held_after InMemory (holding [] []) requests) did.holds) part)) (all_of_input Grew took)
 
   pub cut_of_input : Took left0 left1 (λ read. Did (ended_requests Stamped [] (take 67108864 read)))
       → Took left0 left1 (λ read. Appends w0 w1 (replies InMemory (holding [] []) (ended_requests Stamped [] (take 67108864 read))))
   cut_of_input took = record { read = took.read; consumed = took.consumed; did = took.did.wrote }
+
+-- ---- the same, where it ended early
+
+module _ (known : Option (List DayMinute)) (left0 left1 w0 w1 : Option (List ℕ)) (images : List ℕ → Type 0) (Grew : List Request → Type 0) where
+  abbrev Early : List Request → Type 0
+  Early requests = EndsEarly InMemory (holding [] []) known w0 w1 images requests
+
+  abbrev PartTaken : Type 0
+  PartTaken = Took left0 left1 (λ read. (requests : List Request) × AreOf (line_requests Stamped) (ended_requests Stamped []) left1 read requests × Early requests × Grew requests)
 
   -- a front of the replies is a front of the whole output
   front_of_replies : (input : List ℕ) (requests others : List Request) → line_requests Stamped input ≡ requests ++ others → Early requests → AppendsFront w0 w1 (settle_lines_output input)

@@ -13,8 +13,6 @@ use Rattle.intake.specs.Requests.{InMemory, OnDisk, Held, holding, replies, held
 use Rattle.intake.specs.Sessions.{line_requests, ended_requests}
 use Rattle.intake.specs.declared.lines.LineKind.TheVariants.{Stamped}
 use Rattle.intake_requests.specs.declared.requests.Request.{Request}
-use Rattle.std_alloc.specs.declared.wrapped.RcStr.{RcStr}
-use Rattle.registry_office.specs.Words.{commanded}
 use Rattle.registry_office.specs.declared.words.Command.{Command}
 use Rattle.registry_office.specs.declared.words.Command.TheVariants.{Settle, SettleLines, Receive}
 
@@ -97,8 +95,8 @@ pub record Told (command : Option Command) (tells : Bool) (file : List ℕ) (lef
   pub source_left : uses_input command ≡ true → left ≡ Some input
   pub clock_tells : receives command ≡ true → known ≡ Some held.ticks
 
--- A run of these words, over objects that tell what they hold: what its disk and its clock held at first, and its input.
-pub record Begins {Z : Type 0} (words : List (RcStr Z)) (tells : Bool) (file : List ℕ) (left : Option (List ℕ)) (known : Option (List DayMinute)) : Type 0 where
+-- A run of this command, over objects that tell what they hold: what its disk and its clock held at first, and its input.
+pub record Begins (command : Option Command) (tells : Bool) (file : List ℕ) (left : Option (List ℕ)) (known : Option (List DayMinute)) : Type 0 where
   pub held : Held
   pub input : List ℕ
-  pub told : Told (commanded words) tells file left known held input
+  pub told : Told command tells file left known held input

@@ -1,9 +1,7 @@
 -- The words of the command line.
 -- Why so: docs/DECISIONS.md, "A number in an option may begin with zeros".
-use Rattle.std.specs.Prelude.{ℕ, ◌≤◌, ◌&&◌, if◌then◌else◌, List, [], ◌∷◌, map, codes, Option, Some, None}
-use Rattle.std.specs.Rc.{rc_str_bytes}
+use Rattle.std.specs.Prelude.{ℕ, ◌≤◌, ◌&&◌, if◌then◌else◌, List, [], ◌∷◌, codes, Option, Some, None}
 use Rattle.std.specs.Str.{bytes_eq}
-use Rattle.std_alloc.specs.declared.wrapped.RcStr.{RcStr}
 use Rattle.opening_lists.specs.Numerals.{number_in}
 use Rattle.intake.specs.declared.intakes.Intake.TheVariants.{Lines, OpeningList}
 use Rattle.registry_office.specs.declared.words.Command.{Command}
@@ -40,7 +38,3 @@ abbrev pub HasDesks : Command → Type 0
 HasDesks (Settle desks) = (1 ≤ desks) × (desks ≤ 64)
 HasDesks (SettleLines desks) = (1 ≤ desks) × (desks ≤ 64)
 HasDesks (Receive intake) = Unit {0}
-
--- the command of the words of a run; none where they are none
-abbrev pub commanded : {Z : Type 0} → List (RcStr Z) → Option Command
-commanded words = command_of (map rc_str_bytes words)

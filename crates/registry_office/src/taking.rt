@@ -52,13 +52,7 @@ pub fn take<R: AllocGlobal, S: Source, K: Sink, D: Disk, C: Clock>(
     ensures others { IsTrue (is_of_session result) }
 {
     let mut receiver = BookOnDisk { book, disk, clock };
-    status_of(answer_lines(
-        rt.alloc(),
-        LineKind::Unstamped,
-        &mut receiver,
-        source,
-        sink,
-    ))
+    status_of(answer_lines(rt.alloc(), LineKind::Unstamped, &mut receiver, source, sink))
 }
 
 /// Receives the rows of the opening list that the input is, as `take` does lines.
