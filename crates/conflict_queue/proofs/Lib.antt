@@ -1,0 +1,4 @@
+-- Lemmas.
+pub mod Fronts
+pub mod ItemKeysStay
+pub mod ReceiptOrder

@@ -1,0 +1,84 @@
+//! The keys that an item touches.
+ghost use Rattle.std.specs.Prelude.{◌≡◌, ◌≤◌, ◌∷◌, [], ◌++◌, map, length, IfOk, Some};
+ghost use Rattle.gb_base.specs.declared.keys.Key.TheVariants.{Title, Right, Case};
+ghost use Rattle.act_model.specs.Receiving.{receipt_at};
+ghost use Rattle.act_model.specs.Touches.{in_key_order};
+ghost use Rattle.conflict_queue.specs.Dockets.{keys_touched};
+ghost use Rattle.conflict_queue.specs.ItemKeys.{earlier_rights, keys_by_item, keys_of_named};
+
+use act_model::{Item, Journal, filing_keys};
+use gb_base::{FolioId, Key, NoMemory, ReceiptNo, RightId};
+use std::alloc::Global;
+
+/// The most creating acts of a folio, whose rights are keys of its forced sale.
+const MOST_CREATIONS: usize = 256;
+
+/// The keys that item n touches, in ascending order, each once (GBO § 17). They follow from the
+/// receipts up to it alone. They may want memory.
+pub fn touches(alloc: Global, journal: &Journal, n: ReceiptNo) -> Result<Vec<Key>, NoMemory>
+    requires { n ≤ length journal.now.receipts }
+    ensures { IfOk result (λ keys. keys.items ≡ keys_touched journal.now.receipts n) }
+{
+    let item = &journal.receipts()[n.get() as usize - 1].item;
+    keys_of_item(alloc, journal, n, item)
+}
+
+/// The keys of item n, which is this one.
+fn keys_of_item(
+    alloc: Global,
+    journal: &Journal,
+    n: ReceiptNo,
+    item: &Item,
+) -> Result<Vec<Key>, NoMemory>
+    ensures { IfOk result (λ keys. keys.items ≡ in_key_order (keys_by_item journal.now.receipts n item.now)) }
+{
+    match item {
+        Item::Filing(_) => Vec::from_slice(alloc, filing_keys(journal, n).as_slice()),
+        Item::Cure { filing, .. } => keys_of_named(alloc, journal, n, *filing),
+        Item::Lapse { filing } => keys_of_named(alloc, journal, n, *filing),
+        Item::Seize { folio, .. } => keys_of_sale(alloc, *folio, earlier_rights(journal, n, *folio)),
+        Item::Register { folio, .. } => Vec::from_slice(alloc, &[Key::Case(*folio)]),
+        Item::OpenBids { folio, .. } => keys_of_sale(alloc, *folio, earlier_rights(journal, n, *folio)),
+        Item::Award { folio, .. } => keys_of_sale(alloc, *folio, earlier_rights(journal, n, *folio)),
+        Item::Distribute { folio } => keys_of_sale(alloc, *folio, earlier_rights(journal, n, *folio)),
+    }
+}
+
+/// The keys of the filing that item n names; none where it is no earlier one.
+fn keys_of_named(
+    alloc: Global,
+    journal: &Journal,
+    n: ReceiptNo,
+    filing: ReceiptNo,
+) -> Result<Vec<Key>, NoMemory>
+    ensures { IfOk result (λ keys. keys.items ≡ in_key_order (keys_of_named journal.now.receipts n filing)) }
+{
+    if filing < n {
+        Vec::from_slice(alloc, filing_keys(journal, filing).as_slice())
+    } else {
+        Ok(Vec::new(alloc))
+    }
+}
+
+/// The rights that earlier receipts than item n create in the folio, among the first 256 of it.
+pub(crate) fn earlier_rights(journal: &Journal, n: ReceiptNo, folio: FolioId) -> &[RightId]
+    ensures { result.now ≡ earlier_rights journal.now.receipts n folio }
+{
+    let rights = journal.creations_in(folio);
+    let first = &rights[..rights.len().min(MOST_CREATIONS)];
+    let earlier = first.partition_point(|right| right.receipt() < n);
+    &first[..earlier]
+}
+
+/// The keys of a forced sale of the folio that finds these rights: the title, the rights, the sale.
+fn keys_of_sale(alloc: Global, folio: FolioId, rights: &[RightId]) -> Result<Vec<Key>, NoMemory>
+    ensures { IfOk result (λ keys. keys.items ≡ Title folio ∷ (map (Right folio) rights.now ++ Case folio ∷ [])) }
+{
+    let mut keys = Vec::with_capacity(alloc, rights.len() + 2)?;
+    keys.push_reserved(Key::Title(folio));
+    for right in rights {
+        keys.push_reserved(Key::Right(folio, *right));
+    }
+    keys.push_reserved(Key::Case(folio));
+    Ok(keys)
+}
