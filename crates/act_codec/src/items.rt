@@ -6,9 +6,9 @@ ghost use Rattle.act_codec.specs.Values.{IsFiling, IsItem};
 ghost use Rattle.act_codec.specs.inner.Reading.{Gives, Found, FoundTagged, IsAny, read_condition, read_filing, read_filing_item, read_cure, read_lapse, read_seize, read_register, read_open_bids, read_award, read_distribute, read_item};
 
 use crate::acts::{put_acts, read_acts};
-use crate::auctions::{put_basis, put_registration, read_basis, read_registration};
 use crate::documents::{put_docs, read_docs};
 use crate::reader::Reader;
+use crate::sales::{put_basis, put_registration, read_basis, read_registration};
 use crate::writer::Writer;
 use act_model::{Filing, Item};
 use gb_base::NoMemory;

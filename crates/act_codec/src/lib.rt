@@ -2,13 +2,13 @@
 #![tactic(auto)]
 
 mod acts;
-mod auctions;
 mod documents;
 mod items;
 pub mod laws;
 mod reader;
 mod receipts;
 mod rights;
+mod sales;
 #[cfg(test)]
 mod tests;
 mod writer;

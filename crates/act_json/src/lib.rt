@@ -3,7 +3,6 @@
 
 mod acts;
 mod arrays;
-mod auctions;
 mod dates;
 mod documents;
 mod items;
@@ -12,6 +11,7 @@ mod numbers;
 mod paths;
 mod reading;
 mod rights;
+mod sales;
 #[cfg(test)]
 mod tests;
 mod words;

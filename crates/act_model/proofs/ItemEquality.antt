@@ -1,9 +1,9 @@
 -- Values are equal where `==` says so.
 use Rattle.std.proofs.Common.{◌≡◌, ℕ, true, Option, None, Some, refl, ap}
-use Rattle.act_model.specs.contracts.auctions.Basis as basis
-use Rattle.act_model.specs.contracts.auctions.BasisPartialEq.TheImpl as bases
-use Rattle.act_model.specs.contracts.auctions.Registration as registration
-use Rattle.act_model.specs.contracts.auctions.RegistrationPartialEq.TheImpl as registrations
+use Rattle.act_model.specs.contracts.sales.Basis as basis
+use Rattle.act_model.specs.contracts.sales.BasisPartialEq.TheImpl as bases
+use Rattle.act_model.specs.contracts.sales.Registration as registration
+use Rattle.act_model.specs.contracts.sales.RegistrationPartialEq.TheImpl as registrations
 use Rattle.act_model.specs.contracts.items.Item as item
 use Rattle.act_model.specs.contracts.items.ItemPartialEq.TheImpl as items
 use Rattle.act_model.specs.contracts.items.FilingPartialEq.TheImpl as filings

@@ -1,4 +1,5 @@
--- The keys that a filing touches. They follow from the receipts up to it alone (law keys_stay), whatever became of these.
+-- Filings, their acts and the rights that these create, as the journal has them; and the keys that a filing touches. These
+-- follow from the receipts up to the filing alone (law keys_stay), whatever became of it.
 use Rattle.std.specs.Prelude.{ℕ, ◌+◌, ◌-◌, Bool, false, ◌==◌, nat_lt, if◌then◌else◌, List, [], ◌∷◌, ◌++◌, map, slice_get, Option, Some, None, option_and_then, option_map}
 use Rattle.std.specs.Option.{option_map_or}
 use Rattle.std.specs.FinMap.{from_entries, keys}
@@ -16,6 +17,8 @@ use Rattle.act_model.specs.Acts.{folio_of, right_created, is_in_division_three}
 use Rattle.act_model.specs.Receiving.{receipt_at}
 use Rattle.act_model.specs.declared.items.Item.TheVariants as item
 
+-- ---- filings and their acts
+
 -- the filing that an item is; none where it is another item
 abbrev pub filing_in : Item → Option Filing
 filing_in (item.Filing f) = Some f
@@ -31,6 +34,10 @@ filing_in (item.Distribute folio) = None
 abbrev pub filing_at : List Receipt → ℕ → Option Filing
 filing_at journal m = option_and_then (λ r. filing_in r.item) (receipt_at journal m)
 
+-- the applicant of filing n; none where receipt n is no filing
+abbrev pub applicant_of : List Receipt → ℕ → Option ℕ
+applicant_of journal n = option_map (λ f. f.applicant) (filing_at journal n)
+
 -- the acts of filing m; none where receipt m is no filing
 abbrev pub acts_of : List Receipt → ℕ → List Act
 acts_of journal m = option_map_or (λ f. f.acts) (filing_at journal m) []
@@ -39,7 +46,17 @@ acts_of journal m = option_map_or (λ f. f.acts) (filing_at journal m) []
 abbrev pub act_at : Filing → ℕ → Option Act
 act_at f a = if a == 0 then None else slice_get f.acts (a - 1)
 
--- the right that an act creates in this folio
+-- ---- the rights that acts create
+
+-- the number of the right that act a of filing m creates
+abbrev pub new_right : ℕ → ℕ → RightNo
+new_right m a = record { receipt = m; act = a }
+
+-- the act that a right is numbered by: act `right.act` of filing `right.receipt`; none where the journal has no such act
+abbrev pub act_of_right : List Receipt → RightNo → Option Act
+act_of_right journal right = option_and_then (λ f. act_at f right.act) (filing_at journal right.receipt)
+
+-- the description of the right that an act creates in this folio; none where it creates none there
 abbrev pub created_in : ℕ → Act → Option RightSpec
 created_in folio act = if folio_of act == folio then right_created act else None
 
@@ -54,9 +71,7 @@ created_before journal m folio right =
 abbrev pub was_in_division_three : List Receipt → ℕ → ℕ → RightNo → Bool
 was_in_division_three journal m folio right = option_map_or (λ s. is_in_division_three s.kind) (created_before journal m folio right) false
 
--- the right that act a of filing m creates
-abbrev pub new_right : ℕ → ℕ → RightNo
-new_right m a = record { receipt = m; act = a }
+-- ---- the keys of a filing
 
 -- the keys of act a of filing m
 abbrev pub keys_of_act : List Receipt → ℕ → ℕ → Act → List Key
@@ -87,11 +102,3 @@ in_key_order ks = keys (from_entries {X = Unit {0}} {R = key_cmp} (map (λ k. (k
 -- the keys of filing m in ascending order, each once
 abbrev pub keys_in_order : List Receipt → ℕ → List Key
 keys_in_order journal m = in_key_order (keys_of_filing journal m)
-
--- the applicant of filing n; none where receipt n is no filing
-abbrev pub applicant_of : List Receipt → ℕ → Option ℕ
-applicant_of journal n = option_map (λ f. f.applicant) (filing_at journal n)
-
--- the act of this right's number in its filing
-abbrev pub act_of_right : List Receipt → RightNo → Option Act
-act_of_right journal right = option_and_then (λ f. act_at f right.act) (filing_at journal right.receipt)

@@ -9,16 +9,21 @@ use crate::{Act, Journal, RightSpec};
 use gb_base::{FolioId, ReceiptNo};
 
 /// Whether filing n creates a right of division III, or else of division II, in the folio.
-pub fn creates_in_division(journal: &Journal, third: bool, folio: FolioId, n: ReceiptNo) -> bool
+pub fn filing_creates_in_division(
+    journal: &Journal,
+    third: bool,
+    folio: FolioId,
+    n: ReceiptNo,
+) -> bool
     ensures { result ≡ create_in_division third folio (acts_of journal.now.receipts n) }
 {
     acts_of(journal, n)
         .iter()
-        .any(|act| is_creation(third, folio, act))
+        .any(|act| creates_in_division(third, folio, act))
 }
 
 /// Whether the act creates a right of division III, or else of division II, in the folio.
-fn is_creation(third: bool, folio: FolioId, act: &Act) -> bool
+fn creates_in_division(third: bool, folio: FolioId, act: &Act) -> bool
     ensures { result ≡ creates_in_division third folio act.now }
 {
     act.folio() == folio && has_division(third, act.right_created())

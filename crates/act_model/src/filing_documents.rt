@@ -6,64 +6,27 @@ ghost use Rattle.gb_base.specs.Limits.{is_between};
 ghost use Rattle.act_model.specs.Documents.{act_of_doc, docs_by_cure, docs_of_cure};
 
 use crate::sought::{DocFilter, Sought};
-use crate::{Doc, Filing, Form, Item, Journal};
+use crate::{Doc, Form, Item, Journal, Matter};
 use gb_base::{Person, ReceiptNo};
-use std::marker::Model;
 
-/// The documents of a filing, and then those of its cures up to a receipt. In contracts it is
-/// their list, without those of an act that the filing does not have.
-#[derive(Drop)]
-pub struct Documents<'a> {
-    journal: &'a Journal,
-    number: ReceiptNo,
-    filing: &'a Filing,
-    upto: ReceiptNo,
-}
+/// The documents that count for a filing: its own, and those of its cures up to the item that
+/// settles it, but for those of an act that it does not have.
+impl<'a> Matter<'a> {
+    ghost use Rattle.act_model.specs.Documents.{docs_of, given, has_proof};
 
-impl<'a> Model for Documents<'a> {
-    ghost use Rattle.std.specs.Prelude.{List};
-    ghost use Rattle.act_model.specs.declared.documents.Doc.{Doc};
-    ghost use Rattle.act_model.specs.Documents.{documents};
-
-    ghost Value = { List Doc };
-
-    ghost view = { λ a. documents a.journal.now.receipts a.number a.filing.now a.upto };
-}
-
-impl<'a> Documents<'a> {
-    ghost use Rattle.act_model.specs.Documents.{documents, given, has_proof};
-
-    /// The documents of filing `number`, with those of its cures up to receipt `upto`.
-    pub fn new(
-        journal: &'a Journal,
-        number: ReceiptNo,
-        filing: &'a Filing,
-        upto: ReceiptNo,
-    ) -> Documents<'a>
-        ensures { result ≡ documents journal.now.receipts number filing.now upto }
-    {
-        Documents {
-            journal,
-            number,
-            filing,
-            upto,
-        }
-    }
-
-    /// Whether such a document is among them.
+    /// Whether such a document counts.
     pub fn has<T: DocFilter>(&self, test: &T) -> bool
-        ensures { result ≡ list_any (T.test test.now) self.now }
+        ensures { result ≡ list_any (T.test test.now) (docs_of self.now) }
     {
-        let (filing, upto) = (self.filing, self.upto);
-        let acts = filing.acts.list().len();
-        counts_among(filing.docs.list(), acts, test)
-            || cures_have(self.journal, self.number, upto, acts, test)
+        let acts = self.filing.acts.list().len();
+        counts_among(self.filing.docs.list(), acts, test)
+            || cures_have(self.journal, self.number, self.item, acts, test)
     }
 
     /// The form in which the person has consented to the act: certified where some consent is;
     /// None where there is none (GBO § 29).
     pub fn given(&self, act: u8, person: Person) -> Option<Form>
-        ensures { result ≡ given self.now act person }
+        ensures { result ≡ given (docs_of self.now) act person }
     {
         if self.has(&Sought::Certified { act, person }) {
             Some(Form::Certified)
@@ -76,7 +39,7 @@ impl<'a> Documents<'a> {
 
     /// Whether the act has an expiry proof (GBO § 22).
     pub fn has_proof(&self, act: u8) -> bool
-        ensures { result ≡ has_proof self.now act }
+        ensures { result ≡ has_proof (docs_of self.now) act }
     {
         self.has(&Sought::Proof { act })
     }
@@ -152,6 +115,12 @@ fn docs_of_cure(item: &Item) -> &[Doc]
 {
     match item {
         Item::Cure { docs, .. } => docs.list(),
-        _ => &[],
+        Item::Filing(_)
+        | Item::Lapse { .. }
+        | Item::Seize { .. }
+        | Item::Register { .. }
+        | Item::OpenBids { .. }
+        | Item::Award { .. }
+        | Item::Distribute { .. } => &[],
     }
 }

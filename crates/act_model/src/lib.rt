@@ -1,9 +1,15 @@
-//! What comes in: filings with their acts and documents, cures, lapses and the items of a forced
-//! sale; receipts, and the journal that numbers them.
+//! What comes in, the journal that numbers it, and what follows from the journal alone.
+//!
+//! - What comes in: `items`, `filing_acts` with `rights`, `land` and `people`, `documents`, and
+//!   `sales` for a forced sale. `filing_rules` and `ranges` say what is well formed.
+//! - The journal: `receipts`, `journals` and its answers `added`; `item_indexes` and `lists` are how
+//!   it finds cures and creating acts.
+//! - What follows from it: `filings` finds filings, acts and rights, `touched_keys` the keys that a
+//!   filing touches, `divisions` and `groups` what it creates; `matters` is a filing with the item
+//!   that settles it, `filing_documents` are the documents that count then, and `sought` tests them.
 #![tactic(auto)]
 
 mod added;
-mod auctions;
 mod divisions;
 mod documents;
 mod filing_acts;
@@ -19,30 +25,32 @@ mod journals;
 mod land;
 pub mod laws;
 mod lists;
+mod matters;
 mod people;
 mod ranges;
 mod receipts;
 mod rights;
+mod sales;
 mod sought;
 #[cfg(test)]
 mod tests;
 mod touched_keys;
 
 pub use added::Added;
-pub use auctions::{Basis, Registration};
-pub use divisions::creates_in_division;
+pub use divisions::filing_creates_in_division;
 pub use documents::{Doc, Docs, Form};
 pub use filing_acts::{Act, Acts};
-pub use filing_documents::Documents;
 pub use filing_rules::{keeps_rules, share_group};
 pub use filings::{act_at, acts_of, applicant_of, created_before, filing_at, new_right};
 pub use groups::{has_equal, shares_its_group};
 pub use items::{Filing, Item};
 pub use journals::Journal;
 pub use land::Inventory;
+pub use matters::Matter;
 pub use people::Owners;
 pub use ranges::well_formed;
 pub use receipts::Receipt;
 pub use rights::{RightKind, RightSpec};
+pub use sales::{Basis, Registration};
 pub use sought::{DocFilter, Sought};
 pub use touched_keys::filing_keys;

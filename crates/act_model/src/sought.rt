@@ -55,7 +55,7 @@ fn is_consent_of(doc: &Doc, number: u8, consenting: Person) -> bool
 {
     match doc {
         Doc::Consent { act, person, .. } => *act == number && *person == consenting,
-        _ => false,
+        Doc::Agreement { .. } | Doc::TaxClearance { .. } | Doc::ExpiryProof { .. } => false,
     }
 }
 
@@ -67,7 +67,7 @@ fn is_certified_consent_of(doc: &Doc, number: u8, consenting: Person) -> bool
         Doc::Consent { act, person, form } => {
             *form == Form::Certified && *act == number && *person == consenting
         }
-        _ => false,
+        Doc::Agreement { .. } | Doc::TaxClearance { .. } | Doc::ExpiryProof { .. } => false,
     }
 }
 
@@ -76,7 +76,7 @@ fn is_agreement(doc: &Doc, number: u8) -> bool
 {
     match doc {
         Doc::Agreement { act } => *act == number,
-        _ => false,
+        Doc::Consent { .. } | Doc::TaxClearance { .. } | Doc::ExpiryProof { .. } => false,
     }
 }
 
@@ -85,7 +85,7 @@ fn is_clearance(doc: &Doc, number: u8) -> bool
 {
     match doc {
         Doc::TaxClearance { act } => *act == number,
-        _ => false,
+        Doc::Consent { .. } | Doc::Agreement { .. } | Doc::ExpiryProof { .. } => false,
     }
 }
 
@@ -94,6 +94,6 @@ fn is_proof(doc: &Doc, number: u8) -> bool
 {
     match doc {
         Doc::ExpiryProof { act } => *act == number,
-        _ => false,
+        Doc::Consent { .. } | Doc::Agreement { .. } | Doc::TaxClearance { .. } => false,
     }
 }

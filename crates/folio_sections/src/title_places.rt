@@ -4,7 +4,7 @@ ghost use Rattle.std.specs.List.{before_first};
 ghost use Rattle.folio_sections.specs.Places.{behind, behind_by, noticed_place, own_place, place_by, places_among};
 
 use crate::{Entry, What};
-use act_model::{Journal, creates_in_division};
+use act_model::{Journal, filing_creates_in_division};
 use gb_base::{Day, FolioId, ReceiptNo};
 
 /// The place of a filing at a title.
@@ -49,8 +49,8 @@ fn noticed_place(
 ) -> Option<TitlePlace>
     ensures { result ≡ noticed_place journal.now.receipts folio day filing }
 {
-    let second = creates_in_division(journal, false, folio, filing);
-    let third = creates_in_division(journal, true, folio, filing);
+    let second = filing_creates_in_division(journal, false, folio, filing);
+    let third = filing_creates_in_division(journal, true, folio, filing);
     if second || third {
         Some(TitlePlace {
             filing,

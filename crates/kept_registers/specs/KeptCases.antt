@@ -12,8 +12,8 @@ use Rattle.folio_sections.specs.Limits.{most_registrations, most_seizures}
 use Rattle.folio_sections.specs.Titles.{is_opening}
 use Rattle.folio_sections.specs.declared.entries.Entry.{Entry}
 use Rattle.folio_sections.specs.declared.entries.What.{What}
-use Rattle.act_model.specs.declared.auctions.Basis.TheVariants as basis
-use Rattle.act_model.specs.declared.auctions.Registration.TheVariants as registration
+use Rattle.act_model.specs.declared.sales.Basis.TheVariants as basis
+use Rattle.act_model.specs.declared.sales.Registration.TheVariants as registration
 use Rattle.act_model.specs.declared.items.Item.TheVariants as item
 use Rattle.folio_sections.specs.declared.entries.What.TheVariants as what
 

@@ -10,10 +10,10 @@ use Rattle.act_model.specs.declared.documents.Form.{Form}
 use Rattle.act_model.specs.declared.documents.Form.TheVariants as form
 use Rattle.act_model.specs.declared.documents.Doc.{Doc}
 use Rattle.act_model.specs.declared.documents.Doc.TheVariants as doc
-use Rattle.act_model.specs.declared.auctions.Basis.{Basis}
-use Rattle.act_model.specs.declared.auctions.Basis.TheVariants as basis
-use Rattle.act_model.specs.declared.auctions.Registration.{Registration}
-use Rattle.act_model.specs.declared.auctions.Registration.TheVariants as registration
+use Rattle.act_model.specs.declared.sales.Basis.{Basis}
+use Rattle.act_model.specs.declared.sales.Basis.TheVariants as basis
+use Rattle.act_model.specs.declared.sales.Registration.{Registration}
+use Rattle.act_model.specs.declared.sales.Registration.TheVariants as registration
 use Rattle.act_model.specs.declared.items.Item.{Item}
 use Rattle.act_model.specs.declared.items.Item.TheVariants as item
 use Rattle.act_model.specs.declared.receipts.Receipt.{Receipt}

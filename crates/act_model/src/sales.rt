@@ -1,4 +1,4 @@
-//! What seizures and registrations say.
+//! What the seizures and registrations of a forced sale say.
 use gb_base::{Cents, Day, Person, RightId};
 
 /// What a seizure rests on (ZVG § 10).
