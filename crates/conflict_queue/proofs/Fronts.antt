@@ -1,6 +1,6 @@
 -- Fronts of lists: what passes a test at the front alone, and what is below a number among ascending ones.
-use Rattle.std.proofs.Common.{◌≡◌, ℕ, zero, suc, ◌+◌, ◌-◌, ◌<◌, ◌≤◌, Bool, true, false, cond, nat_lt, List, [], ◌∷◌, filter, length, take, get_or, refl, sym, ap, subst, ◌∙◌, arith}
-use Rattle.std.specs.List.{range_with_len}
+use Rattle.std.proofs.Common.{◌≡◌, ℕ, zero, suc, ◌+◌, ◌-◌, ◌<◌, ◌≤◌, Bool, true, false, cond, nat_lt, List, [], ◌∷◌, filter, length, take, get_or, slice_get, Some, None, refl, sym, ap, subst, ◌∙◌, arith}
+use Rattle.std.specs.List.{last_or, range_with_len}
 use Rattle.std.specs.List.Sorted.{IsPartitionedBy}
 use Rattle.std.proofs.lemmas.Bool.{false≢true}
 use Rattle.std.proofs.lemmas.Bool.Decides.{nat_tests}
@@ -90,3 +90,25 @@ passing_below p a (suc k) (suc n) few =
       | true ↦ rw first (ap (λ ms. a ∷ ms) rest)
       | false ↦ rest
     ]
+
+pub below_is : (p : ℕ → Bool) (n i : ℕ) → i - 1 ≤ n → filter (λ m. nat_lt m i) (filter p (range_with_len 1 n)) ≡ filter p (range_with_len 1 (i - 1))
+below_is p n zero few =
+    let none : 0 ≡ 0 - 1 = omega arith in
+    none_below p 0 1 n (omega arith) ∙ ap (λ k. filter p (range_with_len 1 k)) none
+below_is p n (suc i) few =
+    let next : suc i ≡ 1 + i = omega arith in
+    let behind : i ≡ suc i - 1 = omega arith in
+    ap (λ b. filter (λ m. nat_lt m b) (filter p (range_with_len 1 n))) next ∙ passing_below p 1 i n (omega arith)
+    ∙ ap (λ k. filter p (range_with_len 1 k)) behind
+
+-- ---- the last one
+
+last_from : {X : Type 0} (x : X) (xs : List X) → slice_get (x ∷ xs) (length xs) ≡ last_or (Some x) xs
+last_from x [] = refl
+last_from x (y ∷ ys) = last_from y ys
+
+pub last_is : {X : Type 0} (xs : List X) → slice_get xs (length xs - 1) ≡ last_or None xs
+last_is [] = refl
+last_is (x ∷ xs) =
+    let behind : length (x ∷ xs) - 1 ≡ length xs = omega arith in
+    ap (λ i. slice_get (x ∷ xs) i) behind ∙ last_from x xs

@@ -1,14 +1,13 @@
 //! The docket of a journal.
-ghost use Rattle.std.specs.Prelude.{◌≡◌, ◌≤◌, ◌<◌, ◌-◌, ◌++◌, ◌∷◌, true, [], map, is_some, length, OnOk, IfSome};
+ghost use Rattle.std.specs.Prelude.{◌≡◌, ◌≤◌, ◌-◌, ◌++◌, ◌∷◌, [], map, length, OnOk, IfSome};
 ghost use Rattle.std.specs.List.{range_with_len};
-ghost use Rattle.act_model.specs.Touches.{filing_at, in_key_order};
 ghost use Rattle.conflict_queue.specs.Dockets.{keys_touched};
-ghost use Rattle.conflict_queue.specs.ItemKeys.{keys_of_sale};
-ghost use Rattle.conflict_queue.specs.inner.Sales.{folio_of_sale, AreSales, IsOfSale, TouchesSame};
+ghost use Rattle.conflict_queue.specs.ItemKeys.{keys_of_named, keys_of_sale};
+ghost use Rattle.conflict_queue.specs.inner.Sales.{folio_of_sale, AreSales, IsAhead, TouchesSame};
 
 use crate::key_lists::KeyLists;
 use crate::queues::{last_below, push_all, queue_at};
-use crate::touched::{earlier_rights, touches};
+use crate::touched::{earlier_rights, item_at, touches};
 use act_model::{Item, Journal, filing_at};
 use gb_base::{FolioId, Key, NoMemory, ReceiptNo};
 use std::alloc::Global;
@@ -96,19 +95,32 @@ fn add_keys(
     ensures keys { OnOk result (keys.new ≡ keys.old ++ keys_touched journal.now.receipts item ∷ []) }
     ensures sales { OnOk result (AreSales journal.now.receipts item sales.new) }
 {
-    match shared_with(keys, sales, journal, item) {
-        Some(earlier) => keys.share(earlier.get() as usize - 1)?,
-        None => keys.push(touches(alloc, journal, item)?)?,
+    push_keys(alloc, keys, sales, journal, item)?;
+    note_sale(sales, journal, item)
+}
+
+/// Adds the keys of the next item, and keeps them once where an earlier one touches the same.
+fn push_keys(
+    alloc: Global,
+    keys: &mut KeyLists,
+    sales: &BTreeMap<u32, ReceiptNo>,
+    journal: &Journal,
+    item: ReceiptNo,
+) -> Result<(), NoMemory>
+    requires received { item ≤ length journal.now.receipts }
+    requires so_far { keys.old ≡ map (keys_touched journal.now.receipts) (range_with_len 1 (item - 1)) }
+    requires sales { AreSales journal.now.receipts (item - 1) sales.now }
+    ensures { OnOk result (keys.new ≡ keys.old ++ keys_touched journal.now.receipts item ∷ []) }
+{
+    match touched_alike(keys, sales, journal, item) {
+        Some(earlier) => keys.share(earlier.get() as usize - 1),
+        None => keys.push(touches(alloc, journal, item)?),
     }
-    if let Some(folio) = folio_of_sale(&journal.receipts()[item.get() as usize - 1].item) {
-        sales.insert(folio.get(), item)?;
-    }
-    Ok(())
 }
 
 /// An earlier item that touches the same keys, where one is at hand: the filing that the item
 /// names, or the last item of the same sale, unless rights were created since.
-fn shared_with(
+fn touched_alike(
     keys: &KeyLists,
     sales: &BTreeMap<u32, ReceiptNo>,
     journal: &Journal,
@@ -119,40 +131,64 @@ fn shared_with(
     requires sales { AreSales journal.now.receipts (item - 1) sales.now }
     ensures { IfSome result (λ j. TouchesSame journal.now.receipts item j) }
 {
-    match &journal.receipts()[item.get() as usize - 1].item {
+    match item_at(journal, item) {
+        Item::Filing(_) => None,
         Item::Cure { filing, .. } => earlier_filing(journal, item, *filing),
         Item::Lapse { filing } => earlier_filing(journal, item, *filing),
-        received => {
-            let folio = folio_of_sale(received)?;
-            same_sale(keys, sales, journal, item, folio)
-        }
+        Item::Seize { folio, .. } => last_of_sale(keys, sales, journal, item, *folio),
+        Item::Register { .. } => None,
+        Item::OpenBids { folio, .. } => last_of_sale(keys, sales, journal, item, *folio),
+        Item::Award { folio, .. } => last_of_sale(keys, sales, journal, item, *folio),
+        Item::Distribute { folio } => last_of_sale(keys, sales, journal, item, *folio),
     }
 }
 
-/// The filing that an item names, where it is an earlier one.
-fn earlier_filing(journal: &Journal, item: ReceiptNo, filing: ReceiptNo) -> Option<ReceiptNo>
-    ensures { IfSome result (λ m. (m ≡ filing) × (m < item) × (is_some (filing_at journal.now.receipts m) ≡ true)) }
+/// The filing that item n names, where it is an earlier one.
+fn earlier_filing(journal: &Journal, n: ReceiptNo, filing: ReceiptNo) -> Option<ReceiptNo>
+    ensures { IfSome result (λ m. IsAhead journal.now.receipts n m (keys_of_named journal.now.receipts n filing)) }
 {
-    (filing < item && filing_at(journal, filing).is_some()).then_some(filing)
+    if filing >= n {
+        return None;
+    }
+    filing_at(journal, filing)?;
+    Some(filing)
 }
 
-/// The last item of a sale of the folio, where it touches as many rights as item i finds.
-fn same_sale(
+/// The last item of a sale of the folio, where it touches as many rights as item n finds.
+fn last_of_sale(
     keys: &KeyLists,
     sales: &BTreeMap<u32, ReceiptNo>,
     journal: &Journal,
-    item: ReceiptNo,
+    n: ReceiptNo,
     folio: FolioId,
 ) -> Option<ReceiptNo>
-    requires so_far { keys.now ≡ map (keys_touched journal.now.receipts) (range_with_len 1 (item - 1)) }
-    requires sales { AreSales journal.now.receipts (item - 1) sales.now }
-    ensures { IfSome result (λ j. IsOfSale journal.now.receipts (item - 1) folio j × (keys_touched journal.now.receipts j ≡ in_key_order (keys_of_sale journal.now.receipts item folio))) }
+    requires so_far { keys.now ≡ map (keys_touched journal.now.receipts) (range_with_len 1 (n - 1)) }
+    requires sales { AreSales journal.now.receipts (n - 1) sales.now }
+    ensures { IfSome result (λ j. IsAhead journal.now.receipts n j (keys_of_sale journal.now.receipts n folio)) }
 {
     let last = *sales.get(&folio.get())?;
     let touched = keys.get(last.get() as usize - 1).len();
     // Besides its rights a sale touches the title and itself.
-    let rights = earlier_rights(journal, item, folio).len();
-    (touched == rights + 2).then_some(last)
+    if touched != earlier_rights(journal, n, folio).len() + 2 {
+        return None;
+    }
+    Some(last)
+}
+
+/// Notes the item where it is the last one of a sale.
+fn note_sale(
+    sales: &mut BTreeMap<u32, ReceiptNo>,
+    journal: &Journal,
+    item: ReceiptNo,
+) -> Result<(), NoMemory>
+    requires received { item ≤ length journal.now.receipts }
+    requires sales { AreSales journal.now.receipts (item - 1) sales.old }
+    ensures { OnOk result (AreSales journal.now.receipts item sales.new) }
+{
+    if let Some(folio) = folio_of_sale(item_at(journal, item)) {
+        sales.insert(folio.get(), item)?;
+    }
+    Ok(())
 }
 
 /// The folio all keys of whose sale the item touches; None where it touches others.

@@ -1,8 +1,6 @@
 //! What holds of the keys of all items, and of the orders in which they may be settled.
-ghost use Rattle.std.specs.Prelude.{◌≡◌, ◌≤◌, ◌<◌, ◌++◌, ℕ, List, Some, Contains, true, false, length};
-ghost use Rattle.gb_base.specs.declared.keys.Key.{Key};
+ghost use Rattle.std.specs.Prelude.{◌≡◌, ◌≤◌, ◌++◌, ℕ, List, length};
 ghost use Rattle.act_model.specs.declared.receipts.Receipt.{Receipt};
-ghost use Rattle.conflict_queue.specs.Dockets.{previous, touches};
 ghost use Rattle.conflict_queue.specs.ItemKeys.{keys_of_item};
 ghost use Rattle.conflict_queue.specs.Schedules.{in_receipt_order, IsPermitted};
 

@@ -1,10 +1,9 @@
 //! The keys that an item touches.
-ghost use Rattle.std.specs.Prelude.{◌≡◌, ◌≤◌, ◌∷◌, [], ◌++◌, map, length, IfOk, Some};
-ghost use Rattle.gb_base.specs.declared.keys.Key.TheVariants.{Title, Right, Case};
+ghost use Rattle.std.specs.Prelude.{◌≡◌, ◌≤◌, Some, length, option_map, IfOk};
 ghost use Rattle.act_model.specs.Receiving.{receipt_at};
 ghost use Rattle.act_model.specs.Touches.{in_key_order};
 ghost use Rattle.conflict_queue.specs.Dockets.{keys_touched};
-ghost use Rattle.conflict_queue.specs.ItemKeys.{earlier_rights, keys_by_item, keys_of_named};
+ghost use Rattle.conflict_queue.specs.ItemKeys.{earlier_rights, keys_by_item, keys_of_named, keys_of_sale};
 
 use act_model::{Item, Journal, filing_keys};
 use gb_base::{FolioId, Key, NoMemory, ReceiptNo, RightId};
@@ -19,12 +18,19 @@ pub fn touches(alloc: Global, journal: &Journal, n: ReceiptNo) -> Result<Vec<Key
     requires { n ≤ length journal.now.receipts }
     ensures { IfOk result (λ keys. keys.items ≡ keys_touched journal.now.receipts n) }
 {
-    let item = &journal.receipts()[n.get() as usize - 1].item;
-    keys_of_item(alloc, journal, n, item)
+    keys_by_item(alloc, journal, n, item_at(journal, n))
 }
 
-/// The keys of item n, which is this one.
-fn keys_of_item(
+/// What receipt n holds.
+pub(crate) fn item_at(journal: &Journal, n: ReceiptNo) -> &Item
+    requires { n ≤ length journal.now.receipts }
+    ensures { option_map (λ r. r.item) (receipt_at journal.now.receipts n) ≡ Some result.now }
+{
+    &journal.receipts()[n.get() as usize - 1].item
+}
+
+/// The keys of item n, where it is this one.
+fn keys_by_item(
     alloc: Global,
     journal: &Journal,
     n: ReceiptNo,
@@ -36,11 +42,11 @@ fn keys_of_item(
         Item::Filing(_) => Vec::from_slice(alloc, filing_keys(journal, n).as_slice()),
         Item::Cure { filing, .. } => keys_of_named(alloc, journal, n, *filing),
         Item::Lapse { filing } => keys_of_named(alloc, journal, n, *filing),
-        Item::Seize { folio, .. } => keys_of_sale(alloc, *folio, earlier_rights(journal, n, *folio)),
+        Item::Seize { folio, .. } => keys_of_sale(alloc, journal, n, *folio),
         Item::Register { folio, .. } => Vec::from_slice(alloc, &[Key::Case(*folio)]),
-        Item::OpenBids { folio, .. } => keys_of_sale(alloc, *folio, earlier_rights(journal, n, *folio)),
-        Item::Award { folio, .. } => keys_of_sale(alloc, *folio, earlier_rights(journal, n, *folio)),
-        Item::Distribute { folio } => keys_of_sale(alloc, *folio, earlier_rights(journal, n, *folio)),
+        Item::OpenBids { folio, .. } => keys_of_sale(alloc, journal, n, *folio),
+        Item::Award { folio, .. } => keys_of_sale(alloc, journal, n, *folio),
+        Item::Distribute { folio } => keys_of_sale(alloc, journal, n, *folio),
     }
 }
 
@@ -60,20 +66,16 @@ fn keys_of_named(
     }
 }
 
-/// The rights that earlier receipts than item n create in the folio, among the first 256 of it.
-pub(crate) fn earlier_rights(journal: &Journal, n: ReceiptNo, folio: FolioId) -> &[RightId]
-    ensures { result.now ≡ earlier_rights journal.now.receipts n folio }
+/// The keys of a forced sale of the folio, as item n finds them: the title, the rights, the sale.
+fn keys_of_sale(
+    alloc: Global,
+    journal: &Journal,
+    n: ReceiptNo,
+    folio: FolioId,
+) -> Result<Vec<Key>, NoMemory>
+    ensures { IfOk result (λ keys. keys.items ≡ in_key_order (keys_of_sale journal.now.receipts n folio)) }
 {
-    let rights = journal.creations_in(folio);
-    let first = &rights[..rights.len().min(MOST_CREATIONS)];
-    let earlier = first.partition_point(|right| right.receipt() < n);
-    &first[..earlier]
-}
-
-/// The keys of a forced sale of the folio that finds these rights: the title, the rights, the sale.
-fn keys_of_sale(alloc: Global, folio: FolioId, rights: &[RightId]) -> Result<Vec<Key>, NoMemory>
-    ensures { IfOk result (λ keys. keys.items ≡ Title folio ∷ (map (Right folio) rights.now ++ Case folio ∷ [])) }
-{
+    let rights = earlier_rights(journal, n, folio);
     let mut keys = Vec::with_capacity(alloc, rights.len() + 2)?;
     keys.push_reserved(Key::Title(folio));
     for right in rights {
@@ -81,4 +83,14 @@ fn keys_of_sale(alloc: Global, folio: FolioId, rights: &[RightId]) -> Result<Vec
     }
     keys.push_reserved(Key::Case(folio));
     Ok(keys)
+}
+
+/// The rights that earlier receipts than item n create in the folio, among the first 256 of it.
+pub(crate) fn earlier_rights(journal: &Journal, n: ReceiptNo, folio: FolioId) -> &[RightId]
+    ensures { result.now ≡ earlier_rights journal.now.receipts n folio }
+{
+    let rights = journal.creations_in(folio);
+    let first = &rights[..MOST_CREATIONS.min(rights.len())];
+    let earlier = first.partition_point(|right| right.receipt() < n);
+    &first[..earlier]
 }

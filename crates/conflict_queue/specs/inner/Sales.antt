@@ -1,7 +1,9 @@
--- The last item of each sale.
+-- Earlier items that touch the same keys: the filing that an item names, and the last item of each sale.
 use Rattle.std.specs.Prelude.{◌≡◌, ℕ, ◌<◌, ◌≤◌, List, Option, Some, None}
 use Rattle.std.specs.BTreeMap.{BTreeMap, get}
 use Rattle.std.specs.Ordering.{nat_cmp}
+use Rattle.gb_base.specs.declared.keys.Key.{Key}
+use Rattle.act_model.specs.Touches.{in_key_order}
 use Rattle.act_model.specs.declared.items.Item.{Item}
 use Rattle.act_model.specs.declared.items.Item.TheVariants as item
 use Rattle.act_model.specs.declared.receipts.Receipt.{Receipt}
@@ -21,7 +23,6 @@ folio_of_sale (item.Distribute folio) = Some folio
 
 -- Item j is one of the first n, and touches the keys of a sale of the folio.
 pub record IsOfSale (journal : List Receipt) (n folio j : ℕ) : Type 0 where
-  pub from_one : 1 ≤ j
   pub within : j ≤ n
   pub keys : keys_of_item journal j ≡ keys_of_sale journal j folio
 
@@ -33,3 +34,8 @@ AreSales journal n sales = (folio j : ℕ) → get nat_cmp sales folio ≡ Some 
 pub record TouchesSame (journal : List Receipt) (i j : ℕ) : Type 0 where
   pub earlier : j < i
   pub keys : keys_touched journal j ≡ keys_touched journal i
+
+-- Item j is earlier than item i, and touches these keys.
+pub record IsAhead (journal : List Receipt) (i j : ℕ) (keys : List Key) : Type 0 where
+  pub earlier : j < i
+  pub touched : keys_touched journal j ≡ in_key_order keys
