@@ -2,7 +2,6 @@
 use Rattle.std.proofs.Common.{◌≡◌, ℕ, zero, suc, ◌+◌, ◌-◌, ◌<◌, ◌≤◌, Bool, true, false, cond, nat_lt, List, [], ◌∷◌, filter, length, take, get_or, slice_get, Some, None, refl, sym, ap, subst, ◌∙◌, arith}
 use Rattle.std.specs.List.{last_or, range_with_len}
 use Rattle.std.specs.List.Sorted.{IsPartitionedBy}
-use Rattle.std.proofs.lemmas.Bool.{false≢true}
 use Rattle.std.proofs.lemmas.Bool.Decides.{nat_tests}
 use Rattle.conflict_queue.specs.inner.Queues.{Ascends}
 
@@ -23,7 +22,7 @@ front_passes p (x ∷ xs) zero within pass fail = sym (none_pass p (x ∷ xs) fa
 front_passes p (x ∷ xs) (suc i) within pass fail =
     let first : p x ≡ true = pass zero x (omega arith) (omega arith) in
     rw first (ap (λ rest. x ∷ rest) (front_passes p xs i (omega arith)
-        (λ k d low less. pass (suc k) d (omega arith) (omega arith)) (λ k d low less. fail (suc k) d (omega arith) (omega arith))))
+    (λ k d low less. pass (suc k) d (omega arith) (omega arith)) (λ k d low less. fail (suc k) d (omega arith) (omega arith))))
 
 -- the first n of a list that has no more are all of it
 pub take_few : {X : Type 0} (n : ℕ) (xs : List X) → length xs ≤ n → take n xs ≡ xs
@@ -85,7 +84,7 @@ passing_below p a (suc k) zero few = absurd (omega arith)
 passing_below p a (suc k) (suc n) few =
     let first : nat_lt a (a + suc k) ≡ true = grind (arith, nat_tests) in
     let rest : filter (λ m. nat_lt m (a + suc k)) (filter p (range_with_len (a + 1) n)) ≡ filter p (range_with_len (a + 1) k) =
-        subst (λ b. filter (λ m. nat_lt m b) (filter p (range_with_len (a + 1) n)) ≡ filter p (range_with_len (a + 1) k)) (omega arith) (passing_below p (a + 1) k n (omega arith)) in
+    subst (λ b. filter (λ m. nat_lt m b) (filter p (range_with_len (a + 1) n)) ≡ filter p (range_with_len (a + 1) k)) (omega arith) (passing_below p (a + 1) k n (omega arith)) in
     elim (p a) as (λ b. filter (λ m. nat_lt m (a + suc k)) (cond b (a ∷ filter p (range_with_len (a + 1) n)) (filter p (range_with_len (a + 1) n))) ≡ cond b (a ∷ filter p (range_with_len (a + 1) k)) (filter p (range_with_len (a + 1) k))) [
       | true ↦ rw first (ap (λ ms. a ∷ ms) rest)
       | false ↦ rest

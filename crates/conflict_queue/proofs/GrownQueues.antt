@@ -1,5 +1,5 @@
 -- An item that comes behind the others stands at the end of the queues at its keys.
-use Rattle.std.proofs.Common.{◌≡◌, ℕ, zero, suc, ◌+◌, ◌-◌, ◌<◌, ◌≤◌, Bool, true, false, cond, ◌||◌, List, [], ◌∷◌, ◌++◌, filter, length, map, slice_get, Some, refl, sym, ap, subst, ◌∙◌, arith}
+use Rattle.std.proofs.Common.{◌≡◌, ℕ, zero, suc, ◌+◌, ◌-◌, ◌<◌, ◌≤◌, true, false, cond, ◌||◌, List, [], ◌∷◌, ◌++◌, filter, length, map, slice_get, refl, sym, ap, subst, ◌∙◌, arith}
 use Rattle.std.specs.List.{range_with_len}
 use Rattle.std.specs.List.Sorted.{IsStrictlySortedBy}
 use Rattle.std.specs.Option.{option_map_or}
@@ -17,17 +17,17 @@ use Rattle.conflict_queue.proofs.Numbered.{filter_numbered}
 none_same : (k : Key) (js : List Key) → has_key k js ≡ false → filter (λ j. same_key j k) js ≡ []
 none_same k [] none = refl
 none_same k (j ∷ js) none = elim (same_key j k) as (λ b. (b || has_key k js) ≡ false → cond b (j ∷ filter (λ i. same_key i k) js) (filter (λ i. same_key i k) js) ≡ []) [
-      | true ↦ λ e. absurd (cc e)
-      | false ↦ λ e. none_same k js e
-    ] none
+  | true ↦ λ e. absurd (cc e)
+  | false ↦ λ e. none_same k js e
+] none
 
 pub once_each : (item : ℕ) (k : Key) (ks : List Key) → IsStrictlySortedBy key_cmp ks → map (λ j. item) (filter (λ j. same_key j k) ks) ≡ cond (has_key k ks) (item ∷ []) []
 unfolding IsStrictlySortedBy
 once_each item k [] sorted = refl
 once_each item k (j ∷ js) sorted = elim (same_key j k) as (λ b. same_key j k ≡ b → map (λ i. item) (cond b (j ∷ filter (λ i. same_key i k) js) (filter (λ i. same_key i k) js)) ≡ cond (b || has_key k js) (item ∷ []) []) [
-      | true ↦ λ e. ap (λ rest. item ∷ map (λ i. item) rest) (none_same k js (subst (λ x. has_key x js ≡ false) (same_is j k e) (not_above_itself j js sorted.0)))
-      | false ↦ λ e. once_each item k js sorted.1
-    ] refl
+  | true ↦ λ e. ap (λ rest. item ∷ map (λ i. item) rest) (none_same k js (subst (λ x. has_key x js ≡ false) (same_is j k e) (not_above_itself j js sorted.0)))
+  | false ↦ λ e. once_each item k js sorted.1
+] refl
 
 -- ---- a docket with one list more
 

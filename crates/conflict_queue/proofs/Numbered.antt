@@ -1,5 +1,5 @@
 -- The lists of a docket by number.
-use Rattle.std.proofs.Common.{◌≡◌, ℕ, ◌+◌, ◌-◌, ◌<◌, ◌≤◌, Bool, true, false, cond, List, [], ◌∷◌, ◌++◌, filter, length, map, slice_get, Some, None, zero, suc, refl, sym, ap, subst, ◌∙◌, arith}
+use Rattle.std.proofs.Common.{◌≡◌, ℕ, ◌+◌, ◌-◌, ◌<◌, ◌≤◌, Bool, false, cond, List, [], ◌∷◌, ◌++◌, filter, length, map, slice_get, Some, None, zero, suc, refl, sym, ap, ◌∙◌, arith}
 use Rattle.std.specs.List.{last_or, range_with_len}
 use Rattle.std.specs.Option.{option_map_or}
 use Rattle.std.proofs.lemmas.List.FromFn.{get_or-map-range_with_len, length-map-range_with_len}
@@ -46,7 +46,7 @@ previous_is journal docket k i is high =
     let count = ap length is ∙ docket_len journal in
     ap (λ d. previous_in d i k) is
     ∙ ap (last_or None) (filter_numbered (touches_in (docket_of journal) k) (λ n. has_key k (keys_of_item journal n)) 1 (i - 1)
-        (λ j low less. touched_at journal k j low (omega arith)))
+    (λ j low less. touched_at journal k j low (omega arith)))
 
 -- ---- one list more
 

@@ -1,6 +1,6 @@
 -- The rights that a forced sale touches, and its keys in order.
-use Rattle.std.proofs.Common.{◌≡◌, ℕ, zero, suc, ◌+◌, ◌<◌, ◌≤◌, Bool, true, false, cond, ◌||◌, nat_lt, List, [], ◌∷◌, ◌++◌, filter, length, map, take, get_or, Contains, refl, sym, ap, subst, ◌∙◌, arith}
-use Rattle.std.specs.List.{AllByRecursion, list_any}
+use Rattle.std.proofs.Common.{◌≡◌, ℕ, zero, suc, ◌+◌, ◌<◌, ◌≤◌, Bool, true, false, cond, ◌||◌, nat_lt, List, [], ◌∷◌, ◌++◌, filter, length, map, take, get_or, refl, sym, ap, subst, ◌∙◌, arith}
+use Rattle.std.specs.List.{AllByRecursion}
 use Rattle.std.specs.List.Sorted.{IsPartitionedBy, IsStrictlySortedBy}
 use Rattle.std.specs.Ordering.{nat_cmp}
 use Rattle.std.specs.declared.cmp.Ordering.TheVariants.{Less, Equal}
@@ -18,7 +18,7 @@ use Rattle.act_model.specs.inner.CreationOrder.{is_from, Rises}
 use Rattle.act_model.proofs.CreationOrder.{creations_rise}
 use Rattle.act_model.proofs.KeyOrder.{has_decides, in_key_order_members, in_key_order_sorted, one_list}
 use Rattle.conflict_queue.specs.Dockets.{has_key}
-use Rattle.conflict_queue.specs.ItemKeys.{earlier_rights, keys_of_sale}
+use Rattle.conflict_queue.specs.ItemKeys.{earlier_rights}
 
 -- ---- rights that rise
 
@@ -153,10 +153,10 @@ sale_in_order folio rs up =
     let ours = Title folio ∷ (map (Right folio) rs ++ Case folio ∷ []) in
     let theirs = Case folio ∷ Title folio ∷ map (Right folio) rs in
     one_list ours (in_key_order theirs) (sale_sorted folio rs up) (in_key_order_sorted theirs) (λ q.
-      let here = has_decides q ours in
-      let there = has_decides q theirs in
-      let both = in_key_order_members theirs q in
-      (λ c. both.1 (there.0 (sym (sale_has folio rs q) ∙ here.1 c)), λ c. here.0 (sale_has folio rs q ∙ there.1 (both.0 c))))
+    let here = has_decides q ours in
+    let there = has_decides q theirs in
+    let both = in_key_order_members theirs q in
+    (λ c. both.1 (there.0 (sym (sale_has folio rs q) ∙ here.1 c)), λ c. here.0 (sale_has folio rs q ∙ there.1 (both.0 c))))
 
 -- the keys in order have the same ones
 pub in_order_has : (k : Key) (ks : List Key) → has_key k (in_key_order ks) ≡ has_key k ks

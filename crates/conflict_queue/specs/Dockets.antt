@@ -1,5 +1,5 @@
 -- The docket: the keys of each item, and from them which item was at a key before (GBO § 17).
-use Rattle.std.specs.Prelude.{ℕ, ◌-◌, Bool, false, List, [], filter, length, map, slice_get, Option, None}
+use Rattle.std.specs.Prelude.{ℕ, ◌-◌, Bool, false, List, filter, length, map, slice_get, Option, None}
 use Rattle.std.specs.List.{last_or, list_any, range_with_len}
 use Rattle.std.specs.Option.{option_map_or}
 use Rattle.gb_base.specs.Keys.{same_key}

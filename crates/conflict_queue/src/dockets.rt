@@ -62,6 +62,13 @@ impl Docket {
         Ok(Docket { keys, queues })
     }
 
+    /// The number of items.
+    pub fn len(&self) -> usize
+        ensures { result ≡ length self.now }
+    {
+        self.keys.len()
+    }
+
     /// The keys that item i touches, in ascending order, each once.
     pub fn keys(&self, i: ReceiptNo) -> &[Key]
         requires { i ≤ length self.now }

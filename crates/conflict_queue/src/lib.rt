@@ -6,6 +6,8 @@ mod key_lists;
 pub mod laws;
 mod queues;
 #[cfg(test)]
+mod testing;
+#[cfg(test)]
 mod tests;
 mod touched;
 

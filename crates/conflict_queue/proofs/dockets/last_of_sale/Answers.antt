@@ -1,12 +1,10 @@
 -- The item that is noted is one of those whose keys are listed.
-use Rattle.std.proofs.Common.{◌≡◌, ◌∙◌, ◌+◌, ◌-◌, ◌<◌, length, map, slice_get, Some, sym, ap, arith}
+use Rattle.std.proofs.Common.{◌≡◌, ◌∙◌, ◌-◌, length, slice_get, Some, sym, ap, arith}
 use Rattle.std.specs.BTreeMap.{get}
-use Rattle.std.specs.List.{range_with_len}
 use Rattle.std.specs.Ordering.{nat_cmp}
 use Rattle.std.proofs.lemmas.Bool.Decides.{nat_tests}
 use Rattle.std.proofs.lemmas.List.FromFn.{length-map-range_with_len}
 use Rattle.conflict_queue.specs.Dockets.{keys_touched}
-use Rattle.conflict_queue.specs.ItemKeys.{earlier_rights}
 use Rattle.conflict_queue.specs.inner.Sales.{IsOfSale}
 use Rattle.conflict_queue.proofs.Alike.{sale_ahead}
 use Rattle.conflict_queue.proofs.Numbered.{numbered_at, some_is}
@@ -32,6 +30,6 @@ returns c =
     let within = noted.within in
     let positive = c.get-3.ensures.positive in
     let is : touched ≡ keys_touched journal last = some_is touched (keys_touched journal last)
-        (sym c.get-touched.ensures ∙ ap (λ k. slice_get c.args.keys.now (k - 1)) c.get-3.ensures.value ∙ ap (λ d. slice_get d (last - 1)) c.requires.so_far
-        ∙ numbered_at (keys_touched journal) (c.args.n - 1) last (omega arith) within) in
+    (sym c.get-touched.ensures ∙ ap (λ k. slice_get c.args.keys.now (k - 1)) c.get-3.ensures.value ∙ ap (λ d. slice_get d (last - 1)) c.requires.so_far
+    ∙ numbered_at (keys_touched journal) (c.args.n - 1) last (omega arith) within) in
     sale_ahead journal c.args.n last c.args.folio touched (omega arith) noted.keys is (grind (arith, nat_tests, c.if-touched-earlier_rights.false, c.earlier_rights.ensures))

@@ -1,4 +1,4 @@
-use Rattle.std.proofs.Common.{◌≡◌, ◌∙◌, ◌-◌, ◌≤◌, Some, sym, subst, arith}
+use Rattle.std.proofs.Common.{◌∙◌, ◌-◌, Some, sym, subst, arith}
 use Rattle.std.specs.BTreeMap.{Updates}
 use Rattle.std.specs.Ordering.{nat_cmp}
 use Rattle.conflict_queue.proofs.Alike.{by_sale, item_touches, later_sales, with_sale}

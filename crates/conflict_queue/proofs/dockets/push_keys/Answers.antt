@@ -1,5 +1,5 @@
 -- The keys of an earlier item that touches the same are those of this one.
-use Rattle.std.proofs.Common.{◌≡◌, ◌∙◌, ◌++◌, ◌∷◌, [], ◌-◌, length, slice_get, OnOk, Some, ap, subst, arith}
+use Rattle.std.proofs.Common.{◌≡◌, ◌∙◌, ◌++◌, ◌∷◌, [], ◌-◌, length, slice_get, OnOk, ap, subst, arith}
 use Rattle.std.proofs.lemmas.List.FromFn.{length-map-range_with_len}
 use Rattle.conflict_queue.specs.Dockets.{keys_touched}
 use Rattle.conflict_queue.proofs.Numbered.{numbered_at}
@@ -19,5 +19,5 @@ returns-in-Some c =
     let earlier = c.in-Some.ensures.earlier in
     let positive = c.get.ensures.positive in
     let there = ap (λ k. slice_get c.args.keys.now (k - 1)) c.get.ensures.value ∙ ap (λ d. slice_get d (c.in-Some.earlier - 1)) c.requires.so_far
-        ∙ numbered_at (keys_touched journal) (c.args.item - 1) c.in-Some.earlier (omega arith) (omega arith) in
+    ∙ numbered_at (keys_touched journal) (c.args.item - 1) c.in-Some.earlier (omega arith) (omega arith) in
     subst (λ ks. OnOk c.share.result (c.share.new.self ≡ c.args.keys.now ++ ks ∷ [])) c.in-Some.ensures.keys (c.share.ensures (keys_touched journal c.in-Some.earlier) there)

@@ -1,5 +1,5 @@
 -- The numbers below the item stand ahead of the others, so a search by halves finds the last of them.
-use Rattle.std.proofs.Common.{rules, ◌≡◌, ◌∙◌, nat_lt, filter, take, None, sym, ap}
+use Rattle.std.proofs.Common.{rules, ◌∙◌, nat_lt, take, None, ap}
 use Rattle.std.specs.List.{last_or}
 use Rattle.std.proofs.lemmas.List.Sorted.{IsPartitionPoint-from_clause}
 use Rattle.conflict_queue.proofs.Fronts.{front_passes, last_is, parted_below}

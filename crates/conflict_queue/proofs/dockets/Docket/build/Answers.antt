@@ -1,5 +1,5 @@
 -- One item after the other comes into the lists and the queues.
-use Rattle.std.proofs.Common.{◌≡◌, ◌∙◌, ◌+◌, ◌-◌, ◌++◌, ◌∷◌, [], length, map, slice_get, Some, sym, ap, subst, arith}
+use Rattle.std.proofs.Common.{◌≡◌, ◌∙◌, ◌+◌, ◌-◌, ◌++◌, ◌∷◌, [], length, map, slice_get, sym, ap, subst, arith}
 use Rattle.std.specs.List.{range_with_len}
 use Rattle.std.proofs.lemmas.Grind.{common_steps}
 use Rattle.std.proofs.lemmas.List.FromFn.{length-map-range_with_len}
@@ -37,8 +37,8 @@ loop-index-preserved c =
     let first : c.loop-index.index ≡ item - 1 = omega arith in
     let last : item ≡ c.loop-index.index + 1 = number in
     let same : got ≡ f item = some_is got (f item)
-        (sym c.get.ensures ∙ ap (λ d. slice_get d c.loop-index.index) listed ∙ ap (λ k. slice_get (map f (range_with_len 1 (c.loop-index.index + 1))) k) first
-        ∙ numbered_at f (c.loop-index.index + 1) item (omega arith) (omega arith)) in
+    (sym c.get.ensures ∙ ap (λ d. slice_get d c.loop-index.index) listed ∙ ap (λ k. slice_get (map f (range_with_len 1 (c.loop-index.index + 1))) k) first
+    ∙ numbered_at f (c.loop-index.index + 1) item (omega arith) (omega arith)) in
     let count = ap length c.loop-index.invariant.keys ∙ length-map-range_with_len f 1 c.loop-index.index in
     record {
       keys = listed;

@@ -1,4 +1,4 @@
-use Rattle.std.proofs.Common.{◌≡◌, ◌∙◌, ◌-◌, slice_get, sym, ap, arith}
+use Rattle.std.proofs.Common.{◌∙◌, ◌-◌, slice_get, sym, ap, arith}
 use Rattle.conflict_queue.proofs.Numbered.{docket_at}
 use Rattle.conflict_queue.proofs.dockets.Docket.keys.Goals as goal
 

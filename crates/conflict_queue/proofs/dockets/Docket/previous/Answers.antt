@@ -1,8 +1,8 @@
 -- The queue at a key ascends, and below the item it is what was there before.
-use Rattle.std.proofs.Common.{◌≡◌, ◌∙◌, ◌-◌, ◌≤◌, nat_lt, filter, length, None, sym, ap, subst, arith}
+use Rattle.std.proofs.Common.{◌∙◌, ◌-◌, ◌≤◌, nat_lt, filter, length, None, sym, ap, subst, arith}
 use Rattle.std.specs.List.{last_or}
 use Rattle.conflict_queue.specs.Dockets.{previous_in, touches_in}
-use Rattle.conflict_queue.specs.inner.Queues.{queue_of, Ascends}
+use Rattle.conflict_queue.specs.inner.Queues.{Ascends}
 use Rattle.conflict_queue.proofs.Fronts.{below_is, passing_ascend}
 use Rattle.conflict_queue.proofs.Numbered.{previous_is}
 use Rattle.conflict_queue.proofs.dockets.Docket.previous.Goals as goal
