@@ -1,4 +1,4 @@
--- How many receipts, owners, documents and folios there are at most, and the greatest rate.
+-- How many receipts, owners, documents, folios and creating acts there are at most, and the greatest rate.
 use Rattle.std.specs.Prelude.{ℕ}
 
 -- the most receipts of a journal
@@ -16,6 +16,10 @@ most_docs = 32
 -- the most folios that the acts of a filing name
 abbrev pub most_folios : ℕ
 most_folios = 2
+
+-- the most creating acts of a folio, whatever became of their filings
+abbrev pub most_creations : ℕ
+most_creations = 256
 
 -- the greatest number of a group of rights
 abbrev pub most_groups : ℕ

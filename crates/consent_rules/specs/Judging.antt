@@ -17,7 +17,7 @@ use Rattle.act_model.specs.Creations.{creating_rank}
 use Rattle.act_model.specs.Touches.{acts_of, created_before, filing_at, new_right}
 use Rattle.act_model.specs.Documents.{documents, given, is_agreement, is_clearance, is_plain, is_strangers_consent}
 use Rattle.act_model.specs.Groups.{shares_its_group}
-use Rattle.folio_sections.specs.Limits.{most_creations}
+use Rattle.act_model.specs.Limits.{most_creations}
 use Rattle.consent_rules.specs.Persons.{acts_before, affected, applicants, needed, others, owner_side}
 use Rattle.folio_sections.specs.Rights.{is_full, is_live, is_spent, live_right}
 use Rattle.folio_sections.specs.Titles.{is_open}

@@ -23,7 +23,7 @@ use Rattle.act_model.specs.declared.receipts.Receipt.{Receipt}
 use Rattle.act_model.specs.declared.rights.RightSpec.{RightSpec}
 use Rattle.kept_registers.specs.Kept.{Kept}
 use Rattle.kept_registers.specs.KeptRights.{EntersAsFiled, IsAsFiled}
-use Rattle.folio_sections.specs.Limits.{most_creations}
+use Rattle.act_model.specs.Limits.{most_creations}
 use Rattle.folio_sections.specs.Rights.{created}
 use Rattle.folio_sections.specs.declared.entries.Created.{Created}
 use Rattle.folio_sections.specs.declared.entries.Entry.{Entry}

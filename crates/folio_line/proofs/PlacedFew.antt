@@ -22,7 +22,7 @@ use Rattle.act_model.proofs.CreationOrder.{creations_rise, place_found}
 use Rattle.folio_sections.specs.HeldRights.{receipt_numbers, rights_of_filing}
 use Rattle.kept_registers.specs.Kept.{Kept}
 use Rattle.kept_registers.specs.KeptRights.{IsAsFiled}
-use Rattle.folio_sections.specs.Limits.{most_creations}
+use Rattle.act_model.specs.Limits.{most_creations}
 use Rattle.folio_sections.specs.Rights.{created}
 use Rattle.folio_sections.specs.declared.entries.Created.{Created}
 use Rattle.folio_sections.specs.declared.entries.Entry.{Entry}

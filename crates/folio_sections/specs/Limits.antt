@@ -1,9 +1,5 @@
--- How many rights a folio takes, how much a case of a forced sale holds, and how many entries a key.
+-- How much a case of a forced sale holds, and how many entries a key.
 use Rattle.std.specs.Prelude.{ℕ}
-
--- the most creating acts of a folio, whatever became of their filings
-abbrev pub most_creations : ℕ
-most_creations = 256
 
 -- the most seizures in a case
 abbrev pub most_seizures : ℕ

@@ -10,7 +10,7 @@ use Rattle.act_model.specs.Acts.{folio_of, is_in_division_three, right_created, 
 use Rattle.act_model.specs.Creations.{creating_rank}
 use Rattle.act_model.specs.Touches.{act_of_right}
 use Rattle.act_model.specs.Groups.{shares_its_group}
-use Rattle.folio_sections.specs.Limits.{most_creations}
+use Rattle.act_model.specs.Limits.{most_creations}
 use Rattle.folio_sections.specs.Places.{behind, own_place, place_by, places}
 use Rattle.folio_sections.specs.Rights.{created, is_exercise}
 use Rattle.folio_sections.specs.declared.entries.Created.{Created}

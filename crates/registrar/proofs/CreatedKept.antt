@@ -22,7 +22,7 @@ use Rattle.act_model.specs.Documents.{documents}
 use Rattle.entry_rules.specs.Entering.{as_entered, content, contents_brought}
 use Rattle.registrar.specs.Enters.{enters}
 use Rattle.kept_registers.specs.KeptRights.{CreatedAsFiled, EntersAsFiled, IsAsFiled, IsCreatedAsFiled, SetsPlace}
-use Rattle.folio_sections.specs.Limits.{most_creations}
+use Rattle.act_model.specs.Limits.{most_creations}
 use Rattle.folio_sections.specs.declared.entries.Entry.{Entry}
 use Rattle.folio_sections.specs.declared.entries.What.{What}
 use Rattle.folio_sections.specs.declared.entries.What.TheVariants as what

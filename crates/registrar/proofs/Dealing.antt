@@ -13,7 +13,7 @@ use Rattle.kept_registers.specs.Kept.{Kept}
 use Rattle.kept_registers.specs.KeptCases.{LeavesCents}
 use Rattle.kept_registers.specs.KeptPlaces.{NamesEarlier}
 use Rattle.kept_registers.specs.KeptEntries.{IsCreatedInTime, IsPlacedInTime, WaitsInTime}
-use Rattle.folio_sections.specs.Limits.{most_creations}
+use Rattle.act_model.specs.Limits.{most_creations}
 use Rattle.folio_sections.specs.Waiting.{is_pending}
 use Rattle.folio_sections.specs.declared.entries.Entry.{Entry}
 use Rattle.folio_sections.specs.declared.entries.What.{What}

@@ -12,7 +12,7 @@ use Rattle.folio_sections.specs.declared.entries.Entry.{Entry}
 use Rattle.registrar.proofs.ItemRooms.{item_fits}
 use Rattle.registrar.proofs.StepLemmas.{brings_is, keys_are}
 use Rattle.registrar.specs.Brings.{Brought, brings, brought_by_item}
-use Rattle.registrar.specs.ItemKeys.{keys_by_item, keys_of_item}
+use Rattle.conflict_queue.specs.ItemKeys.{keys_by_item, keys_of_item}
 use Rattle.registrar.specs.Rooms.{room_by_item}
 
 none_of_length : (es : List Entry) → length es ≤ 0 → es ≡ []

@@ -21,7 +21,7 @@ use Rattle.interim_orders.specs.declared.states.FilingState.TheVariants.{NotPend
 use Rattle.registrar.proofs.Rooms.{cure_fits, entry_fits, marks_fit_too}
 use Rattle.registrar.proofs.WaitingStates.{found_waiting}
 use Rattle.registrar.specs.Brings.{brought_by_cure, brought_by_filing, brought_by_item, brought_in_state, nothing_pending}
-use Rattle.registrar.specs.ItemKeys.{keys_by_item, keys_of_named}
+use Rattle.conflict_queue.specs.ItemKeys.{keys_by_item, keys_of_named}
 use Rattle.registrar.specs.Rooms.{room_by_item, room_to_enter}
 use Rattle.registrar.specs.inner.RoomToEnter.{HasRoomToEnter}
 

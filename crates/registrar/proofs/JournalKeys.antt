@@ -19,7 +19,8 @@ use Rattle.folio_sections.specs.Held.{is_given}
 use Rattle.registrar.proofs.Registering.{range_more}
 use Rattle.registrar.proofs.StepLemmas.{keys_are}
 use Rattle.registrar.proofs.WaitingStates.{is_a_filing}
-use Rattle.registrar.specs.ItemKeys.{keys_by_item, keys_of_filings, keys_of_item, keys_of_named}
+use Rattle.conflict_queue.specs.ItemKeys.{keys_by_item, keys_of_item, keys_of_named}
+use Rattle.registrar.specs.FilingKeys.{keys_of_filings}
 use Rattle.registrar.specs.inner.Named.{filing_named}
 
 -- ---- no filing is beyond the journal

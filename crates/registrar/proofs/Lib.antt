@@ -19,7 +19,6 @@ pub mod ExchangesStand
 pub mod ExercisedOnce
 pub mod FitFilings
 pub mod InPlaceKept
-pub mod ItemKeysStay
 pub mod ItemRooms
 pub mod ItemsKeep
 pub mod JournalKeys
@@ -40,7 +39,6 @@ pub mod PlaceStands
 pub mod PlacesKept
 pub mod RankedRights
 pub mod RankedTitles
-pub mod ReceiptOrder
 pub mod Registering
 pub mod RightReads
 pub mod RisingNumbers

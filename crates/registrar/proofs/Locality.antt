@@ -29,7 +29,7 @@ use Rattle.registrar.proofs.KnownExchanges.{known_when_filed, known_while_waitin
 use Rattle.registrar.proofs.WaitingStates.{found_waiting}
 use Rattle.registrar.specs.Brings.{Brought, brings, brought_by_cure, brought_by_filing, brought_by_item, brought_in_state, nothing_pending, verdict_on_lapse}
 use Rattle.registrar.specs.declared.verdicts.Verdict.TheVariants as verdict
-use Rattle.registrar.specs.ItemKeys.{keys_by_item, keys_of_item, keys_of_named}
+use Rattle.conflict_queue.specs.ItemKeys.{keys_by_item, keys_of_item, keys_of_named}
 
 -- ---- the state of a filing
 

@@ -25,7 +25,7 @@ use Rattle.registrar.proofs.Locality.{locality, state_locally}
 use Rattle.registrar.proofs.StepLemmas.{brings_leaves, keys_are, step_knows}
 use Rattle.registrar.proofs.WaitingStates.{found_waiting}
 use Rattle.registrar.specs.Brings.{Brought, brings}
-use Rattle.registrar.specs.ItemKeys.{keys_by_item, keys_of_item}
+use Rattle.conflict_queue.specs.ItemKeys.{keys_by_item, keys_of_item}
 use Rattle.registrar.specs.Standing.{StandsFor, StandsForKept}
 use Rattle.registrar.specs.inner.Exchanges.{KnowsItsExchanges}
 

@@ -16,7 +16,7 @@ use Rattle.registrar.proofs.Keeping.{Leaves, none_leave}
 use Rattle.registrar.proofs.KnownExchanges.{known_when_filed, known_while_waiting}
 use Rattle.registrar.proofs.WaitingStates.{found_waiting}
 use Rattle.registrar.specs.Brings.{brings, brought_by_item, nothing_pending}
-use Rattle.registrar.specs.ItemKeys.{keys_by_item, keys_of_item}
+use Rattle.conflict_queue.specs.ItemKeys.{keys_by_item, keys_of_item}
 use Rattle.registrar.specs.Rooms.{HasItsRoom, room_by_item, room_wanted}
 use Rattle.registrar.specs.inner.Exchanges.{KnowsItsExchanges}
 

@@ -18,7 +18,7 @@ use Rattle.act_model.specs.Touches.{acts_of, filing_at, keys_of_act, keys_of_act
 use Rattle.consent_rules.specs.Judging.{exchanges_unfit_right, grounds, is_beyond_limit, is_rejected_under, lacks_reservation, lacks_right, lives, rejection}
 use Rattle.kept_registers.specs.KeptEntries.{IsCreatedInTime}
 use Rattle.kept_registers.specs.KeptPlaces.{NamesEarlier}
-use Rattle.folio_sections.specs.Limits.{most_creations}
+use Rattle.act_model.specs.Limits.{most_creations}
 use Rattle.folio_sections.specs.Rights.{is_live, live_by}
 use Rattle.folio_sections.specs.Waiting.{is_pending}
 use Rattle.folio_sections.specs.declared.entries.Entry.{Entry}

@@ -1,11 +1,10 @@
 -- What contracts cite.
 pub mod Brings
 pub mod Enters
-pub mod ItemKeys
+pub mod FilingKeys
 pub mod OpenFolios
 pub mod RegisterState
 pub mod Rooms
-pub mod Schedules
 pub mod ScratchRoom
 pub mod Settling
 pub mod Standing

@@ -8,7 +8,7 @@ use Rattle.act_model.specs.declared.items.Item.TheVariants as item
 use Rattle.act_model.specs.declared.receipts.Receipt.{Receipt}
 use Rattle.folio_sections.specs.Waiting.{waiting_unnoticed}
 use Rattle.folio_sections.specs.declared.entries.Entry.{Entry}
-use Rattle.registrar.specs.ItemKeys.{keys_of_item}
+use Rattle.conflict_queue.specs.ItemKeys.{keys_of_item}
 
 -- The most entries that an item brings at one key, official notices apart: two by the entry of a filing (`most_entered` of
 -- entry_rules), and the end of its waiting.

@@ -16,25 +16,18 @@ ghost use Rattle.kept_registers.specs.Kept.{Kept};
 ghost use Rattle.folio_sections.specs.Places.{places};
 ghost use Rattle.kept_registers.specs.Ranks.{is_ahead, is_filed_ahead, ranked};
 ghost use Rattle.folio_sections.specs.Rights.{live_right};
-ghost use Rattle.folio_sections.specs.Waiting.{receipts_before};
 ghost use Rattle.folio_sections.specs.declared.entries.Created.{Created};
 ghost use Rattle.folio_sections.specs.declared.entries.Entry.{Entry};
 ghost use Rattle.interim_orders.specs.Orders.{end_brought, state_of};
 ghost use Rattle.interim_orders.specs.declared.states.FilingState.TheVariants.{Pending};
 ghost use Rattle.registrar.specs.Brings.{brings};
 ghost use Rattle.registrar.specs.Enters.{enters};
-ghost use Rattle.registrar.specs.ItemKeys.{keys_of_item};
+ghost use Rattle.conflict_queue.specs.ItemKeys.{keys_of_item};
 ghost use Rattle.registrar.specs.RegisterState.{verdict_among};
-ghost use Rattle.registrar.specs.Schedules.{IsPermitted};
 ghost use Rattle.registrar.specs.Settling.{registrar};
 ghost use Rattle.registrar.specs.declared.verdicts.Verdict.TheVariants.{Cured, Entered};
 
 use kept_registers::laws::empty_register_is_kept;
-
-/// The items of a journal may be settled in the order of their receipts (GBO § 17).
-pub fn receipts_in_turn()
-    ensures permitted { (journal : List Receipt) → IsPermitted journal (receipts_before (length journal + 1)) }
-{}
 
 /// A filing that nothing speaks against is entered: where no ground for rejection and no defect
 /// holds of it, its own item enters it, and where it waits, a cure with which this is so enters it
@@ -77,11 +70,6 @@ pub fn locality()
         → ((k : Key) → Contains (keys_of_item journal i) k → All (λ e. e.receipt < i) (register k))
         → ((k : Key) → Contains (keys_of_item journal i) k → other k ≡ register k)
         → brings journal i other ≡ brings journal i register }
-{}
-
-/// An item's keys follow from the receipts up to it alone.
-pub fn item_keys_stay()
-    ensures same { (journal more : List Receipt) (i : ℕ) → i ≤ length journal → keys_of_item (journal ++ more) i ≡ keys_of_item journal i }
 {}
 
 /// In the register of each journal the live rights of a folio stand in the order of their filings

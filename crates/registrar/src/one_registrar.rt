@@ -7,7 +7,7 @@ ghost use Rattle.folio_sections.specs.Entries.{at, with_entries};
 ghost use Rattle.folio_sections.specs.Held.{entries_at, is_held, is_given};
 ghost use Rattle.kept_registers.specs.Kept.{Kept};
 ghost use Rattle.registrar.specs.Brings.{brings};
-ghost use Rattle.registrar.specs.ItemKeys.{keys_of_filings};
+ghost use Rattle.registrar.specs.FilingKeys.{keys_of_filings};
 ghost use Rattle.registrar.specs.OpenFolios.{open_folios};
 ghost use Rattle.registrar.specs.Settling.{registrar};
 ghost use Rattle.registrar.specs.inner.Named.{filing_named};

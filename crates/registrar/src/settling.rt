@@ -9,7 +9,7 @@ ghost use Rattle.consent_rules.specs.Judging.{KnowsExchanges};
 ghost use Rattle.interim_orders.specs.Orders.{state_of};
 ghost use Rattle.interim_orders.specs.declared.states.FilingState.TheVariants.{Pending};
 ghost use Rattle.registrar.specs.Brings.{brought_by_cure, brought_by_filing, brought_by_item, brought_in_state, verdict_on_lapse};
-ghost use Rattle.registrar.specs.ItemKeys.{keys_by_item};
+ghost use Rattle.conflict_queue.specs.ItemKeys.{keys_by_item};
 ghost use Rattle.registrar.specs.inner.Exchanges.{KnowsItsExchanges};
 
 use crate::Verdict;

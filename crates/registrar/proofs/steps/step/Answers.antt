@@ -4,7 +4,7 @@ use Rattle.registrar.proofs.Elsewhere.{stays_elsewhere}
 use Rattle.registrar.proofs.StandingParts.{parts_bring, parts_know, stand_agree, stand_behind, still_stand}
 use Rattle.registrar.proofs.StepLemmas.{brings_is, step_fits}
 use Rattle.registrar.specs.Brings.{Brought}
-use Rattle.registrar.specs.ItemKeys.{keys_of_item}
+use Rattle.conflict_queue.specs.ItemKeys.{keys_of_item}
 use Rattle.registrar.proofs.steps.step.Goals as goal
 
 pub settle-requires-clause-room : goal.settle-requires-clause-room

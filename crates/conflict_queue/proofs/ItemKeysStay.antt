@@ -14,9 +14,12 @@ use Rattle.act_model.specs.declared.items.Item.{Item}
 use Rattle.act_model.specs.declared.items.Item.TheVariants as item
 use Rattle.act_model.specs.declared.receipts.Receipt.{Receipt}
 use Rattle.act_model.proofs.KeysStay.{keys_of_filing_stay, receipt_stays}
-use Rattle.folio_sections.specs.Limits.{most_creations}
-use Rattle.folio_sections.proofs.Unchanged.{all_both}
-use Rattle.registrar.specs.ItemKeys.{earlier_rights, keys_by_item, keys_of_item, keys_of_named, keys_of_sale}
+use Rattle.act_model.specs.Limits.{most_creations}
+use Rattle.conflict_queue.specs.ItemKeys.{earlier_rights, keys_by_item, keys_of_item, keys_of_named, keys_of_sale}
+
+all_both : {X : Type 0} (P : X → Type 0) (xs ys : List X) → AllByRecursion P xs → AllByRecursion P ys → AllByRecursion P (xs ++ ys)
+all_both P [] ys first second = second
+all_both P (x ∷ xs) ys first second = (first.0, all_both P xs ys first.1 second)
 
 -- ---- what later receipts create
 

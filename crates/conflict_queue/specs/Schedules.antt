@@ -1,7 +1,8 @@
 -- The orders in which the items of a journal may be settled (GBO § 17): of two that touch one key the earlier comes first.
 use Rattle.std.specs.Prelude.{◌≡◌, ◌↔◌, ℕ, ◌<◌, ◌≤◌, List, length, Any, AllPairs, Contains}
+use Rattle.std.specs.List.{range_with_len}
 use Rattle.act_model.specs.declared.receipts.Receipt.{Receipt}
-use Rattle.registrar.specs.ItemKeys.{keys_of_item}
+use Rattle.conflict_queue.specs.ItemKeys.{keys_of_item}
 
 -- two items touch a key in common
 abbrev pub Conflicts : List Receipt → ℕ → ℕ → Type 0
@@ -12,3 +13,7 @@ pub record IsPermitted (journal : List Receipt) (order : List ℕ) : Type 0 wher
   pub all : (n : ℕ) → Contains order n ↔ (1 ≤ n) × (n ≤ length journal)
   pub once : AllPairs (λ i later. i ≡ later → ⊥) order
   pub in_turn : AllPairs (λ i later. Conflicts journal i later → i < later) order
+
+-- the order of receipts
+abbrev pub in_receipt_order : List Receipt → List ℕ
+in_receipt_order journal = range_with_len 1 (length journal)

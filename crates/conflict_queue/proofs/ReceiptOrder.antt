@@ -3,8 +3,7 @@ use Rattle.std.proofs.Common.{◌≡◌, ◌↔◌, ℕ, ◌+◌, ◌-◌, ◌<�
 use Rattle.std.specs.List.{range_with_len}
 use Rattle.std.proofs.lemmas.List.FromFn.{get_or-range_with_len, length-range_with_len}
 use Rattle.act_model.specs.declared.receipts.Receipt.{Receipt}
-use Rattle.folio_sections.specs.Waiting.{receipts_before}
-use Rattle.registrar.specs.Schedules.{IsPermitted}
+use Rattle.conflict_queue.specs.Schedules.{in_receipt_order, IsPermitted}
 
 -- of two numbers in a row the one ahead is the smaller
 rising : (n : ℕ) → AllPairs (λ i later. i < later) (range_with_len 1 n)
@@ -39,7 +38,5 @@ in_turn_to journal n is = record {
   in_turn = λ i j d less within conflict. rising n i j d less within;
 }
 
-pub receipts_in_turn : (journal : List Receipt) → IsPermitted journal (receipts_before (length journal + 1))
-receipts_in_turn journal =
-    let count : length journal ≡ (length journal + 1) - 1 = omega arith in
-    subst (λ n. IsPermitted journal (range_with_len 1 n)) count (in_turn_to journal (length journal) refl)
+pub receipts_in_turn : (journal : List Receipt) → IsPermitted journal (in_receipt_order journal)
+receipts_in_turn journal = in_turn_to journal (length journal) refl

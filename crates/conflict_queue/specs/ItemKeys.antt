@@ -1,22 +1,16 @@
 -- The keys that an item touches (GBO § 17). They follow from the receipts up to it alone, whatever became of these.
--- Why so: docs/DECISIONS.md, "The keys of items are defined with the settling".
-use Rattle.std.specs.Prelude.{ℕ, ◌+◌, nat_lt, if◌then◌else◌, List, [], ◌∷◌, filter, flat_map, length, map, take}
+use Rattle.std.specs.Prelude.{ℕ, nat_lt, if◌then◌else◌, List, [], ◌∷◌, filter, map, take}
 use Rattle.std.specs.Option.{option_map_or}
 use Rattle.gb_base.specs.RightNo.{RightNo}
 use Rattle.gb_base.specs.declared.keys.Key.{Key}
 use Rattle.gb_base.specs.declared.keys.Key.TheVariants.{Title, Right, Case}
 use Rattle.act_model.specs.Creations.{creations_in}
+use Rattle.act_model.specs.Limits.{most_creations}
 use Rattle.act_model.specs.Receiving.{receipt_at}
 use Rattle.act_model.specs.Touches.{keys_of_filing}
 use Rattle.act_model.specs.declared.items.Item.{Item}
 use Rattle.act_model.specs.declared.items.Item.TheVariants as item
 use Rattle.act_model.specs.declared.receipts.Receipt.{Receipt}
-use Rattle.folio_sections.specs.Limits.{most_creations}
-use Rattle.folio_sections.specs.Waiting.{receipts_before}
-
--- the keys of all filings of a journal, in the order of receipts; those that several filings touch come as often
-abbrev pub keys_of_filings : List Receipt → List Key
-keys_of_filings journal = flat_map (keys_of_filing journal) (receipts_before (length journal + 1))
 
 -- the keys of filing m, as item i names it: none where it is no earlier one
 abbrev pub keys_of_named : List Receipt → ℕ → ℕ → List Key

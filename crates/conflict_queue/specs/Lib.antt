@@ -1,0 +1,5 @@
+-- What contracts cite.
+pub mod Dockets
+pub mod ItemKeys
+pub mod Schedules
+pub mod inner

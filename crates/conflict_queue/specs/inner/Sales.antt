@@ -1,0 +1,41 @@
+-- Earlier items that touch the same keys: the filing that an item names, and the last item of each sale.
+use Rattle.std.specs.Prelude.{◌≡◌, ℕ, ◌<◌, ◌≤◌, List, Option, Some, None}
+use Rattle.std.specs.BTreeMap.{BTreeMap, get}
+use Rattle.std.specs.Ordering.{nat_cmp}
+use Rattle.gb_base.specs.declared.keys.Key.{Key}
+use Rattle.act_model.specs.Touches.{in_key_order}
+use Rattle.act_model.specs.declared.items.Item.{Item}
+use Rattle.act_model.specs.declared.items.Item.TheVariants as item
+use Rattle.act_model.specs.declared.receipts.Receipt.{Receipt}
+use Rattle.conflict_queue.specs.Dockets.{keys_touched}
+use Rattle.conflict_queue.specs.ItemKeys.{keys_of_item, keys_of_sale}
+
+-- the folio all keys of whose sale the item touches; none where it touches others
+abbrev pub folio_of_sale : Item → Option ℕ
+folio_of_sale (item.Filing f) = None
+folio_of_sale (item.Cure m docs) = None
+folio_of_sale (item.Lapse m) = None
+folio_of_sale (item.Seize folio basis served) = Some folio
+folio_of_sale (item.Register folio registered) = None
+folio_of_sale (item.OpenBids folio costs) = Some folio
+folio_of_sale (item.Award folio buyer bid) = Some folio
+folio_of_sale (item.Distribute folio) = Some folio
+
+-- Item j is one of the first n, and touches the keys of a sale of the folio.
+pub record IsOfSale (journal : List Receipt) (n folio j : ℕ) : Type 0 where
+  pub within : j ≤ n
+  pub keys : keys_of_item journal j ≡ keys_of_sale journal j folio
+
+-- what stands under a folio is one of the first n items, and touches the keys of a sale of it
+abbrev pub AreSales : List Receipt → ℕ → BTreeMap ℕ ℕ → Type 0
+AreSales journal n sales = (folio j : ℕ) → get nat_cmp sales folio ≡ Some j → IsOfSale journal n folio j
+
+-- Item j is earlier than item i, and touches the same keys.
+pub record TouchesSame (journal : List Receipt) (i j : ℕ) : Type 0 where
+  pub earlier : j < i
+  pub keys : keys_touched journal j ≡ keys_touched journal i
+
+-- Item j is earlier than item i, and touches these keys.
+pub record IsAhead (journal : List Receipt) (i j : ℕ) (keys : List Key) : Type 0 where
+  pub earlier : j < i
+  pub touched : keys_touched journal j ≡ in_key_order keys

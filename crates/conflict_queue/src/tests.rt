@@ -1,0 +1,180 @@
+//! What items touch, and what was at a key before, in small journals.
+use crate::testing::{
+    assignment, award, call, case, charge, cure, distribution, lapse, opening, receipt, receive,
+    registration, right, seizure, title,
+};
+use crate::{Docket, touches};
+use act_model::Journal;
+use gb_base::Key;
+use std::alloc::Global;
+use std::process::Abort;
+use std::test::Fail;
+
+/// Whether these are the keys of item n, in the docket and by themselves.
+fn has_keys(
+    rt: &impl Abort,
+    alloc: Global,
+    journal: &Journal,
+    docket: &Docket,
+    n: u32,
+    keys: &[Key],
+) -> bool {
+    let item = receipt(rt, n);
+    assert!(rt; item.get() <= journal.len());
+    assert!(rt; item.get() as usize <= docket.len());
+    let touched = touches(alloc, journal, item).ok().expect(rt, "memory");
+    touched.as_slice() == keys && docket.keys(item) == keys
+}
+
+/// The number of the item that was at the key before item n; 0 where there is none.
+fn previous(rt: &impl Abort, docket: &Docket, n: u32, key: Key) -> u32 {
+    let item = receipt(rt, n);
+    assert!(rt; item.get() as usize <= docket.len());
+    match docket.previous(item, key) {
+        Some(before) => before.get(),
+        None => 0,
+    }
+}
+
+/// The number of the last item below item n whose keys have this one; 0 where there is none.
+fn last_by_keys(rt: &impl Abort, docket: &Docket, n: u32, key: Key) -> u32 {
+    let mut last = 0;
+    for before in 1..n {
+        let item = receipt(rt, before);
+        assert!(rt; item.get() as usize <= docket.len());
+        if docket.keys(item).contains(&key) {
+            last = before;
+        }
+    }
+    last
+}
+
+#[test]
+fn a_cure_stands_at_the_keys_of_its_filing(rt: HostRuntime) -> Result<(), Fail> {
+    let mut journal = Journal::new(rt.alloc());
+    receive(&rt, &mut journal, &opening(&rt, 7));
+    receive(&rt, &mut journal, &charge(&rt, 7));
+    receive(&rt, &mut journal, &charge(&rt, 7));
+    receive(&rt, &mut journal, &cure(&rt, 2));
+    let docket = Docket::build(rt.alloc(), &journal)?;
+    let of_charge = [title(&rt, 7), right(&rt, 7, 2)];
+    assert!(&rt; has_keys(&rt, rt.alloc(), &journal, &docket, 2, &of_charge));
+    assert!(&rt; has_keys(&rt, rt.alloc(), &journal, &docket, 4, &of_charge));
+    assert_eq!(&rt; previous(&rt, &docket, 4, title(&rt, 7)), 3);
+    assert_eq!(&rt; previous(&rt, &docket, 4, right(&rt, 7, 2)), 2);
+    assert_eq!(&rt; previous(&rt, &docket, 1, title(&rt, 7)), 0);
+    Ok(())
+}
+
+/// Three charges, a seizure, three registrations and the call.
+fn sale(rt: &impl Abort, alloc: Global) -> Journal {
+    let mut journal = Journal::new(alloc);
+    receive(rt, &mut journal, &opening(rt, 7));
+    receive(rt, &mut journal, &charge(rt, 7));
+    receive(rt, &mut journal, &charge(rt, 7));
+    receive(rt, &mut journal, &charge(rt, 7));
+    receive(rt, &mut journal, &seizure(rt, 7, 3));
+    receive(rt, &mut journal, &registration(rt, 7));
+    receive(rt, &mut journal, &registration(rt, 7));
+    receive(rt, &mut journal, &registration(rt, 7));
+    receive(rt, &mut journal, &call(rt, 7));
+    journal
+}
+
+#[test]
+fn a_call_touches_the_title_the_rights_and_the_sale(rt: HostRuntime) -> Result<(), Fail> {
+    let mut journal = sale(&rt, rt.alloc());
+    receive(&rt, &mut journal, &award(&rt, 7));
+    receive(&rt, &mut journal, &distribution(&rt, 7));
+    let docket = Docket::build(rt.alloc(), &journal)?;
+    let all = [
+        title(&rt, 7),
+        right(&rt, 7, 2),
+        right(&rt, 7, 3),
+        right(&rt, 7, 4),
+        case(&rt, 7),
+    ];
+    assert!(&rt; has_keys(&rt, rt.alloc(), &journal, &docket, 5, &all));
+    assert!(&rt; has_keys(&rt, rt.alloc(), &journal, &docket, 6, &[case(&rt, 7)]));
+    assert!(&rt; has_keys(&rt, rt.alloc(), &journal, &docket, 9, &all));
+    assert!(&rt; has_keys(&rt, rt.alloc(), &journal, &docket, 11, &all));
+    assert_eq!(&rt; previous(&rt, &docket, 9, case(&rt, 7)), 8);
+    assert_eq!(&rt; previous(&rt, &docket, 9, title(&rt, 7)), 5);
+    assert_eq!(&rt; previous(&rt, &docket, 5, right(&rt, 7, 4)), 4);
+    assert_eq!(&rt; previous(&rt, &docket, 11, right(&rt, 7, 2)), 10);
+    Ok(())
+}
+
+/// A sale in which a right is created between two calls, beside a second folio.
+fn sale_that_grows(rt: &impl Abort, alloc: Global) -> Journal {
+    let mut journal = sale(rt, alloc);
+    receive(rt, &mut journal, &opening(rt, 8));
+    receive(rt, &mut journal, &call(rt, 8));
+    receive(rt, &mut journal, &charge(rt, 7));
+    receive(rt, &mut journal, &call(rt, 7));
+    receive(rt, &mut journal, &assignment(rt, 7, 12));
+    receive(rt, &mut journal, &cure(rt, 12));
+    receive(rt, &mut journal, &lapse(rt, 99));
+    receive(rt, &mut journal, &lapse(rt, 5));
+    journal
+}
+
+#[test]
+fn a_call_touches_what_was_created_before_it(rt: HostRuntime) -> Result<(), Fail> {
+    let journal = sale_that_grows(&rt, rt.alloc());
+    let docket = Docket::build(rt.alloc(), &journal)?;
+    let all = [
+        title(&rt, 7),
+        right(&rt, 7, 2),
+        right(&rt, 7, 3),
+        right(&rt, 7, 4),
+        right(&rt, 7, 12),
+        case(&rt, 7),
+    ];
+    assert!(&rt; has_keys(&rt, rt.alloc(), &journal, &docket, 13, &all));
+    assert!(&rt;
+        has_keys(
+            &rt,
+            rt.alloc(),
+            &journal,
+            &docket,
+            11,
+            &[title(&rt, 8), case(&rt, 8)]
+        )
+    );
+    assert!(&rt; has_keys(&rt, rt.alloc(), &journal, &docket, 14, &[right(&rt, 7, 12)]));
+    // Neither a later receipt nor what is no filing has keys for the item that names it.
+    assert!(&rt; has_keys(&rt, rt.alloc(), &journal, &docket, 16, &[]));
+    assert!(&rt; has_keys(&rt, rt.alloc(), &journal, &docket, 17, &[]));
+    assert_eq!(&rt; previous(&rt, &docket, 13, right(&rt, 7, 12)), 12);
+    assert_eq!(&rt; previous(&rt, &docket, 15, title(&rt, 7)), 13);
+    assert_eq!(&rt; previous(&rt, &docket, 12, case(&rt, 7)), 9);
+    Ok(())
+}
+
+/// Whether queues and keys say the same of each of these keys, of items 1 to 17.
+fn agree(rt: &impl Abort, docket: &Docket, keys: &[Key]) -> bool {
+    for n in 1..18 {
+        for key in keys {
+            if previous(rt, docket, n, *key) != last_by_keys(rt, docket, n, *key) {
+                return false;
+            }
+        }
+    }
+    true
+}
+
+#[test]
+fn queues_and_keys_say_the_same(rt: HostRuntime) -> Result<(), Fail> {
+    let journal = sale_that_grows(&rt, rt.alloc());
+    let docket = Docket::build(rt.alloc(), &journal)?;
+    let keys = [
+        title(&rt, 7),
+        right(&rt, 7, 2),
+        right(&rt, 7, 12),
+        case(&rt, 7),
+        case(&rt, 8),
+    ];
+    assert!(&rt; agree(&rt, &docket, &keys));
+    Ok(())
+}

@@ -1,0 +1,96 @@
+//! The keys that an item touches.
+ghost use Rattle.std.specs.Prelude.{◌≡◌, ◌≤◌, Some, length, option_map, IfOk};
+ghost use Rattle.act_model.specs.Receiving.{receipt_at};
+ghost use Rattle.act_model.specs.Touches.{in_key_order};
+ghost use Rattle.conflict_queue.specs.Dockets.{keys_touched};
+ghost use Rattle.conflict_queue.specs.ItemKeys.{earlier_rights, keys_by_item, keys_of_named, keys_of_sale};
+
+use act_model::{Item, Journal, filing_keys};
+use gb_base::{FolioId, Key, NoMemory, ReceiptNo, RightId};
+use std::alloc::Global;
+
+/// The most creating acts of a folio, whose rights are keys of its forced sale.
+const MOST_CREATIONS: usize = 256;
+
+/// The keys that item n touches, in ascending order, each once (GBO § 17). They follow from the
+/// receipts up to it alone. They may want memory.
+pub fn touches(alloc: Global, journal: &Journal, n: ReceiptNo) -> Result<Vec<Key>, NoMemory>
+    requires { n ≤ length journal.now.receipts }
+    ensures { IfOk result (λ keys. keys.items ≡ keys_touched journal.now.receipts n) }
+{
+    keys_by_item(alloc, journal, n, item_at(journal, n))
+}
+
+/// What receipt n holds.
+pub(crate) fn item_at(journal: &Journal, n: ReceiptNo) -> &Item
+    requires { n ≤ length journal.now.receipts }
+    ensures { option_map (λ r. r.item) (receipt_at journal.now.receipts n) ≡ Some result.now }
+{
+    &journal.receipts()[n.get() as usize - 1].item
+}
+
+/// The keys of item n, where it is this one.
+fn keys_by_item(
+    alloc: Global,
+    journal: &Journal,
+    n: ReceiptNo,
+    item: &Item,
+) -> Result<Vec<Key>, NoMemory>
+    ensures { IfOk result (λ keys. keys.items ≡ in_key_order (keys_by_item journal.now.receipts n item.now)) }
+{
+    match item {
+        Item::Filing(_) => Vec::from_slice(alloc, filing_keys(journal, n).as_slice()),
+        Item::Cure { filing, .. } => keys_of_named(alloc, journal, n, *filing),
+        Item::Lapse { filing } => keys_of_named(alloc, journal, n, *filing),
+        Item::Seize { folio, .. } => keys_of_sale(alloc, journal, n, *folio),
+        Item::Register { folio, .. } => Vec::from_slice(alloc, &[Key::Case(*folio)]),
+        Item::OpenBids { folio, .. } => keys_of_sale(alloc, journal, n, *folio),
+        Item::Award { folio, .. } => keys_of_sale(alloc, journal, n, *folio),
+        Item::Distribute { folio } => keys_of_sale(alloc, journal, n, *folio),
+    }
+}
+
+/// The keys of the filing that item n names; none where it is no earlier one.
+fn keys_of_named(
+    alloc: Global,
+    journal: &Journal,
+    n: ReceiptNo,
+    filing: ReceiptNo,
+) -> Result<Vec<Key>, NoMemory>
+    ensures { IfOk result (λ keys. keys.items ≡ in_key_order (keys_of_named journal.now.receipts n filing)) }
+{
+    if filing < n {
+        Vec::from_slice(alloc, filing_keys(journal, filing).as_slice())
+    } else {
+        Ok(Vec::new(alloc))
+    }
+}
+
+/// The keys of a forced sale of the folio, as item n finds them: the title, the rights, the sale.
+fn keys_of_sale(
+    alloc: Global,
+    journal: &Journal,
+    n: ReceiptNo,
+    folio: FolioId,
+) -> Result<Vec<Key>, NoMemory>
+    ensures { IfOk result (λ keys. keys.items ≡ in_key_order (keys_of_sale journal.now.receipts n folio)) }
+{
+    let rights = earlier_rights(journal, n, folio);
+    let mut keys = Vec::with_capacity(alloc, rights.len() + 2)?;
+    keys.push_reserved(Key::Title(folio));
+    for right in rights {
+        keys.push_reserved(Key::Right(folio, *right));
+    }
+    keys.push_reserved(Key::Case(folio));
+    Ok(keys)
+}
+
+/// The rights that earlier receipts than item n create in the folio, among the first 256 of it.
+pub(crate) fn earlier_rights(journal: &Journal, n: ReceiptNo, folio: FolioId) -> &[RightId]
+    ensures { result.now ≡ earlier_rights journal.now.receipts n folio }
+{
+    let rights = journal.creations_in(folio);
+    let first = &rights[..MOST_CREATIONS.min(rights.len())];
+    let earlier = first.partition_point(|right| right.receipt() < n);
+    &first[..earlier]
+}

@@ -1,5 +1,0 @@
-use Rattle.registrar.proofs.ItemKeysStay.{item_keys_stay}
-use Rattle.registrar.proofs.laws.item_keys_stay.Goals as goal
-
-pub returns : goal.returns
-returns c = record { same = item_keys_stay }
