@@ -1,6 +1,6 @@
 //! How a filing is judged on the register as it stands (GBO § 18).
 //! Why so: docs/DECISIONS.md, "`judge` asks for no more than it needs".
-ghost use Rattle.std.specs.Prelude.{◌≡◌, Some, IsTrue, All, Contains};
+ghost use Rattle.std.specs.Prelude.{◌≡◌, Some, IsSome, IsTrue, All, Contains};
 ghost use Rattle.gb_base.specs.declared.keys.Key.{Key};
 ghost use Rattle.act_model.specs.Touches.{filing_at, keys_of_filing};
 ghost use Rattle.act_model.specs.Documents.{docs_of};
@@ -10,38 +10,45 @@ ghost use Rattle.consent_rules.specs.inner.Held.{HasParts};
 use crate::defects::defects;
 use crate::grounds::rejection;
 use crate::{Defect, Defects, Judgement};
-use act_model::Matter;
+use act_model::{Journal, Matter, filing_at};
 use arrayvec::ArrayVec;
 use folio_sections::Parts;
+use gb_base::ReceiptNo;
 
-/// A filing, judged on the register as it stands, with its documents and those of its cures up to
-/// the item of the matter (GBO § 18). It wants the parts of the filing's keys, and of each right
-/// that recedes that it is as an earlier filing creates it; `can_be_judged` tests both, and that
-/// there is such a filing. It takes no memory and cannot fail.
+/// Filing `filing`, judged on the register as it stands, with its documents and those of its cures
+/// up to receipt `upto` (GBO § 18). It wants the parts of the filing's keys, and of each right that
+/// recedes that it is as an earlier filing creates it; `can_be_judged` tests both, and that there is
+/// such a filing. It takes no memory and cannot fail.
 ///
 /// ```
-/// if can_be_judged(&parts, &journal, number) {
+/// if can_be_judged(&parts, &journal, filing) {
 ///     // As it was filed, without a cure.
-///     let matter = Matter {
-///         journal: &journal,
-///         item: number,
-///         number,
-///         filing: filing_at(&journal, number).unwrap(),
-///     };
-///     match judge(&parts, &matter) {
+///     match judge(&parts, &journal, filing, filing) {
 ///         Judgement::Enter => {}
 ///         Judgement::Reject(section) => assert!(section != Section::Gbo29),
 ///         Judgement::Interim(defects) => assert!(!defects.list().is_empty()),
 ///     }
 /// }
 /// ```
-pub fn judge<P: Parts>(parts: &P, matter: &Matter) -> Judgement
-    requires filing { filing_at matter.now.journal.now.receipts matter.now.number ≡ Some matter.now.filing.now }
-    requires held { (k : Key) → Contains (keys_of_filing matter.now.journal.now.receipts matter.now.number) k → IsTrue (P.holds parts.now k) }
-    requires exchanges { KnowsExchanges matter.now.journal.now.receipts matter.now.number (P.at parts.now) }
-    ensures { judged matter.now.journal.now.receipts matter.now.number matter.now.item (P.at parts.now) ≡ Some result }
+pub fn judge<P: Parts>(
+    parts: &P,
+    journal: &Journal,
+    filing: ReceiptNo,
+    upto: ReceiptNo,
+) -> Judgement
+    requires filing { IsSome (filing_at journal.now.receipts filing) }
+    requires held { (k : Key) → Contains (keys_of_filing journal.now.receipts filing) k → IsTrue (P.holds parts.now k) }
+    requires exchanges { KnowsExchanges journal.now.receipts filing (P.at parts.now) }
+    ensures { judged journal.now.receipts filing upto (P.at parts.now) ≡ Some result }
 {
-    judge_acts(parts, matter)
+    let found = filing_at(journal, filing).unwrap();
+    let matter = Matter {
+        journal,
+        item: upto,
+        number: filing,
+        filing: found,
+    };
+    judge_acts(parts, &matter)
 }
 
 /// The judgement, by the first ground for rejection, else by the defects.

@@ -2,8 +2,8 @@
 use crate::premises::{can_be_judged, is_held};
 use crate::{Defect, Judgement, judge};
 use act_model::{
-    Act, Acts, Added, Doc, Docs, Filing, Form, Inventory, Item, Journal, Matter, Owners, RightKind,
-    RightSpec, filing_at, well_formed,
+    Act, Acts, Added, Doc, Docs, Filing, Form, Inventory, Item, Journal, Owners, RightKind,
+    RightSpec, well_formed,
 };
 use arrayvec::ArrayVec;
 use folio_sections::{Created, Entry, MapParts, Parts, RightForm, What};
@@ -317,13 +317,7 @@ pub(crate) fn judged(
     let (n, upto) = (receipt(rt, n), receipt(rt, upto));
     assert!(rt; n <= upto && upto.get() <= journal.len());
     assert!(rt; can_be_judged(parts, journal, n));
-    let matter = Matter {
-        journal,
-        item: upto,
-        number: n,
-        filing: filing_at(journal, n).unwrap(),
-    };
-    judge(parts, &matter)
+    judge(parts, journal, n, upto)
 }
 
 /// The register with a filing as receipt 4.

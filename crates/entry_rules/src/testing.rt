@@ -5,8 +5,8 @@ ghost use Rattle.folio_sections.specs.Held.{is_held};
 
 use crate::{MOST_ENTERED, enter, laws};
 use act_model::{
-    Act, Acts, Added, Doc, Docs, Filing, Inventory, Item, Journal, Matter, Owners, RightKind,
-    RightSpec, filing_at, filing_keys, well_formed,
+    Act, Acts, Added, Doc, Docs, Filing, Inventory, Item, Journal, Owners, RightKind, RightSpec,
+    filing_at, filing_keys, well_formed,
 };
 use arrayvec::ArrayVec;
 use folio_sections::{Created, Entry, MapParts, Parts, TitlePart, What};
@@ -268,17 +268,11 @@ pub fn entered_in(
     let mut after = parts;
     let (item, of) = (receipt(rt, item), receipt(rt, of));
     assert!(rt; item.get() <= journal.len());
-    let filing = filing_at(journal, of).expect(rt, "a filing");
+    assert!(rt; filing_at(journal, of).is_some());
     after.reserve_all(MOST_ENTERED)?;
     check_held(rt, &after, filing_keys(journal, of).as_slice());
     laws::room_for_entry();
-    let matter = Matter {
-        journal,
-        item,
-        number: of,
-        filing,
-    };
-    enter(&mut after, &matter);
+    enter(&mut after, journal, item, of);
     Ok(after)
 }
 

@@ -7,39 +7,43 @@ ghost use Rattle.folio_sections.specs.Adding.{AddsList, HasRoom};
 ghost use Rattle.interim_orders.specs.Notices.{notices_at, notices_brought};
 ghost use Rattle.folio_sections.specs.Waiting.{waiting_unnoticed, is_above};
 
-use act_model::{Matter, filing_keys};
+use act_model::{Journal, filing_keys};
 use folio_sections::{Parts, What, add, entry_by};
 use gb_base::{Key, ReceiptNo};
 
-/// Enters, at each key of a filing that is entered, the official notice of each earlier filing that
-/// waits there without one (GBO § 18(2)). It takes no memory and cannot fail.
-pub fn enter_notices<P: Parts>(parts: &mut P, matter: &Matter)
-    requires received { matter.now.item ≤ length matter.now.journal.now.receipts }
-    requires held { (k : Key) → Contains (keys_of_filing matter.now.journal.now.receipts matter.now.number) k → IsTrue (P.holds parts.old k) }
-    requires room { HasRoom (P.room parts.old) (notices_brought matter.now.journal.now.receipts matter.now.number matter.now.item (P.at parts.old)) }
-    ensures added { AddsList (P.at parts.old) (P.at parts.new) (P.room parts.old) (P.room parts.new)
-        (notices_brought matter.now.journal.now.receipts matter.now.number matter.now.item (P.at parts.old)) }
+/// Enters, at each key of a filing that this item enters, the official notice of each earlier filing
+/// that waits there without one (GBO § 18(2)). It takes no memory and cannot fail.
+pub fn enter_notices<P: Parts>(parts: &mut P, journal: &Journal, item: ReceiptNo, filing: ReceiptNo)
+    requires received { item ≤ length journal.now.receipts }
+    requires held { (k : Key) → Contains (keys_of_filing journal.now.receipts filing) k → IsTrue (P.holds parts.old k) }
+    requires room { HasRoom (P.room parts.old) (notices_brought journal.now.receipts filing item (P.at parts.old)) }
+    ensures added { AddsList (P.at parts.old) (P.at parts.new) (P.room parts.old) (P.room parts.new) (notices_brought journal.now.receipts filing item (P.at parts.old)) }
     ensures held { P.holds parts.new ≡ P.holds parts.old }
 {
-    let keys = filing_keys(matter.journal, matter.number);
+    let keys = filing_keys(journal, filing);
     for key in keys.as_slice() {
-        enter_notices_at(parts, matter, *key);
+        enter_notices_at(parts, journal, item, filing, *key);
     }
 }
 
 /// Enters the official notices at one key, in ascending order of their filings.
-fn enter_notices_at<P: Parts>(parts: &mut P, matter: &Matter, key: Key)
-    requires received { matter.now.item ≤ length matter.now.journal.now.receipts }
+fn enter_notices_at<P: Parts>(
+    parts: &mut P,
+    journal: &Journal,
+    item: ReceiptNo,
+    filing: ReceiptNo,
+    key: Key,
+)
+    requires received { item ≤ length journal.now.receipts }
     requires held { IsTrue (P.holds parts.old key) }
-    requires room { HasRoom (P.room parts.old) (notices_at matter.now.journal.now.receipts matter.now.number matter.now.item (P.at parts.old) key) }
-    ensures added { AddsList (P.at parts.old) (P.at parts.new) (P.room parts.old) (P.room parts.new)
-        (notices_at matter.now.journal.now.receipts matter.now.number matter.now.item (P.at parts.old) key) }
+    requires room { HasRoom (P.room parts.old) (notices_at journal.now.receipts filing item (P.at parts.old) key) }
+    ensures added { AddsList (P.at parts.old) (P.at parts.new) (P.room parts.old) (P.room parts.new) (notices_at journal.now.receipts filing item (P.at parts.old) key) }
     ensures held { P.holds parts.new ≡ P.holds parts.old }
 {
     let mut after = None;
-    while let Some(waiting) = next_unnoticed(parts, &key, after, matter.number) {
+    while let Some(waiting) = next_unnoticed(parts, &key, after, filing) {
         let what = What::Notice { filing: waiting };
-        add(parts, entry_by(matter.journal, matter.item, key, what));
+        add(parts, entry_by(journal, item, key, what));
         after = Some(waiting);
     }
 }

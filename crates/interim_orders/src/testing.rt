@@ -8,8 +8,8 @@ ghost use Rattle.interim_orders.specs.Lapses.{lapse_at};
 use crate::lapses::lapse_at;
 use crate::{FilingState, Lapse, close_order, enter_notices, lapse, laws, open_order, state};
 use act_model::{
-    Act, Acts, Added, Docs, Filing, Item, Journal, Matter, RightKind, RightSpec, filing_at,
-    filing_keys, well_formed,
+    Act, Acts, Added, Docs, Filing, Item, Journal, RightKind, RightSpec, filing_at, filing_keys,
+    well_formed,
 };
 use arrayvec::ArrayVec;
 use folio_sections::{Entry, MapParts, Parts, What};
@@ -195,13 +195,7 @@ pub fn notices(
     parts.reserve_all(filing.get() as usize)?;
     check_held(rt, parts, journal, filing);
     laws::room_for_notices();
-    let matter = Matter {
-        journal,
-        item: filing,
-        number: filing,
-        filing: filing_at(journal, filing).expect(rt, "a filing"),
-    };
-    enter_notices(parts, &matter);
+    enter_notices(parts, journal, filing, filing);
     Ok(())
 }
 

@@ -38,14 +38,8 @@ pub(crate) fn settle<P: Parts>(
     ensures held { P.holds parts.new ≡ P.holds parts.old }
 {
     match received {
-        Item::Filing(filing) => {
-            let as_filed = Matter {
-                journal,
-                item,
-                number: item,
-                filing,
-            };
-            let judgement = judge(parts, &as_filed);
+        Item::Filing(_) => {
+            let judgement = judge(parts, journal, item, item);
             settle_filing(parts, journal, item, judgement)
         }
         Item::Cure { filing, .. } => settle_cure(parts, journal, item, *filing),
@@ -118,7 +112,8 @@ fn settle_cure<P: Parts>(
                 number: filing,
                 filing: filing_at(journal, filing).unwrap(),
             };
-            let judgement = judge(parts, &with_cures);
+            // `judge` takes the filing first, and then up to which receipt documents count.
+            let judgement = judge(parts, journal, filing, item);
             settle_waiting(parts, &with_cures, judgement)
         }
         FilingState::NotPending => Verdict::NotPending,
@@ -161,8 +156,8 @@ fn enter_with_notices<P: Parts>(parts: &mut P, matter: &Matter)
         (enters matter.now.journal.now.receipts matter.now.number matter.now.item (P.at parts.old)) }
     ensures held { P.holds parts.new ≡ P.holds parts.old }
 {
-    enter_notices(parts, matter);
-    enter(parts, matter);
+    enter_notices(parts, matter.journal, matter.item, matter.number);
+    enter(parts, matter.journal, matter.item, matter.number);
 }
 
 /// What becomes of a lapse by its answer.

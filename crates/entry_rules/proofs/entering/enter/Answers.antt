@@ -1,10 +1,12 @@
 -- The places stand before the contents are read from them.
+use Rattle.std.proofs.Common.{◌≡◌, Some, rules}
+use Rattle.act_model.specs.Touches.{filing_at}
 use Rattle.entry_rules.proofs.Entered.{all_entered}
 use Rattle.entry_rules.proofs.entering.enter.Goals as goal
 
 pub returns-clause-added : goal.returns-clause-added
 returns-clause-added g c =
-    let matter = c.args.matter.now in
-    all_entered matter.journal.now.receipts matter.number matter.item (g.P.Parts.at c.args.parts.now) (g.P.Parts.at c.add_places.new.parts) (g.P.Parts.at c.add_contents.new.parts)
+    let is : filing_at c.args.journal.now.receipts c.args.filing ≡ Some c.unwrap.result.now = search rules in
+    all_entered c.args.journal.now.receipts c.args.filing c.args.item (g.P.Parts.at c.args.parts.now) (g.P.Parts.at c.add_places.new.parts) (g.P.Parts.at c.add_contents.new.parts)
     (g.P.Parts.room c.args.parts.now) (g.P.Parts.room c.add_places.new.parts) (g.P.Parts.room c.add_contents.new.parts)
-    matter.filing.now c.requires.filing c.add_places.ensures.added c.add_contents.ensures.added
+    c.unwrap.result.now is c.add_places.ensures.added c.add_contents.ensures.added

@@ -14,14 +14,14 @@ use Rattle.interim_orders.proofs.notices.enter_notices.Goals as goal
 
 pub enter_notices_at-requires-clause-held : goal.enter_notices_at-requires-clause-held
 enter_notices_at-requires-clause-held g c =
-    key_held c.args.matter.now.journal.now.receipts c.args.matter.now.number c.as_slice-key-items.result.now c.loop-key.key-index c.key-item.result (g.P.Parts.holds c.args.parts.now) (g.P.Parts.holds c.loop-key.parts)
+    key_held c.args.journal.now.receipts c.args.filing c.as_slice-key-items.result.now c.loop-key.key-index c.key-item.result (g.P.Parts.holds c.args.parts.now) (g.P.Parts.holds c.loop-key.parts)
     (c.as_slice-key-items.ensures.value ∙ c.filing_keys-keys.ensures) c.loop-key-test.true c.key-item.is c.loop-key.invariant.held c.requires.held
 
 pub enter_notices_at-requires-clause-room : goal.enter_notices_at-requires-clause-room
 enter_notices_at-requires-clause-room g c =
-    let journal = c.args.matter.now.journal.now.receipts in
-    let m = c.args.matter.now.number in
-    let i = c.args.matter.now.item in
+    let journal = c.args.journal.now.receipts in
+    let m = c.args.filing in
+    let i = c.args.item in
     let items = c.as_slice-key-items.result.now in
     let key = c.key-item.result in
     let rest = drop (c.loop-key.key-index + 1) items in
@@ -39,9 +39,9 @@ enter_notices_at-requires-clause-room g c =
 
 pub loop-key-preserved : goal.loop-key-preserved
 loop-key-preserved g c =
-    let journal = c.args.matter.now.journal.now.receipts in
-    let m = c.args.matter.now.number in
-    let i = c.args.matter.now.item in
+    let journal = c.args.journal.now.receipts in
+    let m = c.args.filing in
+    let i = c.args.item in
     let items = c.as_slice-key-items.result.now in
     let key = c.key-item.result in
     let rest = drop (c.loop-key.key-index + 1) items in

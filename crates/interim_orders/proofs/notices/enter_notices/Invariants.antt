@@ -7,5 +7,5 @@ use Rattle.interim_orders.proofs.notices.enter_notices.Given as goal
 
 abbrev pub invariant-loop-key : goal.invariant-loop-key
 invariant-loop-key g l =
-    Progress Key (notices_at l.matter.journal.now.receipts l.matter.number l.matter.item) (StandsApart (drop l.key-index l.key-items)) l.key-items (drop l.key-index l.key-items)
+    Progress Key (notices_at l.journal.receipts l.filing l.item) (StandsApart (drop l.key-index l.key-items)) l.key-items (drop l.key-index l.key-items)
     (g.P.Parts.at l.fn.parts) (g.P.Parts.at l.parts) (g.P.Parts.room l.fn.parts) (g.P.Parts.room l.parts) (g.P.Parts.holds l.fn.parts) (g.P.Parts.holds l.parts)

@@ -6,20 +6,20 @@ use Rattle.interim_orders.proofs.notices.enter_notices_at.Goals as goal
 
 pub loop-waiting-init : goal.loop-waiting-init
 loop-waiting-init g c =
-    none_noticed c.args.matter.now.journal.now.receipts c.args.matter.now.number c.args.matter.now.item c.args.key
+    none_noticed c.args.journal.now.receipts c.args.filing c.args.item c.args.key
     (g.P.Parts.at c.args.parts.now) (g.P.Parts.room c.args.parts.now) (g.P.Parts.holds c.args.parts.now)
 
 pub add-requires-clause-room : goal.add-requires-clause-room
 add-requires-clause-room g c =
     subst (λ (e : Entry). HasRoom (g.P.Parts.room c.loop-waiting.parts) (e ∷ [])) (sym c.entry_by.ensures)
-    (notice_fits c.args.matter.now.journal.now.receipts c.args.matter.now.number c.args.matter.now.item c.args.key c.loop-waiting.after c.in-Some.waiting (g.P.Parts.at c.args.parts.now) (g.P.Parts.at c.loop-waiting.parts)
+    (notice_fits c.args.journal.now.receipts c.args.filing c.args.item c.args.key c.loop-waiting.after c.in-Some.waiting (g.P.Parts.at c.args.parts.now) (g.P.Parts.at c.loop-waiting.parts)
     (g.P.Parts.room c.args.parts.now) (g.P.Parts.room c.loop-waiting.parts) (g.P.Parts.holds c.args.parts.now) (g.P.Parts.holds c.loop-waiting.parts)
     c.loop-waiting.invariant (sym c.in-Some.is ∙ c.next_unnoticed.ensures) c.requires.room)
 
 pub loop-waiting-smaller : goal.loop-waiting-smaller
 loop-waiting-smaller g c =
     let rest =
-    next_noticed c.args.matter.now.journal.now.receipts c.args.matter.now.number c.args.matter.now.item c.args.key c.loop-waiting.after c.in-Some.waiting (g.P.Parts.at c.args.parts.now) (g.P.Parts.at c.loop-waiting.parts)
+    next_noticed c.args.journal.now.receipts c.args.filing c.args.item c.args.key c.loop-waiting.after c.in-Some.waiting (g.P.Parts.at c.args.parts.now) (g.P.Parts.at c.loop-waiting.parts)
     (g.P.Parts.room c.args.parts.now) (g.P.Parts.room c.loop-waiting.parts) (g.P.Parts.holds c.args.parts.now) (g.P.Parts.holds c.loop-waiting.parts)
     c.loop-waiting.invariant (sym c.in-Some.is ∙ c.next_unnoticed.ensures) in
     let count = ap length rest in
@@ -27,7 +27,7 @@ loop-waiting-smaller g c =
 
 pub loop-waiting-preserved : goal.loop-waiting-preserved
 loop-waiting-preserved g c =
-    noticed_next c.args.matter.now.journal.now.receipts c.args.matter.now.number c.args.matter.now.item c.args.key c.loop-waiting.after c.in-Some.waiting
+    noticed_next c.args.journal.now.receipts c.args.filing c.args.item c.args.key c.loop-waiting.after c.in-Some.waiting
     (g.P.Parts.at c.args.parts.now) (g.P.Parts.at c.loop-waiting.parts) (g.P.Parts.at c.add.new.parts)
     (g.P.Parts.room c.args.parts.now) (g.P.Parts.room c.loop-waiting.parts) (g.P.Parts.room c.add.new.parts)
     (g.P.Parts.holds c.args.parts.now) (g.P.Parts.holds c.loop-waiting.parts) (g.P.Parts.holds c.add.new.parts)
@@ -37,6 +37,6 @@ loop-waiting-preserved g c =
 
 pub returns-clause-added : goal.returns-clause-added
 returns-clause-added g c =
-    all_noticed c.args.matter.now.journal.now.receipts c.args.matter.now.number c.args.matter.now.item c.args.key c.loop-waiting.after (g.P.Parts.at c.args.parts.now) (g.P.Parts.at c.loop-waiting.parts)
+    all_noticed c.args.journal.now.receipts c.args.filing c.args.item c.args.key c.loop-waiting.after (g.P.Parts.at c.args.parts.now) (g.P.Parts.at c.loop-waiting.parts)
     (g.P.Parts.room c.args.parts.now) (g.P.Parts.room c.loop-waiting.parts) (g.P.Parts.holds c.args.parts.now) (g.P.Parts.holds c.loop-waiting.parts)
     c.loop-waiting.invariant (sym c.in_default.is ∙ c.next_unnoticed.ensures)

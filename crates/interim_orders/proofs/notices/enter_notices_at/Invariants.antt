@@ -5,9 +5,9 @@ use Rattle.interim_orders.proofs.notices.enter_notices_at.Given as goal
 
 abbrev pub invariant-loop-waiting : goal.invariant-loop-waiting
 invariant-loop-waiting g l =
-    Noticed l.matter.journal.now.receipts l.matter.number l.matter.item l.key l.after
+    Noticed l.journal.receipts l.filing l.item l.key l.after
     (g.P.Parts.at l.fn.parts) (g.P.Parts.at l.parts) (g.P.Parts.room l.fn.parts) (g.P.Parts.room l.parts) (g.P.Parts.holds l.fn.parts) (g.P.Parts.holds l.parts)
 
 -- how many filings are left
 abbrev pub decreases-loop-waiting : goal.decreases-loop-waiting
-decreases-loop-waiting g l = length (filter (is_above l.after) (waiting_unnoticed l.matter.number (g.P.Parts.at l.fn.parts l.key)))
+decreases-loop-waiting g l = length (filter (is_above l.after) (waiting_unnoticed l.filing (g.P.Parts.at l.fn.parts l.key)))
