@@ -1,5 +1,5 @@
 -- What a session over a disk did with a whole input, however it ended.
-use Rattle.std.proofs.Common.{◌≡◌, ◌⊎◌, inl, inr, ⊎_elim, ℕ, ◌≤◌, Bool, true, false, List, ◌++◌, length, take, refl, sym, ap, ◌∙◌, subst, append_assoc, Option, Some, None, IfSome, Result, Ok, Err, OnOk, OnErr, IsTrue}
+use Rattle.std.proofs.Common.{◌≡◌, ◌⊎◌, inl, inr, ⊎_elim, ℕ, ◌≤◌, Bool, true, false, List, ◌++◌, length, take, refl, sym, ap, ◌∙◌, subst, append_assoc, Option, Some, None, Result, Ok, Err, OnOk, OnErr, IsTrue}
 use Rattle.std.specs.Io.KnownBytes.{IsAtEnd}
 use Rattle.std.proofs.lemmas.List.{append_cancel_left}
 use Rattle.gb_base.specs.DayMinute.{DayMinute}
@@ -14,7 +14,7 @@ use Rattle.intake.specs.Faults.{session_input_failed, session_output_failed, ses
 use Rattle.intake.specs.Grown.{IsFront, GrownFrom, DiskGrows}
 use Rattle.intake.specs.Intakes.{whole_of, cut_of}
 use Rattle.intake.specs.Receivers.{held_by, IsReady}
-use Rattle.intake.specs.Requests.{Medium, OnDisk, Held, holding, replies, held_after}
+use Rattle.intake.specs.Requests.{Medium, OnDisk, Held, replies, held_after}
 use Rattle.intake.specs.Sessions.{Took}
 use Rattle.intake.specs.inner.Shown.{book_shows}
 use Rattle.intake.specs.declared.faults.SessionFault.{SessionFault}
@@ -23,12 +23,11 @@ use Rattle.intake.specs.declared.intakes.Intake.{Intake}
 use Rattle.intake.specs.declared.intakes.Intake.TheVariants.{Lines, OpeningList}
 use Rattle.intake.specs.declared.lines.LineKind.TheVariants.{Unstamped}
 use Rattle.intake.proofs.Acknowledged.{front_by_replies}
-use Rattle.intake.proofs.Durable.{front_refl}
 use Rattle.intake.proofs.EarlyEnds.{front_of_early, part_of_early, early_longer, early_all}
-use Rattle.intake.proofs.Replies.{replies-append, grown_wider, grows, grows_longer, disk_by_first, front_of_longer}
-use Rattle.intake.proofs.SessionInputs.{BeginsWith, lines_begin, of_whole, of_part, FirstOf, if_some_at, took_as}
+use Rattle.intake.proofs.Replies.{replies-append, grown_wider, grows_longer, disk_by_first, front_of_longer}
+use Rattle.intake.proofs.SessionInputs.{BeginsWith, lines_begin, of_whole, of_part, FirstOf, if_some_at}
 use Rattle.intake.proofs.TakenItems.{told_by}
-use Rattle.registry_office.specs.Receivings.{Receives, AllTell, HasWritten}
+use Rattle.registry_office.specs.Receivings.{Receives, HasWritten}
 use Rattle.registry_office.specs.Statuses.{read_fault, write_fault, disk_fault, is_of_session}
 use Rattle.registry_office.specs.inner.Ends.{status_of}
 use Rattle.registry_office.specs.declared.statuses.Status.{Status}

@@ -1,5 +1,5 @@
 -- The session in memory and the report, one after the other.
-use Rattle.std.proofs.Common.{◌≡◌, ℕ, ◌≤◌, length, take, List, [], ◌++◌, refl, sym, ap, ◌∙◌, subst, Option, Some, None, IfSome, Result, Ok, Err, IsErrAnd}
+use Rattle.std.proofs.Common.{◌≡◌, ℕ, ◌≤◌, length, take, List, [], ◌++◌, sym, ap, ◌∙◌, subst, Option, Some, None, IfSome, Result, Ok, Err, IsErrAnd}
 use Rattle.std.specs.Io.KnownBytes.{Appends, Consumes, IsAtEnd}
 use Rattle.std.proofs.KnownBytes.{Appends-trans}
 use Rattle.gb_base.specs.DayMinute.{DayMinute}

@@ -1,5 +1,5 @@
 //! The command that settles stamped lines in memory.
-ghost use Rattle.std.specs.Prelude.{◌≡◌, ◌⊎◌, ◌≤◌, ◌<◌, ◌+◌, ◌^◌, [], Some, Err, IfOk, OnOk, OnErr, IfSome, length, take, false, IsTrue};
+ghost use Rattle.std.specs.Prelude.{◌≡◌, ◌⊎◌, ◌≤◌, ◌+◌, [], Some, Err, IfOk, OnOk, OnErr, IfSome, length, take, false};
 ghost use Rattle.std.specs.Io.KnownBytes.{Appends, IsAtEnd};
 ghost use Rattle.gb_outside.specs.Bytes.{AppendsFront};
 ghost use Rattle.gb_outside.specs.Faults.{Counts};

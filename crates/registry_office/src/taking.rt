@@ -4,12 +4,11 @@
 ghost use Rattle.std.specs.Prelude.{◌≡◌, ◌≤◌, ◌+◌, ℕ, List, [], Some, false, length, IsTrue, IfSome};
 ghost use Rattle.gb_base.specs.DayMinute.{DayMinute};
 ghost use Rattle.gb_outside.specs.Faults.{Counts};
-ghost use Rattle.intake.specs.Grown.{IsDurable, DiskGrows};
+ghost use Rattle.intake.specs.Grown.{IsDurable};
 ghost use Rattle.intake.specs.Intakes.{whole_of, cut_of};
-ghost use Rattle.registry_office.specs.Receivings.{Receives};
-ghost use Rattle.intake.specs.Requests.{OnDisk, holding, held_after};
+ghost use Rattle.registry_office.specs.Receivings.{AllTell, Receives};
+ghost use Rattle.intake.specs.Requests.{holding};
 ghost use Rattle.intake.specs.Sessions.{most_input, Took};
-ghost use Rattle.registry_office.specs.Receivings.{AllTell};
 ghost use Rattle.registry_office.specs.Statuses.{read_fault, write_fault, disk_fault, is_of_session};
 ghost use Rattle.intake.specs.declared.intakes.Intake.TheVariants.{Lines, OpeningList as ListFrom};
 

@@ -1,4 +1,4 @@
-use Rattle.std.proofs.Common.{rules, refl, sym, ◌∙◌, subst}
+use Rattle.std.proofs.Common.{rules, sym, ◌∙◌, subst}
 use Rattle.gb_outside.specs.Faults.{Counts}
 use Rattle.intake.specs.Intakes.{whole_of, cut_of}
 use Rattle.intake.specs.declared.intakes.Intake.TheVariants.{Lines}
