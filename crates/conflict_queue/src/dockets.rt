@@ -15,12 +15,12 @@ use std::collections::BTreeMap;
 use std::marker::Model;
 
 /// The keys of each item of a journal, and at each key the queue of the items that touch it: of two
-/// that touch one key the earlier is settled first (GBO § 17). In contracts it is the keys of each item.
+/// that touch one key the earlier is to be settled first (GBO § 17). In contracts it is the keys of each item.
 ///
 /// ```
 /// let docket = Docket::build(alloc, &journal)?;
 /// for key in docket.keys(item) {
-///     // Before the item is settled, the last one ahead of it at each of its keys is.
+///     // The item waits for this one: the last before it that touches the key.
 ///     let before: Option<ReceiptNo> = docket.previous(item, *key);
 /// }
 /// ```
@@ -47,9 +47,10 @@ impl Docket {
     ghost use Rattle.act_model.specs.declared.receipts.Receipt.{Receipt};
     ghost use Rattle.conflict_queue.specs.Dockets.{docket_of, keys_touched, previous, previous_in};
 
-    /// The docket of the journal, in one walk through it.
+    /// The docket of the journal. It may want memory.
     pub fn build(alloc: Global, journal: &Journal) -> Result<Docket, NoMemory>
-        ensures { IfOk result (λ docket. docket ≡ docket_of journal.now.receipts) }
+        ensures docket { IfOk result (λ docket. docket ≡ docket_of journal.now.receipts) }
+        ensures len { IfOk result (λ docket. length docket ≡ length journal.now.receipts) }
     {
         let mut keys = KeyLists::new(alloc);
         let mut sales = BTreeMap::new(alloc);
@@ -69,7 +70,8 @@ impl Docket {
         self.keys.len()
     }
 
-    /// The keys that item i touches, in ascending order, each once.
+    /// The keys that item i touches, in ascending order, each once. It takes no memory and cannot
+    /// fail.
     pub fn keys(&self, i: ReceiptNo) -> &[Key]
         requires { i ≤ length self.now }
         ensures value { slice_get self.now (i - 1) ≡ Some result.now }
@@ -78,7 +80,8 @@ impl Docket {
         self.keys.get(i.get() as usize - 1)
     }
 
-    /// The greatest item below item i that touches the key; None where there is none.
+    /// The greatest item below item i that touches the key; None where there is none. It takes no
+    /// memory and cannot fail.
     pub fn previous(&self, i: ReceiptNo, key: Key) -> Option<ReceiptNo>
         requires { i ≤ length self.now }
         ensures value { result ≡ previous_in self.now i key }
@@ -198,7 +201,7 @@ fn note_sale(
     Ok(())
 }
 
-/// The folio all keys of whose sale the item touches; None where it touches others.
+/// The folio whose forced sale the item touches with all its keys; None where it touches others.
 fn folio_of_sale(item: &Item) -> Option<FolioId>
     ensures { result ≡ folio_of_sale item.now }
 {

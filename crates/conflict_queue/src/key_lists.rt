@@ -1,5 +1,5 @@
-//! The lists of keys of the items of a journal, each kept once.
-//! Why so: docs/DECISIONS.md, "A docket keeps a list of keys once".
+//! The lists of keys of the items of a journal, which items may share.
+//! Why so: docs/DECISIONS.md, "Items of a docket may share their keys".
 use gb_base::{Key, NoMemory};
 use std::alloc::Global;
 use std::marker::Model;

@@ -47,3 +47,8 @@ loop-index-preserved c =
           (c.loop-index.invariant.queues k) (c.in_ok-push_all.ensures k)
           ∙ ap (λ d. queue_of d k) (sym c.in_ok-add_keys.ensures.keys);
     }
+
+pub returns-clause-len : goal.returns-clause-len
+returns-clause-len c =
+    let all : c.loop-index.index ≡ length c.args.journal.now.receipts = omega (arith, c.loop-index-test.false, c.loop-index.auto.index-end, c.len-index-end.ensures.value) in
+    ap length c.loop-index.invariant.keys ∙ length-map-range_with_len (keys_touched c.args.journal.now.receipts) 1 c.loop-index.index ∙ all
