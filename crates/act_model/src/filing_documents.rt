@@ -45,7 +45,7 @@ impl<'a> Matter<'a> {
     }
 }
 
-/// Whether a cure of the filing, up to the item that settles it, brings such a document for one of
+/// Whether a cure of the filing, up to the item with which it is judged, brings such a document for one of
 /// so many acts.
 #[tactic(auto, using(crate::proofs::CureOrder::any_brought))]
 fn cures_have<T: DocFilter>(matter: &Matter, acts: usize, test: &T) -> bool

@@ -145,7 +145,7 @@ fn settle_waiting<P: Parts>(parts: &mut P, matter: &Matter, judgement: Judgement
     }
 }
 
-/// Enters a filing by the item that settles it: official notices for those that wait, its places,
+/// Enters a filing by the item with which it is judged: official notices for those that wait, its places,
 /// and the contents of its acts.
 fn enter_with_notices<P: Parts>(parts: &mut P, matter: &Matter)
     requires filing { filing_at matter.now.journal.now.receipts matter.now.number ≡ Some matter.now.filing.now }
