@@ -6,7 +6,8 @@
 //!   it finds cures and creating acts.
 //! - What follows from it: `filings` finds filings, acts and rights, `touched_keys` the keys that a
 //!   filing touches, `divisions` and `groups` what it creates; `matters` is a filing with the item
-//!   with which it is judged, `filing_documents` are the documents that count then, and `sought` tests them.
+//!   with which it is judged, `filing_documents` are the documents that count then, and `sought`
+//!   tests them.
 #![tactic(auto)]
 
 mod added;
