@@ -1,6 +1,6 @@
 -- The keys at which a register has parts.
 -- Why so: docs/DECISIONS.md, "A register has the parts at the keys of filings".
-use Rattle.std.specs.Prelude.{ℕ, ◌+◌, List, flat_map, length}
+use Rattle.std.specs.Prelude.{◌+◌, List, flat_map, length}
 use Rattle.gb_base.specs.declared.keys.Key.{Key}
 use Rattle.act_model.specs.Touches.{keys_of_filing}
 use Rattle.act_model.specs.declared.receipts.Receipt.{Receipt}

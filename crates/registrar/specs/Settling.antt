@@ -1,9 +1,9 @@
 -- The one registrar, who settles the items of a journal one after the other, in the order of their receipts (GBO § 17).
 -- Why so: docs/DECISIONS.md, "Every item of a journal has a verdict".
-use Rattle.std.specs.Prelude.{ℕ, ◌+◌, List, [], ◌∷◌, ◌++◌, length, fold}
+use Rattle.std.specs.Prelude.{ℕ, List, [], ◌∷◌, ◌++◌, fold}
 use Rattle.act_model.specs.declared.receipts.Receipt.{Receipt}
+use Rattle.conflict_queue.specs.Schedules.{in_receipt_order}
 use Rattle.folio_sections.specs.Entries.{at}
-use Rattle.folio_sections.specs.Waiting.{receipts_before}
 use Rattle.folio_sections.specs.declared.entries.Entry.{Entry}
 use Rattle.registrar.specs.Brings.{Brought, brings}
 use Rattle.registrar.specs.declared.verdicts.Verdict.{Verdict}
@@ -30,6 +30,6 @@ settled_next journal before i = settled_by before i (brings journal i (at before
 abbrev pub settled_in_order : List Receipt → List ℕ → Settlement
 settled_in_order journal order = fold (settled_next journal) nothing_settled order
 
--- the register that the one registrar leaves
+-- the register that the one registrar leaves, who takes the items in the order of their receipts
 abbrev pub registrar : List Receipt → Settlement
-registrar journal = settled_in_order journal (receipts_before (length journal + 1))
+registrar journal = settled_in_order journal (in_receipt_order journal)
