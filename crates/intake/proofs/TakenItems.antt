@@ -1,12 +1,20 @@
 -- What receives an item gives the reply that is said of it.
-use Rattle.std.proofs.Common.{◌≡◌, inl, inr, ℕ, Bool, true, false, List, [], ◌∷◌, ◌++◌, refl, sym, ap, ◌∙◌, subst, arith, Option, Some, None, IsTrue}
+use Rattle.std.specs.Prelude.{◌+◌, ◌&&◌, nat_lt, nat_le}
+use Rattle.std.proofs.Common.{◌≡◌, inl, inr, ℕ, Bool, true, false, cond, List, [], ◌∷◌, ◌++◌, length, refl, sym, ap, ◌∙◌, subst, arith, length-append, Option, Some, None, IsTrue}
 use Rattle.std.proofs.lemmas.Option.{same_Some}
 use Rattle.gb_base.specs.DayMinute.{DayMinute}
 use Rattle.gb_outside.specs.Ticks.{Ticks}
+use Rattle.act_model.specs.Limits.{most_receipts}
+use Rattle.act_model.specs.Receiving.{answer_again, answer_by, answer_to, next_receipt, number_of, receipt_at, is_accepted}
+use Rattle.act_model.specs.Same.{same_item}
+use Rattle.act_model.specs.declared.added.Added.{Added}
+use Rattle.act_model.specs.declared.added.Added.TheVariants as added
 use Rattle.act_model.specs.declared.items.Item.{Item}
 use Rattle.act_model.specs.declared.receipts.Receipt.{Receipt}
-use Rattle.receipt_journal.specs.Receiving.{Answers, journal_after}
+use Rattle.journal_disk.specs.Layout.{file_limit, the_heading}
+use Rattle.receipt_journal.specs.Receiving.{Answers, answer_on, file_size, in_journal, is_received, journal_after, on_disk}
 use Rattle.receipt_journal.specs.declared.received.Received.{Received}
+use Rattle.receipt_journal.specs.declared.received.Received.TheVariants as variants
 use Rattle.intake.specs.Grown.{GrownFrom, DiskGrows}
 use Rattle.intake.specs.Receivers.{held_by, TakesItem}
 use Rattle.intake.specs.Requests.{Medium, InMemory, OnDisk, Held, Replied, holding, received, received_text, replied, reply_of, is_fault}
@@ -20,6 +28,48 @@ answer_expected : (expected : Received) (answer : Received) → Answers expected
 answer_expected expected answer (inl same) sound = same
 answer_expected expected answer (inr (accepts, inl memory)) sound = let never : true ≡ false = sym (ap is_fault memory) ∙ sound in absurd cc
 answer_expected expected answer (inr (accepts, inr disk)) sound = let never : true ≡ false = sym (ap is_fault disk) ∙ sound in absurd cc
+
+-- ---- no answer expected is a fault, and a fault takes the place of an answer that accepts the item
+
+sound_again : (item : Item) (n : ℕ) (found : Option Receipt) → is_fault (in_journal (answer_again item n found)) ≡ false
+sound_again item n (Some r) = elim (same_item r.item item) as (λ b. is_fault (in_journal (cond b (added.Repeated n) (added.Differs n))) ≡ false)
+    [ true ↦ refl | false ↦ refl ]
+sound_again item n None = refl
+
+sound_by : (journal : List Receipt) (item : Item) (number : Option ℕ) → is_fault (in_journal (answer_by journal item number)) ≡ false
+sound_by journal item (Some n) = sound_again item n (receipt_at journal n)
+sound_by journal item None = elim (nat_le most_receipts (length journal)) as (λ b. is_fault (in_journal (cond b added.Full (added.Accepted (length journal + 1)))) ≡ false)
+    [ true ↦ refl | false ↦ refl ]
+
+sound_on_disk : (size : ℕ) (answer : Added) → is_fault (in_journal answer) ≡ false → is_fault (on_disk size answer) ≡ false
+sound_on_disk size answer sound = elim (is_accepted answer && nat_lt file_limit size) as (λ b. is_fault (cond b variants.Full (in_journal answer)) ≡ false)
+    [ true ↦ refl | false ↦ sound ]
+
+sound_expected : (medium : Medium) (journal : List Receipt) (stamp : DayMinute) (sender reference : ℕ) (item : Item) → is_fault (received medium journal stamp sender reference item) ≡ false
+unfolding answer_on
+sound_expected InMemory journal stamp sender reference item = sound_by journal item (number_of sender reference journal)
+sound_expected OnDisk journal stamp sender reference item =
+    sound_on_disk (file_size the_heading (journal ++ next_receipt journal stamp sender reference item ∷ [])) (answer_to journal sender reference item) (sound_by journal item (number_of sender reference journal))
+
+accepts_at_fault : (expected : Received) (answer : Received) → Answers expected answer → is_fault expected ≡ false → is_fault answer ≡ true → is_received expected ≡ true
+accepts_at_fault expected answer (inl same) sound fault = let never : true ≡ false = sym fault ∙ ap is_fault same ∙ sound in absurd cc
+accepts_at_fault expected answer (inr (accepts, fails)) sound fault = accepts
+
+-- a receipt more makes another journal
+longer : (journal : List Receipt) (r : Receipt) (accepted : Bool) → accepted ≡ true → journal ≡ cond accepted (journal ++ r ∷ []) journal → ⊥
+longer journal r true is same =
+    let lengths : length journal ≡ length (journal ++ r ∷ []) = ap length same in
+    omega (arith, length-append journal (r ∷ []))
+longer journal r false is same = absurd cc
+
+not_received : (answer : Received) → is_fault answer ≡ true → is_received answer ≡ false
+not_received (variants.Accepted n) fault = absurd cc
+not_received (variants.Repeated n) fault = refl
+not_received (variants.Differs n) fault = refl
+not_received variants.Full fault = refl
+not_received variants.Disk fault = refl
+not_received variants.MustReopen fault = refl
+not_received variants.Memory fault = refl
 
 -- ---- the stamp of an item, and what the clock will give then
 
@@ -88,6 +138,10 @@ module _ {R : Type 0} (reads : R → List ℕ) (images : R → List ℕ → Type
       subst (λ (r : Replied). TakesItem reads images moment since old new (holding journal0 ticks) r answer holds known) (sym s.reply) (record {
         text = λ sound. ap (λ a. received_text a ++ 10 ∷ []) (answer_expected expected answer answers sound);
         holds = λ sound. is s.later s.clock ∙ ap (λ (j : List Receipt). Some (holding j s.later)) (receipts ∙ ap (journal_after journal0 stamp from.sender from.reference item) (answer_expected expected answer answers sound));
+        fault = λ fault same. longer journal0 (next_receipt journal0 stamp from.sender from.reference item) (is_received expected)
+            (accepts_at_fault expected answer answers (sound_expected medium journal0 stamp from.sender from.reference item) fault) same;
+        kept = λ fault. is s.later s.clock ∙ ap (λ (j : List Receipt). Some (holding j s.later))
+            (receipts ∙ ap (λ b. cond b (journal0 ++ next_receipt journal0 stamp from.sender from.reference item ∷ []) journal0) (not_received answer fault));
         ticks = s.clock;
         left = left;
         grows = grew;

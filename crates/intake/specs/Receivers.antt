@@ -26,10 +26,12 @@ pub record Shows (known : Option (List DayMinute)) (images since_now : List ℕ 
   pub stands : (file : List ℕ) → images file → StandsForJournal file held.journal
   pub stands_now : (file : List ℕ) → since_now file → StandsForJournal file held.journal
 
--- What receives got an item for which this is the reply: unless its answer is a fault it is that reply, and what is held then is what the reply leaves; however it answers, the clock is asked as the reply has it, and the journal on the disk grows by no other receipt.
+-- What receives got an item for which this is the reply: unless its answer is a fault it is that reply, and what is held then is what the reply leaves; a fault comes only where the reply would add a receipt, and behind it the journal that was held is held still; however it answers, the clock is asked as the reply has it, and the journal on the disk grows by no other receipt.
 pub record TakesItem {R : Type 0} (reads : R → List ℕ) (images : R → List ℕ → Type 0) (moment : R → ℕ) (since : R → ℕ → List ℕ → Type 0) (old new : R) (held : Held) (reply : Replied) (answer : Received) (holds1 : Option Held) (known1 : Option (List DayMinute)) : Type 0 where
   pub text : is_fault answer ≡ false → received_text answer ++ 10 ∷ [] ≡ reply.text
   pub holds : is_fault answer ≡ false → holds1 ≡ Some reply.held
+  pub fault : is_fault answer ≡ true → held.journal ≡ reply.held.journal → ⊥
+  pub kept : is_fault answer ≡ true → holds1 ≡ Some (holding held.journal reply.held.ticks)
   pub ticks : known1 ≡ Some reply.held.ticks
   pub left : (file : List ℕ) → images new file → GrownFrom held.journal reply.held.journal file
   pub grows : DiskGrows reads moment since old new held.journal reply.held.journal

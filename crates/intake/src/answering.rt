@@ -21,8 +21,8 @@ use intake_requests::{Request, SenderReference};
 use receipt_journal::Received;
 use std::alloc::Global;
 
-/// Answers a request. The clock is asked for an item without a stamp alone. Only an item that is
-/// received may want memory.
+/// Answers a request. The clock is asked for an item without a stamp alone. Only a request that an
+/// item be received may want memory, also for its reply line.
 pub(crate) fn answer_request<J: Receiver, K: Sink>(
     alloc: Global,
     receiver: &mut J,

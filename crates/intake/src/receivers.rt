@@ -64,8 +64,8 @@ pub trait Receiver {
     /// The faults of its disk.
     ghost faults: { Self → ℕ };
 
-    /// Receives an item, with its own stamp or else that of the clock. Of what accepts the item it may
-    /// want memory.
+    /// Receives an item, with its own stamp or else that of the clock. Want of memory comes only where
+    /// the item would be accepted, and leaves what is held.
     fn receive(
         &mut self,
         alloc: Global,
