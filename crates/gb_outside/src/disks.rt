@@ -1,3 +1,4 @@
+//! A disk as the office sees it: the calls that it has, and what each leaves.
 /// The disk failed.
 #[derive(Clone, Copy, Debug, PartialEq, Eq)]
 pub struct DiskFailed;

@@ -1,3 +1,4 @@
+//! Where bytes come from, and where they go.
 /// What a read answers.
 #[derive(Clone, Copy, Debug, PartialEq, Eq)]
 pub enum Got {

@@ -1,3 +1,4 @@
+-- Lemmas.
 pub mod AlwaysOne
 pub mod EmptyLines
 pub mod FewKept

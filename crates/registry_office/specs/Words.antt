@@ -1,6 +1,6 @@
 -- The words of the command line.
 -- Why so: docs/DECISIONS.md, "A number in an option may begin with zeros".
-use Rattle.std.specs.Prelude.{ℕ, ◌≤◌, ◌&&◌, if◌then◌else◌, List, [], ◌∷◌, codes, Option, Some, None}
+use Rattle.std.specs.Prelude.{ℕ, ◌≤◌, ◌&&◌, if◌then◌else◌, List, [], ◌∷◌, map, codes, Option, Some, None}
 use Rattle.std.specs.Str.{bytes_eq}
 use Rattle.opening_lists.specs.Numerals.{number_in}
 use Rattle.intake.specs.declared.intakes.Intake.TheVariants.{Lines, OpeningList}
@@ -38,3 +38,7 @@ abbrev pub HasDesks : Command → Type 0
 HasDesks (Settle desks) = (1 ≤ desks) × (desks ≤ 64)
 HasDesks (SettleLines desks) = (1 ≤ desks) × (desks ≤ 64)
 HasDesks (Receive intake) = Unit {0}
+
+-- the command of the words of a run, each of which is read as its bytes; none where they are none
+abbrev pub commanded : {W : Type 0} → (W → List ℕ) → List W → Option Command
+commanded bytes words = command_of (map bytes words)

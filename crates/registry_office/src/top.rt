@@ -2,7 +2,7 @@
 //! Why so: docs/DECISIONS.md, "That an acknowledged receipt stays is said by requests".
 //! Why so: docs/DECISIONS.md, "Want of memory comes behind the first sync".
 //! Why so: docs/DECISIONS.md, "That a reply goes out before the next read is said by two clauses".
-ghost use Rattle.std.specs.Prelude.{◌≡◌, ◌⊎◌, ◌↔◌, ◌≤◌, ◌+◌, ◌++◌, ℕ, [], Some, None, IfSome, IsTrue, List, map, length, take, true, false};
+ghost use Rattle.std.specs.Prelude.{◌≡◌, ◌⊎◌, ◌↔◌, ◌≤◌, ◌+◌, ◌++◌, ℕ, [], Some, None, IfSome, IsTrue, List, length, take, true, false};
 ghost use Rattle.std.specs.Rc.{rc_str_bytes};
 ghost use Rattle.std.specs.Io.KnownBytes.{Appends, IsAtEnd};
 ghost use Rattle.gb_outside.specs.Bytes.{AppendsFront};
@@ -14,7 +14,7 @@ ghost use Rattle.registry_office.specs.Disks.{FindsBy, IsJournalFile, KeepsGrown
 ghost use Rattle.intake.specs.EarlyEnds.{EndsEarly, AreOf};
 ghost use Rattle.intake.specs.Grown.{GrownFrom};
 ghost use Rattle.registry_office.specs.Outcomes.{outcome, requests_of, cut_requests_of, replies_of, uses_disk, uses_input, receives, Begins};
-ghost use Rattle.registry_office.specs.Words.{command_of};
+ghost use Rattle.registry_office.specs.Words.{commanded};
 ghost use Rattle.intake.specs.Requests.{OnDisk, replies, held_after};
 ghost use Rattle.intake.specs.Sessions.{most_input, Took};
 ghost use Rattle.registry_office.specs.Receivings.{HasWritten};
@@ -56,20 +56,20 @@ pub fn run<R: AllocGlobal, S: Source, K: Sink, D: Disk, C: Clock, L: Listener, G
     door: &mut L,
     gate: &G,
 ) -> Status
-    ensures usage { (result ≡ Status.Usage) ↔ (command_of (map rc_str_bytes words.now) ≡ None) }
+    ensures usage { (result ≡ Status.Usage) ↔ (commanded rc_str_bytes words.now ≡ None) }
 
     // All was read, and all was written.
-    ensures written { (begun : Begins (command_of (map rc_str_bytes words.now)) D.tells (D.reads disk.old) (S.left source.old) (C.ticks clock.old))
+    ensures written { (begun : Begins (commanded rc_str_bytes words.now) D.tells (D.reads disk.old) (S.left source.old) (C.ticks clock.old))
         → result ≡ Status.Ok
-        → Appends (K.written sink.old) (K.written sink.new) (outcome (command_of (map rc_str_bytes words.now)) begun.held begun.input).written }
-    ensures at_end { uses_input (command_of (map rc_str_bytes words.now)) ≡ true → result ≡ Status.Ok
+        → Appends (K.written sink.old) (K.written sink.new) (outcome (commanded rc_str_bytes words.now) begun.held begun.input).written }
+    ensures at_end { uses_input (commanded rc_str_bytes words.now) ≡ true → result ≡ Status.Ok
         → IfSome (S.left source.old) (λ _. S.left source.new ≡ Some []) }
-    ensures ticks { (begun : Begins (command_of (map rc_str_bytes words.now)) D.tells (D.reads disk.old) (S.left source.old) (C.ticks clock.old))
-        → receives (command_of (map rc_str_bytes words.now)) ≡ true → result ≡ Status.Ok
-        → C.ticks clock.new ≡ Some (outcome (command_of (map rc_str_bytes words.now)) begun.held begun.input).ticks }
-    ensures stands_at_end { (begun : Begins (command_of (map rc_str_bytes words.now)) D.tells (D.reads disk.old) (S.left source.old) (C.ticks clock.old)) (file : List ℕ)
-        → uses_disk (command_of (map rc_str_bytes words.now)) ≡ true → result ≡ Status.Ok → D.images disk.new file
-        → StandsForJournal file (outcome (command_of (map rc_str_bytes words.now)) begun.held begun.input).journal }
+    ensures ticks { (begun : Begins (commanded rc_str_bytes words.now) D.tells (D.reads disk.old) (S.left source.old) (C.ticks clock.old))
+        → receives (commanded rc_str_bytes words.now) ≡ true → result ≡ Status.Ok
+        → C.ticks clock.new ≡ Some (outcome (commanded rc_str_bytes words.now) begun.held begun.input).ticks }
+    ensures stands_at_end { (begun : Begins (commanded rc_str_bytes words.now) D.tells (D.reads disk.old) (S.left source.old) (C.ticks clock.old)) (file : List ℕ)
+        → uses_disk (commanded rc_str_bytes words.now) ≡ true → result ≡ Status.Ok → D.images disk.new file
+        → StandsForJournal file (outcome (commanded rc_str_bytes words.now) begun.held begun.input).journal }
 
     // No more than 64 MiB are taken, unless the status says so.
     ensures short { (result ≡ Status.InputTooLong → ⊥) → Took (S.left source.old) (S.left source.new) (λ read. length read ≤ most_input) }
@@ -78,30 +78,30 @@ pub fn run<R: AllocGlobal, S: Source, K: Sink, D: Disk, C: Clock, L: Listener, G
     // On every other status a front of it was written. While the source is not at its end, that is a
     // front of the replies to the lines that an LF ends in what was read, of which the first 64 MiB
     // count; all of these replies, and their receipts, where the source failed or gave too much.
-    ensures part { (begun : Begins (command_of (map rc_str_bytes words.now)) D.tells (D.reads disk.old) (S.left source.old) (C.ticks clock.old))
+    ensures part { (begun : Begins (commanded rc_str_bytes words.now) D.tells (D.reads disk.old) (S.left source.old) (C.ticks clock.old))
         → (result ≡ Status.Ok → ⊥)
-        → AppendsFront (K.written sink.old) (K.written sink.new) (outcome (command_of (map rc_str_bytes words.now)) begun.held begun.input).written }
-    ensures read_part { (begun : Begins (command_of (map rc_str_bytes words.now)) D.tells (D.reads disk.old) (S.left source.old) (C.ticks clock.old))
-        → uses_input (command_of (map rc_str_bytes words.now)) ≡ true → (result ≡ Status.Ok → ⊥) → (IsAtEnd (S.left source.new) → ⊥)
+        → AppendsFront (K.written sink.old) (K.written sink.new) (outcome (commanded rc_str_bytes words.now) begun.held begun.input).written }
+    ensures read_part { (begun : Begins (commanded rc_str_bytes words.now) D.tells (D.reads disk.old) (S.left source.old) (C.ticks clock.old))
+        → uses_input (commanded rc_str_bytes words.now) ≡ true → (result ≡ Status.Ok → ⊥) → (IsAtEnd (S.left source.new) → ⊥)
         → Took (S.left source.old) (S.left source.new) (λ read. AppendsFront (K.written sink.old) (K.written sink.new)
-        (replies_of (command_of (map rc_str_bytes words.now)) begun.held (cut_requests_of (command_of (map rc_str_bytes words.now)) (take most_input read)))) }
-    ensures cut { (begun : Begins (command_of (map rc_str_bytes words.now)) D.tells (D.reads disk.old) (S.left source.old) (C.ticks clock.old))
+        (replies_of (commanded rc_str_bytes words.now) begun.held (cut_requests_of (commanded rc_str_bytes words.now) (take most_input read)))) }
+    ensures cut { (begun : Begins (commanded rc_str_bytes words.now) D.tells (D.reads disk.old) (S.left source.old) (C.ticks clock.old))
         → (result ≡ Status.ReadFault) ⊎ (result ≡ Status.InputTooLong)
         → Took (S.left source.old) (S.left source.new) (λ read. Appends (K.written sink.old) (K.written sink.new)
-        (replies_of (command_of (map rc_str_bytes words.now)) begun.held (cut_requests_of (command_of (map rc_str_bytes words.now)) (take most_input read)))) }
-    ensures cut_journal { (begun : Begins (command_of (map rc_str_bytes words.now)) D.tells (D.reads disk.old) (S.left source.old) (C.ticks clock.old)) (file : List ℕ)
-        → receives (command_of (map rc_str_bytes words.now)) ≡ true → (result ≡ Status.ReadFault) ⊎ (result ≡ Status.InputTooLong) → D.images disk.new file
-        → Took (S.left source.old) (S.left source.new) (λ read. StandsForJournal file (held_after OnDisk begun.held (cut_requests_of (command_of (map rc_str_bytes words.now)) (take most_input read))).journal) }
-    ensures cut_ticks { (begun : Begins (command_of (map rc_str_bytes words.now)) D.tells (D.reads disk.old) (S.left source.old) (C.ticks clock.old))
-        → receives (command_of (map rc_str_bytes words.now)) ≡ true → (result ≡ Status.ReadFault) ⊎ (result ≡ Status.InputTooLong)
-        → Took (S.left source.old) (S.left source.new) (λ read. C.ticks clock.new ≡ Some (held_after OnDisk begun.held (cut_requests_of (command_of (map rc_str_bytes words.now)) (take most_input read))).ticks) }
+        (replies_of (commanded rc_str_bytes words.now) begun.held (cut_requests_of (commanded rc_str_bytes words.now) (take most_input read)))) }
+    ensures cut_journal { (begun : Begins (commanded rc_str_bytes words.now) D.tells (D.reads disk.old) (S.left source.old) (C.ticks clock.old)) (file : List ℕ)
+        → receives (commanded rc_str_bytes words.now) ≡ true → (result ≡ Status.ReadFault) ⊎ (result ≡ Status.InputTooLong) → D.images disk.new file
+        → Took (S.left source.old) (S.left source.new) (λ read. StandsForJournal file (held_after OnDisk begun.held (cut_requests_of (commanded rc_str_bytes words.now) (take most_input read))).journal) }
+    ensures cut_ticks { (begun : Begins (commanded rc_str_bytes words.now) D.tells (D.reads disk.old) (S.left source.old) (C.ticks clock.old))
+        → receives (commanded rc_str_bytes words.now) ≡ true → (result ≡ Status.ReadFault) ⊎ (result ≡ Status.InputTooLong)
+        → Took (S.left source.old) (S.left source.new) (λ read. C.ticks clock.new ≡ Some (held_after OnDisk begun.held (cut_requests_of (commanded rc_str_bytes words.now) (take most_input read))).ticks) }
 
     // Where a command that receives ends early, the first requests of what was read are replied to
     // whole; at most one more was begun, the clock was asked for no other, and no other receipt came
     // to the disk at any moment.
-    ensures early { (begun : Begins (command_of (map rc_str_bytes words.now)) D.tells (D.reads disk.old) (S.left source.old) (C.ticks clock.old))
-        → receives (command_of (map rc_str_bytes words.now)) ≡ true → (result ≡ Status.Ok → ⊥)
-        → Took (S.left source.old) (S.left source.new) (λ read. (requests : List Request) × AreOf (requests_of (command_of (map rc_str_bytes words.now))) (cut_requests_of (command_of (map rc_str_bytes words.now))) (S.left source.new) read requests
+    ensures early { (begun : Begins (commanded rc_str_bytes words.now) D.tells (D.reads disk.old) (S.left source.old) (C.ticks clock.old))
+        → receives (commanded rc_str_bytes words.now) ≡ true → (result ≡ Status.Ok → ⊥)
+        → Took (S.left source.old) (S.left source.new) (λ read. (requests : List Request) × AreOf (requests_of (commanded rc_str_bytes words.now)) (cut_requests_of (commanded rc_str_bytes words.now)) (S.left source.new) read requests
         × EndsEarly OnDisk begun.held (C.ticks clock.new) (K.written sink.old) (K.written sink.new) (LeftAnew (disk_fault result) (D.images disk.old) (D.images disk.new)) requests
         × KeepsGrown D.reads D.images D.moment D.since disk.old disk.new (disk_fault result) begun.held.journal (held_after OnDisk begun.held requests).journal
         × WritesBehind (tells_of_opening result) begun.held.journal (held_after OnDisk begun.held requests).journal (D.reads disk.old) (D.reads disk.new)) }
@@ -109,36 +109,36 @@ pub fn run<R: AllocGlobal, S: Source, K: Sink, D: Disk, C: Clock, L: Listener, G
     // A stop at any moment after the first sync leaves the journal that was found, followed by the first
     // of the receipts that this call receives, and their frames alone are written; each reply that stands
     // whole has its receipts in every image.
-    ensures any_moment { (begun : Begins (command_of (map rc_str_bytes words.now)) D.tells (D.reads disk.old) (S.left source.old) (C.ticks clock.old))
-        → uses_disk (command_of (map rc_str_bytes words.now)) ≡ true
-        → KeepsGrown D.reads D.images D.moment D.since disk.old disk.new (disk_fault result) begun.held.journal (outcome (command_of (map rc_str_bytes words.now)) begun.held begun.input).journal }
-    ensures frames { (begun : Begins (command_of (map rc_str_bytes words.now)) D.tells (D.reads disk.old) (S.left source.old) (C.ticks clock.old))
-        → receives (command_of (map rc_str_bytes words.now)) ≡ true
-        → WritesBehind (tells_of_opening result) begun.held.journal (outcome (command_of (map rc_str_bytes words.now)) begun.held begun.input).journal (D.reads disk.old) (D.reads disk.new) }
-    ensures acknowledged { (begun : Begins (command_of (map rc_str_bytes words.now)) D.tells (D.reads disk.old) (S.left source.old) (C.ticks clock.old)) (front back : List Request) (file : List ℕ)
-        → receives (command_of (map rc_str_bytes words.now)) ≡ true → requests_of (command_of (map rc_str_bytes words.now)) begun.input ≡ front ++ back
+    ensures any_moment { (begun : Begins (commanded rc_str_bytes words.now) D.tells (D.reads disk.old) (S.left source.old) (C.ticks clock.old))
+        → uses_disk (commanded rc_str_bytes words.now) ≡ true
+        → KeepsGrown D.reads D.images D.moment D.since disk.old disk.new (disk_fault result) begun.held.journal (outcome (commanded rc_str_bytes words.now) begun.held begun.input).journal }
+    ensures frames { (begun : Begins (commanded rc_str_bytes words.now) D.tells (D.reads disk.old) (S.left source.old) (C.ticks clock.old))
+        → receives (commanded rc_str_bytes words.now) ≡ true
+        → WritesBehind (tells_of_opening result) begun.held.journal (outcome (commanded rc_str_bytes words.now) begun.held begun.input).journal (D.reads disk.old) (D.reads disk.new) }
+    ensures acknowledged { (begun : Begins (commanded rc_str_bytes words.now) D.tells (D.reads disk.old) (S.left source.old) (C.ticks clock.old)) (front back : List Request) (file : List ℕ)
+        → receives (commanded rc_str_bytes words.now) ≡ true → requests_of (commanded rc_str_bytes words.now) begun.input ≡ front ++ back
         → (replies OnDisk begun.held front ≡ [] → ⊥) → HasWritten (K.written sink.old) (K.written sink.new) (replies OnDisk begun.held front)
         → D.images disk.new file
-        → GrownFrom (held_after OnDisk begun.held front).journal (outcome (command_of (map rc_str_bytes words.now)) begun.held begun.input).journal file }
+        → GrownFrom (held_after OnDisk begun.held front).journal (outcome (commanded rc_str_bytes words.now) begun.held begun.input).journal file }
 
     // A status tells what the disk's file stood for, and an unmade one is made. Where the command
     // receives nothing, no other byte changes; where the file stood for no journal, nothing else is touched.
-    ensures found { IsTrue D.tells → uses_disk (command_of (map rc_str_bytes words.now)) ≡ true → FindsBy (D.reads disk.old) result }
-    ensures made { IsTrue D.tells → uses_disk (command_of (map rc_str_bytes words.now)) ≡ true → tells_of_opening result ≡ true → IsMade the_heading (D.reads disk.new) }
-    ensures made_so { IsTrue D.tells → uses_disk (command_of (map rc_str_bytes words.now)) ≡ true → receives (command_of (map rc_str_bytes words.now)) ≡ false → tells_of_opening result ≡ true → IsUnmade (D.reads disk.old)
+    ensures found { IsTrue D.tells → uses_disk (commanded rc_str_bytes words.now) ≡ true → FindsBy (D.reads disk.old) result }
+    ensures made { IsTrue D.tells → uses_disk (commanded rc_str_bytes words.now) ≡ true → tells_of_opening result ≡ true → IsMade the_heading (D.reads disk.new) }
+    ensures made_so { IsTrue D.tells → uses_disk (commanded rc_str_bytes words.now) ≡ true → receives (commanded rc_str_bytes words.now) ≡ false → tells_of_opening result ≡ true → IsUnmade (D.reads disk.old)
         → D.reads disk.new ≡ made_from the_heading (D.reads disk.old) }
-    ensures kept { IsTrue D.tells → uses_disk (command_of (map rc_str_bytes words.now)) ≡ true → (receives (command_of (map rc_str_bytes words.now)) ≡ false) ⊎ (IsJournalFile (D.reads disk.old) → ⊥) → IsKept (D.reads disk.old) (D.reads disk.new) }
-    ensures kept_any_moment { IsTrue D.tells → uses_disk (command_of (map rc_str_bytes words.now)) ≡ true → (receives (command_of (map rc_str_bytes words.now)) ≡ false) ⊎ (IsJournalFile (D.reads disk.old) → ⊥)
+    ensures kept { IsTrue D.tells → uses_disk (commanded rc_str_bytes words.now) ≡ true → (receives (commanded rc_str_bytes words.now) ≡ false) ⊎ (IsJournalFile (D.reads disk.old) → ⊥) → IsKept (D.reads disk.old) (D.reads disk.new) }
+    ensures kept_any_moment { IsTrue D.tells → uses_disk (commanded rc_str_bytes words.now) ≡ true → (receives (commanded rc_str_bytes words.now) ≡ false) ⊎ (IsJournalFile (D.reads disk.old) → ⊥)
         → AnswersSynced D.reads D.images D.moment D.since disk.old disk.new (disk_fault result) }
-    ensures unopened { IsTrue D.tells → uses_disk (command_of (map rc_str_bytes words.now)) ≡ true → (IsJournalFile (D.reads disk.old) → ⊥)
+    ensures unopened { IsTrue D.tells → uses_disk (commanded rc_str_bytes words.now) ≡ true → (IsJournalFile (D.reads disk.old) → ⊥)
         → (source.new ≡ source.old) × (sink.new ≡ sink.old) × (clock.new ≡ clock.old) }
     ensures unopened_by { is_no_journal result ≡ true → (source.new ≡ source.old) × (sink.new ≡ sink.old) × (clock.new ≡ clock.old) }
 
     // What the command does not use stays as it is.
-    ensures same_source { uses_input (command_of (map rc_str_bytes words.now)) ≡ false → source.new ≡ source.old }
-    ensures same_sink { command_of (map rc_str_bytes words.now) ≡ None → sink.new ≡ sink.old }
-    ensures same_disk { uses_disk (command_of (map rc_str_bytes words.now)) ≡ false → disk.new ≡ disk.old }
-    ensures same_clock { receives (command_of (map rc_str_bytes words.now)) ≡ false → clock.new ≡ clock.old }
+    ensures same_source { uses_input (commanded rc_str_bytes words.now) ≡ false → source.new ≡ source.old }
+    ensures same_sink { commanded rc_str_bytes words.now ≡ None → sink.new ≡ sink.old }
+    ensures same_disk { uses_disk (commanded rc_str_bytes words.now) ≡ false → disk.new ≡ disk.old }
+    ensures same_clock { receives (commanded rc_str_bytes words.now) ≡ false → clock.new ≡ clock.old }
     ensures same_door { door.new ≡ door.old }
 
     // Each fault has its cause, and a count rises with no other answer.
@@ -148,9 +148,9 @@ pub fn run<R: AllocGlobal, S: Source, K: Sink, D: Disk, C: Clock, L: Listener, G
     ensures door { Counts (L.faults door.old) (L.faults door.new) (door_fault result) }
 
     // A status of an object that the command does not use never comes.
-    ensures no_disk { uses_disk (command_of (map rc_str_bytes words.now)) ≡ false
+    ensures no_disk { uses_disk (commanded rc_str_bytes words.now) ≡ false
         → (disk_fault result ≡ false) × (is_no_journal result ≡ false) }
-    ensures no_input { uses_input (command_of (map rc_str_bytes words.now)) ≡ false
+    ensures no_input { uses_input (commanded rc_str_bytes words.now) ≡ false
         → (read_fault result ≡ false) × (result ≡ Status.InputTooLong → ⊥) }
     ensures no_door { door_fault result ≡ false }
 {

@@ -1,8 +1,8 @@
 //! The words of the command line.
-ghost use Rattle.std.specs.Prelude.{◌≡◌, ◌≤◌, map, IfSome};
+ghost use Rattle.std.specs.Prelude.{◌≡◌, ◌≤◌, IfSome};
 ghost use Rattle.std.specs.Rc.{rc_str_bytes};
 ghost use Rattle.opening_lists.specs.Numerals.{number_in};
-ghost use Rattle.registry_office.specs.Words.{HasDesks, command_of, opening_by, settle_by, settle_lines_by};
+ghost use Rattle.registry_office.specs.Words.{HasDesks, commanded, opening_by, settle_by, settle_lines_by};
 
 use intake::Intake;
 use opening_lists::number_in;
@@ -22,7 +22,7 @@ pub enum Command {
 
 /// The command of these words; None where they are none.
 pub fn read_words(words: &[RcStr]) -> Option<Command>
-    ensures command { result ≡ command_of (map rc_str_bytes words.now) }
+    ensures command { result ≡ commanded rc_str_bytes words.now }
     ensures desks { IfSome result HasDesks }
 {
     match words {
