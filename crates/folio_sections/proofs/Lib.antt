@@ -1,13 +1,21 @@
 -- Lemmas.
 pub mod Additions
+pub mod Cases
 pub mod DistinctLists
 pub mod FilteredLists
 pub mod HeldParts
 pub mod HeldRights
 pub mod Indexes
 pub mod ListLemmas
+pub mod Listed
+pub mod Naming
+pub mod Notices
 pub mod Progress
 pub mod ReceiptNumbers
 pub mod ReceiptsBefore
+pub mod Rights
+pub mod Titles
 pub mod Unchanged
 pub mod Unnoticed
+pub mod UnnoticedWaiters
+pub mod WaitersInOrder

@@ -27,6 +27,15 @@ is_running entries = list_any (λ e. is_seizure e.what) (case entries)
 abbrev pub seizures : List Entry → ℕ
 seizures entries = count_by (λ e. is_seizure e.what) (case entries)
 
+-- a content registers a claim (ZVG § 37)
+abbrev pub is_registration : What → Bool
+is_registration what.Registered = true
+is_registration other = false
+
+-- how many registrations the case has (ZVG § 37)
+abbrev pub registrations : List Entry → ℕ
+registrations entries = count_by (λ e. is_registration e.what) (case entries)
+
 -- the receipt of the award behind an entry: its own where it is one, else the one before
 abbrev pub award_by : ℕ → Option ℕ → What → Option ℕ
 award_by receipt before (what.Awarded buyer bid) = Some receipt

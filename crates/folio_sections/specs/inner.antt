@@ -1,5 +1,9 @@
 -- What private clauses and proofs alone use.
 pub mod Kinds
+pub mod Listed
+pub mod Naming
 pub mod PartIndex
 pub mod RightsInKeys
+pub mod States
 pub mod Unnoticed
+pub mod Waiters

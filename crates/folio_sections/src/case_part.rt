@@ -1,11 +1,12 @@
 //! The part of a register at the forced sale of a folio.
 //! Why so: docs/DECISIONS.md, "A part counts its seizures up to the greatest `u32`".
 //! Why so: docs/DECISIONS.md, "The part of a forced sale answers like the others".
-ghost use Rattle.std.specs.Prelude.{◌≡◌, ◌+◌, ◌≤◌, [], ◌∷◌, ◌++◌, All, IsOk, OnOk, OnErr, min};
-ghost use Rattle.folio_sections.specs.Cases.{is_distribution, case, is_seizure, award_by, call_by};
+ghost use Rattle.std.specs.Prelude.{◌≡◌, ◌+◌, ◌≤◌, ◌<◌, None, List, [], ◌∷◌, ◌++◌, All, IsOk, OnOk, OnErr, length, min};
+ghost use Rattle.folio_sections.specs.declared.entries.Entry.{Entry};
+ghost use Rattle.folio_sections.specs.inner.States.{running_behind};
 
 use crate::entry_list::EntryList;
-use crate::{Entry, What, waiting};
+use crate::{Entry, What};
 use gb_base::{Day, Key, NoMemory, ReceiptNo};
 use std::alloc::Global;
 use std::marker::Model;
@@ -14,19 +15,35 @@ use std::marker::Model;
 #[derive(Drop)]
 pub struct CasePart {
     list: EntryList,
+    running: Running,
+}
+
+/// The case: what stands behind the last distribution.
+#[derive(Clone, Copy)]
+struct Running {
+    /// How many entries stand ahead of the case.
+    begin: usize,
+    seizures: u32,
+    registrations: u32,
+    award: Option<ReceiptNo>,
+    called: Option<ReceiptNo>,
 }
 
 impl Model for CasePart {
     ghost use Rattle.folio_sections.specs.PartState.{PartState};
+    ghost use Rattle.folio_sections.specs.inner.Listed.{part_of};
+    ghost use Rattle.folio_sections.specs.inner.States.{IsRunning};
 
     ghost Value = { PartState };
 
-    ghost view = { λ a. a.list };
+    ghost view = { λ a. part_of a.list };
+
+    ghost invariant = { λ a. IsRunning a.running a.list.entries };
 }
 
 impl CasePart {
     ghost use Rattle.std.specs.List.{find};
-    ghost use Rattle.folio_sections.specs.Cases.{is_running, seizures, award, call};
+    ghost use Rattle.folio_sections.specs.Cases.{is_running, seizures, registrations, award, call, case};
     ghost use Rattle.folio_sections.specs.Waiting.{waiting_unnoticed, pending, is_above};
 
     /// The empty part at a key.
@@ -36,6 +53,7 @@ impl CasePart {
     {
         CasePart {
             list: EntryList::new(alloc, key),
+            running: case_from(0),
         }
     }
 
@@ -60,7 +78,19 @@ impl CasePart {
         ensures entries { self.new.entries ≡ self.old.entries ++ entry ∷ [] }
         ensures room { self.new.room + 1 ≡ self.old.room }
     {
-        self.list.append(entry);
+        let ahead = self.list.entries().len();
+        self.running = running_behind(ahead, self.running, &entry);
+        self.list.append(entry, false);
+    }
+
+    /// Takes the entries away, and keeps their room. It takes no memory.
+    pub fn clear(&mut self)
+        ensures key { self.new.key ≡ self.old.key }
+        ensures entries { self.new.entries ≡ [] }
+        ensures room { self.new.room ≡ self.old.room + length self.old.entries }
+    {
+        self.list.clear();
+        self.running = case_from(0);
     }
 
     /// The entries, in order.
@@ -78,50 +108,54 @@ impl CasePart {
         self.list.key()
     }
 
+    /// The entries of the case: those behind the last distribution (ZVG § 105).
+    pub fn case(&self) -> &[Entry]
+        ensures { result.now ≡ case self.now.entries }
+    {
+        &self.list.entries()[self.running.begin..]
+    }
+
     /// Whether a case runs: the land is seized (ZVG § 20), and the proceeds are not distributed
     /// yet.
     pub fn running(&self) -> bool
         ensures { result ≡ is_running self.now.entries }
     {
-        case_in(self.entries())
-            .iter()
-            .any(|entry| is_seizure(&entry.what))
+        self.running.seizures > 0
     }
 
     /// How many seizures the case has (ZVG §§ 20, 27), counted up to 4,294,967,295.
     pub fn seizures(&self) -> u32
         ensures { result ≡ min (seizures self.now.entries) 4294967295 }
     {
-        let count = case_in(self.entries())
-            .iter()
-            .filter(|entry| is_seizure(&entry.what))
-            .count();
-        count.min(u32::MAX as usize) as u32
+        self.running.seizures
+    }
+
+    /// How many registrations the case has (ZVG § 37), counted up to 4,294,967,295.
+    pub fn registrations(&self) -> u32
+        ensures { result ≡ min (registrations self.now.entries) 4294967295 }
+    {
+        self.running.registrations
     }
 
     /// The receipt of the case's last award (ZVG § 81); None where it has none.
     pub fn award(&self) -> Option<ReceiptNo>
         ensures { result ≡ award self.now.entries }
     {
-        case_in(self.entries())
-            .iter()
-            .fold(None, |before, entry| award_by(before, entry))
+        self.running.award
     }
 
     /// The receipt of the case's last call to bid (ZVG § 66); None where it has none.
     pub fn called(&self) -> Option<ReceiptNo>
         ensures { result ≡ call self.now.entries }
     {
-        case_in(self.entries())
-            .iter()
-            .fold(None, |before, entry| call_by(before, entry))
+        self.running.called
     }
 
     /// The day until which a filing waits for cures (GBO § 18); None where it does not wait.
     pub fn pending(&self, filing: ReceiptNo) -> Option<Day>
         ensures { result ≡ pending filing self.now.entries }
     {
-        waiting::pending(filing, self.entries())
+        self.list.pending(filing)
     }
 
     /// The first filing above `after`, and below `filing`, that waits here without an official
@@ -129,57 +163,46 @@ impl CasePart {
     pub fn next_unnoticed(&self, after: Option<ReceiptNo>, filing: ReceiptNo) -> Option<ReceiptNo>
         ensures { result ≡ find (is_above after) (waiting_unnoticed filing self.now.entries) }
     {
-        waiting::next_unnoticed(after, filing, self.entries())
+        self.list.next_unnoticed(after, filing)
     }
 }
 
-/// The case: the entries behind the last distribution.
-fn case_in(entries: &[Entry]) -> &[Entry]
-    ensures { result.now ≡ case entries.now }
+/// A case that begins behind so many entries, and has none.
+fn case_from(begin: usize) -> Running
+    ensures { result ≡ record { begin = begin; seizures = 0; registrations = 0; award = None; called = None } }
 {
-    let mut start = entries.len();
-    while start > 0 && !is_distribution(&entries[start - 1].what) {
-        start -= 1;
-    }
-    &entries[start..]
-}
-
-/// Whether a content distributes the proceeds.
-fn is_distribution(what: &What) -> bool
-    ensures { result ≡ is_distribution what.now }
-{
-    match what {
-        What::Distributed => true,
-        _ => false,
+    Running {
+        begin,
+        seizures: 0,
+        registrations: 0,
+        award: None,
+        called: None,
     }
 }
 
-/// Whether a content seizes the land.
-fn is_seizure(what: &What) -> bool
-    ensures { result ≡ is_seizure what.now }
-{
-    match what {
-        What::Seized => true,
-        _ => false,
-    }
-}
-
-/// The receipt of the award behind an entry: its own where it is one, else the one before.
-fn award_by(before: Option<ReceiptNo>, entry: &Entry) -> Option<ReceiptNo>
-    ensures { result ≡ award_by entry.now.receipt before entry.now.what }
+/// The case behind a further entry, which so many stand ahead of.
+fn running_behind(ahead: usize, before: Running, entry: &Entry) -> Running
+    requires { ahead < 18446744073709551615 }
+    ensures { result ≡ running_behind ahead before entry.now.receipt entry.now.what }
 {
     match &entry.what {
-        What::Awarded { .. } => Some(entry.receipt),
-        _ => before,
-    }
-}
-
-/// The receipt of the call to bid behind an entry: its own where it is one, else the one before.
-fn call_by(before: Option<ReceiptNo>, entry: &Entry) -> Option<ReceiptNo>
-    ensures { result ≡ call_by entry.now.receipt before entry.now.what }
-{
-    match &entry.what {
-        What::Bids { .. } => Some(entry.receipt),
+        What::Distributed => case_from(ahead + 1),
+        What::Seized => Running {
+            seizures: before.seizures.saturating_add(1),
+            ..before
+        },
+        What::Registered => Running {
+            registrations: before.registrations.saturating_add(1),
+            ..before
+        },
+        What::Awarded { .. } => Running {
+            award: Some(entry.receipt),
+            ..before
+        },
+        What::Bids { .. } => Running {
+            called: Some(entry.receipt),
+            ..before
+        },
         _ => before,
     }
 }

@@ -23,7 +23,7 @@ mod title_part;
 mod title_places;
 #[cfg(test)]
 mod title_tests;
-mod waiting;
+mod waiters;
 
 pub use adding::{add, day_of, entry_by};
 pub use case_part::CasePart;

@@ -1,10 +1,10 @@
 //! The part of a register at a right.
-ghost use Rattle.std.specs.Prelude.{◌≡◌, ◌+◌, ◌≤◌, [], ◌∷◌, ◌++◌, All, IsOk, OnOk, OnErr, fold, None};
-ghost use Rattle.std.specs.List.{list_any};
-ghost use Rattle.folio_sections.specs.Rights.{created_by, created, live_by, is_conversion, new_holder_by, holder, remaining_by, is_exercise};
+ghost use Rattle.std.specs.Prelude.{◌≡◌, ◌+◌, ◌≤◌, [], ◌∷◌, ◌++◌, All, IsOk, OnOk, OnErr, length, take};
+ghost use Rattle.folio_sections.specs.Rights.{created_by, live_by, is_conversion, new_holder_by, holder, remaining_by, is_exercise};
+ghost use Rattle.folio_sections.specs.inner.States.{holder_named, names_holder, state_by};
 
 use crate::entry_list::EntryList;
-use crate::{Created, Entry, RightForm, What, waiting};
+use crate::{Created, Entry, RightForm, What};
 use gb_base::{Cents, Day, Key, NoMemory, Person, ReceiptNo};
 use std::alloc::Global;
 use std::marker::Model;
@@ -13,14 +13,33 @@ use std::marker::Model;
 #[derive(Drop)]
 pub struct RightPart {
     list: EntryList,
+    state: RightState,
+}
+
+/// The right as its entries leave it.
+#[derive(Clone, Copy)]
+struct RightState {
+    live: bool,
+    created: Option<Created>,
+    /// Whether the right of a priority notice is entered (BGB § 883(3)).
+    converted: bool,
+    /// The last new holder.
+    new_holder: Option<Person>,
+    /// The capital that the last award left.
+    remaining: Option<Cents>,
+    spent: bool,
 }
 
 impl Model for RightPart {
     ghost use Rattle.folio_sections.specs.PartState.{PartState};
+    ghost use Rattle.folio_sections.specs.inner.Listed.{part_of};
+    ghost use Rattle.folio_sections.specs.inner.States.{IsRight};
 
     ghost Value = { PartState };
 
-    ghost view = { λ a. a.list };
+    ghost view = { λ a. part_of a.list };
+
+    ghost invariant = { λ a. IsRight a.state a.list.entries a.list.naming };
 }
 
 impl RightPart {
@@ -35,6 +54,7 @@ impl RightPart {
     {
         RightPart {
             list: EntryList::new(alloc, key),
+            state: NEVER_CREATED,
         }
     }
 
@@ -59,7 +79,19 @@ impl RightPart {
         ensures entries { self.new.entries ≡ self.old.entries ++ entry ∷ [] }
         ensures room { self.new.room + 1 ≡ self.old.room }
     {
-        self.list.append(entry);
+        let names = names_holder(self.state.new_holder, &entry.what);
+        self.state = state_by(self.state, &entry.what);
+        self.list.append(entry, names);
+    }
+
+    /// Takes the entries away, and keeps their room. It takes no memory.
+    pub fn clear(&mut self)
+        ensures key { self.new.key ≡ self.old.key }
+        ensures entries { self.new.entries ≡ [] }
+        ensures room { self.new.room ≡ self.old.room + length self.old.entries }
+    {
+        self.list.clear();
+        self.state = NEVER_CREATED;
     }
 
     /// The entries, in order.
@@ -82,24 +114,22 @@ impl RightPart {
     pub fn live(&self) -> bool
         ensures { result ≡ is_live self.now.entries }
     {
-        self.entries()
-            .iter()
-            .fold(false, |before, entry| live_by(before, &entry.what))
+        self.state.live
     }
 
     /// The right as it was created (BGB § 873); None where it never was.
     pub fn created(&self) -> Option<Created>
         ensures { result ≡ created self.now.entries }
     {
-        created_in(self.entries())
+        self.state.created
     }
 
     /// Whether the right itself is entered, and not only a priority notice for it (BGB § 883).
     pub fn full(&self) -> bool
         ensures { result ≡ is_full self.now.entries }
     {
-        match self.created() {
-            Some(made) => is_converted(self.entries()) || made.form == RightForm::Full,
+        match self.state.created {
+            Some(made) => self.state.converted || made.form == RightForm::Full,
             None => false,
         }
     }
@@ -109,7 +139,13 @@ impl RightPart {
     pub fn holder(&self) -> Option<Person>
         ensures { result ≡ holder self.now.entries }
     {
-        holder_in(self.entries())
+        match self.state.new_holder {
+            Some(person) => Some(person),
+            None => match &self.state.created {
+                Some(made) => Some(made.spec.holder),
+                None => None,
+            },
+        }
     }
 
     /// The holder whom a filing concerns: the one of the moment of its official notice, where it
@@ -117,11 +153,20 @@ impl RightPart {
     pub fn holder_for(&self, filing: ReceiptNo) -> Option<Person>
         ensures { result ≡ holder_for filing self.now.entries }
     {
-        let entries = self.entries();
-        if waiting::notice(filing, entries).is_some() {
-            holder_in(waiting::before_notice(filing, entries))
-        } else {
-            holder_in(entries)
+        match self.list.ahead_of_notice(filing) {
+            Some(ahead) => self.holder_ahead(ahead),
+            None => self.holder(),
+        }
+    }
+
+    /// The holder behind the first so many entries.
+    fn holder_ahead(&self, ahead: usize) -> Option<Person>
+        requires { ahead ≤ length self.now.entries }
+        ensures { result ≡ holder (take ahead self.now.entries) }
+    {
+        match self.list.last_naming(ahead) {
+            Some(entry) => holder_named(&entry.what),
+            None => None,
         }
     }
 
@@ -130,9 +175,12 @@ impl RightPart {
     pub fn capital(&self) -> Option<Cents>
         ensures { result ≡ capital self.now.entries }
     {
-        match remaining_in(self.entries()) {
+        match self.state.remaining {
             Some(capital) => Some(capital),
-            None => self.created().map(|made| made.spec.capital),
+            None => match &self.state.created {
+                Some(made) => Some(made.spec.capital),
+                None => None,
+            },
         }
     }
 
@@ -140,21 +188,21 @@ impl RightPart {
     pub fn spent(&self) -> bool
         ensures { result ≡ is_spent self.now.entries }
     {
-        self.entries().iter().any(|entry| is_exercise(&entry.what))
+        self.state.spent
     }
 
     /// The day until which a filing waits for cures (GBO § 18); None where it does not wait.
     pub fn pending(&self, filing: ReceiptNo) -> Option<Day>
         ensures { result ≡ pending filing self.now.entries }
     {
-        waiting::pending(filing, self.entries())
+        self.list.pending(filing)
     }
 
     /// The day of the official notice of a filing (GBO § 18(2)); None where none stands.
     pub fn notice(&self, filing: ReceiptNo) -> Option<Day>
         ensures { result ≡ notice filing self.now.entries }
     {
-        waiting::notice(filing, self.entries())
+        self.list.notice(filing)
     }
 
     /// The first filing above `after`, and below `filing`, that waits here without an official
@@ -162,7 +210,31 @@ impl RightPart {
     pub fn next_unnoticed(&self, after: Option<ReceiptNo>, filing: ReceiptNo) -> Option<ReceiptNo>
         ensures { result ≡ find (is_above after) (waiting_unnoticed filing self.now.entries) }
     {
-        waiting::next_unnoticed(after, filing, self.entries())
+        self.list.next_unnoticed(after, filing)
+    }
+}
+
+/// The right of no entries.
+const NEVER_CREATED: RightState = RightState {
+    live: false,
+    created: None,
+    converted: false,
+    new_holder: None,
+    remaining: None,
+    spent: false,
+};
+
+/// The right behind a content.
+fn state_by(before: RightState, what: &What) -> RightState
+    ensures { result ≡ state_by before what.now }
+{
+    RightState {
+        live: live_by(before.live, what),
+        created: created_by(before.created, what),
+        converted: before.converted || is_conversion(what),
+        new_holder: new_holder_by(before.new_holder, what),
+        remaining: remaining_by(before.remaining, what),
+        spent: before.spent || is_exercise(what),
     }
 }
 
@@ -188,22 +260,6 @@ fn created_by(before: Option<Created>, what: &What) -> Option<Created>
     }
 }
 
-/// The right as these entries create it.
-fn created_in(entries: &[Entry]) -> Option<Created>
-    ensures { result ≡ created entries.now }
-{
-    entries
-        .iter()
-        .fold(None, |before, entry| created_by(before, &entry.what))
-}
-
-/// Whether the right of a priority notice is entered (BGB § 883(3)).
-fn is_converted(entries: &[Entry]) -> bool
-    ensures { result ≡ list_any (λ e. is_conversion e.what) entries.now }
-{
-    entries.iter().any(|entry| is_conversion(&entry.what))
-}
-
 /// Whether a content enters the right of a priority notice.
 fn is_conversion(what: &What) -> bool
     ensures { result ≡ is_conversion what.now }
@@ -212,25 +268,6 @@ fn is_conversion(what: &What) -> bool
         What::Converted => true,
         _ => false,
     }
-}
-
-/// The holder behind these entries: the last new one, else that of the creation.
-fn holder_in(entries: &[Entry]) -> Option<Person>
-    ensures { result ≡ holder entries.now }
-{
-    match new_holder_in(entries) {
-        Some(person) => Some(person),
-        None => created_in(entries).map(|made| made.spec.holder),
-    }
-}
-
-/// The last new holder.
-fn new_holder_in(entries: &[Entry]) -> Option<Person>
-    ensures { result ≡ fold (λ before e. new_holder_by before e.what) None entries.now }
-{
-    entries
-        .iter()
-        .fold(None, |before, entry| new_holder_by(before, &entry.what))
 }
 
 /// The holder behind a content that names a new one, else the one before.
@@ -243,13 +280,27 @@ fn new_holder_by(before: Option<Person>, what: &What) -> Option<Person>
     }
 }
 
-/// The capital that the last award left.
-fn remaining_in(entries: &[Entry]) -> Option<Cents>
-    ensures { result ≡ fold (λ before e. remaining_by before e.what) None entries.now }
+/// Whether a content names the holder behind it, where this is the last new one: a creation does
+/// where there is no new one yet.
+fn names_holder(before: Option<Person>, what: &What) -> bool
+    ensures { result ≡ names_holder before what.now }
 {
-    entries
-        .iter()
-        .fold(None, |before, entry| remaining_by(before, &entry.what))
+    match what {
+        What::Created(_) => before.is_none(),
+        What::Holder { .. } => true,
+        _ => false,
+    }
+}
+
+/// The holder whom a content names.
+fn holder_named(what: &What) -> Option<Person>
+    ensures { result ≡ holder_named what.now }
+{
+    match what {
+        What::Created(made) => Some(made.spec.holder),
+        What::Holder { person } => Some(*person),
+        _ => None,
+    }
 }
 
 /// The capital behind a content that leaves a new one, else the one before.

@@ -1,10 +1,11 @@
 //! The part of a register at the title of a folio.
-ghost use Rattle.std.specs.Prelude.{◌≡◌, ◌+◌, ◌≤◌, [], ◌∷◌, ◌++◌, All, IsOk, OnOk, OnErr};
+ghost use Rattle.std.specs.Prelude.{◌≡◌, ◌||◌, ◌+◌, ◌≤◌, ◌<◌, take, drop, [], ◌∷◌, ◌++◌, All, IsOk, OnOk, OnErr, None, is_some, length, option_and_then, option_copied};
 ghost use Rattle.std.specs.List.{list_any};
-ghost use Rattle.folio_sections.specs.Titles.{is_opening, inventory_by, owners_by, owners, is_award_owner};
+ghost use Rattle.folio_sections.specs.Titles.{is_opening, inventory_by, owners_by, is_award_owner};
+ghost use Rattle.folio_sections.specs.inner.States.{award_by};
 
 use crate::entry_list::EntryList;
-use crate::{Entry, What, waiting};
+use crate::{Entry, What};
 use act_model::{Inventory, Owners};
 use arrayvec::ArrayVec;
 use gb_base::{Day, Key, NoMemory, Person, ReceiptNo};
@@ -15,14 +16,22 @@ use std::marker::Model;
 #[derive(Drop)]
 pub struct TitlePart {
     list: EntryList,
+    opened: bool,
+    inventory: Option<Inventory>,
+    /// How many entries stand ahead of the last award's owner.
+    award: Option<usize>,
 }
 
 impl Model for TitlePart {
     ghost use Rattle.folio_sections.specs.PartState.{PartState};
+    ghost use Rattle.folio_sections.specs.inner.Listed.{part_of};
+    ghost use Rattle.folio_sections.specs.inner.States.{IsTitle};
 
     ghost Value = { PartState };
 
-    ghost view = { λ a. a.list };
+    ghost view = { λ a. part_of a.list };
+
+    ghost invariant = { λ a. IsTitle a.list a.opened a.inventory a.award };
 }
 
 impl TitlePart {
@@ -37,6 +46,9 @@ impl TitlePart {
     {
         TitlePart {
             list: EntryList::new(alloc, key),
+            opened: false,
+            inventory: None,
+            award: None,
         }
     }
 
@@ -61,7 +73,23 @@ impl TitlePart {
         ensures entries { self.new.entries ≡ self.old.entries ++ entry ∷ [] }
         ensures room { self.new.room + 1 ≡ self.old.room }
     {
-        self.list.append(entry);
+        self.opened = opened_by(self.opened, &entry.what);
+        self.inventory = inventory_by(self.inventory, &entry.what);
+        self.award = award_by(self.list.entries().len(), self.award, &entry.what);
+        let names = names_owners(&entry.what);
+        self.list.append(entry, names);
+    }
+
+    /// Takes the entries away, and keeps their room. It takes no memory.
+    pub fn clear(&mut self)
+        ensures key { self.new.key ≡ self.old.key }
+        ensures entries { self.new.entries ≡ [] }
+        ensures room { self.new.room ≡ self.old.room + length self.old.entries }
+    {
+        self.list.clear();
+        self.opened = false;
+        self.inventory = None;
+        self.award = None;
     }
 
     /// The entries, in order.
@@ -83,23 +111,21 @@ impl TitlePart {
     pub fn is_open(&self) -> bool
         ensures { result ≡ is_open self.now.entries }
     {
-        self.entries().iter().any(|entry| is_opening(&entry.what))
+        self.opened
     }
 
     /// The parcel that the folio is kept for (GBV § 6); None where it is not open.
     pub fn inventory(&self) -> Option<Inventory>
         ensures { result ≡ inventory self.now.entries }
     {
-        self.entries()
-            .iter()
-            .fold(None, |before, entry| inventory_by(before, &entry.what))
+        self.inventory
     }
 
     /// The owners (BGB § 925, ZVG § 90); None where no entry names any.
     pub fn owners(&self) -> Option<Owners>
         ensures { result ≡ owners self.now.entries }
     {
-        owners_in(self.entries())
+        self.owners_ahead(self.entries().len())
     }
 
     /// The owners whom a filing concerns: those of the moment of its official notice, where it
@@ -107,13 +133,31 @@ impl TitlePart {
     pub fn owners_for(&self, filing: ReceiptNo) -> Option<Owners>
         ensures { result ≡ owners_for filing self.now.entries }
     {
-        let entries = self.entries();
-        if waiting::notice(filing, entries).is_some()
-            && !has_award_owner(waiting::after_notice(filing, entries))
-        {
-            owners_in(waiting::before_notice(filing, entries))
-        } else {
-            owners_in(entries)
+        match self.list.ahead_of_notice(filing) {
+            Some(ahead) if !self.award_follows(ahead) => self.owners_ahead(ahead),
+            _ => self.owners(),
+        }
+    }
+
+    /// The owners behind the first so many entries.
+    fn owners_ahead(&self, ahead: usize) -> Option<Owners>
+        requires { ahead ≤ length self.now.entries }
+        ensures { result ≡ owners (take ahead self.now.entries) }
+    {
+        match self.list.last_naming(ahead) {
+            Some(entry) => owners_by(None, &entry.what),
+            None => None,
+        }
+    }
+
+    /// Whether an award's owner follows the first so many entries and the one behind them.
+    fn award_follows(&self, ahead: usize) -> bool
+        requires { ahead < length self.now.entries }
+        ensures { result ≡ list_any (λ e. is_award_owner e.what) (drop (ahead + 1) self.now.entries) }
+    {
+        match self.award {
+            Some(award) => ahead < award,
+            None => false,
         }
     }
 
@@ -121,14 +165,14 @@ impl TitlePart {
     pub fn pending(&self, filing: ReceiptNo) -> Option<Day>
         ensures { result ≡ pending filing self.now.entries }
     {
-        waiting::pending(filing, self.entries())
+        self.list.pending(filing)
     }
 
     /// The day of the official notice of a filing (GBO § 18(2)); None where none stands.
     pub fn notice(&self, filing: ReceiptNo) -> Option<Day>
         ensures { result ≡ notice filing self.now.entries }
     {
-        waiting::notice(filing, self.entries())
+        self.list.notice(filing)
     }
 
     /// The first filing above `after`, and below `filing`, that waits here without an official
@@ -136,8 +180,15 @@ impl TitlePart {
     pub fn next_unnoticed(&self, after: Option<ReceiptNo>, filing: ReceiptNo) -> Option<ReceiptNo>
         ensures { result ≡ find (is_above after) (waiting_unnoticed filing self.now.entries) }
     {
-        waiting::next_unnoticed(after, filing, self.entries())
+        self.list.next_unnoticed(after, filing)
     }
+}
+
+/// Whether the folio is open behind a content.
+fn opened_by(before: bool, what: &What) -> bool
+    ensures { result ≡ (before || is_opening what.now) }
+{
+    before || is_opening(what)
 }
 
 /// Whether a content opens the folio.
@@ -181,28 +232,22 @@ fn sole_owner(person: Person) -> Owners
     Owners::new(list).unwrap()
 }
 
-/// The owners behind these entries.
-fn owners_in(entries: &[Entry]) -> Option<Owners>
-    ensures { result ≡ owners entries.now }
-{
-    entries
-        .iter()
-        .fold(None, |before, entry| owners_by(before, &entry.what))
-}
-
-/// Whether an award makes its buyer the owner.
-fn has_award_owner(entries: &[Entry]) -> bool
-    ensures { result ≡ list_any (λ e. is_award_owner e.what) entries.now }
-{
-    entries.iter().any(|entry| is_award_owner(&entry.what))
-}
-
-/// Whether a content makes the buyer of an award the owner.
-fn is_award_owner(what: &What) -> bool
-    ensures { result ≡ is_award_owner what.now }
+/// Whether a content names the owners.
+fn names_owners(what: &What) -> bool
+    ensures { result ≡ is_some (owners_by None what.now) }
 {
     match what {
-        What::AwardOwner { .. } => true,
+        What::Opened { .. } | What::Owner { .. } | What::AwardOwner { .. } => true,
         _ => false,
+    }
+}
+
+/// How many entries stand ahead of the last award's owner, behind a content with so many ahead.
+fn award_by(ahead: usize, before: Option<usize>, what: &What) -> Option<usize>
+    ensures { result ≡ award_by ahead before what.now }
+{
+    match what {
+        What::AwardOwner { .. } => Some(ahead),
+        _ => before,
     }
 }

@@ -1,0 +1,70 @@
+-- What a right keeps, with one entry more.
+use Rattle.std.proofs.Common.{◌≡◌, ℕ, Bool, true, false, cond, if◌then◌else◌, ◌||◌, List, [], ◌∷◌, ◌++◌, Option, Some, None, fold, length, option_map, refl, sym, ap, subst, ◌∙◌}
+use Rattle.std.specs.List.{list_any}
+use Rattle.std.specs.Option.{option_or}
+use Rattle.std.proofs.lemmas.Bool.{false≢true}
+use Rattle.std.proofs.lemmas.List.Sums.{fold-append}
+use Rattle.folio_sections.specs.Rights.{created, created_by, holder, is_conversion, is_exercise, live_by, new_holder_by, remaining_by}
+use Rattle.folio_sections.specs.declared.entries.Created.{Created}
+use Rattle.folio_sections.specs.declared.entries.Entry.{Entry}
+use Rattle.folio_sections.specs.declared.entries.What.{What}
+use Rattle.folio_sections.specs.declared.entries.What.TheVariants as what
+use Rattle.folio_sections.specs.declared.right_part.RightState.{RightState}
+use Rattle.folio_sections.specs.inner.Naming.{AreNamedAt}
+use Rattle.folio_sections.specs.inner.States.{IsRight, holder_named, names_holder, state_by}
+use Rattle.folio_sections.proofs.Naming.{named_push, unnamed_push}
+use Rattle.folio_sections.proofs.Titles.{any_push}
+
+-- the holder behind a content, where the last new one and the creation ahead of it are these
+abbrev holder_of : Option ℕ → Option Created → Option ℕ
+holder_of new made = option_or new (option_map (λ c. c.spec.holder) made)
+
+named_then : (new : Option ℕ) (made : Option Created) (w : What) → names_holder new w ≡ true → holder_of (new_holder_by new w) (created_by made w) ≡ holder_named w
+named_then None made (what.Created c) is = refl
+named_then (Some person) made (what.Created c) is = absurd (false≢true is)
+named_then new made (what.Holder person) is = refl
+named_then new made other is = absurd (false≢true is)
+
+unnamed_then : (new : Option ℕ) (made : Option Created) (w : What) → names_holder new w ≡ false → holder_of (new_holder_by new w) (created_by made w) ≡ holder_of new made
+unnamed_then None made (what.Created c) is = absurd (false≢true (sym is))
+unnamed_then (Some person) made (what.Created c) is = refl
+unnamed_then new made (what.Holder person) is = absurd (false≢true (sym is))
+unnamed_then new made other is = refl
+
+abbrev new_holder : List Entry → Option ℕ
+new_holder xs = fold (λ o f. new_holder_by o f.what) None xs
+
+holder_push : (xs : List Entry) (e : Entry) → holder (xs ++ e ∷ []) ≡ holder_of (new_holder_by (new_holder xs) e.what) (created_by (created xs) e.what)
+holder_push xs e =
+    ap (λ o. holder_of o (created (xs ++ e ∷ []))) (fold-append (λ o f. new_holder_by o f.what) None xs (e ∷ []))
+    ∙ ap (holder_of (new_holder_by (new_holder xs) e.what)) (fold-append (λ o f. created_by o f.what) None xs (e ∷ []))
+
+holders_push : (ns : List ℕ) (xs : List Entry) (e : Entry) → AreNamedAt holder holder_named ns xs
+    → AreNamedAt holder holder_named (if names_holder (new_holder xs) e.what then ns ++ length xs ∷ [] else ns) (xs ++ e ∷ [])
+holders_push ns xs e are =
+    elim (names_holder (new_holder xs) e.what) as (λ b. names_holder (new_holder xs) e.what ≡ b → AreNamedAt holder holder_named (cond b (ns ++ length xs ∷ []) ns) (xs ++ e ∷ [])) [
+      | true ↦ λ names. named_push holder holder_named ns xs e are (holder_push xs e ∙ named_then (new_holder xs) (created xs) e.what names)
+      | false ↦ λ names. unnamed_push holder holder_named ns xs e are (holder_push xs e ∙ unnamed_then (new_holder xs) (created xs) e.what names)
+    ] refl
+
+walked : {B : Type 0} (f : B → What → B) (start before : B) (xs : List Entry) (e : Entry) → before ≡ fold (λ b d. f b d.what) start xs → f before e.what ≡ fold (λ b d. f b d.what) start (xs ++ e ∷ [])
+walked f start before xs e is = ap (λ b. f b e.what) is ∙ sym (fold-append (λ b d. f b d.what) start xs (e ∷ []))
+
+right_push_of : (is : RightState) (xs : List Entry) (ns : List ℕ) (e : Entry) → IsRight is xs ns
+    → IsRight (state_by is e.what) (xs ++ e ∷ []) (if names_holder is.new_holder e.what then ns ++ length xs ∷ [] else ns)
+right_push_of is xs ns e right = record {
+  live = walked live_by false is.live xs e right.live;
+  created = walked created_by None is.created xs e right.created;
+  converted = ap (λ b. b || is_conversion e.what) right.converted ∙ sym (any_push (λ f. is_conversion f.what) xs e);
+  new_holder = walked new_holder_by None is.new_holder xs e right.new_holder;
+  remaining = walked remaining_by None is.remaining xs e right.remaining;
+  spent = ap (λ b. b || is_exercise e.what) right.spent ∙ sym (any_push (λ f. is_exercise f.what) xs e);
+  holder = subst (λ o. AreNamedAt holder holder_named (if names_holder o e.what then ns ++ length xs ∷ [] else ns) (xs ++ e ∷ [])) (sym right.new_holder) (holders_push ns xs e right.holder);
+}
+
+pub right_push : (is after : RightState) (xs ys : List Entry) (ns ms : List ℕ) (e : Entry) (names : Bool) → IsRight is xs ns
+    → after ≡ state_by is e.what → ys ≡ xs ++ e ∷ [] → names ≡ names_holder is.new_holder e.what → ms ≡ (if names then ns ++ length xs ∷ [] else ns) → IsRight after ys ms
+right_push is after xs ys ns ms e names right state more named naming =
+    subst (λ s. IsRight s ys ms) (sym state)
+    (subst (λ zs. IsRight (state_by is e.what) zs ms) (sym more)
+    (subst (IsRight (state_by is e.what) (xs ++ e ∷ [])) (sym (naming ∙ ap (λ b. if b then ns ++ length xs ∷ [] else ns) named)) (right_push_of is xs ns e right)))

@@ -1,0 +1,9 @@
+use Rattle.std.proofs.Common.{◌≡◌, ◌-◌, ◌≤◌, length}
+use Rattle.folio_sections.specs.inner.Waiters.{AreInOrder}
+use Rattle.folio_sections.proofs.waiters.Waiters.pass_noticed.Given as goal
+
+abbrev pub invariant-loop-self : goal.invariant-loop-self
+invariant-loop-self l = AreInOrder l.self × (l.self.list ≡ l.fn.self.list)
+
+abbrev pub decreases-loop-self : goal.decreases-loop-self
+decreases-loop-self l = length l.self.list.items - l.self.noticed

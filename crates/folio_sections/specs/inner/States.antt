@@ -1,0 +1,94 @@
+-- What each part keeps beside its entries.
+use Rattle.std.specs.Prelude.{◌≡◌, ℕ, ◌+◌, ◌≤◌, nat_lt, min, ◌||◌, Bool, true, false, List, length, drop, fold, is_none, is_some, Option, Some, None}
+use Rattle.std.specs.List.{list_any}
+use Rattle.act_model.specs.declared.land.Inventory.{Inventory}
+use Rattle.folio_sections.specs.Cases.{award, call, case, registrations, seizures}
+use Rattle.folio_sections.specs.Rights.{created, created_by, holder, is_conversion, is_exercise, is_live, is_spent, live_by, new_holder_by, remaining_by}
+use Rattle.folio_sections.specs.Titles.{inventory, is_award_owner, is_open, owners, owners_by}
+use Rattle.folio_sections.specs.declared.case_part.Running.{Running}
+use Rattle.folio_sections.specs.declared.entries.Entry.{Entry}
+use Rattle.folio_sections.specs.declared.entries.What.{What}
+use Rattle.folio_sections.specs.declared.entries.What.TheVariants as what
+use Rattle.folio_sections.specs.declared.right_part.RightState.{RightState}
+use Rattle.folio_sections.specs.inner.Listed.{Listed}
+use Rattle.folio_sections.specs.inner.Naming.{AreNamedAt}
+
+-- more than n entries stand ahead of this one, where there is one
+abbrev pub stands_behind : ℕ → Option ℕ → Bool
+stands_behind n None = false
+stands_behind n (Some ahead) = nat_lt n ahead
+
+-- so many entries stand ahead of the last award's owner
+abbrev pub IsLastAward : Option ℕ → List Entry → Type 0
+IsLastAward last entries = (n : ℕ) → list_any (λ e. is_award_owner e.what) (drop (n + 1) entries) ≡ stands_behind n last
+
+-- how many stand ahead of the last award's owner, behind a content with so many ahead
+abbrev pub award_by : ℕ → Option ℕ → What → Option ℕ
+award_by ahead before (what.AwardOwner buyer) = Some ahead
+award_by ahead before other = before
+
+-- a title keeps what is read from its entries
+pub record IsTitle (list : Listed) (is_opened : Bool) (parcel : Option Inventory) (last : Option ℕ) : Type 0 where
+  pub opened : is_opened ≡ is_open list.entries
+  pub inventory : parcel ≡ inventory list.entries
+  pub award : IsLastAward last list.entries
+  pub owners : AreNamedAt owners (owners_by None) list.naming list.entries
+
+-- the holder whom a content names
+abbrev pub holder_named : What → Option ℕ
+holder_named (what.Created made) = Some made.spec.holder
+holder_named (what.Holder person) = Some person
+holder_named other = None
+
+-- A content names the holder behind it, where the last new one is this: a creation does where there is no new one yet.
+abbrev pub names_holder : Option ℕ → What → Bool
+names_holder before (what.Created made) = is_none before
+names_holder before (what.Holder person) = true
+names_holder before other = false
+
+-- the right behind a content
+abbrev pub state_by : RightState → What → RightState
+state_by before w = record {
+  live = live_by before.live w;
+  created = created_by before.created w;
+  converted = before.converted || is_conversion w;
+  new_holder = new_holder_by before.new_holder w;
+  remaining = remaining_by before.remaining w;
+  spent = before.spent || is_exercise w;
+}
+
+-- the state is what is read from the entries, and the holder behind each number of them is named at these places
+pub record IsRight (is : RightState) (entries : List Entry) (naming : List ℕ) : Type 0 where
+  pub live : is.live ≡ is_live entries
+  pub created : is.created ≡ created entries
+  pub converted : is.converted ≡ list_any (λ e. is_conversion e.what) entries
+  pub new_holder : is.new_holder ≡ fold (λ before e. new_holder_by before e.what) None entries
+  pub remaining : is.remaining ≡ fold (λ before e. remaining_by before e.what) None entries
+  pub spent : is.spent ≡ is_spent entries
+  pub holder : AreNamedAt holder holder_named naming entries
+
+-- the most that is counted of a case's seizures and registrations
+abbrev pub most_counted : ℕ
+most_counted = 4294967295
+
+-- this is the case of the entries
+pub record IsRunning (case_is : Running) (entries : List Entry) : Type 0 where
+  pub begin : case entries ≡ drop case_is.begin entries
+  pub within : case_is.begin ≤ length entries
+  pub seizures : case_is.seizures ≡ min (seizures entries) most_counted
+  pub registrations : case_is.registrations ≡ min (registrations entries) most_counted
+  pub award : case_is.award ≡ award entries
+  pub called : case_is.called ≡ call entries
+
+-- the case behind a further entry by item i, with so many entries ahead
+abbrev pub running_behind : ℕ → Running → ℕ → What → Running
+running_behind ahead before i what.Distributed = record { begin = ahead + 1; seizures = 0; registrations = 0; award = None; called = None }
+running_behind ahead before i what.Seized =
+    record { begin = before.begin; seizures = min (before.seizures + 1) most_counted; registrations = before.registrations; award = before.award; called = before.called }
+running_behind ahead before i what.Registered =
+    record { begin = before.begin; seizures = before.seizures; registrations = min (before.registrations + 1) most_counted; award = before.award; called = before.called }
+running_behind ahead before i (what.Awarded buyer bid) =
+    record { begin = before.begin; seizures = before.seizures; registrations = before.registrations; award = Some i; called = before.called }
+running_behind ahead before i (what.Bids costs) =
+    record { begin = before.begin; seizures = before.seizures; registrations = before.registrations; award = before.award; called = Some i }
+running_behind ahead before i other = before
