@@ -76,33 +76,33 @@ goes_on : (c : Running) (xs : List Entry) (e : Entry) → is_distribution e.what
     → a ≡ award_by e.receipt c.award e.what → b ≡ call_by e.receipt c.called e.what
     → IsRunning (record { begin = c.begin; seizures = s; registrations = r; award = a; called = b }) (xs ++ e ∷ [])
 goes_on c xs e stays is s r a b seized registered awarded called =
-  let len = length_push xs e in
-  let within = is.within in
-  record {
-    begin = behind_more (λ d. is_distribution d.what) xs e stays ∙ ap (λ ys. ys ++ e ∷ []) is.begin ∙ sym (drop-append-le c.begin xs (e ∷ []) is.within);
-    within = omega arith;
-    seizures = let more = counted_on (λ d. is_seizure d.what) xs e stays in
-      let before = is.seizures in
-      seized ∙ ap (λ n. min (n + cond (is_seizure e.what) 1 0) most_counted) is.seizures ∙ capped (seizures xs) (cond (is_seizure e.what) 1 0) ∙ ap (λ n. min n most_counted) (sym more);
-    registrations = let more = counted_on (λ d. is_registration d.what) xs e stays in
-      registered ∙ ap (λ n. min (n + cond (is_registration e.what) 1 0) most_counted) is.registrations ∙ capped (registrations xs) (cond (is_registration e.what) 1 0) ∙ ap (λ n. min n most_counted) (sym more);
-    award = awarded ∙ ap (λ o. award_by e.receipt o e.what) is.award ∙ sym (walked_on (λ o d. award_by d.receipt o d.what) None xs e stays);
-    called = called ∙ ap (λ o. call_by e.receipt o e.what) is.called ∙ sym (walked_on (λ o d. call_by d.receipt o d.what) None xs e stays);
-  }
+    let len = length_push xs e in
+    let within = is.within in
+    record {
+      begin = behind_more (λ d. is_distribution d.what) xs e stays ∙ ap (λ ys. ys ++ e ∷ []) is.begin ∙ sym (drop-append-le c.begin xs (e ∷ []) is.within);
+      within = omega arith;
+      seizures = let more = counted_on (λ d. is_seizure d.what) xs e stays in
+          let before = is.seizures in
+          seized ∙ ap (λ n. min (n + cond (is_seizure e.what) 1 0) most_counted) is.seizures ∙ capped (seizures xs) (cond (is_seizure e.what) 1 0) ∙ ap (λ n. min n most_counted) (sym more);
+      registrations = let more = counted_on (λ d. is_registration d.what) xs e stays in
+          registered ∙ ap (λ n. min (n + cond (is_registration e.what) 1 0) most_counted) is.registrations ∙ capped (registrations xs) (cond (is_registration e.what) 1 0) ∙ ap (λ n. min n most_counted) (sym more);
+      award = awarded ∙ ap (λ o. award_by e.receipt o e.what) is.award ∙ sym (walked_on (λ o d. award_by d.receipt o d.what) None xs e stays);
+      called = called ∙ ap (λ o. call_by e.receipt o e.what) is.called ∙ sym (walked_on (λ o d. call_by d.receipt o d.what) None xs e stays);
+    }
 
 begins_anew : (xs : List Entry) (e : Entry) → is_distribution e.what ≡ true
     → IsRunning (record { begin = length xs + 1; seizures = 0; registrations = 0; award = None; called = None }) (xs ++ e ∷ [])
 begins_anew xs e is =
-  let len = length_push xs e in
-  let empty = behind_another (λ d. is_distribution d.what) xs e is in
-  record {
-    begin = empty ∙ sym (ap (λ n. drop n (xs ++ e ∷ [])) (sym len) ∙ dropped (xs ++ e ∷ []));
-    within = omega arith;
-    seizures = ap (λ ys. min (count_by (λ d. is_seizure d.what) ys) most_counted) (sym empty);
-    registrations = ap (λ ys. min (count_by (λ d. is_registration d.what) ys) most_counted) (sym empty);
-    award = ap (fold (λ o d. award_by d.receipt o d.what) None) (sym empty);
-    called = ap (fold (λ o d. call_by d.receipt o d.what) None) (sym empty);
-  }
+    let len = length_push xs e in
+    let empty = behind_another (λ d. is_distribution d.what) xs e is in
+    record {
+      begin = empty ∙ sym (ap (λ n. drop n (xs ++ e ∷ [])) (sym len) ∙ dropped (xs ++ e ∷ []));
+      within = omega arith;
+      seizures = ap (λ ys. min (count_by (λ d. is_seizure d.what) ys) most_counted) (sym empty);
+      registrations = ap (λ ys. min (count_by (λ d. is_registration d.what) ys) most_counted) (sym empty);
+      award = ap (fold (λ o d. award_by d.receipt o d.what) None) (sym empty);
+      called = ap (fold (λ o d. call_by d.receipt o d.what) None) (sym empty);
+    }
 
 -- what is counted stays, where it is no more than is counted
 unseen : (n m : ℕ) → n ≡ min m most_counted → n ≡ min (n + 0) most_counted

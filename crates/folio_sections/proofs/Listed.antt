@@ -44,14 +44,14 @@ pub goes_on : (key : Key) (xs : List Entry) (e : Entry) (before after : Waiters)
     → ns' ≡ (if names then ns ++ b ∷ [] else ns)
     → GoWith key (xs ++ e ∷ []) after ns'
 goes_on key xs e before after ns ns' names go own order until b len noticed naming =
-  let notice : (m : ℕ) → notice_in m after.list.items ≡ option_or (notice_in m before.list.items) (if is_notice_of m e.what then Some (length xs) else None) =
+    let notice : (m : ℕ) → notice_in m after.list.items ≡ option_or (notice_in m before.list.items) (if is_notice_of m e.what then Some (length xs) else None) =
     λ m. noticed m ∙ ap (λ n. option_or (notice_in m before.list.items) (if is_notice_of m e.what then Some n else None)) len in
-  let named : ns' ≡ (if names then ns ++ length xs ∷ [] else ns) = naming ∙ ap (λ n. if names then ns ++ n ∷ [] else ns) len in
-  record {
-  own = own_push xs e key go.own own;
-  order = order;
-  say = say_push before.list.items after.list.items xs e go.say until notice;
-  rise = subst (Rises 0) (sym named) (rise_push (length xs) ns names go.rise go.among);
-  among = subst (λ b. AllByRecursion (λ n. n < b) ns') (sym (length_push xs e))
-    (subst (AllByRecursion (λ n. n < length xs + 1)) (sym named) (among_push (length xs) ns names go.among));
-}
+    let named : ns' ≡ (if names then ns ++ length xs ∷ [] else ns) = naming ∙ ap (λ n. if names then ns ++ n ∷ [] else ns) len in
+    record {
+      own = own_push xs e key go.own own;
+      order = order;
+      say = say_push before.list.items after.list.items xs e go.say until notice;
+      rise = subst (Rises 0) (sym named) (rise_push (length xs) ns names go.rise go.among);
+      among = subst (λ b. AllByRecursion (λ n. n < b) ns') (sym (length_push xs e))
+          (subst (AllByRecursion (λ n. n < length xs + 1)) (sym named) (among_push (length xs) ns names go.among));
+    }

@@ -159,47 +159,47 @@ take_all xs k is = ap (λ n. take n xs) is ∙ whole xs
 pub named_push : {X : Type 0} (read : List Entry → Option X) (named : What → Option X) (ns : List ℕ) (xs : List Entry) (e : Entry)
     → AreNamedAt read named ns xs → read (xs ++ e ∷ []) ≡ named e.what → AreNamedAt read named (ns ++ length xs ∷ []) (xs ++ e ∷ [])
 named_push read named ns xs e are is =
-  let below = are.among in
-  record {
-   among = subst (λ b. AllByRecursion (λ n. n < b) (ns ++ length xs ∷ [])) (sym (length_push xs e)) (below_push (length xs) ns below);
-   reads = λ k few.
-    ⊎_elim
-    (λ ahead.
-      let among : k ≤ length xs = grind (arith, nat_tests, ahead) in
-      ap read (take-append-le k xs (e ∷ []) among)
-      ∙ are.reads k among
-      ∙ ap (λ o. option_and_then (λ f. named f.what) o) (sym (at_ahead k ns xs e below) ∙ ap (option_and_then (slice_get (xs ++ e ∷ []))) (sym (not_pushed k (length xs) ns among))))
-    (λ behind.
-      let count = length_push xs e in
-      let all : k ≡ length xs + 1 = grind (arith, nat_tests, behind, few, count) in
-      ap read (take_all (xs ++ e ∷ []) k (all ∙ sym count))
-      ∙ is
-      ∙ sym (ap (λ j. option_and_then (λ f. named f.what) (last_at j (ns ++ length xs ∷ []) (xs ++ e ∷ []))) all
-      ∙ ap (λ o. option_and_then (λ f. named f.what) (option_and_then (slice_get (xs ++ e ∷ [])) o)) (last_pushed (length xs) ns)
-      ∙ ap (option_and_then (λ f. named f.what)) (slice_get-behind xs e)))
-    (cases_Bool (nat_lt k (length xs + 1)));
-  }
+    let below = are.among in
+    record {
+      among = subst (λ b. AllByRecursion (λ n. n < b) (ns ++ length xs ∷ [])) (sym (length_push xs e)) (below_push (length xs) ns below);
+      reads = λ k few.
+          ⊎_elim
+          (λ ahead.
+          let among : k ≤ length xs = grind (arith, nat_tests, ahead) in
+          ap read (take-append-le k xs (e ∷ []) among)
+          ∙ are.reads k among
+          ∙ ap (λ o. option_and_then (λ f. named f.what) o) (sym (at_ahead k ns xs e below) ∙ ap (option_and_then (slice_get (xs ++ e ∷ []))) (sym (not_pushed k (length xs) ns among))))
+          (λ behind.
+          let count = length_push xs e in
+          let all : k ≡ length xs + 1 = grind (arith, nat_tests, behind, few, count) in
+          ap read (take_all (xs ++ e ∷ []) k (all ∙ sym count))
+          ∙ is
+          ∙ sym (ap (λ j. option_and_then (λ f. named f.what) (last_at j (ns ++ length xs ∷ []) (xs ++ e ∷ []))) all
+          ∙ ap (λ o. option_and_then (λ f. named f.what) (option_and_then (slice_get (xs ++ e ∷ [])) o)) (last_pushed (length xs) ns)
+          ∙ ap (option_and_then (λ f. named f.what)) (slice_get-behind xs e)))
+          (cases_Bool (nat_lt k (length xs + 1)));
+    }
 
 -- an entry that leaves the reader as it was
 pub unnamed_push : {X : Type 0} (read : List Entry → Option X) (named : What → Option X) (ns : List ℕ) (xs : List Entry) (e : Entry)
     → AreNamedAt read named ns xs → read (xs ++ e ∷ []) ≡ read xs → AreNamedAt read named ns (xs ++ e ∷ [])
 unnamed_push read named ns xs e are is =
-  let below = are.among in
-  record {
-   among = subst (λ b. AllByRecursion (λ n. n < b) ns) (sym (length_push xs e)) (below_more (length xs) ns below);
-   reads = λ k few.
-    ⊎_elim
-    (λ ahead.
-      let among : k ≤ length xs = grind (arith, nat_tests, ahead) in
-      ap read (take-append-le k xs (e ∷ []) among) ∙ are.reads k among ∙ ap (option_and_then (λ f. named f.what)) (sym (at_ahead k ns xs e below)))
-    (λ behind.
-      let count = length_push xs e in
-      let all : k ≡ length xs + 1 = grind (arith, nat_tests, behind, few, count) in
-      let high : length xs ≤ k = omega arith in
-      let same : last_below k ns ≡ last_below (length xs) ns = ap (last_or None) (all_kept (length xs) k ns below high ∙ sym (all_kept (length xs) (length xs) ns below (omega arith))) in
-      ap read (take_all (xs ++ e ∷ []) k (all ∙ sym count))
-      ∙ is ∙ sym (ap read (take_all xs (length xs) refl))
-      ∙ are.reads (length xs) (omega arith)
-      ∙ ap (option_and_then (λ f. named f.what)) (sym (at_ahead (length xs) ns xs e below) ∙ sym (ap (option_and_then (slice_get (xs ++ e ∷ []))) same)))
-    (cases_Bool (nat_lt k (length xs + 1)));
-  }
+    let below = are.among in
+    record {
+      among = subst (λ b. AllByRecursion (λ n. n < b) ns) (sym (length_push xs e)) (below_more (length xs) ns below);
+      reads = λ k few.
+          ⊎_elim
+          (λ ahead.
+          let among : k ≤ length xs = grind (arith, nat_tests, ahead) in
+          ap read (take-append-le k xs (e ∷ []) among) ∙ are.reads k among ∙ ap (option_and_then (λ f. named f.what)) (sym (at_ahead k ns xs e below)))
+          (λ behind.
+          let count = length_push xs e in
+          let all : k ≡ length xs + 1 = grind (arith, nat_tests, behind, few, count) in
+          let high : length xs ≤ k = omega arith in
+          let same : last_below k ns ≡ last_below (length xs) ns = ap (last_or None) (all_kept (length xs) k ns below high ∙ sym (all_kept (length xs) (length xs) ns below (omega arith))) in
+          ap read (take_all (xs ++ e ∷ []) k (all ∙ sym count))
+          ∙ is ∙ sym (ap read (take_all xs (length xs) refl))
+          ∙ are.reads (length xs) (omega arith)
+          ∙ ap (option_and_then (λ f. named f.what)) (sym (at_ahead (length xs) ns xs e below) ∙ sym (ap (option_and_then (slice_get (xs ++ e ∷ []))) same)))
+          (cases_Bool (nat_lt k (length xs + 1)));
+    }

@@ -70,21 +70,21 @@ award_push last xs e is = λ n.
     let len = length_push xs e in
     ⊎_elim
     (λ ahead.
-      let among : n + 1 ≤ length xs = grind (arith, nat_tests, ahead) in
-      ap (list_any (λ f. is_award_owner f.what)) (drop-append-le (n + 1) xs (e ∷ []) among)
-      ∙ any_push (λ f. is_award_owner f.what) (drop (n + 1) xs) e
-      ∙ elim (is_award_owner e.what) as (λ b. is_award_owner e.what ≡ b → (list_any (λ f. is_award_owner f.what) (drop (n + 1) xs) || b) ≡ stands_behind n (award_by (length xs) last e.what)) [
-        | true ↦ λ award. or_all (list_any (λ f. is_award_owner f.what) (drop (n + 1) xs)) ∙ sym ahead ∙ ap (stands_behind n) (sym (award_then (length xs) last e.what award))
-        | false ↦ λ none. or_nothing (list_any (λ f. is_award_owner f.what) (drop (n + 1) xs)) ∙ is n ∙ ap (stands_behind n) (sym (no_award_then (length xs) last e.what none))
-      ] refl)
+    let among : n + 1 ≤ length xs = grind (arith, nat_tests, ahead) in
+    ap (list_any (λ f. is_award_owner f.what)) (drop-append-le (n + 1) xs (e ∷ []) among)
+    ∙ any_push (λ f. is_award_owner f.what) (drop (n + 1) xs) e
+    ∙ elim (is_award_owner e.what) as (λ b. is_award_owner e.what ≡ b → (list_any (λ f. is_award_owner f.what) (drop (n + 1) xs) || b) ≡ stands_behind n (award_by (length xs) last e.what)) [
+      | true ↦ λ award. or_all (list_any (λ f. is_award_owner f.what) (drop (n + 1) xs)) ∙ sym ahead ∙ ap (stands_behind n) (sym (award_then (length xs) last e.what award))
+      | false ↦ λ none. or_nothing (list_any (λ f. is_award_owner f.what) (drop (n + 1) xs)) ∙ is n ∙ ap (stands_behind n) (sym (no_award_then (length xs) last e.what none))
+    ] refl)
     (λ behind.
-      let past : length xs ≤ n = grind (arith, nat_tests, behind) in
-      let few : length xs ≤ n + 1 = omega arith in
-      ap (list_any (λ f. is_award_owner f.what)) (dropped_all (n + 1) (xs ++ e ∷ []) (omega arith))
-      ∙ elim (is_award_owner e.what) as (λ b. is_award_owner e.what ≡ b → false ≡ stands_behind n (award_by (length xs) last e.what)) [
-        | true ↦ λ award. sym behind ∙ ap (stands_behind n) (sym (award_then (length xs) last e.what award))
-        | false ↦ λ none. sym (ap (list_any (λ f. is_award_owner f.what)) (dropped_all (n + 1) xs few)) ∙ is n ∙ ap (stands_behind n) (sym (no_award_then (length xs) last e.what none))
-      ] refl)
+    let past : length xs ≤ n = grind (arith, nat_tests, behind) in
+    let few : length xs ≤ n + 1 = omega arith in
+    ap (list_any (λ f. is_award_owner f.what)) (dropped_all (n + 1) (xs ++ e ∷ []) (omega arith))
+    ∙ elim (is_award_owner e.what) as (λ b. is_award_owner e.what ≡ b → false ≡ stands_behind n (award_by (length xs) last e.what)) [
+      | true ↦ λ award. sym behind ∙ ap (stands_behind n) (sym (award_then (length xs) last e.what award))
+      | false ↦ λ none. sym (ap (list_any (λ f. is_award_owner f.what)) (dropped_all (n + 1) xs few)) ∙ is n ∙ ap (stands_behind n) (sym (no_award_then (length xs) last e.what none))
+    ] refl)
     (cases_Bool (nat_lt n (length xs)))
 
 pub title_push : (before after : Listed) (e : Entry) (is_opened : Bool) (parcel : Option Inventory) (last : Option ℕ) (b : ℕ)
@@ -98,7 +98,7 @@ title_push before after e is_opened parcel last b is_opened' parcel' last' is mo
   opened = opens ∙ ap (λ o. o || is_opening e.what) is.opened ∙ sym (any_push (λ f. is_opening f.what) before.entries e) ∙ ap (list_any (λ f. is_opening f.what)) (sym more);
   inventory = parcels ∙ ap (λ o. inventory_by o e.what) is.inventory ∙ sym (fold-append (λ o f. inventory_by o f.what) None before.entries (e ∷ [])) ∙ ap (fold (λ o f. inventory_by o f.what) None) (sym more);
   award = subst (λ xs. IsLastAward last' xs) (sym more)
-    (subst (λ a. IsLastAward a (before.entries ++ e ∷ [])) (sym (awards ∙ ap (λ n. award_by n last e.what) len)) (award_push last before.entries e is.award));
+      (subst (λ a. IsLastAward a (before.entries ++ e ∷ [])) (sym (awards ∙ ap (λ n. award_by n last e.what) len)) (award_push last before.entries e is.award));
   owners = subst (λ xs. AreNamedAt owners (owners_by None) after.naming xs) (sym more)
-    (subst (λ ns. AreNamedAt owners (owners_by None) ns (before.entries ++ e ∷ [])) (sym naming) (owners_push before.naming before.entries e is.owners));
+      (subst (λ ns. AreNamedAt owners (owners_by None) ns (before.entries ++ e ∷ [])) (sym naming) (owners_push before.naming before.entries e is.owners));
 }

@@ -55,7 +55,7 @@ ends_there low m a [] up = refl
 ends_there low m a (w ∷ ws) up =
     ap (find (λ v. nat_lt low v.filing && lacks_notice v)) (take_while-cons (λ v. nat_lt v.filing m) w ws)
     ∙ elim (nat_lt w.filing m) as (λ b. nat_lt w.filing m ≡ b
-      → find (λ v. nat_lt low v.filing && lacks_notice v) (cond b (w ∷ take_while (λ v. nat_lt v.filing m) ws) []) ≡ cond (b && (nat_lt low w.filing && lacks_notice w)) (Some w) (find (is_wanted low m) ws)) [
+    → find (λ v. nat_lt low v.filing && lacks_notice v) (cond b (w ∷ take_while (λ v. nat_lt v.filing m) ws) []) ≡ cond (b && (nat_lt low w.filing && lacks_notice w)) (Some w) (find (is_wanted low m) ws)) [
       | true ↦ λ below. ap (cond (nat_lt low w.filing && lacks_notice w) (Some w)) (ends_there low m (w.filing + 1) ws up.1)
       | false ↦ λ not_below. sym (none_behind low m (w.filing + 1) ws up.1 (grind (arith, nat_tests, not_below)))
     ] refl
@@ -96,9 +96,9 @@ first_is low m a (x ∷ xs) w up is =
             there = let same : (x.filing == x.filing) ≡ true = grind (arith, nat_tests) in rw same refl;
             wanted = wanted;
             lower = λ n v less found.
-              let apart : (x.filing == n) ≡ false = grind (arith, nat_tests, less) in
-              let none : None ≡ Some v = sym (none_below n (x.filing + 1) xs up.1 (omega arith)) ∙ sym (ap (λ b. cond b (Some x) (waiter_of n xs)) apart) ∙ found in
-              cc;
+                let apart : (x.filing == n) ≡ false = grind (arith, nat_tests, less) in
+                let none : None ≡ Some v = sym (none_below n (x.filing + 1) xs up.1 (omega arith)) ∙ sym (ap (λ b. cond b (Some x) (waiter_of n xs)) apart) ∙ found in
+                cc;
           })
       | false ↦ λ not_wanted later.
           let rest = first_is low m (x.filing + 1) xs w up.1 later in
@@ -191,14 +191,16 @@ least after m ws entries up say =
           let parts = and_parts (nat_lt w.filing m) (nat_lt low w.filing && lacks_notice w) first.wanted in
           let high = (and_parts (nat_lt low w.filing) (lacks_notice w) parts.1).0 in
           let below : w.filing < m = grind (arith, nat_tests, parts.0) in
-          let positive : 0 < w.filing = grind (arith, nat_tests, high) in
-          (positive, below,
-          ap (λ b. is_unnoticed w.filing entries && b) (above_floor after w.filing positive)
-          ∙ ap (λ b. b && nat_lt low w.filing) (unnoticed_of ws entries say w.filing ∙ ap lacks_of first.there)
-          ∙ exchanged (lacks_notice w) (nat_lt low w.filing) ∙ parts.1,
-          λ n above less. ap (λ b. is_unnoticed n entries && b) (above_floor after n above)
-          ∙ ap (λ b. b && nat_lt low n) (unnoticed_of ws entries say n)
-          ∙ not_wanted low m n ws (omega arith) (λ v found. first.lower n v less found))
+          let positive : 0 < w.filing = grind (arith, nat_tests, high) in (
+            positive,
+            below,
+            ap (λ b. is_unnoticed w.filing entries && b) (above_floor after w.filing positive)
+                ∙ ap (λ b. b && nat_lt low w.filing) (unnoticed_of ws entries say w.filing ∙ ap lacks_of first.there)
+                ∙ exchanged (lacks_notice w) (nat_lt low w.filing) ∙ parts.1,
+            λ n above less. ap (λ b. is_unnoticed n entries && b) (above_floor after n above)
+                ∙ ap (λ b. b && nat_lt low n) (unnoticed_of ws entries say n)
+                ∙ not_wanted low m n ws (omega arith) (λ v found. first.lower n v less found),
+          )
     ] refl
 
 pub first_of_waiters : (after : Option ℕ) (m : ℕ) (ws : List Waiter) (entries : List Entry) → Ascends 0 ws → SayAs ws entries

@@ -4,8 +4,8 @@
 ghost use Rattle.folio_sections.specs.inner.Naming.{last_below, Rises};
 ghost use Rattle.std.specs.Prelude.{◌≡◌, ◌+◌, ◌<◌, ◌≤◌, vec_len, vec_capacity, [], ◌∷◌, ◌++◌, All, IsOk, OnOk, OnErr, None, find, if◌then◌else◌, length, option_copied, position};
 
-use crate::waiters::Waiters;
 use crate::Entry;
+use crate::waiters::Waiters;
 use gb_base::{Day, Key, NoMemory, ReceiptNo};
 use std::alloc::Global;
 use std::marker::Model;

@@ -1,5 +1,6 @@
 //! The filings that wait at a key, beside its entries, so that no reader walks these.
 //! Why so: docs/DECISIONS.md, "A filing whose waiting has ended stays among the waiters".
+//! Why so: docs/DECISIONS.md, "A part is asked for the next filing that waits without a notice".
 ghost use Rattle.std.specs.Prelude.{◌≡◌, ◌+◌, ◌≤◌, ◌<◌, ◌==◌, ◌&&◌, true, false, drop, take_while, ℕ, Some, None, [], length, find, if◌then◌else◌, get_or, option_copied, option_map, option_and_then, is_some, is_none, nat_lt, min, slice_get, vec_len, vec_capacity, OnOk, OnErr, IsOk};
 ghost use Rattle.std.specs.Option.{option_or};
 ghost use Rattle.folio_sections.specs.Waiting.{is_notice_of, until_by};

@@ -24,7 +24,7 @@ returns-in-Some-clause-order c =
     record {
       ascend = written_ascends 0 ws i c.in-Some.field-0 c.args.waiter c.requires.order.ascend of_it.0 of_it.1;
       first = subst (λ n. AllByRecursion (λ v. lacks_notice v ≡ false) (take n (set ws i c.args.waiter))) (sym c.mark_behind-self.ensures)
-        (mark_written c.args.self.now.noticed ws i c.args.waiter c.requires.order.first);
+          (mark_written c.args.self.now.noticed ws i c.args.waiter c.requires.order.first);
     }
 
 pub returns-in-Some-clause-there : goal.returns-in-Some-clause-there
@@ -47,8 +47,8 @@ returns-in-None-clause-order c =
     record {
       ascend = subst (Ascends 0) (sym items) (put_in_ascends 0 ws i c.args.waiter c.requires.order.ascend (omega arith) within below behind);
       first = subst (λ xs. AllByRecursion (λ v. lacks_notice v ≡ false) (take c.mark_behind-self.result xs)) (sym items)
-        (subst (λ n. AllByRecursion (λ v. lacks_notice v ≡ false) (take n (insert ws i c.args.waiter))) (sym c.mark_behind-self.ensures)
-        (mark_put_in c.args.self.now.noticed ws i c.args.waiter within c.requires.order.first));
+          (subst (λ n. AllByRecursion (λ v. lacks_notice v ≡ false) (take n (insert ws i c.args.waiter))) (sym c.mark_behind-self.ensures)
+          (mark_put_in c.args.self.now.noticed ws i c.args.waiter within c.requires.order.first));
     }
 
 pub returns-in-None-clause-there : goal.returns-in-None-clause-there

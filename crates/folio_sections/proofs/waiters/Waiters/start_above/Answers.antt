@@ -12,8 +12,8 @@ returns-clause-passed c = λ m k d less.
     let same = c.as_slice-list.ensures.value in
     ⊎_elim
     (λ ahead. not_above c.args.floor m (get_or ws k d)
-      (subst (λ xs. nat_lt c.args.floor (get_or xs k d).filing ≡ false) same (c.count_to.ensures.passed k d (grind (arith, nat_tests, ahead)))))
+    (subst (λ xs. nat_lt c.args.floor (get_or xs k d).filing ≡ false) same (c.count_to.ensures.passed k d (grind (arith, nat_tests, ahead)))))
     (λ behind.
-      let first : k < min c.args.self.now.noticed (length c.as_slice-list.result.now) = grind (arith, nat_tests, behind, less, c.max.ensures, c.min.ensures) in
-      noticed c.args.floor m (get_or ws k d) (among_first (λ w. lacks_notice w ≡ false) c.args.self.now.noticed ws k d (omega arith) (subst (λ xs. k < length xs) same (omega arith)) c.requires.first))
+    let first : k < min c.args.self.now.noticed (length c.as_slice-list.result.now) = grind (arith, nat_tests, behind, less, c.max.ensures, c.min.ensures) in
+    noticed c.args.floor m (get_or ws k d) (among_first (λ w. lacks_notice w ≡ false) c.args.self.now.noticed ws k d (omega arith) (subst (λ xs. k < length xs) same (omega arith)) c.requires.first))
     (cases_Bool (nat_lt k c.count_to.result))
