@@ -1,10 +1,10 @@
 -- The case at a forced sale with one entry more.
-use Rattle.std.proofs.Common.{◌≡◌, ℕ, zero, suc, ◌+◌, ◌-◌, ◌<◌, ◌≤◌, Bool, true, false, cond, not, nat_lt, min, ◌||◌, List, [], ◌∷◌, ◌++◌, Option, Some, None, drop, fold, length, reverse, count_by, refl, sym, ap, subst, ◌∙◌, arith}
+use Rattle.std.proofs.Common.{◌≡◌, ℕ, ◌+◌, ◌-◌, Bool, true, false, cond, not, nat_lt, min, ◌||◌, List, [], ◌∷◌, ◌++◌, Option, None, drop, fold, length, count_by, refl, sym, ap, ◌∙◌, arith}
 use Rattle.std.specs.List.{after_last, list_any, prefix_len, suffix_len}
 use Rattle.std.proofs.lemmas.Bool.Decides.{nat_tests}
 use Rattle.std.proofs.lemmas.List.{drop-append-le, reverse-append}
 use Rattle.std.proofs.lemmas.List.Sums.{fold-append, sum_by-append, sum_by-cons, suffix_len-le-length}
-use Rattle.folio_sections.specs.Cases.{award, award_by, call, call_by, case, is_distribution, is_registration, is_seizure, registrations, seizures}
+use Rattle.folio_sections.specs.Cases.{award_by, call_by, case, is_distribution, is_registration, is_seizure, registrations, seizures}
 use Rattle.folio_sections.specs.declared.case_part.Running.{Running}
 use Rattle.folio_sections.specs.declared.entries.Entry.{Entry}
 use Rattle.folio_sections.specs.declared.entries.What.{What}

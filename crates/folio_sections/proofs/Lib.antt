@@ -3,6 +3,7 @@ pub mod Additions
 pub mod Cases
 pub mod DistinctLists
 pub mod FilteredLists
+pub mod FirstWaiters
 pub mod HeldParts
 pub mod HeldRights
 pub mod Indexes
@@ -17,5 +18,4 @@ pub mod Rights
 pub mod Titles
 pub mod Unchanged
 pub mod Unnoticed
-pub mod UnnoticedWaiters
 pub mod WaitersInOrder

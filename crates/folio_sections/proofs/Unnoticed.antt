@@ -1,17 +1,14 @@
 -- The first filing above a number that waits without a notice, among all numbers.
-use Rattle.std.proofs.Common.{◌≡◌, ℕ, suc, zero, ◌<◌, ◌≤◌, Bool, true, false, cond, eqb, ◌&&◌, nat_lt, List, [], ◌∷◌, Option, Some, None, find, filter, fold, is_none, is_some, refl, sym, ap, subst, ◌∙◌, ⊎_elim, arith}
-use Rattle.std.specs.List.{AllByRecursion}
+use Rattle.std.proofs.Common.{◌≡◌, ℕ, suc, zero, ◌<◌, Bool, true, false, cond, ◌&&◌, nat_lt, List, [], ◌∷◌, Option, Some, None, find, filter, is_none, refl, sym, ap, subst, ◌∙◌, ⊎_elim, arith}
 use Rattle.std.specs.Option.{option_or}
-use Rattle.std.proofs.lemmas.Bool.{and_parts, cases_Bool, eqb-true, false≢true}
+use Rattle.std.proofs.lemmas.Bool.{cases_Bool, false≢true}
 use Rattle.std.proofs.lemmas.Bool.Decides.{nat_tests}
 use Rattle.std.proofs.lemmas.List.Elements.{filter-append}
 use Rattle.std.proofs.lemmas.List.Folds.{find-append}
-use Rattle.folio_sections.specs.Waiting.{waiting_unnoticed, receipts_before, is_above, is_pending, notice, pending, until_by}
+use Rattle.folio_sections.specs.Waiting.{waiting_unnoticed, receipts_before, is_pending, notice}
 use Rattle.folio_sections.specs.declared.entries.Entry.{Entry}
-use Rattle.folio_sections.specs.declared.entries.What.{What}
-use Rattle.folio_sections.specs.declared.entries.What.TheVariants as what
 use Rattle.folio_sections.proofs.ReceiptsBefore.{receipts_before_next}
-use Rattle.folio_sections.specs.inner.Unnoticed.{first_unnoticed, is_unnoticed, is_wanted}
+use Rattle.folio_sections.specs.inner.Unnoticed.{is_unnoticed}
 
 -- ---- the least number that passes a test
 

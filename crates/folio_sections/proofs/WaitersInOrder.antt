@@ -1,11 +1,11 @@
 -- Waiters in the order of their filings: one is found by its filing, written in its place, or put into the order.
-use Rattle.std.proofs.Common.{◌≡◌, ℕ, zero, suc, ◌+◌, ◌<◌, ◌≤◌, Bool, true, false, cond, eqb, ◌==◌, nat_le, nat_lt, List, [], ◌∷◌, Option, Some, None, find, get_or, length, min, set, slice_get, take, refl, sym, ap, subst, ◌∙◌, arith}
+use Rattle.std.proofs.Common.{◌≡◌, ℕ, zero, suc, ◌+◌, ◌<◌, ◌≤◌, true, false, cond, ◌==◌, nat_le, nat_lt, List, [], ◌∷◌, Option, Some, None, get_or, length, min, set, slice_get, take, refl, sym, ap, subst, ◌∙◌, arith}
 use Rattle.std.specs.List.{AllByRecursion, insert}
 use Rattle.std.specs.List.Sorted.{IsPartitionedBy}
 use Rattle.std.proofs.lemmas.Bool.{eqb-true}
 use Rattle.std.proofs.lemmas.Bool.Decides.{nat_tests}
 use Rattle.folio_sections.specs.declared.waiters.Waiter.{Waiter}
-use Rattle.folio_sections.specs.inner.Waiters.{Ascends, AreInOrder, lacks_notice, waiter_at, waiter_of}
+use Rattle.folio_sections.specs.inner.Waiters.{Ascends, lacks_notice, waiter_at, waiter_of}
 
 -- the filings of the first i waiters are below m
 abbrev pub AreBelow : ℕ → List Waiter → ℕ → Type 0

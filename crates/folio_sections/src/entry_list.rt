@@ -33,7 +33,7 @@ impl Model for EntryList {
 }
 
 impl EntryList {
-    ghost use Rattle.folio_sections.specs.Waiting.{is_above, is_notice_of, is_pending, notice, pending, waiting_unnoticed};
+    ghost use Rattle.folio_sections.specs.Waiting.{is_above, is_notice_of, is_pending, notice, pending, waiting_before, waiting_unnoticed};
     ghost use Rattle.folio_sections.specs.inner.Naming.{last_at};
 
     /// The empty list at a key.
@@ -139,6 +139,13 @@ impl EntryList {
             Some(ahead) => Some(self.entries[ahead].day),
             None => None,
         }
+    }
+
+    /// The first filing above `after`, and below `filing`, that waits; None where there is none.
+    pub fn next_pending(&self, after: Option<ReceiptNo>, filing: ReceiptNo) -> Option<ReceiptNo>
+        ensures { result ≡ find (is_above after) (waiting_before filing self.now.entries) }
+    {
+        self.waiters.next_pending(after, filing)
     }
 
     /// The first filing above `after`, and below `filing`, that waits without an official notice;

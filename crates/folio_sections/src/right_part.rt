@@ -44,7 +44,7 @@ impl Model for RightPart {
 
 impl RightPart {
     ghost use Rattle.std.specs.List.{find};
-    ghost use Rattle.folio_sections.specs.Waiting.{waiting_unnoticed, pending, is_above, notice};
+    ghost use Rattle.folio_sections.specs.Waiting.{waiting_before, waiting_unnoticed, pending, is_above, notice};
     ghost use Rattle.folio_sections.specs.Rights.{created, is_live, is_full, holder, holder_for, capital, is_spent};
 
     /// The empty part at a key.
@@ -203,6 +203,14 @@ impl RightPart {
         ensures { result ≡ notice filing self.now.entries }
     {
         self.list.notice(filing)
+    }
+
+    /// The first filing above `after`, and below `filing`, that waits here (GBO § 18); None where
+    /// there is none.
+    pub fn next_pending(&self, after: Option<ReceiptNo>, filing: ReceiptNo) -> Option<ReceiptNo>
+        ensures { result ≡ find (is_above after) (waiting_before filing self.now.entries) }
+    {
+        self.list.next_pending(after, filing)
     }
 
     /// The first filing above `after`, and below `filing`, that waits here without an official

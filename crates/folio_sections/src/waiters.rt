@@ -4,8 +4,8 @@
 ghost use Rattle.std.specs.Prelude.{◌≡◌, ◌+◌, ◌≤◌, ◌<◌, ◌==◌, ◌&&◌, true, false, drop, take_while, ℕ, Some, None, [], length, find, if◌then◌else◌, get_or, option_copied, option_map, option_and_then, is_some, is_none, nat_lt, min, slice_get, vec_len, vec_capacity, OnOk, OnErr, IsOk};
 ghost use Rattle.std.specs.Option.{option_or};
 ghost use Rattle.folio_sections.specs.Waiting.{is_notice_of, until_by};
-ghost use Rattle.folio_sections.specs.inner.Unnoticed.{first_unnoticed, floor, is_wanted};
-ghost use Rattle.folio_sections.specs.inner.Waiters.{Ascends, AreInOrder, lacks_notice, notice_in, until_in, waiter_at, waiter_of};
+ghost use Rattle.folio_sections.specs.inner.Unnoticed.{first_that, floor, is_wanted};
+ghost use Rattle.folio_sections.specs.inner.Waiters.{Ascends, AreInOrder, lacks_notice, notice_in, until_in, waiter_at, waiter_of, waits};
 ghost use Rattle.folio_sections.specs.declared.waiters.Waiter.{Waiter};
 
 use crate::What;
@@ -64,11 +64,21 @@ impl Waiters {
         }
     }
 
+    /// The first filing above `after`, and below `filing`, that waits; None where there is none.
+    pub fn next_pending(&self, after: Option<ReceiptNo>, filing: ReceiptNo) -> Option<ReceiptNo>
+        requires { AreInOrder self.now }
+        ensures { result ≡ first_that waits (floor after) filing self.now.list.items }
+    {
+        let floor = floor(after);
+        let start = count_to(self.list.as_slice(), floor);
+        first_waiting(self.behind(start), floor, filing)
+    }
+
     /// The first filing above `after`, and below `filing`, that waits without an official notice;
     /// None where there is none.
     pub fn next_unnoticed(&self, after: Option<ReceiptNo>, filing: ReceiptNo) -> Option<ReceiptNo>
         requires { AreInOrder self.now }
-        ensures { result ≡ first_unnoticed (floor after) filing self.now.list.items }
+        ensures { result ≡ first_that lacks_notice (floor after) filing self.now.list.items }
     {
         let floor = floor(after);
         let start = self.start_above(floor);
@@ -87,7 +97,7 @@ impl Waiters {
     fn start_above(&self, floor: u32) -> usize
         requires { AreInOrder self.now }
         ensures within { result ≤ length self.now.list.items }
-        ensures passed { (m k : ℕ) (d : Waiter) → k < result → is_wanted floor m (get_or self.now.list.items k d) ≡ false }
+        ensures passed { (m k : ℕ) (d : Waiter) → k < result → is_wanted lacks_notice floor m (get_or self.now.list.items k d) ≡ false }
     {
         let list = self.list.as_slice();
         count_to(list, floor).max(self.noticed.min(list.len()))
@@ -276,6 +286,16 @@ fn count_to(list: &[Waiter], floor: u32) -> usize
     ensures passed { (k : ℕ) (d : Waiter) → k < result → nat_lt floor (get_or list.now k d).filing ≡ false }
 {
     list.partition_point(|waiter| waiter.filing.get() <= floor)
+}
+
+/// The first of these waiters that is above this number, and below `filing`, and waits.
+fn first_waiting(list: &[Waiter], floor: u32, filing: ReceiptNo) -> Option<ReceiptNo>
+    ensures { result ≡ option_map (λ w. w.filing) (find (λ w. nat_lt floor w.filing && waits w) (take_while (λ w. nat_lt w.filing filing) list.now)) }
+{
+    list.iter()
+        .take_while(|one| one.filing < filing)
+        .find(|one| floor < one.filing.get() && one.until.is_some())
+        .map(|one| one.filing)
 }
 
 /// The first of these waiters that is above this number, and below `filing`, and lacks a notice.

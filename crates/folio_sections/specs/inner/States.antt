@@ -1,5 +1,5 @@
 -- What each part keeps beside its entries.
-use Rattle.std.specs.Prelude.{◌≡◌, ℕ, ◌+◌, ◌≤◌, nat_lt, min, ◌||◌, Bool, true, false, List, length, drop, fold, is_none, is_some, Option, Some, None}
+use Rattle.std.specs.Prelude.{◌≡◌, ℕ, ◌+◌, ◌≤◌, nat_lt, min, ◌||◌, Bool, true, false, List, length, drop, fold, is_none, Option, Some, None}
 use Rattle.std.specs.List.{list_any}
 use Rattle.act_model.specs.declared.land.Inventory.{Inventory}
 use Rattle.folio_sections.specs.Cases.{award, call, case, registrations, seizures}

@@ -3,7 +3,6 @@ use Rattle.std.specs.Prelude.{ℕ, Bool, ◌&&◌, nat_lt, List, Option, Some, N
 use Rattle.folio_sections.specs.Waiting.{is_pending, notice}
 use Rattle.folio_sections.specs.declared.entries.Entry.{Entry}
 use Rattle.folio_sections.specs.declared.waiters.Waiter.{Waiter}
-use Rattle.folio_sections.specs.inner.Waiters.{lacks_notice}
 
 -- filing n waits without a notice
 abbrev pub is_unnoticed : ℕ → List Entry → Bool
@@ -14,10 +13,10 @@ abbrev pub floor : Option ℕ → ℕ
 floor None = 0
 floor (Some n) = n
 
--- the waiter is of a filing above this number and below filing m, and lacks a notice
-abbrev pub is_wanted : ℕ → ℕ → Waiter → Bool
-is_wanted low m w = nat_lt w.filing m && (nat_lt low w.filing && lacks_notice w)
+-- the waiter is of a filing above this number and below filing m, and passes
+abbrev pub is_wanted : (Waiter → Bool) → ℕ → ℕ → Waiter → Bool
+is_wanted t low m w = nat_lt w.filing m && (nat_lt low w.filing && t w)
 
 -- the filing of the first such waiter
-abbrev pub first_unnoticed : ℕ → ℕ → List Waiter → Option ℕ
-first_unnoticed low m ws = option_map (λ w. w.filing) (find (is_wanted low m) ws)
+abbrev pub first_that : (Waiter → Bool) → ℕ → ℕ → List Waiter → Option ℕ
+first_that t low m ws = option_map (λ w. w.filing) (find (is_wanted t low m) ws)

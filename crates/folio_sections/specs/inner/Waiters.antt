@@ -28,9 +28,13 @@ until_in m ws = option_and_then (λ w. w.until) (waiter_of m ws)
 abbrev pub notice_in : ℕ → List Waiter → Option ℕ
 notice_in m ws = option_and_then (λ w. w.notice) (waiter_of m ws)
 
+-- it waits
+abbrev pub waits : Waiter → Bool
+waits w = is_some w.until
+
 -- it waits without a notice
 abbrev pub lacks_notice : Waiter → Bool
-lacks_notice w = is_some w.until && is_none w.notice
+lacks_notice w = waits w && is_none w.notice
 
 -- each filing stands once, in ascending order, and none of the first waits without a notice
 pub record AreInOrder (ws : Waiters) : Type 0 where

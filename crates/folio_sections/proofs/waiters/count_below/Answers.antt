@@ -1,5 +1,5 @@
 -- Those of lower filings stand ahead of the others.
-use Rattle.std.proofs.Common.{rules, ◌≤◌, nat_lt, arith}
+use Rattle.std.proofs.Common.{rules, nat_lt, arith}
 use Rattle.std.proofs.lemmas.List.Sorted.{IsPartitionPoint-from_clause}
 use Rattle.folio_sections.proofs.WaitersInOrder.{parted}
 use Rattle.folio_sections.proofs.waiters.count_below.Goals as goal

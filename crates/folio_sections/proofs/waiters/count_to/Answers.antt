@@ -1,5 +1,5 @@
 -- Those of filings up to the number stand ahead of the others.
-use Rattle.std.proofs.Common.{rules, ◌≡◌, ◌≤◌, true, false, nat_le, nat_lt, get_or, arith}
+use Rattle.std.proofs.Common.{rules, ◌≡◌, true, nat_le, get_or, arith}
 use Rattle.std.proofs.lemmas.Bool.Decides.{nat_tests}
 use Rattle.std.proofs.lemmas.List.Sorted.{IsPartitionPoint-from_clause}
 use Rattle.folio_sections.proofs.WaitersInOrder.{parted_to}

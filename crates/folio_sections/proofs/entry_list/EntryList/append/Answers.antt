@@ -1,4 +1,4 @@
-use Rattle.std.proofs.Common.{◌∙◌, ◌+◌, ◌-◌, ◌≤◌, ap, subst, sym, arith}
+use Rattle.std.proofs.Common.{◌∙◌, ◌≤◌, ap, subst, sym, arith}
 use Rattle.folio_sections.specs.inner.Listed.{GoWith}
 use Rattle.folio_sections.proofs.Listed.{goes_on}
 use Rattle.folio_sections.proofs.entry_list.EntryList.append.Goals as goal

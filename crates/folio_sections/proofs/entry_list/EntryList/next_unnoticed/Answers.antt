@@ -1,10 +1,10 @@
 use Rattle.std.proofs.Common.{◌∙◌, ap, find}
 use Rattle.folio_sections.specs.Waiting.{is_above, waiting_unnoticed}
-use Rattle.folio_sections.proofs.UnnoticedWaiters.{first_of_waiters}
+use Rattle.folio_sections.proofs.FirstWaiters.{first_unnoticed}
 use Rattle.folio_sections.proofs.entry_list.EntryList.next_unnoticed.Goals as goal
 
 pub returns : goal.returns
 returns c =
     let go = c.self.invariant.0 in
-    c.next_unnoticed.ensures ∙ first_of_waiters c.args.after c.args.filing _ c.self.inside.entries.items go.order.ascend go.say
+    c.next_unnoticed.ensures ∙ first_unnoticed c.args.after c.args.filing _ c.self.inside.entries.items go.order.ascend go.say
     ∙ ap (λ v. find (is_above c.args.after) (waiting_unnoticed c.args.filing v.entries)) c.self.view_is

@@ -1,8 +1,8 @@
-use Rattle.std.proofs.Common.{◌≡◌, ◌∙◌, ◌&&◌, false, not, if◌then◌else◌, ap, is_some, sym}
+use Rattle.std.proofs.Common.{◌≡◌, ◌∙◌, ◌&&◌, false, not, if◌then◌else◌, ap, sym}
 use Rattle.std.specs.List.{list_any}
 use Rattle.folio_sections.specs.Titles.{is_award_owner, owners}
-use Rattle.folio_sections.specs.Waiting.{after_notice, before_notice, notice}
-use Rattle.folio_sections.proofs.Notices.{ahead_of, stands, stands_not}
+use Rattle.folio_sections.specs.Waiting.{after_notice, before_notice}
+use Rattle.folio_sections.proofs.Notices.{ahead_of, stands}
 use Rattle.folio_sections.proofs.title_part.TitlePart.owners_for.Goals as goal
 
 pub returns-in-Some : goal.returns-in-Some

@@ -1,4 +1,4 @@
-use Rattle.std.proofs.Common.{◌≡◌, ◌-◌, ◌≤◌, length}
+use Rattle.std.proofs.Common.{◌≡◌, ◌-◌, length}
 use Rattle.folio_sections.specs.inner.Waiters.{AreInOrder}
 use Rattle.folio_sections.proofs.waiters.Waiters.pass_noticed.Given as goal
 

@@ -1,5 +1,5 @@
 -- A waiter takes the place of that of its filing, or stands between those of lower and of higher filings.
-use Rattle.std.proofs.Common.{◌≡◌, ◌∙◌, ◌<◌, ◌≤◌, ℕ, arith, false, true, if◌then◌else◌, List, Option, Some, None, Result, Ok, Err, IsOk, is_ok, length, set, slice_get, sym, ap, subst, take}
+use Rattle.std.proofs.Common.{◌≡◌, ◌∙◌, ◌≤◌, ℕ, arith, false, if◌then◌else◌, List, Option, Some, None, Result, Ok, Err, IsOk, is_ok, length, set, slice_get, sym, ap, subst, take}
 use Rattle.std.specs.List.{AllByRecursion, insert}
 use Rattle.std.proofs.lemmas.Bool.{false≢true}
 use Rattle.folio_sections.specs.declared.waiters.Waiter.{Waiter}
