@@ -1,8 +1,8 @@
 //! Opening lists, and what their records ask.
-use crate::OpeningList;
 use act_model::{Act, Item};
 use gb_base::NoMemory;
 use intake_requests::Request;
+use opening_lists::OpeningList;
 use std::alloc::Global;
 use std::test::Fail;
 

@@ -2,7 +2,7 @@
 ghost use Rattle.std.specs.Prelude.{◌<◌, ◌≤◌, sum, All};
 ghost use Rattle.gb_base.specs.Limits.{most_sum};
 
-use crate::share;
+use gb_base::share;
 
 /// The shares of three claims.
 fn shares_of_three(money: u64, claims: [u64; 3]) -> [u64; 3]

@@ -1,5 +1,5 @@
 //! Tests of lines that are items, and of those that are none.
-use crate::{LineFault, read_item, read_stamped};
+use act_json::{LineFault, read_item, read_stamped};
 use act_model::{Act, Doc, Filing, Form, Item, RightKind};
 use std::alloc::Global;
 use std::process::Abort;

@@ -1,5 +1,5 @@
 //! Tests of ranges, dates, texts, deadlines and the order of keys.
-use crate::{Cents, Day, FolioId, Key, Person, ReceiptNo, RightId, Stamp, deadline};
+use gb_base::{Cents, Day, FolioId, Key, Person, ReceiptNo, RightId, Stamp, deadline};
 use std::test::Fail;
 
 #[test]
