@@ -2,11 +2,10 @@
 ghost use Rattle.std.specs.Prelude.{◌<◌, ◌≤◌};
 
 use crate::fitting::{are_tied, can_knot, can_swap, stands_alone};
-use crate::testing::{knot, place, swap};
-use crate::{Knot, Place, Swap};
+use crate::lines::{knot, place, swap};
 use gb_base::NoMemory;
+use rank_slots::{Knot, Place, Swap};
 use std::alloc::Global;
-use std::process::Abort;
 
 /// What a line is filled with.
 #[derive(Debug, Drop)]
@@ -48,17 +47,18 @@ impl Draws {
 
     /// The number of a right, which may have no place.
     fn right(&mut self) -> u32
-        ensures { result ≤ 6 }
+        ensures from_one { 1 ≤ result }
+        ensures to_six { result ≤ 6 }
     {
         1 + self.below(6)
     }
 
     /// What makes a line.
-    pub fn line(&mut self, rt: &impl Abort, alloc: Global) -> Result<Drawn, NoMemory> {
-        let all = self.places(rt, alloc)?;
+    pub fn line(&mut self, alloc: Global) -> Result<Drawn, NoMemory> {
+        let all = self.places(alloc)?;
         let places = self.dropping(alloc, &all)?;
-        let swaps = self.swaps(rt, alloc, &places)?;
-        let knots = self.knots(rt, alloc, &places, &swaps)?;
+        let swaps = self.swaps(alloc, &places)?;
+        let knots = self.knots(alloc, &places, &swaps)?;
         Ok(Drawn {
             places,
             swaps,
@@ -67,14 +67,14 @@ impl Draws {
     }
 
     /// Up to six places with claims of 1 to 9 cents. About every other list may have groups.
-    fn places(&mut self, rt: &impl Abort, alloc: Global) -> Result<Vec<Place>, NoMemory> {
+    fn places(&mut self, alloc: Global) -> Result<Vec<Place>, NoMemory> {
         let count = self.right().max(self.right());
         let has_groups = self.one_in(2);
         let mut places = Vec::new(alloc);
         for n in 1..count + 1 {
             places.push(Place {
                 with_previous: n > 1 && has_groups && self.one_in(3),
-                ..place(rt, n, 1 + u64::from(self.below(9)))
+                ..place(n, 1 + u64::from(self.below(9)))
             })?;
         }
         Ok(places)
@@ -93,15 +93,10 @@ impl Draws {
     }
 
     /// Up to six exchanges.
-    fn swaps(
-        &mut self,
-        rt: &impl Abort,
-        alloc: Global,
-        places: &[Place],
-    ) -> Result<Vec<Swap>, NoMemory> {
+    fn swaps(&mut self, alloc: Global, places: &[Place]) -> Result<Vec<Swap>, NoMemory> {
         let mut swaps = Vec::new(alloc);
         for _ in 0..self.below(7) {
-            let swap = swap(rt, self.right(), self.right());
+            let swap = swap(self.right(), self.right());
             if swap.recede != swap.rise && can_swap(places, swap) {
                 swaps.push(swap)?;
             }
@@ -112,14 +107,13 @@ impl Draws {
     /// A few knots.
     fn knots(
         &mut self,
-        rt: &impl Abort,
         alloc: Global,
         places: &[Place],
         swaps: &[Swap],
     ) -> Result<Vec<Knot>, NoMemory> {
         let mut knots = Vec::new(alloc);
         for _ in 0..self.below(10) {
-            let knot = knot(rt, self.right(), self.right());
+            let knot = knot(self.right(), self.right());
             if is_free(&knots, &knot) && can_knot(places, swaps, knot) {
                 knots.push(knot)?;
             }

@@ -1,7 +1,7 @@
 -- The claims so far fit.
 use Rattle.std.proofs.Common.{◌≡◌, ◌<◌, sum_by, take}
 use Rattle.gb_base.specs.Limits.{most_sum}
-use Rattle.rank_slots.proofs.fitting.claims_fit.Given as goal
+use Rattle.rank_tests.proofs.fitting.claims_fit.Given as goal
 
 abbrev pub invariant-loop-place : goal.invariant-loop-place
 invariant-loop-place l = record {

@@ -2,8 +2,8 @@
 use Rattle.std.proofs.Common.{◌∙◌, subst, sym}
 use Rattle.std.specs.List.{IsDistinct}
 use Rattle.gb_base.specs.RightNo.{same_right}
-use Rattle.rank_slots.proofs.FillTests.{distinct_first, distinct_none}
-use Rattle.rank_slots.proofs.fitting.+are_distinct.Goals as goal
+use Rattle.rank_tests.proofs.FillTests.{distinct_first, distinct_none}
+use Rattle.rank_tests.proofs.fitting.+are_distinct.Goals as goal
 
 pub returns-in-None : goal.returns-in-None
 returns-in-None t c _ = distinct_none (λ p q. same_right p.right q.right) c.args.places.now c.in-None.ensures.cases

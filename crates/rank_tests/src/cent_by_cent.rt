@@ -1,9 +1,9 @@
 //! Lines that are written cent by cent, and what each right gets of them as the rules say it. Sums
 //! saturate, so that none of a test wants a proof.
 use crate::drawn::{Drawn, Draws};
-use crate::testing::{filled, paid, threshold};
-use crate::{Knot, Piece, Place, Slots, Swap};
+use crate::lines::{filled, paid, threshold};
 use gb_base::{NoMemory, RightId};
+use rank_slots::{Knot, Piece, Place, Slots, Swap};
 use std::alloc::Global;
 use std::process::Abort;
 use std::test::Fail;
@@ -298,7 +298,7 @@ fn same_line(rt: &impl Abort, alloc: Global, drawn: &Drawn) -> Result<(), NoMemo
 fn drawn_lines_are_as_written_cent_by_cent(rt: HostRuntime) -> Result<(), Fail> {
     let mut draws = Draws::new(881);
     for _ in 0..200 {
-        let drawn = draws.line(&rt, rt.alloc())?;
+        let drawn = draws.line(rt.alloc())?;
         same_line(&rt, rt.alloc(), &drawn)?;
     }
     Ok(())

@@ -1,8 +1,8 @@
 -- All that makes a line is at hand.
 use Rattle.std.proofs.Common.{◌∙◌, sym}
 use Rattle.std.proofs.lemmas.Bool.{both_ways}
-use Rattle.rank_slots.proofs.fitting.can_fill.Goals.{then-are_places, else-are_places, then-can_swap_all, else-can_swap_all}
-use Rattle.rank_slots.proofs.fitting.can_fill.Goals as goal
+use Rattle.rank_tests.proofs.fitting.can_fill.Goals.{then-are_places, else-are_places, then-can_swap_all, else-can_swap_all}
+use Rattle.rank_tests.proofs.fitting.can_fill.Goals as goal
 
 pub returns-then-can_knot_all : goal.returns-then-can_knot_all
 returns-then-can_knot_all c once = elim c.if-can_swap_all.branch [

@@ -4,9 +4,9 @@ use Rattle.std.specs.List.{IsDistinct}
 use Rattle.std.proofs.lemmas.Bool.{both_ways, not-true}
 use Rattle.gb_base.specs.RightNo.{same_right}
 use Rattle.rank_slots.specs.CanFill.{knotted}
-use Rattle.rank_slots.proofs.FillTests.{tied_first, untied_none}
-use Rattle.rank_slots.proofs.fitting.+are_tied_once.Goals.{then-ne, else-ne, then-not-are_tied, else-not-are_tied}
-use Rattle.rank_slots.proofs.fitting.+are_tied_once.Goals as goal
+use Rattle.rank_tests.proofs.FillTests.{tied_first, untied_none}
+use Rattle.rank_tests.proofs.fitting.+are_tied_once.Goals.{then-ne, else-ne, then-not-are_tied, else-not-are_tied}
+use Rattle.rank_tests.proofs.fitting.+are_tied_once.Goals as goal
 
 pub returns-in-None : goal.returns-in-None
 returns-in-None t c _ = untied_none c.args.knots.now c.in-None.ensures.cases

@@ -2,8 +2,8 @@
 use Rattle.std.proofs.Common.{rules, tests}
 use Rattle.std.proofs.lemmas.Iterator.{cases_from_all, YieldsList-from_slice}
 use Rattle.rank_slots.specs.CanFill.{CanKnot}
-use Rattle.rank_slots.proofs.FillTests.{all_if_true}
-use Rattle.rank_slots.proofs.fitting.can_knot_all.Goals as goal
+use Rattle.rank_tests.proofs.FillTests.{all_if_true}
+use Rattle.rank_tests.proofs.fitting.can_knot_all.Goals as goal
 
 pub returns : goal.returns
 returns c =

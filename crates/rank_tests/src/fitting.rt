@@ -4,12 +4,13 @@ ghost use Rattle.std.specs.List.{IsDistinct, list_any};
 ghost use Rattle.gb_base.specs.Limits.{most_sum};
 ghost use Rattle.gb_base.specs.RightNo.{same_right};
 ghost use Rattle.rank_slots.specs.CanFill.{ArePlaces, CanFill, CanKnot, CanSwap, CanTie, StandsAlone, is_swapped, knotted};
-ghost use Rattle.rank_slots.specs.Groups.{group_of, joins, keeps_place};
+ghost use Rattle.rank_slots.specs.Groups.{group_of, is_of, joins, keeps_place};
 
-use crate::groups::{group_of, holds, is_listed_ahead};
-use crate::places::MOST_PLACES;
-use crate::{Knot, Place, Swap};
 use gb_base::RightId;
+use rank_slots::{Knot, Place, Swap, group_of, is_listed_ahead};
+
+/// The most places of a line.
+const MOST_PLACES: usize = 256;
 
 /// Sums of cents stay below this.
 pub const MOST_SUM: u64 = 1_000_000_000_000_000_000;
@@ -46,6 +47,13 @@ fn are_distinct(places: &[Place]) -> bool
         None => true,
         Some((first, rest)) => !holds(rest, first.right) && are_distinct(rest),
     }
+}
+
+/// Whether one of these places is the right's.
+fn holds(places: &[Place], right: RightId) -> bool
+    ensures { result ≡ list_any (is_of right) places.now }
+{
+    places.iter().any(|place| place.right == right)
 }
 
 /// Whether no place joins one before the first.

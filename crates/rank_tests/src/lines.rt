@@ -1,23 +1,26 @@
 //! Lines for the tests.
-ghost use Rattle.std.specs.Prelude.{◌≡◌};
+ghost use Rattle.std.specs.Prelude.{◌≡◌, ◌≤◌, true};
 ghost use Rattle.rank_slots.specs.Groups.{keeps_place};
 
 use crate::fitting::{can_fill, keeps_place};
-use crate::{Knot, Piece, Place, Relation, Slots, Swap};
-use gb_base::{ReceiptNo, RightId};
+use gb_base::RightId;
+use rank_slots::{Knot, Piece, Place, Relation, Slots, Swap};
 use std::alloc::Global;
 use std::process::Abort;
 
 /// The right that act 1 of receipt n creates.
-pub fn right(rt: &impl Abort, n: u32) -> RightId {
-    let receipt = ReceiptNo::new(n).expect(rt, "a receipt");
-    RightId::new(receipt, 1).expect(rt, "a right")
+pub fn right(n: u32) -> RightId
+    requires { 1 ≤ n }
+{
+    test_items::right(n, 1)
 }
 
 /// The place of right n, in a group of its own.
-pub fn place(rt: &impl Abort, n: u32, claim: u64) -> Place {
+pub fn place(n: u32, claim: u64) -> Place
+    requires { 1 ≤ n }
+{
     Place {
-        right: right(rt, n),
+        right: right(n),
         claim,
         with_previous: false,
         dropped: false,
@@ -25,41 +28,53 @@ pub fn place(rt: &impl Abort, n: u32, claim: u64) -> Place {
 }
 
 /// The place of right n, in one group with the place before.
-pub fn joined(rt: &impl Abort, n: u32, claim: u64) -> Place {
+pub fn joined(n: u32, claim: u64) -> Place
+    requires { 1 ≤ n }
+{
     Place {
         with_previous: true,
-        ..place(rt, n, claim)
+        ..place(n, claim)
     }
 }
 
 /// The place of right n, whose cents are taken out at the end.
-pub fn dropped(rt: &impl Abort, n: u32, claim: u64) -> Place {
+pub fn dropped(n: u32, claim: u64) -> Place
+    requires { 1 ≤ n }
+{
     Place {
         dropped: true,
-        ..place(rt, n, claim)
+        ..place(n, claim)
     }
 }
 
 /// Right `recede` recedes behind right `rise`.
-pub fn swap(rt: &impl Abort, recede: u32, rise: u32) -> Swap {
+pub fn swap(recede: u32, rise: u32) -> Swap
+    requires recede { 1 ≤ recede }
+    requires rise { 1 ≤ rise }
+{
     Swap {
-        recede: right(rt, recede),
-        rise: right(rt, rise),
+        recede: right(recede),
+        rise: right(rise),
     }
 }
 
 /// Right `exercised` was entered in the rank that right `reserved` leaves it.
-pub fn knot(rt: &impl Abort, reserved: u32, exercised: u32) -> Knot {
+pub fn knot(reserved: u32, exercised: u32) -> Knot
+    requires reserved { 1 ≤ reserved }
+    requires exercised { 1 ≤ exercised }
+{
     Knot {
-        reserved: right(rt, reserved),
-        exercised: right(rt, exercised),
+        reserved: right(reserved),
+        exercised: right(exercised),
     }
 }
 
 /// A piece of right n.
-pub fn piece(rt: &impl Abort, n: u32, cents: u64) -> Piece {
+pub fn piece(n: u32, cents: u64) -> Piece
+    requires { 1 ≤ n }
+{
     Piece {
-        right: right(rt, n),
+        right: right(n),
         cents,
     }
 }
@@ -82,9 +97,9 @@ pub fn filled(
 
 /// Whether the right has a place in the line that is not dropped.
 fn has_place(slots: &Slots, right: RightId) -> bool
-    ensures { result ≡ keeps_place slots.now.filled.places right }
+    ensures { result ≡ true → keeps_place slots.now.filled.places right ≡ true }
 {
-    keeps_place(&slots.places, right)
+    keeps_place(slots.group(right), right)
 }
 
 /// What the right gets of t cents.
