@@ -4,10 +4,11 @@ ghost use Rattle.gb_base.specs.Limits.{minutes_of_day};
 
 use act_model::{Added, Item, Journal, filing_keys, well_formed};
 use gb_base::Stamp;
+use std::process::Abort;
 use std::test::Fail;
 use test_items::{
-    charge, filing, filing_of, folio, lapse, last_of_february, one, opening, receipt, right,
-    right_key, stamp, three, title_key, two,
+    charge, filing, filing_of, lapse, last_of_february, one, opening, receipt, right, right_key,
+    stamp, three, title_key, two,
 };
 
 /// A minute of the last day of February.
@@ -17,27 +18,34 @@ fn at(minute: u16) -> Stamp
     stamp(last_of_february(), minute)
 }
 
+/// What the journal answers to an item of sender 1, at a minute of that day.
+fn answer(rt: &impl Abort, journal: &mut Journal, minute: u16, reference: u64, item: &Item) -> Added
+    requires { minute < minutes_of_day }
+{
+    assert!(rt; well_formed(item));
+    journal.add(at(minute), 1, reference, item)
+}
+
 #[test]
 fn one_number_acts_once(rt: HostRuntime) -> Result<(), Fail> {
     let mut journal = Journal::new(rt.alloc());
     let item = lapse(2);
     let other = lapse(3);
-    assert!(rt; well_formed(&item) && well_formed(&other));
     assert!(rt; item.copy() == item && item != other);
     assert_eq!(rt;
-        journal.add(at(540), 1, 5, &item),
+        answer(&rt, &mut journal, 540, 5, &item),
         Added::Accepted(receipt(1))
     );
     assert_eq!(rt;
-        journal.add(at(541), 1, 5, &item),
+        answer(&rt, &mut journal, 541, 5, &item),
         Added::Repeated(receipt(1))
     );
     assert_eq!(rt;
-        journal.add(at(541), 1, 5, &other),
+        answer(&rt, &mut journal, 541, 5, &other),
         Added::Differs(receipt(1))
     );
     assert_eq!(rt;
-        journal.add(at(539), 1, 6, &item),
+        answer(&rt, &mut journal, 539, 6, &item),
         Added::Accepted(receipt(2))
     );
     assert_eq!(rt; journal.len(), 2);
@@ -51,19 +59,19 @@ fn one_number_acts_once(rt: HostRuntime) -> Result<(), Fail> {
 fn room_is_kept_for_one(rt: HostRuntime) -> Result<(), Fail> {
     let mut journal = Journal::new(rt.alloc());
     let item = lapse(2);
-    assert!(rt; well_formed(&item));
     for (n, next) in [(1, 530), (2, 540), (3, 540)] {
         assert_eq!(rt; journal.next_stamp(at(530)), at(next));
         journal.reserve_one(&item)?;
         journal.reserve_one(&item)?;
+        let reference = u64::from(n);
         assert_eq!(rt;
-            journal.add(at(540), 1, n as u64, &item),
+            answer(&rt, &mut journal, 540, reference, &item),
             Added::Accepted(receipt(n))
         );
         // One that stands and one that waits for the index.
         assert_eq!(rt; journal.find(1, 1), Some(receipt(1)));
-        assert_eq!(rt; journal.find(1, n as u64), Some(receipt(n)));
-        assert_eq!(rt; journal.find(2, n as u64), None);
+        assert_eq!(rt; journal.find(1, reference), Some(receipt(n)));
+        assert_eq!(rt; journal.find(2, reference), None);
     }
     Ok(())
 }
@@ -72,9 +80,8 @@ fn room_is_kept_for_one(rt: HostRuntime) -> Result<(), Fail> {
 fn a_charge_touches_the_title_and_itself(rt: HostRuntime) {
     let mut journal = Journal::new(rt.alloc());
     let item = Item::Filing(filing_of(10, charge(7, 10_000_000, 20), &[]));
-    assert!(rt; well_formed(&item));
     assert_eq!(rt;
-        journal.add(at(540), 1, 1, &item),
+        answer(&rt, &mut journal, 540, 1, &item),
         Added::Accepted(receipt(1))
     );
     let keys = filing_keys(&journal, receipt(1));

@@ -1,6 +1,6 @@
 //! Opening lists, and what their records ask.
-use act_model::{Act, Item};
-use gb_base::NoMemory;
+use act_model::{Act, Inventory, Item, Owners};
+use gb_base::{FolioId, NoMemory};
 use intake_requests::Request;
 use opening_lists::OpeningList;
 use std::alloc::Global;
@@ -14,24 +14,30 @@ fn asked(alloc: Global, bytes: &[u8]) -> Result<Vec<u8>, NoMemory> {
     let mut list = OpeningList::new(alloc, 9, bytes)?;
     let mut text = Vec::new(alloc);
     for _ in 0..100 {
-        let Some(request) = list.next(alloc)? else {
-            return Ok(text);
-        };
-        match &request {
-            Request::Nothing => text.extend_from_slice(b"nothing\n")?,
-            Request::Refused(reply) => text.extend_from_slice(reply.text())?,
-            Request::Receive { from, item, .. } => {
-                let line = format!(in alloc; "{}:", from.reference)?;
-                text.extend_from_slice(line.as_bytes())?;
-                add_opening(alloc, &mut text, item)?;
-            }
+        match list.next(alloc)? {
+            None => return Ok(text),
+            Some(request) => add_request(alloc, &mut text, &request)?,
         }
     }
     Ok(text)
 }
 
+/// Adds the line of a request.
+fn add_request(alloc: Global, text: &mut Vec<u8>, request: &Request) -> Result<(), NoMemory> {
+    match request {
+        Request::Nothing => text.extend_from_slice(b"nothing\n")?,
+        Request::Refused(reply) => text.extend_from_slice(reply.text())?,
+        Request::Receive { from, item, .. } => {
+            let reference = format!(in alloc; "{}:", from.reference)?;
+            text.extend_from_slice(reference.as_bytes())?;
+            add_fields(alloc, text, item)?;
+        }
+    }
+    Ok(())
+}
+
 /// Adds the fields of the row that asks for this opening.
-fn add_opening(alloc: Global, text: &mut Vec<u8>, item: &Item) -> Result<(), NoMemory> {
+fn add_fields(alloc: Global, text: &mut Vec<u8>, item: &Item) -> Result<(), NoMemory> {
     if let Item::Filing(filing) = item {
         if let [
             Act::Open {
@@ -41,19 +47,33 @@ fn add_opening(alloc: Global, text: &mut Vec<u8>, item: &Item) -> Result<(), NoM
             },
         ] = filing.acts.list()
         {
-            let land = format!(in alloc;
-                "{},{},{}",
-                inventory.district, inventory.parcel, inventory.sub
-            )?;
-            let line = format!(in alloc; "{},{land},{}", folio.get(), inventory.area)?;
-            text.extend_from_slice(line.as_bytes())?;
-            for owner in owners.list() {
-                let owner = format!(in alloc; ",{}", owner.get())?;
-                text.extend_from_slice(owner.as_bytes())?;
-            }
+            add_land(alloc, text, *folio, *inventory)?;
+            add_owners(alloc, text, owners)?;
         }
     }
     text.push(b'\n')?;
+    Ok(())
+}
+
+/// Adds the fields of a parcel behind its folio.
+fn add_land(
+    alloc: Global,
+    text: &mut Vec<u8>,
+    folio: FolioId,
+    land: Inventory,
+) -> Result<(), NoMemory> {
+    let parcel = format!(in alloc; "{},{},{}", land.district, land.parcel, land.sub)?;
+    let line = format!(in alloc; "{},{parcel},{}", folio.get(), land.area)?;
+    text.extend_from_slice(line.as_bytes())?;
+    Ok(())
+}
+
+/// Adds the owners, a comma before each.
+fn add_owners(alloc: Global, text: &mut Vec<u8>, owners: &Owners) -> Result<(), NoMemory> {
+    for owner in owners.list() {
+        let owner = format!(in alloc; ",{}", owner.get())?;
+        text.extend_from_slice(owner.as_bytes())?;
+    }
     Ok(())
 }
 
