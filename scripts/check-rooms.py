@@ -114,8 +114,11 @@ def is_program(crate):
 
 
 def is_of_tests(crate):
-    """Whether a crate has nothing but tests of what others export."""
-    return crate.endswith("_tests")
+    """Whether each module of the crate is for tests alone."""
+    root = CRATES / crate / "src" / "lib.rt"
+    lines = root.read_text().splitlines() if root.exists() else []
+    before = [lines[n - 1] for n, line in enumerate(lines) if re.match(r"(pub )?mod \w+;", line)]
+    return bool(before) and all(line == "#[cfg(test)]" for line in before)
 
 
 def check_crates(look, crates):
@@ -126,7 +129,8 @@ def check_crates(look, crates):
         look.same(f"crates below {crate} that it uses", sorted(set(used) & set(uses) - above), [])
         above.add(crate)
     used_by_some = {crate for used in uses.values() for crate in used}
-    unused = [crate for crate in crates if crate not in used_by_some and not is_program(crate) and not is_of_tests(crate)]
+    wanted = [crate for crate in crates if not is_program(crate) and not is_of_tests(crate)]
+    unused = [crate for crate in wanted if crate not in used_by_some]
     look.same("libraries that no crate uses", unused, [])
 
 
