@@ -9,8 +9,6 @@ mod reader;
 mod receipts;
 mod rights;
 mod sales;
-#[cfg(test)]
-mod tests;
 mod writer;
 
 pub use receipts::{decode, encode};

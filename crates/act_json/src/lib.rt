@@ -12,8 +12,6 @@ mod paths;
 mod reading;
 mod rights;
 mod sales;
-#[cfg(test)]
-mod tests;
 mod words;
 
 pub use lines::{LineFault, read_item, read_stamped};

@@ -18,8 +18,6 @@ mod filing_documents;
 mod filing_rules;
 mod filings;
 mod groups;
-#[cfg(test)]
-mod index_tests;
 mod item_indexes;
 mod items;
 mod journals;
@@ -33,8 +31,6 @@ mod receipts;
 mod rights;
 mod sales;
 mod sought;
-#[cfg(test)]
-mod tests;
 mod touched_keys;
 
 pub use added::Added;

@@ -12,11 +12,7 @@ pub mod laws;
 mod memory;
 mod sections;
 mod shares;
-#[cfg(test)]
-mod shares_tests;
 mod stamps;
-#[cfg(test)]
-mod tests;
 mod texts;
 
 pub use amounts::Cents;

@@ -5,8 +5,6 @@ mod csv_records;
 mod lists;
 mod numerals;
 mod openings;
-#[cfg(test)]
-mod tests;
 
 pub use lists::OpeningList;
 pub use numerals::number_in;

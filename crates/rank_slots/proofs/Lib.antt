@@ -3,7 +3,6 @@ pub mod Ahead
 pub mod EmptySums
 pub mod ExchangedCents
 pub mod Exchanges
-pub mod FillTests
 pub mod Filling
 pub mod GroupCents
 pub mod GroupMembers

@@ -7,7 +7,7 @@ use crate::Place;
 use gb_base::RightId;
 
 /// The group of a right; empty where the right has no place here.
-pub(crate) fn group_of(places: &[Place], right: RightId) -> &[Place]
+pub fn group_of(places: &[Place], right: RightId) -> &[Place]
     ensures { result.now ≡ group_of places.now right }
 {
     let mut rest = places;
@@ -51,7 +51,7 @@ pub(crate) fn places_ahead(places: &[Place], right: RightId) -> usize
 }
 
 /// Whether right x has a place ahead of right y's.
-pub(crate) fn is_listed_ahead(places: &[Place], x: RightId, y: RightId) -> bool
+pub fn is_listed_ahead(places: &[Place], x: RightId, y: RightId) -> bool
     ensures { result ≡ is_listed_ahead places.now x y }
 {
     holds(&places[..places_ahead(places, y)], x)

@@ -1,0 +1,3 @@
+-- Lemmas.
+pub mod FillTests
+pub mod KeptInGroups
