@@ -1,7 +1,6 @@
 -- The entries that name who is concerned: what one entry more makes of their places.
-use Rattle.std.proofs.Common.{◌≡◌, ℕ, zero, suc, ◌+◌, ◌-◌, ◌<◌, ◌≤◌, Bool, true, false, cond, nat_lt, List, [], ◌∷◌, ◌++◌, Option, Some, None, filter, get_or, length, slice_get, take, option_and_then, refl, sym, ap, subst, ◌∙◌, ⊎_elim, arith}
+use Rattle.std.proofs.Common.{◌≡◌, ℕ, zero, suc, ◌+◌, ◌<◌, ◌≤◌, true, false, cond, nat_lt, List, [], ◌∷◌, ◌++◌, Option, Some, None, filter, length, slice_get, take, option_and_then, refl, sym, ap, subst, ◌∙◌, ⊎_elim, arith}
 use Rattle.std.specs.List.{AllByRecursion, last_or}
-use Rattle.std.specs.List.Sorted.{IsPartitionedBy}
 use Rattle.std.proofs.lemmas.Bool.{cases_Bool}
 use Rattle.std.proofs.lemmas.Bool.Decides.{nat_tests}
 use Rattle.std.proofs.lemmas.List.{take-append-le, append-nil}
@@ -11,29 +10,6 @@ use Rattle.folio_sections.specs.declared.entries.What.{What}
 use Rattle.folio_sections.specs.inner.Naming.{AreNamedAt, Rises, last_at, last_below}
 
 -- ---- numbers that rise
-
-rises_at : (a : ℕ) (ns : List ℕ) (i d : ℕ) → Rises a ns → i < length ns → a ≤ get_or ns i d
-rises_at a [] i d up within = absurd (omega arith)
-rises_at a (n ∷ ns) zero d up within = up.0
-rises_at a (n ∷ ns) (suc i) d up within =
-    let behind = rises_at (n + 1) ns i d up.1 (omega arith) in
-    let first = up.0 in
-    omega arith
-
-rises_between : (a : ℕ) (ns : List ℕ) (i j d : ℕ) → Rises a ns → i ≤ j → j < length ns → get_or ns i d ≤ get_or ns j d
-rises_between a [] i j d up order within = absurd (omega arith)
-rises_between a (n ∷ ns) zero zero d up order within = omega arith
-rises_between a (n ∷ ns) zero (suc j) d up order within =
-    let behind = rises_at (n + 1) ns j d up.1 (omega arith) in
-    omega arith
-rises_between a (n ∷ ns) (suc i) zero d up order within = absurd (omega arith)
-rises_between a (n ∷ ns) (suc i) (suc j) d up order within = rises_between (n + 1) ns i j d up.1 (omega arith) (omega arith)
-
--- those below a number stand ahead of the others
-pub parted_below : (a b : ℕ) (ns : List ℕ) → Rises a ns → IsPartitionedBy (λ n. nat_lt n b) ns
-parted_below a b ns up = λ i j d order within passes.
-    let less = rises_between a ns i j d up order within in
-    grind (arith, nat_tests, passes, less)
 
 -- a number that is not below b is put behind those that are
 pub rises_push : (a b : ℕ) (ns : List ℕ) → Rises a ns → AllByRecursion (λ n. n < b) ns → a ≤ b → Rises a (ns ++ b ∷ [])
@@ -53,37 +29,6 @@ below_more b [] below = tt
 below_more b (n ∷ ns) below =
     let first : n < b = below.0 in
     (omega arith, below_more b ns below.1)
-
--- ---- what passes at the front
-
-none_pass : {X : Type 0} (p : X → Bool) (xs : List X) → ((k : ℕ) (d : X) → 0 ≤ k → k < length xs → p (get_or xs k d) ≡ false) → filter p xs ≡ []
-none_pass p [] fail = refl
-none_pass p (x ∷ xs) fail =
-    let first : p x ≡ false = fail zero x (omega arith) (omega arith) in
-    rw first (none_pass p xs (λ k d low within. fail (suc k) d (omega arith) (omega arith)))
-
--- what passes stands at the front
-pub front_passes : {X : Type 0} (p : X → Bool) (xs : List X) (i : ℕ) → i ≤ length xs
-    → ((k : ℕ) (d : X) → 0 ≤ k → k < i → p (get_or xs k d) ≡ true)
-    → ((k : ℕ) (d : X) → i ≤ k → k < length xs → p (get_or xs k d) ≡ false)
-    → take i xs ≡ filter p xs
-front_passes p [] zero within pass fail = refl
-front_passes p [] (suc i) within pass fail = refl
-front_passes p (x ∷ xs) zero within pass fail = sym (none_pass p (x ∷ xs) fail)
-front_passes p (x ∷ xs) (suc i) within pass fail =
-    let first : p x ≡ true = pass zero x (omega arith) (omega arith) in
-    rw first (ap (λ rest. x ∷ rest) (front_passes p xs i (omega arith)
-    (λ k d low less. pass (suc k) d (omega arith) (omega arith)) (λ k d low less. fail (suc k) d (omega arith) (omega arith))))
-
-last_from : {X : Type 0} (x : X) (xs : List X) → slice_get (x ∷ xs) (length xs) ≡ last_or (Some x) xs
-last_from x [] = refl
-last_from x (y ∷ ys) = last_from y ys
-
-pub last_is : {X : Type 0} (xs : List X) → slice_get xs (length xs - 1) ≡ last_or None xs
-last_is [] = refl
-last_is (x ∷ xs) =
-    let behind : length (x ∷ xs) - 1 ≡ length xs = omega arith in
-    ap (λ i. slice_get (x ∷ xs) i) behind ∙ last_from x xs
 
 -- ---- one entry more
 

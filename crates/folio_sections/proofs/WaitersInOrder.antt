@@ -1,7 +1,6 @@
 -- Waiters in the order of their filings: one is found by its filing, written in its place, or put into the order.
-use Rattle.std.proofs.Common.{◌≡◌, ℕ, zero, suc, ◌+◌, ◌<◌, ◌≤◌, true, false, cond, ◌==◌, nat_le, nat_lt, List, [], ◌∷◌, Option, Some, None, get_or, length, min, set, slice_get, take, refl, sym, ap, subst, ◌∙◌, arith}
+use Rattle.std.proofs.Common.{◌≡◌, ℕ, zero, suc, ◌+◌, ◌<◌, ◌≤◌, true, false, cond, ◌==◌, nat_lt, List, [], ◌∷◌, Option, Some, None, get_or, length, min, set, slice_get, take, refl, sym, ap, subst, ◌∙◌, arith}
 use Rattle.std.specs.List.{AllByRecursion, insert}
-use Rattle.std.specs.List.Sorted.{IsPartitionedBy}
 use Rattle.std.proofs.lemmas.Bool.{eqb-true}
 use Rattle.std.proofs.lemmas.Bool.Decides.{nat_tests}
 use Rattle.folio_sections.specs.declared.waiters.Waiter.{Waiter}
@@ -35,35 +34,6 @@ none_below m a (x ∷ xs) up less =
     let first = up.0 in
     let other : (x.filing == m) ≡ false = grind (arith, nat_tests, first, less) in
     rw other (none_below m (x.filing + 1) xs up.1 (omega arith))
-
-ascends_at : (a : ℕ) (ws : List Waiter) (i : ℕ) (d : Waiter) → Ascends a ws → i < length ws → a ≤ (get_or ws i d).filing
-ascends_at a [] i d up within = absurd (omega arith)
-ascends_at a (x ∷ xs) zero d up within = up.0
-ascends_at a (x ∷ xs) (suc i) d up within =
-    let behind = ascends_at (x.filing + 1) xs i d up.1 (omega arith) in
-    let first = up.0 in
-    omega arith
-
-ascends_between : (a : ℕ) (ws : List Waiter) (i j : ℕ) (d : Waiter) → Ascends a ws → i ≤ j → j < length ws → (get_or ws i d).filing ≤ (get_or ws j d).filing
-ascends_between a [] i j d up order within = absurd (omega arith)
-ascends_between a (x ∷ xs) zero zero d up order within = omega arith
-ascends_between a (x ∷ xs) zero (suc j) d up order within =
-    let behind = ascends_at (x.filing + 1) xs j d up.1 (omega arith) in
-    omega arith
-ascends_between a (x ∷ xs) (suc i) zero d up order within = absurd (omega arith)
-ascends_between a (x ∷ xs) (suc i) (suc j) d up order within = ascends_between (x.filing + 1) xs i j d up.1 (omega arith) (omega arith)
-
--- those of filings below a number stand ahead of the others
-pub parted : (a m : ℕ) (ws : List Waiter) → Ascends a ws → IsPartitionedBy (λ w. nat_lt w.filing m) ws
-parted a m ws up = λ i j d order within passes.
-    let less = ascends_between a ws i j d up order within in
-    grind (arith, nat_tests, passes, less)
-
--- those up to a number too
-pub parted_to : (a m : ℕ) (ws : List Waiter) → Ascends a ws → IsPartitionedBy (λ w. nat_le w.filing m) ws
-parted_to a m ws up = λ i j d order within passes.
-    let less = ascends_between a ws i j d up order within in
-    grind (arith, nat_tests, passes, less)
 
 -- the filing at i, if any, is above m
 abbrev pub IsBehind : ℕ → List Waiter → ℕ → Type 0

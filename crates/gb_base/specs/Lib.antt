@@ -1,4 +1,5 @@
 -- What contracts cite.
+pub mod Ascending
 pub mod Limits
 pub mod RightNo
 pub mod DayMinute

@@ -1,8 +1,9 @@
 -- The queue at each key: the items that touch it, in the order of their receipts.
-use Rattle.std.specs.Prelude.{◌≡◌, ℕ, ◌+◌, ◌≤◌, List, [], ◌∷◌, filter, length, Option, Some, None, Vec}
+use Rattle.std.specs.Prelude.{◌≡◌, ℕ, List, [], filter, length, Option, Some, None, Vec}
 use Rattle.std.specs.BTreeMap.{BTreeMap, get}
 use Rattle.std.specs.List.{range_with_len}
 use Rattle.std.specs.declared.alloc.Global.{Global}
+use Rattle.gb_base.specs.Ascending.{AscendsBy}
 use Rattle.gb_base.specs.Keys.{key_cmp}
 use Rattle.gb_base.specs.declared.keys.Key.{Key}
 use Rattle.conflict_queue.specs.Dockets.{touches_in}
@@ -26,5 +27,4 @@ AreQueuesOf queues docket = (k : Key) → queue_at queues k ≡ queue_of docket 
 
 -- the numbers begin at a or behind it, and ascend
 abbrev pub Ascends : ℕ → List ℕ → Type 0
-Ascends a [] = Unit {0}
-Ascends a (n ∷ ns) = (a ≤ n) × Ascends (n + 1) ns
+Ascends a ns = AscendsBy (λ n. n) a ns

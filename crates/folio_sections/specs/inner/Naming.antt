@@ -1,13 +1,13 @@
 -- The entries that name who is concerned at a key: owners or a holder.
-use Rattle.std.specs.Prelude.{◌≡◌, ℕ, ◌+◌, ◌<◌, ◌≤◌, nat_lt, List, [], ◌∷◌, filter, length, slice_get, take, Option, None, option_and_then}
+use Rattle.std.specs.Prelude.{◌≡◌, ℕ, ◌<◌, ◌≤◌, nat_lt, List, filter, length, slice_get, take, Option, None, option_and_then}
 use Rattle.std.specs.List.{AllByRecursion, last_or}
+use Rattle.gb_base.specs.Ascending.{AscendsBy}
 use Rattle.folio_sections.specs.declared.entries.Entry.{Entry}
 use Rattle.folio_sections.specs.declared.entries.What.{What}
 
 -- the numbers begin at a or behind it, and ascend
 abbrev pub Rises : ℕ → List ℕ → Type 0
-Rises a [] = Unit {0}
-Rises a (n ∷ ns) = (a ≤ n) × Rises (n + 1) ns
+Rises a ns = AscendsBy (λ n. n) a ns
 
 -- the last of these numbers that is below k
 abbrev pub last_below : ℕ → List ℕ → Option ℕ

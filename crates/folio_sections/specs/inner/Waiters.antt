@@ -1,6 +1,7 @@
 -- The filings that wait at a key, as a part keeps them beside its entries.
-use Rattle.std.specs.Prelude.{◌≡◌, ℕ, ◌+◌, ◌≤◌, Bool, false, ◌==◌, ◌&&◌, List, [], ◌∷◌, if◌then◌else◌, Option, Some, None, find, position, take, option_and_then, is_some, is_none}
+use Rattle.std.specs.Prelude.{◌≡◌, ℕ, Bool, false, ◌==◌, ◌&&◌, List, if◌then◌else◌, Option, Some, None, find, position, take, option_and_then, is_some, is_none}
 use Rattle.std.specs.List.{AllByRecursion}
+use Rattle.gb_base.specs.Ascending.{AscendsBy}
 use Rattle.folio_sections.specs.Waiting.{is_notice_of, pending}
 use Rattle.folio_sections.specs.declared.entries.Entry.{Entry}
 use Rattle.folio_sections.specs.declared.waiters.Waiter.{Waiter}
@@ -8,8 +9,7 @@ use Rattle.folio_sections.specs.declared.waiters.Waiters.{Waiters}
 
 -- the filings begin at n or behind it, and ascend
 abbrev pub Ascends : ℕ → List Waiter → Type 0
-Ascends n [] = Unit {0}
-Ascends n (w ∷ ws) = (n ≤ w.filing) × Ascends (w.filing + 1) ws
+Ascends n ws = AscendsBy (λ w. w.filing) n ws
 
 -- the waiter of filing m
 abbrev pub waiter_of : ℕ → List Waiter → Option Waiter

@@ -5,7 +5,7 @@ use Rattle.std.proofs.lemmas.List.{take_min}
 use Rattle.std.proofs.lemmas.List.Sorted.{IsPartitionPoint-from_clause}
 use Rattle.act_model.specs.Creations.{creations_in}
 use Rattle.act_model.specs.Limits.{most_creations}
-use Rattle.conflict_queue.proofs.Fronts.{front_passes}
+use Rattle.gb_base.proofs.Fronts.{front_passes}
 use Rattle.conflict_queue.proofs.SaleKeys.{parted_first}
 use Rattle.conflict_queue.proofs.touched.earlier_rights.Goals as goal
 
