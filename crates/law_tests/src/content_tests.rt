@@ -1,5 +1,5 @@
 //! What single acts bring when their filing is entered.
-use crate::testing::{
+use crate::entered_folios::{
     at_title, created, entered, folio, is_place, journal_of, land_charge, only_entry, person,
     receipt, right, title,
 };

@@ -1,6 +1,6 @@
 //! What is read at a title, over lists written by hand.
-use crate::tests::{day, entry, folio, owner, parcel, person, receipt};
-use crate::{TitlePart, What};
+use crate::part_tests::{day, entry, folio, owner, parcel, person, receipt};
+use folio_sections::{TitlePart, What};
 use gb_base::{Key, NoMemory, Person, ReceiptNo};
 use std::alloc::Global;
 use std::process::Abort;

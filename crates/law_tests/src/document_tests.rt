@@ -1,5 +1,5 @@
 //! Documents of cures, official notices, and filings that wait.
-use crate::Judgement;
+use consent_rules::Judgement;
 use crate::test_register::{
     TestRegister, certified, charge, create, defect, enters, filing, folio, judged, one, one_owner,
     papers, person, put, receipt, receive, rejects, right, waits, with_filing,

@@ -1,13 +1,13 @@
 //! Whole journals: filings in two folios, cures that are rejected, items that name nothing that
 //! waits, and what a register answers.
-use crate::testing::Seen::{Cancelled, Created, Notice, Opened, Pending, Placed, Settled};
-use crate::testing::{
+use crate::settled_journals::Seen::{Cancelled, Created, Notice, Opened, Pending, Placed, Settled};
+use crate::settled_journals::{
     are, are_want_of_form, assignment, at_right, at_title, cancellation, certified,
     certified_charge, charge, cure, cure_by, day, filed_by, filing, folio, is_cure_rejected,
     is_cured, is_entered, is_not_pending, is_rejected, is_still_open, lapse, opened, placed, plain,
     receipt, receive, receive_opening, right, transfer, verdict, waits,
 };
-use crate::{Verdict, alone};
+use registrar::{Verdict, alone};
 use act_model::{Item, Journal};
 use arrayvec::ArrayVec;
 use folio_sections::Parts;

@@ -1,5 +1,5 @@
 //! A folio of two owners, each of whom consents.
-use crate::Judgement;
+use consent_rules::Judgement;
 use crate::test_register::{
     certified, charge, create, defect, enters, filing, folio, judged_now, one, plain, put, rejects,
     right, two_owners, waits, with_filing,

@@ -1,6 +1,6 @@
 //! What is read at a right, over lists written by hand.
-use crate::tests::{cents, charge, day, entry, folio, person, receipt, right};
-use crate::{Created, RightForm, RightPart, What};
+use crate::part_tests::{cents, charge, day, entry, folio, person, receipt, right};
+use folio_sections::{Created, RightForm, RightPart, What};
 use gb_base::{Key, NoMemory};
 use std::alloc::Global;
 use std::process::Abort;

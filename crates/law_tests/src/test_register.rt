@@ -1,6 +1,6 @@
 //! A small register for tests: folio 7 with its owner and four rights, and what is filed on it.
-use crate::premises::{can_be_judged, is_held};
-use crate::{Defect, Judgement, judge};
+use crate::entered_folios::is_held;
+use consent_rules::{Defect, Judgement, can_be_judged, judge};
 use act_model::{
     Act, Acts, Added, Doc, Docs, Filing, Form, Inventory, Item, Journal, Owners, RightKind,
     RightSpec, well_formed,

@@ -1,8 +1,8 @@
 //! Parts over given keys.
 ghost use Rattle.std.specs.Prelude.{◌≡◌, ◌≤◌, IsTrue};
 
-use crate::tests::{entry, folio, receipt, right};
-use crate::{Entry, MapParts, Parts, What};
+use crate::part_tests::{entry, folio, receipt, right};
+use folio_sections::{Entry, MapParts, Parts, What};
 use gb_base::Key;
 use std::test::Fail;
 

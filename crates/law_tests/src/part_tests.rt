@@ -1,7 +1,7 @@
 //! What the tests share: numbers, and entries at a key.
 ghost use Rattle.std.specs.Prelude.{◌≡◌};
 
-use crate::{Entry, What};
+use folio_sections::{Entry, What};
 use act_model::{Inventory, Owners, RightKind, RightSpec};
 use arrayvec::ArrayVec;
 use gb_base::{Cents, Day, FolioId, Key, Person, ReceiptNo, RightId};

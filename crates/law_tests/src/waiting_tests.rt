@@ -1,7 +1,7 @@
 //! Filings that wait, are noticed, cured and lapse, in folio 7 in 2024.
-use crate::alone;
-use crate::testing::Seen::{Created, Notice, Opened, Owner, Pending, Placed, Settled};
-use crate::testing::{
+use registrar::alone;
+use crate::settled_journals::Seen::{Created, Notice, Opened, Owner, Pending, Placed, Settled};
+use crate::settled_journals::{
     are, at_right, at_title, certified, certified_charge, charge, cure, cure_by, day, filed_by,
     is_cured, is_entered, is_lapsed, is_not_pending, is_rejected, is_still_open, is_too_early,
     lapse, opened, placed, plain, plain_charge, receive, transfer, verdict, waits,

@@ -1,6 +1,6 @@
 //! What is read at a forced sale, over lists written by hand.
-use crate::tests::{cents, day, entry, folio, person, receipt};
-use crate::{CasePart, What};
+use crate::part_tests::{cents, day, entry, folio, person, receipt};
+use folio_sections::{CasePart, What};
 use gb_base::{Key, NoMemory};
 use std::alloc::Global;
 use std::process::Abort;

@@ -6,7 +6,7 @@ use Rattle.act_model.specs.Touches.{keys_in_order, keys_of_filing}
 use Rattle.act_model.specs.declared.receipts.Receipt.{Receipt}
 use Rattle.folio_sections.specs.Held.{entries_at, is_held, room_at}
 use Rattle.entry_rules.proofs.Room.{room_for_all}
-use Rattle.entry_rules.proofs.testing.entered_in.Goals as goal
+use Rattle.law_tests.proofs.entered_folios.entered_in.Goals as goal
 
 keys_held : (holds : Key → Bool) (journal : List Receipt) (m : ℕ) (keys : List Key) → keys ≡ keys_in_order journal m → ((k : Key) → Contains keys k → IsTrue (holds k)) → (k : Key) → Contains (keys_of_filing journal m) k → IsTrue (holds k)
 keys_held holds journal m keys all held k there =

@@ -1,5 +1,5 @@
 //! What filings bring when they are entered, in small journals.
-use crate::testing::{
+use crate::entered_folios::{
     at_title, cancellation, charge, created, creation, cure, day, entered, entered_in, entered_on,
     exchange, exercise, filing, folio, is_cancelled, is_exchange, is_opening, is_place,
     is_spent_by, journal_of, land_charge, mortgage, notice_of, only_entry, opening, parts_of,

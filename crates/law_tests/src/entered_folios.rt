@@ -3,7 +3,7 @@ ghost use Rattle.std.specs.Prelude.{◌≡◌, Contains, IsTrue};
 ghost use Rattle.gb_base.specs.declared.keys.Key.{Key};
 ghost use Rattle.folio_sections.specs.Held.{is_held};
 
-use crate::{MOST_ENTERED, enter, laws};
+use entry_rules::{MOST_ENTERED, enter, laws};
 use act_model::{
     Act, Acts, Added, Doc, Docs, Filing, Inventory, Item, Journal, Owners, RightKind, RightSpec,
     filing_at, filing_keys, well_formed,
@@ -285,7 +285,7 @@ fn check_held(rt: &impl Abort, parts: &MapParts, keys: &[Key])
     }
 }
 
-fn is_held(parts: &MapParts, key: Key) -> bool
+pub fn is_held(parts: &MapParts, key: Key) -> bool
     ensures { result ≡ is_held parts.now key }
 {
     match key {

@@ -2,7 +2,7 @@ use Rattle.std.proofs.Common.{◌≡◌, Bool, true, ap, ◌∙◌}
 use Rattle.gb_base.specs.declared.keys.Key.{Key}
 use Rattle.gb_base.specs.declared.keys.Key.TheVariants.{Title}
 use Rattle.folio_sections.specs.Held.{is_held}
-use Rattle.entry_rules.proofs.testing.stand.Goals as goal
+use Rattle.law_tests.proofs.entered_folios.stand.Goals as goal
 
 pub append-requires-clause-held : goal.append-requires-clause-held
 append-requires-clause-held g c =

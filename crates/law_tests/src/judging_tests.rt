@@ -1,5 +1,5 @@
 //! Filings whose judgement is known from the rules.
-use crate::Judgement;
+use consent_rules::Judgement;
 use crate::test_register::{
     agreement, certified, charge, clearance, create, defect, enters, filing, folio, judged, one,
     one_owner, opening, person, plain, receipt, receive, rejects, right, two, verdict, verdict_on,

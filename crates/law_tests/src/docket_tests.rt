@@ -1,9 +1,9 @@
 //! What items touch, and what was at a key before, in small journals.
-use crate::testing::{
+use crate::docket_journals::{
     assignment, award, call, case, charge, cure, distribution, lapse, opening, receipt, receive,
     registration, right, seizure, title,
 };
-use crate::{Docket, touches};
+use conflict_queue::{Docket, touches};
 use act_model::Journal;
 use gb_base::Key;
 use std::alloc::Global;

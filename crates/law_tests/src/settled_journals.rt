@@ -1,5 +1,5 @@
 //! Journals for the tests, and what is looked for in the registers that they leave.
-use crate::{Register, Verdict};
+use registrar::{Register, Verdict};
 use act_model::{
     Act, Acts, Added, Doc, Docs, Filing, Form, Inventory, Item, Journal, Owners, RightKind,
     RightSpec, well_formed,
