@@ -12,7 +12,7 @@ use folio_sections::{Created, RightPart};
 use gb_base::{Cents, NoMemory, Person, ReceiptNo, RightId};
 
 /// Adds a right, as it stands by the entries at it.
-pub(crate) fn add_right_line(
+pub fn add_right_line(
     text: &mut String,
     part: &RightPart,
     right: &CreatedRight,

@@ -40,11 +40,7 @@ pub(crate) fn add_verdict_lines(text: &mut String, register: &Register) -> Resul
 }
 
 /// Adds what becomes of receipt n.
-pub(crate) fn add_verdict_line(
-    text: &mut String,
-    n: usize,
-    verdict: &Verdict,
-) -> Result<(), NoMemory>
+pub fn add_verdict_line(text: &mut String, n: usize, verdict: &Verdict) -> Result<(), NoMemory>
     ensures { OnOk result (string_bytes text.new ≡ string_bytes text.old ++ verdict_line n verdict.now) }
 {
     write!(text, "receipt {n} ")?;

@@ -3,8 +3,8 @@ use crate::docket_journals::{
     assignment, award, call, case, charge, cure, distribution, lapse, opening, receipt, receive,
     registration, right, seizure, title,
 };
-use conflict_queue::{Docket, touches};
 use act_model::Journal;
+use conflict_queue::{Docket, touches};
 use gb_base::Key;
 use std::alloc::Global;
 use std::process::Abort;

@@ -1,10 +1,10 @@
 //! Documents of cures, official notices, and filings that wait.
-use consent_rules::Judgement;
 use crate::test_register::{
     TestRegister, certified, charge, create, defect, enters, filing, folio, judged, one, one_owner,
     papers, person, put, receipt, receive, rejects, right, waits, with_filing,
 };
 use act_model::{Act, Doc, Item};
+use consent_rules::Judgement;
 use folio_sections::What;
 use gb_base::{Day, Key, Section};
 use std::alloc::Global;

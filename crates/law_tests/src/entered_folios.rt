@@ -1,14 +1,11 @@
 //! Filings, journals and parts for the tests.
-ghost use Rattle.std.specs.Prelude.{◌≡◌, Contains, IsTrue};
-ghost use Rattle.gb_base.specs.declared.keys.Key.{Key};
-ghost use Rattle.folio_sections.specs.Held.{is_held};
-
-use entry_rules::{MOST_ENTERED, enter, laws};
+use crate::held_keys::check_held;
 use act_model::{
     Act, Acts, Added, Doc, Docs, Filing, Inventory, Item, Journal, Owners, RightKind, RightSpec,
     filing_at, filing_keys, well_formed,
 };
 use arrayvec::ArrayVec;
+use entry_rules::{MOST_ENTERED, enter, laws};
 use folio_sections::{Created, Entry, MapParts, Parts, TitlePart, What};
 use gb_base::{Cents, Day, FolioId, Key, NoMemory, Person, ReceiptNo, RightId, Stamp};
 use std::alloc::Global;
@@ -270,29 +267,10 @@ pub fn entered_in(
     assert!(rt; item.get() <= journal.len());
     assert!(rt; filing_at(journal, of).is_some());
     after.reserve_all(MOST_ENTERED)?;
-    check_held(rt, &after, filing_keys(journal, of).as_slice());
+    check_held(rt, &after, journal, of);
     laws::room_for_entry();
     enter(&mut after, journal, item, of);
     Ok(after)
-}
-
-/// Ends the test unless the parts of these keys are held.
-fn check_held(rt: &impl Abort, parts: &MapParts, keys: &[Key])
-    ensures { (k : Key) → Contains keys.now k → IsTrue (is_held parts.now k) }
-{
-    for key in keys {
-        assert!(rt; is_held(parts, *key));
-    }
-}
-
-pub fn is_held(parts: &MapParts, key: Key) -> bool
-    ensures { result ≡ is_held parts.now key }
-{
-    match key {
-        Key::Title(folio) => parts.title(folio).is_some(),
-        Key::Right(folio, right) => parts.right(folio, right).is_some(),
-        Key::Case(folio) => parts.case(folio).is_some(),
-    }
 }
 
 /// The title of a folio.

@@ -1,5 +1,4 @@
 //! Filings whose judgement is known from the rules.
-use consent_rules::Judgement;
 use crate::test_register::{
     agreement, certified, charge, clearance, create, defect, enters, filing, folio, judged, one,
     one_owner, opening, person, plain, receipt, receive, rejects, right, two, verdict, verdict_on,
@@ -7,6 +6,7 @@ use crate::test_register::{
 };
 use act_model::{Act, Acts, Filing, Item, Journal, filing_keys};
 use arrayvec::ArrayVec;
+use consent_rules::Judgement;
 use folio_sections::MapParts;
 use gb_base::Section;
 use std::alloc::Global;

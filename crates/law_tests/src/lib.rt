@@ -19,6 +19,12 @@ mod entered_folios;
 #[cfg(test)]
 mod entering_tests;
 #[cfg(test)]
+mod held_keys;
+#[cfg(test)]
+mod interim_journals;
+#[cfg(test)]
+mod interim_tests;
+#[cfg(test)]
 mod judging_tests;
 #[cfg(test)]
 mod map_tests;

@@ -1,10 +1,10 @@
 //! A folio of two owners, each of whom consents.
-use consent_rules::Judgement;
 use crate::test_register::{
     certified, charge, create, defect, enters, filing, folio, judged_now, one, plain, put, rejects,
     right, two_owners, waits, with_filing,
 };
 use act_model::{Act, Doc};
+use consent_rules::Judgement;
 use folio_sections::What;
 use gb_base::{Key, Section};
 use std::alloc::Global;

@@ -1,9 +1,9 @@
 //! What the tests share: numbers, and entries at a key.
 ghost use Rattle.std.specs.Prelude.{◌≡◌};
 
-use folio_sections::{Entry, What};
 use act_model::{Inventory, Owners, RightKind, RightSpec};
 use arrayvec::ArrayVec;
+use folio_sections::{Entry, What};
 use gb_base::{Cents, Day, FolioId, Key, Person, ReceiptNo, RightId};
 use std::process::Abort;
 

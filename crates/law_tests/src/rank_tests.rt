@@ -1,11 +1,11 @@
 //! Which rights take part in an exchange of ranks, and which reservations are there to be used (BGB
 //! §§ 880, 881).
-use consent_rules::Judgement;
 use crate::test_register::{
     TestRegister, certified, charge, create, enters, filing, folio, judged, judged_now, made, one,
     put, put_right, receive, rejects, right, two, verdict, with_filing,
 };
 use act_model::{Act, Item, RightSpec};
+use consent_rules::Judgement;
 use folio_sections::{Created, What};
 use gb_base::{Key, RightId, Section};
 use std::alloc::Global;

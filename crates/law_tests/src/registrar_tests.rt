@@ -7,11 +7,11 @@ use crate::settled_journals::{
     is_cured, is_entered, is_not_pending, is_rejected, is_still_open, lapse, opened, placed, plain,
     receipt, receive, receive_opening, right, transfer, verdict, waits,
 };
-use registrar::{Verdict, alone};
 use act_model::{Item, Journal};
 use arrayvec::ArrayVec;
 use folio_sections::Parts;
 use gb_base::{Day, Section};
+use registrar::{Verdict, alone};
 use std::test::Fail;
 
 /// A filing waits in two folios and is noticed in one of them alone. Its cure places it there by

@@ -1,5 +1,4 @@
 //! Journals for the tests, and what is looked for in the registers that they leave.
-use registrar::{Register, Verdict};
 use act_model::{
     Act, Acts, Added, Doc, Docs, Filing, Form, Inventory, Item, Journal, Owners, RightKind,
     RightSpec, well_formed,
@@ -8,6 +7,7 @@ use arrayvec::ArrayVec;
 use consent_rules::{Defect, Defects};
 use folio_sections::{Entry, Parts, RightPart, What};
 use gb_base::{Cents, Day, FolioId, Person, ReceiptNo, RightId, Section, Stamp};
+use registrar::{Register, Verdict};
 use std::alloc::Global;
 use std::process::Abort;
 

@@ -1,11 +1,11 @@
 //! A small register for tests: folio 7 with its owner and four rights, and what is filed on it.
-use crate::entered_folios::is_held;
-use consent_rules::{Defect, Judgement, can_be_judged, judge};
+use crate::held_keys::is_held;
 use act_model::{
     Act, Acts, Added, Doc, Docs, Filing, Form, Inventory, Item, Journal, Owners, RightKind,
     RightSpec, well_formed,
 };
 use arrayvec::ArrayVec;
+use consent_rules::{Defect, Judgement, can_be_judged, judge};
 use folio_sections::{Created, Entry, MapParts, Parts, RightForm, What};
 use gb_base::{Cents, Day, FolioId, Key, Person, ReceiptNo, RightId, Section, Stamp};
 use std::alloc::Global;

@@ -1,5 +1,4 @@
 //! Filings that wait, are noticed, cured and lapse, in folio 7 in 2024.
-use registrar::alone;
 use crate::settled_journals::Seen::{Created, Notice, Opened, Owner, Pending, Placed, Settled};
 use crate::settled_journals::{
     are, at_right, at_title, certified, certified_charge, charge, cure, cure_by, day, filed_by,
@@ -8,6 +7,7 @@ use crate::settled_journals::{
 };
 use act_model::{Doc, Filing, Item};
 use gb_base::Section;
+use registrar::alone;
 use std::test::Fail;
 
 /// Filing 2 waits, filing 3 is entered and brings its notice, and receipt 4 cures it: its place is

@@ -1,7 +1,7 @@
 //! The line of each verdict.
-use crate::verdict_lines::add_verdict_line;
 use arrayvec::ArrayVec;
 use consent_rules::{Defect, Defects};
+use folio_extract::add_verdict_line;
 use gb_base::{Day, NoMemory, Section};
 use registrar::Verdict;
 use std::alloc::Global;

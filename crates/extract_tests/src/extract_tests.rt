@@ -1,13 +1,11 @@
 //! Extracts, each part of each line present and absent.
-use crate::extract;
-use crate::folio_reads::awaits_award;
-use crate::right_lines::add_right_line;
-use crate::testing::{
+use crate::extract_journals::{
     assignment, by_owners, cents, consent, creation, day, docs, filing, folio, opened, person,
     plain, receipt, receive, right, spec,
 };
 use act_model::{Act, Acts, Doc, Filing, Item, Journal, RightKind, RightSpec};
 use arrayvec::ArrayVec;
+use folio_extract::{add_right_line, awaits_award, extract};
 use folio_line::CreatedRight;
 use folio_sections::{CasePart, Created, Entry, RightForm, RightPart, What};
 use gb_base::{FolioId, Key, NoMemory};

@@ -1,5 +1,5 @@
 //! A folio with as many rights as it may have.
-use crate::testing::{charge, consent, docs, folio, opened_by_one, person, receive};
+use crate::extract_journals::{charge, consent, docs, folio, opened_by_one, person, receive};
 use act_model::{Acts, Filing, Item};
 use arrayvec::ArrayVec;
 use folio_line::{counted_exchanges, folio_slots, live_rights};

@@ -1,12 +1,12 @@
 //! Journals for the tests.
 ghost use Rattle.std.specs.Prelude.{◌≤◌, length};
 
-use crate::rank_table;
 use act_model::{
     Act, Acts, Added, Doc, Docs, Filing, Form, Inventory, Item, Journal, Owners, RightKind,
     RightSpec, well_formed,
 };
 use arrayvec::ArrayVec;
+use folio_extract::rank_table;
 use gb_base::{Cents, Day, FolioId, NoMemory, Person, ReceiptNo, RightId, Stamp};
 use registrar::alone;
 use std::alloc::Global;

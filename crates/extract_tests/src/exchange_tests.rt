@@ -1,5 +1,5 @@
 //! Rank tables with exchanges and exercised reservations, written down by hand from the rules.
-use crate::testing::{
+use crate::extract_journals::{
     by_owner, charge, consent, create, docs, filing, folio, has_table, opened_by_one, plain,
     receipt, receive, right, spec,
 };

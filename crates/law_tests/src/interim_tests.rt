@@ -1,12 +1,12 @@
 //! Orders, notices and lapses in small journals of 2024.
-use crate::testing::{
+use crate::interim_journals::{
     charge, close, day, ends_waiting, entries, entry, filing, is_notice, is_pending, lapse_item,
     lapsed, notices, one_charge, order, parts_of, receipt, receive, right_key, state_at, title_key,
 };
-use crate::{FilingState, Lapse};
 use act_model::Journal;
 use arrayvec::ArrayVec;
 use folio_sections::Entry;
+use interim_orders::{FilingState, Lapse};
 use std::process::Abort;
 use std::test::Fail;
 

@@ -2,7 +2,7 @@ use Rattle.std.proofs.Common.{Contains, List, sym, subst, ◌∙◌}
 use Rattle.gb_base.specs.declared.keys.Key.{Key}
 use Rattle.act_model.proofs.KeyOrder.{in_key_order_members}
 use Rattle.act_model.specs.Touches.{keys_of_filing}
-use Rattle.interim_orders.proofs.testing.check_held.Goals as goal
+use Rattle.law_tests.proofs.held_keys.check_held.Goals as goal
 
 pub returns : goal.returns
 returns g c = λ k there.

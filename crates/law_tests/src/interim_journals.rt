@@ -1,12 +1,11 @@
 //! Journals and parts for the tests, and calls on them that keep what they want.
-ghost use Rattle.std.specs.Prelude.{◌≡◌, ◌<◌, ℕ, Contains, IsTrue, Some};
+ghost use Rattle.std.specs.Prelude.{◌≡◌, ℕ, Contains, IsTrue, Some};
 ghost use Rattle.gb_base.specs.declared.keys.Key.{Key};
 ghost use Rattle.act_model.specs.Touches.{keys_of_filing};
 ghost use Rattle.folio_sections.specs.Held.{is_held};
 ghost use Rattle.interim_orders.specs.Lapses.{lapse_at};
 
-use crate::lapses::lapse_at;
-use crate::{FilingState, Lapse, close_order, enter_notices, lapse, laws, open_order, state};
+use crate::held_keys::check_held;
 use act_model::{
     Act, Acts, Added, Docs, Filing, Item, Journal, RightKind, RightSpec, filing_at, filing_keys,
     well_formed,
@@ -14,6 +13,9 @@ use act_model::{
 use arrayvec::ArrayVec;
 use folio_sections::{Entry, MapParts, Parts, What};
 use gb_base::{Cents, Day, FolioId, Key, NoMemory, Person, ReceiptNo, RightId, Stamp};
+use interim_orders::{
+    FilingState, Lapse, close_order, enter_notices, lapse, laws, open_order, state,
+};
 use std::alloc::Global;
 use std::process::Abort;
 
@@ -111,39 +113,15 @@ fn add_keys(keys: &mut Vec<Key>, journal: &Journal, filing: ReceiptNo) -> Result
     Ok(())
 }
 
-/// Ends the test unless the parts of a filing's keys are held.
-fn check_held(rt: &impl Abort, parts: &MapParts, journal: &Journal, filing: ReceiptNo)
-    ensures { (k : Key) → Contains (keys_of_filing journal.now.receipts filing) k → IsTrue (is_held parts.now k) }
-{
-    let keys = filing_keys(journal, filing);
-    check_keys(rt, parts, keys.as_slice());
-}
-
-/// Ends the test unless the parts of these keys are held.
-fn check_keys(rt: &impl Abort, parts: &MapParts, keys: &[Key])
-    ensures { (k : Key) → Contains keys.now k → IsTrue (is_held parts.now k) }
-{
-    for key in keys {
-        assert!(rt; is_held(parts, *key));
-    }
-}
-
-fn is_held(parts: &MapParts, key: Key) -> bool
-    ensures { result ≡ is_held parts.now key }
-{
-    match key {
-        Key::Title(folio) => parts.title(folio).is_some(),
-        Key::Right(folio, right) => parts.right(folio, right).is_some(),
-        Key::Case(folio) => parts.case(folio).is_some(),
-    }
-}
-
 /// Ends the test unless the parts are held of the filing that a lapse names.
 fn check_lapse(rt: &impl Abort, parts: &MapParts, journal: &Journal, item: ReceiptNo)
     ensures { (m : ℕ) → lapse_at journal.now.receipts item ≡ Some m → (k : Key) → Contains (keys_of_filing journal.now.receipts m) k → IsTrue (is_held parts.now k) }
 {
-    match lapse_at(journal, item) {
-        Some(filing) => check_held(rt, parts, journal, filing),
+    match journal.get(item) {
+        Some(receipt) => match &receipt.item {
+            Item::Lapse { filing } => check_held(rt, parts, journal, *filing),
+            _ => {}
+        },
         None => {}
     }
 }

@@ -1,7 +1,7 @@
 //! Reports written down by hand from the rules.
-use crate::testing::{by_owner, folio, opening_by, receipt, receive, spec};
-use crate::{extract, report, verdict_line};
+use crate::extract_journals::{by_owner, folio, opening_by, receipt, receive, spec};
 use act_model::{Act, Journal, RightKind};
+use folio_extract::{extract, report, verdict_line};
 use gb_base::NoMemory;
 use registrar::alone;
 use std::alloc::Global;

@@ -1,11 +1,11 @@
 //! Rank tables written down by hand from the rules.
-use crate::rank_table;
-use crate::testing::{
+use crate::extract_journals::{
     charge, consent, create, creation_in_group, docs, filing, folio, has_table, opened_by_one,
     person, receive, right,
 };
 use act_model::{Act, Acts, Doc, Filing, Item, RightKind};
 use arrayvec::ArrayVec;
+use folio_extract::rank_table;
 use gb_base::NoMemory;
 use registrar::alone;
 use std::process::Abort;
