@@ -1,75 +1,46 @@
 //! Acts in a folio that is not open, and on a right that does not stand yet (GBO § 3, BGB § 873).
-use crate::test_register::{
-    certified, charge, create, filing, folio, one_owner, person, rejects, right, two, verdict,
-    verdict_on,
-};
+use crate::test_register::{rejects, verdict, verdict_on};
 use act_model::Act;
 use gb_base::Section;
 use std::alloc::Global;
 use std::process::Abort;
+use test_items::{
+    assignment, cancellation, consent, conversion, creation, exchange, exercise, filing,
+    land_charge, notice, right, transfer, two,
+};
 
 /// The act is rejected under this section, although owner 10 has consented to it.
 fn rejected(rt: &impl Abort, alloc: Global, act: Act, section: Section) {
-    let docs = [certified(rt, 1, 10)];
+    let docs = [consent(1, 10)];
     let judgement = verdict(rt, alloc, 10, act, docs.as_slice());
     assert!(rt; rejects(&judgement, section));
 }
 
 #[test]
 fn an_act_wants_an_open_folio(rt: HostRuntime) {
-    let (folio, right) = (folio(&rt, 8), right(&rt, 2, 1));
-    let owners = one_owner(&rt, 11);
-    let transfer = Act::Transfer { folio, owners };
-    rejected(&rt, rt.alloc(), transfer, Section::Gbo3);
-    let convert = Act::Convert { folio, right };
-    rejected(&rt, rt.alloc(), convert, Section::Gbo3);
-    let cancel = Act::Cancel { folio, right };
-    rejected(&rt, rt.alloc(), cancel, Section::Gbo3);
-    let exercise = Act::Exercise {
-        folio,
-        behind: right,
-        spec: charge(&rt, 50_000, 23, 1),
-    };
-    rejected(&rt, rt.alloc(), exercise, Section::Gbo3);
-    let notice = Act::NoticeFor {
-        folio,
-        spec: charge(&rt, 50_000, 23, 1),
-    };
-    rejected(&rt, rt.alloc(), notice, Section::Gbo3);
+    let (alloc, right) = (rt.alloc(), right(2, 1));
+    rejected(&rt, alloc, transfer(8, 11), Section::Gbo3);
+    rejected(&rt, alloc, conversion(8, right), Section::Gbo3);
+    rejected(&rt, alloc, cancellation(8, right), Section::Gbo3);
+    let spec = land_charge(50_000, 23, 1);
+    rejected(&rt, alloc, exercise(8, right, spec), Section::Gbo3);
+    rejected(&rt, alloc, notice(8, spec), Section::Gbo3);
 }
 
 #[test]
 fn an_act_on_rights_alone_wants_live_ones(rt: HostRuntime) {
-    let (folio, right, other) = (folio(&rt, 8), right(&rt, 2, 1), right(&rt, 2, 2));
-    let holder = person(&rt, 25);
-    let assign = Act::Assign {
-        folio,
-        right,
-        holder,
-    };
-    rejected(&rt, rt.alloc(), assign, Section::Bgb873);
-    let exchange = Act::Exchange {
-        folio,
-        recede: right,
-        rise: other,
-    };
-    rejected(&rt, rt.alloc(), exchange, Section::Bgb873);
+    let (alloc, right, other) = (rt.alloc(), right(2, 1), right(2, 2));
+    rejected(&rt, alloc, assignment(8, right, 25), Section::Bgb873);
+    rejected(&rt, alloc, exchange(8, right, other), Section::Bgb873);
 }
 
 /// A right stands only once its filing is entered.
 #[test]
 fn a_filing_cannot_name_its_own_right(rt: HostRuntime) {
-    let create = create(&rt, 7, charge(&rt, 10_000, 20, 1), None);
-    let cancel = Act::Cancel {
-        folio: folio(&rt, 7),
-        right: right(&rt, 4, 1),
-    };
-    let docs = [
-        certified(&rt, 1, 10),
-        certified(&rt, 2, 10),
-        certified(&rt, 2, 20),
-    ];
+    let create = creation(7, land_charge(10_000, 20, 1));
+    let cancel = cancellation(7, right(4, 1));
+    let docs = [consent(1, 10), consent(2, 10), consent(2, 20)];
     let acts = two(create, cancel);
-    let judgement = verdict_on(&rt, rt.alloc(), filing(&rt, 10, acts, docs.as_slice()));
+    let judgement = verdict_on(&rt, rt.alloc(), filing(10, acts, docs.as_slice()));
     assert!(rt; rejects(&judgement, Section::Bgb873));
 }

@@ -1,14 +1,56 @@
 //! What items touch, and what was at a key before, in small journals.
-use crate::docket_journals::{
-    assignment, award, call, case, charge, cure, distribution, lapse, opening, receipt, receive,
-    registration, right, seizure, title,
-};
-use act_model::Journal;
+ghost use Rattle.std.specs.Prelude.{◌≤◌};
+
+use crate::journals;
+use act_model::{Act, Item, Journal};
 use conflict_queue::{Docket, touches};
 use gb_base::Key;
 use std::alloc::Global;
 use std::process::Abort;
 use std::test::Fail;
+use test_items::{
+    advance, assignment, award, call, case_key, charge, cure, day, distribution, filed, lapse,
+    opening, receipt, right, right_key, seizure_from, title_key,
+};
+
+/// The item becomes the next receipt, on 1 March.
+fn receive(rt: &impl Abort, journal: &mut Journal, item: &Item) {
+    journals::receive(rt, journal, day(3, 1), item);
+}
+
+/// The filing of one act without documents.
+fn filing(act: Act) -> Item {
+    filed(10, act, &[])
+}
+
+/// The key of the right that act 1 of a filing creates.
+fn right_of(folio: u32, filing: u32) -> Key
+    requires folio { 1 ≤ folio }
+    requires filing { 1 ≤ filing }
+{
+    right_key(folio, right(filing, 1))
+}
+
+/// A filing that opens a folio.
+fn opened(folio: u32) -> Item
+    requires { 1 ≤ folio }
+{
+    filing(opening(folio, 10))
+}
+
+/// A filing that creates a land charge in a folio.
+fn charged(folio: u32) -> Item
+    requires { 1 ≤ folio }
+{
+    filing(charge(folio, 10_000_000, 20))
+}
+
+/// The registration of an advance.
+fn registration(folio: u32) -> Item
+    requires { 1 ≤ folio }
+{
+    advance(folio, 51, 30_000)
+}
 
 /// Whether these are the keys of item n, in the docket and by themselves.
 fn has_keys(
@@ -18,8 +60,10 @@ fn has_keys(
     docket: &Docket,
     n: u32,
     keys: &[Key],
-) -> bool {
-    let item = receipt(rt, n);
+) -> bool
+    requires { 1 ≤ n }
+{
+    let item = receipt(n);
     assert!(rt; item.get() <= journal.len());
     assert!(rt; item.get() as usize <= docket.len());
     let touched = touches(alloc, journal, item).ok().expect(rt, "memory");
@@ -27,8 +71,10 @@ fn has_keys(
 }
 
 /// The number of the item that was at the key before item n; 0 where there is none.
-fn previous(rt: &impl Abort, docket: &Docket, n: u32, key: Key) -> u32 {
-    let item = receipt(rt, n);
+fn previous(rt: &impl Abort, docket: &Docket, n: u32, key: Key) -> u32
+    requires { 1 ≤ n }
+{
+    let item = receipt(n);
     assert!(rt; item.get() as usize <= docket.len());
     match docket.previous(item, key) {
         Some(before) => before.get(),
@@ -40,7 +86,7 @@ fn previous(rt: &impl Abort, docket: &Docket, n: u32, key: Key) -> u32 {
 fn last_by_keys(rt: &impl Abort, docket: &Docket, n: u32, key: Key) -> u32 {
     let mut last = 0;
     for before in 1..n {
-        let item = receipt(rt, before);
+        let item = receipt(before);
         assert!(rt; item.get() as usize <= docket.len());
         if docket.keys(item).contains(&key) {
             last = before;
@@ -52,70 +98,70 @@ fn last_by_keys(rt: &impl Abort, docket: &Docket, n: u32, key: Key) -> u32 {
 #[test]
 fn a_cure_stands_at_the_keys_of_its_filing(rt: HostRuntime) -> Result<(), Fail> {
     let mut journal = Journal::new(rt.alloc());
-    receive(&rt, &mut journal, &opening(&rt, 7));
-    receive(&rt, &mut journal, &charge(&rt, 7));
-    receive(&rt, &mut journal, &charge(&rt, 7));
-    receive(&rt, &mut journal, &cure(&rt, 2));
+    receive(&rt, &mut journal, &opened(7));
+    receive(&rt, &mut journal, &charged(7));
+    receive(&rt, &mut journal, &charged(7));
+    receive(&rt, &mut journal, &cure(2, &[]));
     let docket = Docket::build(rt.alloc(), &journal)?;
-    let of_charge = [title(&rt, 7), right(&rt, 7, 2)];
+    let of_charge = [title_key(7), right_of(7, 2)];
     assert!(&rt; has_keys(&rt, rt.alloc(), &journal, &docket, 2, &of_charge));
     assert!(&rt; has_keys(&rt, rt.alloc(), &journal, &docket, 4, &of_charge));
-    assert_eq!(&rt; previous(&rt, &docket, 4, title(&rt, 7)), 3);
-    assert_eq!(&rt; previous(&rt, &docket, 4, right(&rt, 7, 2)), 2);
-    assert_eq!(&rt; previous(&rt, &docket, 1, title(&rt, 7)), 0);
+    assert_eq!(&rt; previous(&rt, &docket, 4, title_key(7)), 3);
+    assert_eq!(&rt; previous(&rt, &docket, 4, right_of(7, 2)), 2);
+    assert_eq!(&rt; previous(&rt, &docket, 1, title_key(7)), 0);
     Ok(())
 }
 
 /// Three charges, a seizure, three registrations and the call.
 fn sale(rt: &impl Abort, alloc: Global) -> Journal {
     let mut journal = Journal::new(alloc);
-    receive(rt, &mut journal, &opening(rt, 7));
-    receive(rt, &mut journal, &charge(rt, 7));
-    receive(rt, &mut journal, &charge(rt, 7));
-    receive(rt, &mut journal, &charge(rt, 7));
-    receive(rt, &mut journal, &seizure(rt, 7, 3));
-    receive(rt, &mut journal, &registration(rt, 7));
-    receive(rt, &mut journal, &registration(rt, 7));
-    receive(rt, &mut journal, &registration(rt, 7));
-    receive(rt, &mut journal, &call(rt, 7));
+    receive(rt, &mut journal, &opened(7));
+    receive(rt, &mut journal, &charged(7));
+    receive(rt, &mut journal, &charged(7));
+    receive(rt, &mut journal, &charged(7));
+    receive(rt, &mut journal, &seizure_from(7, right(3, 1), day(3, 1)));
+    receive(rt, &mut journal, &registration(7));
+    receive(rt, &mut journal, &registration(7));
+    receive(rt, &mut journal, &registration(7));
+    receive(rt, &mut journal, &call(7, 250_000));
     journal
 }
 
 #[test]
 fn a_call_touches_the_title_the_rights_and_the_sale(rt: HostRuntime) -> Result<(), Fail> {
     let mut journal = sale(&rt, rt.alloc());
-    receive(&rt, &mut journal, &award(&rt, 7));
-    receive(&rt, &mut journal, &distribution(&rt, 7));
+    receive(&rt, &mut journal, &award(7, 60, 11_131_944));
+    receive(&rt, &mut journal, &distribution(7));
     let docket = Docket::build(rt.alloc(), &journal)?;
     let all = [
-        title(&rt, 7),
-        right(&rt, 7, 2),
-        right(&rt, 7, 3),
-        right(&rt, 7, 4),
-        case(&rt, 7),
+        title_key(7),
+        right_of(7, 2),
+        right_of(7, 3),
+        right_of(7, 4),
+        case_key(7),
     ];
     assert!(&rt; has_keys(&rt, rt.alloc(), &journal, &docket, 5, &all));
-    assert!(&rt; has_keys(&rt, rt.alloc(), &journal, &docket, 6, &[case(&rt, 7)]));
+    assert!(&rt; has_keys(&rt, rt.alloc(), &journal, &docket, 6, &[case_key(7)]));
     assert!(&rt; has_keys(&rt, rt.alloc(), &journal, &docket, 9, &all));
     assert!(&rt; has_keys(&rt, rt.alloc(), &journal, &docket, 11, &all));
-    assert_eq!(&rt; previous(&rt, &docket, 9, case(&rt, 7)), 8);
-    assert_eq!(&rt; previous(&rt, &docket, 9, title(&rt, 7)), 5);
-    assert_eq!(&rt; previous(&rt, &docket, 5, right(&rt, 7, 4)), 4);
-    assert_eq!(&rt; previous(&rt, &docket, 11, right(&rt, 7, 2)), 10);
+    assert_eq!(&rt; previous(&rt, &docket, 9, case_key(7)), 8);
+    assert_eq!(&rt; previous(&rt, &docket, 9, title_key(7)), 5);
+    assert_eq!(&rt; previous(&rt, &docket, 5, right_of(7, 4)), 4);
+    assert_eq!(&rt; previous(&rt, &docket, 11, right_of(7, 2)), 10);
     Ok(())
 }
 
 /// A sale in which a right is created between two calls, beside a second folio.
 fn sale_that_grows(rt: &impl Abort, alloc: Global) -> Journal {
     let mut journal = sale(rt, alloc);
-    receive(rt, &mut journal, &opening(rt, 8));
-    receive(rt, &mut journal, &call(rt, 8));
-    receive(rt, &mut journal, &charge(rt, 7));
-    receive(rt, &mut journal, &call(rt, 7));
-    receive(rt, &mut journal, &assignment(rt, 7, 12));
-    receive(rt, &mut journal, &cure(rt, 12));
-    receive(rt, &mut journal, &lapse(rt, 99));
-    receive(rt, &mut journal, &lapse(rt, 5));
+    receive(rt, &mut journal, &opened(8));
+    receive(rt, &mut journal, &call(8, 250_000));
+    receive(rt, &mut journal, &charged(7));
+    receive(rt, &mut journal, &call(7, 250_000));
+    receive(rt, &mut journal, &filing(assignment(7, right(12, 1), 21)));
+    receive(rt, &mut journal, &cure(12, &[]));
+    receive(rt, &mut journal, &lapse(99));
+    receive(rt, &mut journal, &lapse(5));
     journal
 }
 
@@ -124,12 +170,12 @@ fn a_call_touches_what_was_created_before_it(rt: HostRuntime) -> Result<(), Fail
     let journal = sale_that_grows(&rt, rt.alloc());
     let docket = Docket::build(rt.alloc(), &journal)?;
     let all = [
-        title(&rt, 7),
-        right(&rt, 7, 2),
-        right(&rt, 7, 3),
-        right(&rt, 7, 4),
-        right(&rt, 7, 12),
-        case(&rt, 7),
+        title_key(7),
+        right_of(7, 2),
+        right_of(7, 3),
+        right_of(7, 4),
+        right_of(7, 12),
+        case_key(7),
     ];
     assert!(&rt; has_keys(&rt, rt.alloc(), &journal, &docket, 13, &all));
     assert!(&rt;
@@ -139,16 +185,16 @@ fn a_call_touches_what_was_created_before_it(rt: HostRuntime) -> Result<(), Fail
             &journal,
             &docket,
             11,
-            &[title(&rt, 8), case(&rt, 8)]
+            &[title_key(8), case_key(8)]
         )
     );
-    assert!(&rt; has_keys(&rt, rt.alloc(), &journal, &docket, 14, &[right(&rt, 7, 12)]));
+    assert!(&rt; has_keys(&rt, rt.alloc(), &journal, &docket, 14, &[right_of(7, 12)]));
     // Neither a later receipt nor what is no filing has keys for the item that names it.
     assert!(&rt; has_keys(&rt, rt.alloc(), &journal, &docket, 16, &[]));
     assert!(&rt; has_keys(&rt, rt.alloc(), &journal, &docket, 17, &[]));
-    assert_eq!(&rt; previous(&rt, &docket, 13, right(&rt, 7, 12)), 12);
-    assert_eq!(&rt; previous(&rt, &docket, 15, title(&rt, 7)), 13);
-    assert_eq!(&rt; previous(&rt, &docket, 12, case(&rt, 7)), 9);
+    assert_eq!(&rt; previous(&rt, &docket, 13, right_of(7, 12)), 12);
+    assert_eq!(&rt; previous(&rt, &docket, 15, title_key(7)), 13);
+    assert_eq!(&rt; previous(&rt, &docket, 12, case_key(7)), 9);
     Ok(())
 }
 
@@ -169,11 +215,11 @@ fn queues_and_keys_say_the_same(rt: HostRuntime) -> Result<(), Fail> {
     let journal = sale_that_grows(&rt, rt.alloc());
     let docket = Docket::build(rt.alloc(), &journal)?;
     let keys = [
-        title(&rt, 7),
-        right(&rt, 7, 2),
-        right(&rt, 7, 12),
-        case(&rt, 7),
-        case(&rt, 8),
+        title_key(7),
+        right_of(7, 2),
+        right_of(7, 12),
+        case_key(7),
+        case_key(8),
     ];
     assert!(&rt; agree(&rt, &docket, &keys));
     Ok(())

@@ -1,154 +1,44 @@
-//! Filings, journals and parts for the tests.
+//! Filings of one or more acts without documents, and parts of folios in which they are entered.
+ghost use Rattle.std.specs.Prelude.{◌≤◌};
+
 use crate::held_keys::check_held;
-use act_model::{
-    Act, Acts, Added, Doc, Docs, Filing, Inventory, Item, Journal, Owners, RightKind, RightSpec,
-    filing_at, filing_keys, well_formed,
-};
-use arrayvec::ArrayVec;
+use crate::journals::receive;
+use act_model::{Act, Acts, Item, Journal, RightSpec, filing_at, filing_keys};
 use entry_rules::{MOST_ENTERED, enter, laws};
 use folio_sections::{Created, Entry, MapParts, Parts, TitlePart, What};
-use gb_base::{Cents, Day, FolioId, Key, NoMemory, Person, ReceiptNo, RightId, Stamp};
+use gb_base::{Day, FolioId, Key, NoMemory, ReceiptNo, RightId};
 use std::alloc::Global;
 use std::process::Abort;
-
-pub fn folio(rt: &impl Abort, n: u32) -> FolioId {
-    FolioId::new(n).expect(rt, "a folio")
-}
-
-pub fn receipt(rt: &impl Abort, n: u32) -> ReceiptNo {
-    ReceiptNo::new(n).expect(rt, "a receipt")
-}
-
-pub fn right(rt: &impl Abort, n: u32, act: u8) -> RightId {
-    RightId::new(receipt(rt, n), act).expect(rt, "a right")
-}
-
-pub fn person(rt: &impl Abort, n: u32) -> Person {
-    Person::new(n).expect(rt, "a person")
-}
-
-/// A day of March 2024, and the last of February for 0.
-pub fn day(rt: &impl Abort, n: u8) -> Day {
-    Day::new(19_782 + n as u32).expect(rt, "a day")
-}
-
-/// Person 10 as the owner.
-pub fn owner(rt: &impl Abort) -> Owners {
-    let mut owners = ArrayVec::new();
-    owners.push(person(rt, 10));
-    Owners::new(owners).expect(rt, "one owner")
-}
+use test_items::{creation, day, filing, folio, land_charge, receipt, usufruct};
 
 // ---- items
 
-pub fn opening(rt: &impl Abort, n: u32) -> Act {
-    Act::Open {
-        folio: folio(rt, n),
-        inventory: Inventory {
-            district: 12,
-            parcel: 345,
-            sub: 6,
-            area: 800,
-        },
-        owners: owner(rt),
-    }
-}
-
 /// A land charge of 100.00 for person 20.
-pub fn land_charge(rt: &impl Abort, group: u8) -> RightSpec {
-    RightSpec {
-        kind: RightKind::LandCharge { rate_bp: 500 },
-        capital: Cents::new(10_000).expect(rt, "an amount"),
-        holder: person(rt, 20),
-        group,
-    }
+pub fn small_charge(group: u8) -> RightSpec {
+    land_charge(10_000, 20, group)
 }
 
-pub fn usufruct(rt: &impl Abort, group: u8) -> RightSpec {
-    RightSpec {
-        kind: RightKind::Usufruct,
-        capital: Cents::new(10_000).expect(rt, "an amount"),
-        holder: person(rt, 21),
-        group,
-    }
+/// A usufruct for person 21.
+pub fn small_usufruct() -> RightSpec {
+    usufruct(10_000, 21, 1)
 }
 
-pub fn mortgage(rt: &impl Abort, group: u8) -> RightSpec {
-    RightSpec {
-        kind: RightKind::Mortgage { rate_bp: 400 },
-        capital: Cents::new(20_000).expect(rt, "an amount"),
-        holder: person(rt, 22),
-        group,
-    }
-}
-
-pub fn creation(rt: &impl Abort, n: u32, spec: RightSpec) -> Act {
-    Act::Create {
-        folio: folio(rt, n),
-        spec,
-        reserve: None,
-    }
-}
-
-pub fn charge(rt: &impl Abort, n: u32, group: u8) -> Act {
-    creation(rt, n, land_charge(rt, group))
-}
-
-pub fn cancellation(rt: &impl Abort, n: u32, of: u32, act: u8) -> Act {
-    Act::Cancel {
-        folio: folio(rt, n),
-        right: right(rt, of, act),
-    }
-}
-
-pub fn exchange(rt: &impl Abort, n: u32, recede: RightId, rise: RightId) -> Act {
-    Act::Exchange {
-        folio: folio(rt, n),
-        recede,
-        rise,
-    }
-}
-
-pub fn exercise(rt: &impl Abort, n: u32, behind: RightId) -> Act {
-    Act::Exercise {
-        folio: folio(rt, n),
-        behind,
-        spec: land_charge(rt, 1),
-    }
+/// The creation of a land charge in a folio.
+pub fn charge(n: u32, group: u8) -> Act
+    requires { 1 ≤ n }
+{
+    creation(n, small_charge(group))
 }
 
 /// A filing of these acts without documents.
-pub fn filing(rt: &impl Abort, acts: ArrayVec<Act, 8>) -> Item {
-    Item::Filing(Filing {
-        applicant: person(rt, 10),
-        conditional: false,
-        acts: Acts::new(acts),
-        docs: Docs::new(ArrayVec::new()),
-    })
-}
-
-/// A cure of a filing by an expiry proof for this act.
-pub fn cure(rt: &impl Abort, n: u32, act: u8) -> Item {
-    let mut docs = ArrayVec::new();
-    docs.push(Doc::ExpiryProof { act });
-    Item::Cure {
-        filing: receipt(rt, n),
-        docs: Docs::new(docs),
-    }
-}
-
-/// The item becomes receipt n of the journal, on this day.
-pub fn receive(rt: &impl Abort, journal: &mut Journal, n: u32, on: u8, item: &Item) {
-    assert!(rt; well_formed(item));
-    let stamp = Stamp::new(day(rt, on), 540).expect(rt, "a stamp");
-    let answer = journal.add(stamp, 1, n as u64, item);
-    assert_eq!(rt; answer, Added::Accepted(receipt(rt, n)));
+pub fn bare(acts: Acts) -> Item {
+    Item::Filing(filing(10, acts, &[]))
 }
 
 /// A journal whose one receipt is a filing of these acts, of the first day of March.
-pub fn journal_of(rt: &impl Abort, alloc: Global, acts: ArrayVec<Act, 8>) -> Journal {
+pub fn journal_of(rt: &impl Abort, alloc: Global, acts: Acts) -> Journal {
     let mut journal = Journal::new(alloc);
-    receive(rt, &mut journal, 1, 1, &filing(rt, acts));
+    receive(rt, &mut journal, day(3, 1), &bare(acts));
     journal
 }
 
@@ -164,38 +54,47 @@ pub struct Standing {
 }
 
 /// The place of a filing, for division II or for division III.
-pub fn place(rt: &impl Abort, n: u32, of: u32, on: u8, second: bool) -> Standing {
+pub fn place(n: u32, of: u32, on: Day, second: bool) -> Standing
+    requires folio { 1 ≤ n }
+    requires filing { 1 ≤ of }
+{
     Standing {
-        folio: folio(rt, n),
-        receipt: receipt(rt, of),
-        day: day(rt, on),
+        folio: folio(n),
+        receipt: receipt(of),
+        day: on,
         what: What::Placed {
-            filing: receipt(rt, of),
+            filing: receipt(of),
             second,
             third: !second,
         },
     }
 }
 
-pub fn pending(rt: &impl Abort, n: u32, of: u32, on: u8) -> Standing {
+pub fn pending(n: u32, of: u32, on: Day) -> Standing
+    requires folio { 1 ≤ n }
+    requires filing { 1 ≤ of }
+{
     Standing {
-        folio: folio(rt, n),
-        receipt: receipt(rt, of),
-        day: day(rt, on),
+        folio: folio(n),
+        receipt: receipt(of),
+        day: on,
         what: What::Pending {
-            filing: receipt(rt, of),
-            until: day(rt, 28),
+            filing: receipt(of),
+            until: day(3, 28),
         },
     }
 }
 
-pub fn notice_of(rt: &impl Abort, n: u32, of: u32, on: u8) -> Standing {
+pub fn notice_of(n: u32, of: u32, on: Day) -> Standing
+    requires folio { 1 ≤ n }
+    requires filing { 1 ≤ of }
+{
     Standing {
-        folio: folio(rt, n),
-        receipt: receipt(rt, of),
-        day: day(rt, on),
+        folio: folio(n),
+        receipt: receipt(of),
+        day: on,
         what: What::Notice {
-            filing: receipt(rt, of),
+            filing: receipt(of),
         },
     }
 }
@@ -209,8 +108,11 @@ pub fn entered(
     journal: &Journal,
     item: u32,
     of: u32,
-) -> Result<MapParts, NoMemory> {
-    let parts = parts_of(rt, alloc, journal, of)?;
+) -> Result<MapParts, NoMemory>
+    requires item { 1 ≤ item }
+    requires filing { 1 ≤ of }
+{
+    let parts = parts_of(alloc, journal, of)?;
     entered_in(rt, parts, journal, item, of)
 }
 
@@ -222,20 +124,20 @@ pub fn entered_on(
     standing: Standing,
     item: u32,
     of: u32,
-) -> Result<MapParts, NoMemory> {
-    let parts = parts_of(rt, alloc, journal, of)?;
+) -> Result<MapParts, NoMemory>
+    requires item { 1 ≤ item }
+    requires filing { 1 ≤ of }
+{
+    let parts = parts_of(alloc, journal, of)?;
     let parts = stand(rt, parts, standing)?;
     entered_in(rt, parts, journal, item, of)
 }
 
 /// Empty parts at the keys of a filing.
-pub fn parts_of(
-    rt: &impl Abort,
-    alloc: Global,
-    journal: &Journal,
-    of: u32,
-) -> Result<MapParts, NoMemory> {
-    let keys = filing_keys(journal, receipt(rt, of));
+pub fn parts_of(alloc: Global, journal: &Journal, of: u32) -> Result<MapParts, NoMemory>
+    requires { 1 ≤ of }
+{
+    let keys = filing_keys(journal, receipt(of));
     MapParts::new(alloc, keys.as_slice())
 }
 
@@ -261,9 +163,12 @@ pub fn entered_in(
     journal: &Journal,
     item: u32,
     of: u32,
-) -> Result<MapParts, NoMemory> {
+) -> Result<MapParts, NoMemory>
+    requires item { 1 ≤ item }
+    requires filing { 1 ≤ of }
+{
     let mut after = parts;
-    let (item, of) = (receipt(rt, item), receipt(rt, of));
+    let (item, of) = (receipt(item), receipt(of));
     assert!(rt; item.get() <= journal.len());
     assert!(rt; filing_at(journal, of).is_some());
     after.reserve_all(MOST_ENTERED)?;
@@ -274,12 +179,16 @@ pub fn entered_in(
 }
 
 /// The title of a folio.
-pub fn title<'a>(rt: &impl Abort, parts: &'a MapParts, n: u32) -> &'a TitlePart {
-    parts.title(folio(rt, n)).expect(rt, "a title")
+pub fn title<'a>(rt: &impl Abort, parts: &'a MapParts, n: u32) -> &'a TitlePart
+    requires { 1 ≤ n }
+{
+    parts.title(folio(n)).expect(rt, "a title")
 }
 
 /// An entry at the title of a folio, from 0.
-pub fn at_title<'a>(rt: &impl Abort, parts: &'a MapParts, n: u32, index: usize) -> &'a Entry {
+pub fn at_title<'a>(rt: &impl Abort, parts: &'a MapParts, n: u32, index: usize) -> &'a Entry
+    requires { 1 ≤ n }
+{
     title(rt, parts, n)
         .entries()
         .get(index)
@@ -287,18 +196,20 @@ pub fn at_title<'a>(rt: &impl Abort, parts: &'a MapParts, n: u32, index: usize) 
 }
 
 /// The one entry at a right.
-pub fn only_entry<'a>(rt: &impl Abort, parts: &'a MapParts, n: u32, of: u32, act: u8) -> &'a Entry {
-    let part = parts
-        .right(folio(rt, n), right(rt, of, act))
-        .expect(rt, "a part");
+pub fn only_entry<'a>(rt: &impl Abort, parts: &'a MapParts, n: u32, id: RightId) -> &'a Entry
+    requires { 1 ≤ n }
+{
+    let part = parts.right(folio(n), id).expect(rt, "a part");
     assert!(rt; part.entries().len() == 1);
     part.entries().first().expect(rt, "an entry")
 }
 
 /// The right as it was entered.
-pub fn created(rt: &impl Abort, parts: &MapParts, n: u32, of: u32, act: u8) -> Created {
+pub fn created(rt: &impl Abort, parts: &MapParts, n: u32, id: RightId) -> Created
+    requires { 1 ≤ n }
+{
     parts
-        .right(folio(rt, n), right(rt, of, act))
+        .right(folio(n), id)
         .expect(rt, "a part")
         .created()
         .expect(rt, "a right")

@@ -9,8 +9,6 @@ mod closed_folio_tests;
 #[cfg(test)]
 mod content_tests;
 #[cfg(test)]
-mod docket_journals;
-#[cfg(test)]
 mod docket_tests;
 #[cfg(test)]
 mod document_tests;
@@ -21,9 +19,11 @@ mod entering_tests;
 #[cfg(test)]
 mod held_keys;
 #[cfg(test)]
-mod interim_journals;
+mod interim_parts;
 #[cfg(test)]
 mod interim_tests;
+#[cfg(test)]
+mod journals;
 #[cfg(test)]
 mod judging_tests;
 #[cfg(test)]
@@ -32,8 +32,6 @@ mod map_tests;
 mod order_tests;
 #[cfg(test)]
 mod owner_tests;
-#[cfg(test)]
-mod part_tests;
 #[cfg(test)]
 mod rank_tests;
 #[cfg(test)]
@@ -50,3 +48,5 @@ mod test_register;
 mod title_tests;
 #[cfg(test)]
 mod waiting_tests;
+#[cfg(test)]
+mod written_entries;

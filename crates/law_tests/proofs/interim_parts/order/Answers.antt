@@ -1,5 +1,5 @@
 use Rattle.folio_sections.specs.Held.{room_at}
-use Rattle.law_tests.proofs.interim_journals.order.Goals as goal
+use Rattle.law_tests.proofs.interim_parts.order.Goals as goal
 
 pub open_order-requires-clause-room : goal.open_order-requires-clause-room
 open_order-requires-clause-room g c =

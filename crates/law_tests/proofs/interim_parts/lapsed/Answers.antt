@@ -1,5 +1,5 @@
 use Rattle.folio_sections.specs.Held.{entries_at, room_at}
-use Rattle.law_tests.proofs.interim_journals.lapsed.Goals as goal
+use Rattle.law_tests.proofs.interim_parts.lapsed.Goals as goal
 
 pub lapse-requires-clause-room : goal.lapse-requires-clause-room
 lapse-requires-clause-room g c =

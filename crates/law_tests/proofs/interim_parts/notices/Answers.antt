@@ -1,7 +1,7 @@
 use Rattle.std.proofs.Common.{arith}
 use Rattle.folio_sections.specs.Held.{entries_at, room_at}
 use Rattle.interim_orders.proofs.Room.{unnoticed_few}
-use Rattle.law_tests.proofs.interim_journals.notices.Goals as goal
+use Rattle.law_tests.proofs.interim_parts.notices.Goals as goal
 
 pub enter_notices-requires-clause-room : goal.enter_notices-requires-clause-room
 enter_notices-requires-clause-room g c =

@@ -1,5 +1,5 @@
 use Rattle.folio_sections.specs.Held.{room_at}
-use Rattle.law_tests.proofs.interim_journals.close.Goals as goal
+use Rattle.law_tests.proofs.interim_parts.close.Goals as goal
 
 pub close_order-requires-clause-room : goal.close_order-requires-clause-room
 close_order-requires-clause-room g c =

@@ -1,106 +1,28 @@
-//! Journals and parts for the tests, and calls on them that keep what they want.
-ghost use Rattle.std.specs.Prelude.{◌≡◌, ℕ, Contains, IsTrue, Some};
+//! Parts of the filings of a journal, and calls on them that check what they want.
+ghost use Rattle.std.specs.Prelude.{◌≡◌, ◌≤◌, ℕ, Contains, IsTrue, Some};
 ghost use Rattle.gb_base.specs.declared.keys.Key.{Key};
 ghost use Rattle.act_model.specs.Touches.{keys_of_filing};
 ghost use Rattle.folio_sections.specs.Held.{is_held};
 ghost use Rattle.interim_orders.specs.Lapses.{lapse_at};
 
 use crate::held_keys::check_held;
-use act_model::{
-    Act, Acts, Added, Docs, Filing, Item, Journal, RightKind, RightSpec, filing_at, filing_keys,
-    well_formed,
-};
-use arrayvec::ArrayVec;
+use act_model::{Item, Journal, filing_at, filing_keys};
 use folio_sections::{Entry, MapParts, Parts, What};
-use gb_base::{Cents, Day, FolioId, Key, NoMemory, Person, ReceiptNo, RightId, Stamp};
+use gb_base::{Day, Key, NoMemory, ReceiptNo};
 use interim_orders::{
     FilingState, Lapse, close_order, enter_notices, lapse, laws, open_order, state,
 };
 use std::alloc::Global;
 use std::process::Abort;
+use test_items::receipt;
 
-pub fn folio(rt: &impl Abort, n: u32) -> FolioId {
-    FolioId::new(n).expect(rt, "a folio")
-}
-
-pub fn receipt(rt: &impl Abort, n: u32) -> ReceiptNo {
-    ReceiptNo::new(n).expect(rt, "a receipt")
-}
-
-fn person(rt: &impl Abort, n: u32) -> Person {
-    Person::new(n).expect(rt, "a person")
-}
-
-/// A day of 2024.
-pub fn day(rt: &impl Abort, month: u8, of_month: u8) -> Day {
-    Day::from_civil(2024, month, of_month).expect(rt, "a day")
-}
-
-pub fn title_key(rt: &impl Abort, n: u32) -> Key {
-    Key::Title(folio(rt, n))
-}
-
-/// The key of the right that an act of a filing creates in a folio.
-pub fn right_key(rt: &impl Abort, n: u32, of: u32, act: u8) -> Key {
-    let right = RightId::new(receipt(rt, of), act).expect(rt, "a right");
-    Key::Right(folio(rt, n), right)
-}
-
-// ---- items
-
-/// The creation of a land charge in a folio.
-pub fn charge(rt: &impl Abort, n: u32) -> Act {
-    Act::Create {
-        folio: folio(rt, n),
-        spec: RightSpec {
-            kind: RightKind::LandCharge { rate_bp: 500 },
-            capital: Cents::new(10_000).expect(rt, "an amount"),
-            holder: person(rt, 20),
-            group: 1,
-        },
-        reserve: None,
-    }
-}
-
-/// A filing of these acts without documents.
-pub fn filing(rt: &impl Abort, acts: ArrayVec<Act, 8>) -> Item {
-    Item::Filing(Filing {
-        applicant: person(rt, 10),
-        conditional: false,
-        acts: Acts::new(acts),
-        docs: Docs::new(ArrayVec::new()),
-    })
-}
-
-/// A filing that creates a land charge in a folio.
-pub fn one_charge(rt: &impl Abort, n: u32) -> Item {
-    let mut acts = ArrayVec::new();
-    acts.push(charge(rt, n));
-    filing(rt, acts)
-}
-
-/// A lapse of this number.
-pub fn lapse_item(rt: &impl Abort, n: u32) -> Item {
-    Item::Lapse {
-        filing: receipt(rt, n),
-    }
-}
-
-/// The item becomes receipt n of the journal, on this day.
-pub fn receive(rt: &impl Abort, journal: &mut Journal, n: u32, on: Day, item: &Item) {
-    assert!(rt; well_formed(item));
-    let stamp = Stamp::new(on, 540).expect(rt, "a stamp");
-    let answer = journal.add(stamp, 1, n as u64, item);
-    assert_eq!(rt; answer, Added::Accepted(receipt(rt, n)));
-}
-
-// ---- parts
+// ---- what calls want
 
 /// Empty parts at the keys of all filings of the journal.
-pub fn parts_of(rt: &impl Abort, alloc: Global, journal: &Journal) -> Result<MapParts, NoMemory> {
+pub fn parts_of(alloc: Global, journal: &Journal) -> Result<MapParts, NoMemory> {
     let mut keys = Vec::new(alloc);
     for n in 0..journal.len() {
-        add_keys(&mut keys, journal, receipt(rt, n + 1))?;
+        add_keys(&mut keys, journal, receipt(n + 1))?;
     }
     MapParts::new(alloc, keys.as_slice())
 }
@@ -134,8 +56,10 @@ pub fn order(
     parts: &mut MapParts,
     journal: &Journal,
     filing: u32,
-) -> Result<Day, NoMemory> {
-    let filing = receipt(rt, filing);
+) -> Result<Day, NoMemory>
+    requires { 1 ≤ filing }
+{
+    let filing = receipt(filing);
     assert!(rt; filing_at(journal, filing).is_some());
     parts.reserve_all(1)?;
     check_held(rt, parts, journal, filing);
@@ -150,9 +74,12 @@ pub fn close(
     journal: &Journal,
     item: u32,
     filing: u32,
-) -> Result<(), NoMemory> {
-    let item = receipt(rt, item);
-    let filing = receipt(rt, filing);
+) -> Result<(), NoMemory>
+    requires item { 1 ≤ item }
+    requires filing { 1 ≤ filing }
+{
+    let item = receipt(item);
+    let filing = receipt(filing);
     assert!(rt; item.get() <= journal.len());
     parts.reserve_all(1)?;
     check_held(rt, parts, journal, filing);
@@ -167,8 +94,10 @@ pub fn notices(
     parts: &mut MapParts,
     journal: &Journal,
     filing: u32,
-) -> Result<(), NoMemory> {
-    let filing = receipt(rt, filing);
+) -> Result<(), NoMemory>
+    requires { 1 ≤ filing }
+{
+    let filing = receipt(filing);
     assert!(rt; filing.get() <= journal.len());
     parts.reserve_all(filing.get() as usize)?;
     check_held(rt, parts, journal, filing);
@@ -184,9 +113,12 @@ pub fn state_at(
     journal: &Journal,
     item: u32,
     filing: u32,
-) -> FilingState {
-    let item = receipt(rt, item);
-    let filing = receipt(rt, filing);
+) -> FilingState
+    requires item { 1 ≤ item }
+    requires filing { 1 ≤ filing }
+{
+    let item = receipt(item);
+    let filing = receipt(filing);
     check_held(rt, parts, journal, filing);
     state(parts, journal, item, filing)
 }
@@ -197,8 +129,10 @@ pub fn lapsed(
     parts: &mut MapParts,
     journal: &Journal,
     item: u32,
-) -> Result<Lapse, NoMemory> {
-    let item = receipt(rt, item);
+) -> Result<Lapse, NoMemory>
+    requires { 1 ≤ item }
+{
+    let item = receipt(item);
     assert!(rt; item.get() <= journal.len());
     parts.reserve_all(1)?;
     check_lapse(rt, parts, journal, item);
