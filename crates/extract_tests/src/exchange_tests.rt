@@ -1,46 +1,44 @@
 //! Rank tables with exchanges and exercised reservations, written down by hand from the rules.
-use crate::extract_journals::{
-    by_owner, charge, consent, create, docs, filing, folio, has_table, opened_by_one, plain,
-    receipt, receive, right, spec,
-};
-use act_model::{Act, Doc, Item, Journal, RightKind};
-use gb_base::{Cents, NoMemory};
+ghost use Rattle.std.specs.Prelude.{◌≤◌};
+
+use crate::extract_journals::{by_owner, charge, create, has_table, opened_by_one, receive};
+use act_model::{Act, Item, Journal};
+use gb_base::NoMemory;
 use std::alloc::Global;
 use std::process::Abort;
+use test_items::{
+    cancellation, consent, creation_reserving, cure, day, exchange, exercise, expiry_proof, filed,
+    land_charge, plain_consent, right,
+};
 
 // ---- items
 
 /// The first right of a receipt recedes behind that of another one.
-fn exchange(rt: &impl Abort, recede: u32, rise: u32) -> Act {
-    Act::Exchange {
-        folio: folio(rt, 7),
-        recede: right(rt, recede, 1),
-        rise: right(rt, rise, 1),
-    }
+fn exchange_of(recede: u32, rise: u32) -> Act
+    requires recede { 1 ≤ recede }
+    requires rise { 1 ≤ rise }
+{
+    exchange(7, right(recede, 1), right(rise, 1))
 }
 
-/// The consents of the owner and the holder.
-fn both_consents(rt: &impl Abort) -> [Doc; 2] {
-    [consent(rt, 1, 10), consent(rt, 1, 20)]
-}
-
-/// The exchange with all consents.
-fn exchanged(rt: &impl Abort, recede: u32, rise: u32) -> Item {
-    filing(
-        rt,
+/// The exchange with the consents of the owner and the holder.
+fn exchanged(recede: u32, rise: u32) -> Item
+    requires recede { 1 ≤ recede }
+    requires rise { 1 ≤ rise }
+{
+    filed(
         10,
-        exchange(rt, recede, rise),
-        docs(both_consents(rt).as_slice()),
+        exchange_of(recede, rise),
+        &[consent(1, 10), consent(1, 20)],
     )
 }
 
-/// The cancellation of the first right of a receipt, with these documents.
-fn cancelled(rt: &impl Abort, of: u32, list: &[Doc; 2]) -> Item {
-    let act = Act::Cancel {
-        folio: folio(rt, 7),
-        right: right(rt, of, 1),
-    };
-    filing(rt, 10, act, docs(list.as_slice()))
+/// The cancellation of the first right of a receipt, with the consents of the owner and the holder.
+fn cancelled(of: u32) -> Item
+    requires { 1 ≤ of }
+{
+    let act = cancellation(7, right(of, 1));
+    filed(10, act, &[consent(1, 10), consent(1, 20)])
 }
 
 // ---- journals
@@ -48,16 +46,16 @@ fn cancelled(rt: &impl Abort, of: u32, list: &[Doc; 2]) -> Item {
 /// Receipts 2 to 4 create charges of 100, 50 and 80 euros.
 fn three_charges(rt: &impl Abort, alloc: Global) -> Journal {
     let mut journal = opened_by_one(rt, alloc);
-    create(rt, &mut journal, 4, charge(rt, 10_000, 1));
-    create(rt, &mut journal, 4, charge(rt, 5_000, 1));
-    create(rt, &mut journal, 4, charge(rt, 8_000, 1));
+    create(rt, &mut journal, day(3, 4), charge(10_000, 1));
+    create(rt, &mut journal, day(3, 4), charge(5_000, 1));
+    create(rt, &mut journal, day(3, 4), charge(8_000, 1));
     journal
 }
 
 /// In receipt 5 the charge of 100 euros recedes behind that of 80.
 fn with_exchange(rt: &impl Abort, alloc: Global) -> Journal {
     let mut journal = three_charges(rt, alloc);
-    receive(rt, &mut journal, 5, &exchanged(rt, 2, 4));
+    receive(&rt, &mut journal, day(3, 5), &exchanged(2, 4));
     journal
 }
 
@@ -70,7 +68,7 @@ fn the_right_between_keeps_its_cents(rt: HostRuntime) -> Result<(), NoMemory> {
     let journal = with_exchange(&rt, alloc);
     let wanted = "ranks 7\nrank 1 2.1\nrank 2 3.1\nrank 3 4.1\nexchange 2.1 4.1\n\
         cents 1-8000 4.1\ncents 8001-10000 2.1\ncents 10001-15000 3.1\ncents 15001-23000 2.1\n";
-    assert!(rt; has_table(&rt, alloc, &journal, wanted)?);
+    assert!(rt; has_table(alloc, &journal, wanted)?);
     Ok(())
 }
 
@@ -79,15 +77,10 @@ fn the_right_between_keeps_its_cents(rt: HostRuntime) -> Result<(), NoMemory> {
 fn a_receding_right_cancelled_by_consent(rt: HostRuntime) -> Result<(), NoMemory> {
     let alloc = rt.alloc();
     let mut journal = with_exchange(&rt, alloc);
-    receive(
-        &rt,
-        &mut journal,
-        6,
-        &cancelled(&rt, 2, &both_consents(&rt)),
-    );
+    receive(&rt, &mut journal, day(3, 6), &cancelled(2));
     let wanted = "ranks 7\nrank 1 3.1\nrank 2 4.1\nexchange 2.1 4.1\n\
         cents 1-8000 4.1\ncents 8001-13000 3.1\n";
-    assert!(rt; has_table(&rt, alloc, &journal, wanted)?);
+    assert!(rt; has_table(alloc, &journal, wanted)?);
     Ok(())
 }
 
@@ -96,10 +89,11 @@ fn a_receding_right_cancelled_by_consent(rt: HostRuntime) -> Result<(), NoMemory
 fn a_receding_right_that_expired(rt: HostRuntime) -> Result<(), NoMemory> {
     let alloc = rt.alloc();
     let mut journal = with_exchange(&rt, alloc);
-    let list = [Doc::ExpiryProof { act: 1 }, consent(&rt, 1, 10)];
-    receive(&rt, &mut journal, 6, &cancelled(&rt, 2, &list));
+    let act = cancellation(7, right(2, 1));
+    let expired = filed(10, act, &[expiry_proof(1), consent(1, 10)]);
+    receive(&rt, &mut journal, day(3, 6), &expired);
     let wanted = "ranks 7\nrank 1 3.1\nrank 2 4.1\ncents 1-5000 3.1\ncents 5001-13000 4.1\n";
-    assert!(rt; has_table(&rt, alloc, &journal, wanted)?);
+    assert!(rt; has_table(alloc, &journal, wanted)?);
     Ok(())
 }
 
@@ -108,14 +102,9 @@ fn a_receding_right_that_expired(rt: HostRuntime) -> Result<(), NoMemory> {
 fn a_rising_right_that_is_gone(rt: HostRuntime) -> Result<(), NoMemory> {
     let alloc = rt.alloc();
     let mut journal = with_exchange(&rt, alloc);
-    receive(
-        &rt,
-        &mut journal,
-        6,
-        &cancelled(&rt, 4, &both_consents(&rt)),
-    );
+    receive(&rt, &mut journal, day(3, 6), &cancelled(4));
     let wanted = "ranks 7\nrank 1 2.1\nrank 2 3.1\ncents 1-10000 2.1\ncents 10001-15000 3.1\n";
-    assert!(rt; has_table(&rt, alloc, &journal, wanted)?);
+    assert!(rt; has_table(alloc, &journal, wanted)?);
     Ok(())
 }
 
@@ -125,23 +114,14 @@ fn a_rising_right_that_is_gone(rt: HostRuntime) -> Result<(), NoMemory> {
 fn a_cured_exchange(rt: HostRuntime) -> Result<(), NoMemory> {
     let alloc = rt.alloc();
     let mut journal = three_charges(&rt, alloc);
-    let waiting = [consent(&rt, 1, 10), plain(&rt, 1, 20)];
-    let act = exchange(&rt, 2, 4);
-    receive(
-        &rt,
-        &mut journal,
-        5,
-        &filing(&rt, 10, act, docs(waiting.as_slice())),
-    );
-    receive(&rt, &mut journal, 6, &exchanged(&rt, 2, 3));
-    let cure = Item::Cure {
-        filing: receipt(&rt, 5),
-        docs: docs([consent(&rt, 1, 20)].as_slice()),
-    };
-    receive(&rt, &mut journal, 7, &cure);
+    let waiting = [consent(1, 10), plain_consent(1, 20)];
+    let item = filed(10, exchange_of(2, 4), waiting.as_slice());
+    receive(&rt, &mut journal, day(3, 5), &item);
+    receive(&rt, &mut journal, day(3, 6), &exchanged(2, 3));
+    receive(&rt, &mut journal, day(3, 7), &cure(5, &[consent(1, 20)]));
     let wanted = "ranks 7\nrank 1 2.1\nrank 2 3.1\nrank 3 4.1\nexchange 2.1 3.1\nexchange 2.1 4.1\n\
         cents 1-5000 3.1\ncents 5001-13000 4.1\ncents 13001-23000 2.1\n";
-    assert!(rt; has_table(&rt, alloc, &journal, wanted)?);
+    assert!(rt; has_table(alloc, &journal, wanted)?);
     Ok(())
 }
 
@@ -150,22 +130,13 @@ fn a_cured_exchange(rt: HostRuntime) -> Result<(), NoMemory> {
 fn an_exercised_reservation(rt: HostRuntime) -> Result<(), NoMemory> {
     let alloc = rt.alloc();
     let mut journal = opened_by_one(&rt, alloc);
-    let kind = RightKind::LandCharge { rate_bp: 500 };
-    let reserving = Act::Create {
-        folio: folio(&rt, 7),
-        spec: spec(&rt, kind, 10_000, 20),
-        reserve: Cents::new(6_000),
-    };
-    create(&rt, &mut journal, 4, reserving);
-    create(&rt, &mut journal, 4, charge(&rt, 5_000, 1));
-    let exercise = Act::Exercise {
-        folio: folio(&rt, 7),
-        behind: right(&rt, 2, 1),
-        spec: spec(&rt, kind, 4_000, 22),
-    };
-    receive(&rt, &mut journal, 5, &by_owner(&rt, 10, exercise));
+    let reserving = creation_reserving(7, land_charge(10_000, 20, 1), 6_000);
+    create(&rt, &mut journal, day(3, 4), reserving);
+    create(&rt, &mut journal, day(3, 4), charge(5_000, 1));
+    let taken_up = exercise(7, right(2, 1), land_charge(4_000, 22, 1));
+    receive(&rt, &mut journal, day(3, 5), &by_owner(10, taken_up));
     let wanted = "ranks 7\nrank 1 2.1\nrank 2 3.1\nrank 3 4.1\nexercise 2.1 4.1\n\
         cents 1-10000 2.1\ncents 10001-15000 3.1\ncents 15001-19000 4.1\n";
-    assert!(rt; has_table(&rt, alloc, &journal, wanted)?);
+    assert!(rt; has_table(alloc, &journal, wanted)?);
     Ok(())
 }

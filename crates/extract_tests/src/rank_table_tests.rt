@@ -1,46 +1,36 @@
 //! Rank tables written down by hand from the rules.
-use crate::extract_journals::{
-    charge, consent, create, creation_in_group, docs, filing, folio, has_table, opened_by_one,
-    person, receive, right,
-};
-use act_model::{Act, Acts, Doc, Filing, Item, RightKind};
-use arrayvec::ArrayVec;
+ghost use Rattle.std.specs.Prelude.{◌≤◌};
+ghost use Rattle.gb_base.specs.Limits.{most_cents};
+
+use crate::extract_journals::{charge, create, has_table, opened_by_one, receive};
+use act_model::{Act, Item};
 use folio_extract::rank_table;
 use gb_base::NoMemory;
 use registrar::alone;
-use std::process::Abort;
-
-// ---- acts in folio 7
-
-fn usufruct(rt: &impl Abort, cents: u64, group: u8) -> Act {
-    creation_in_group(rt, RightKind::Usufruct, cents, group)
-}
+use test_items::{
+    cancellation, consent, creation, day, expiry_proof, filed, filing, folio, right, three,
+    usufruct,
+};
 
 // ---- items
 
-/// Two charges and a usufruct, of which the last two have one group.
-fn three_rights(rt: &impl Abort) -> Item {
-    let mut acts = ArrayVec::new();
-    acts.push(charge(rt, 10_000, 2));
-    acts.push(charge(rt, 20_000, 1));
-    acts.push(usufruct(rt, 5_000, 1));
-    let consents = [consent(rt, 1, 10), consent(rt, 2, 10), consent(rt, 3, 10)];
-    Item::Filing(Filing {
-        applicant: person(rt, 10),
-        conditional: false,
-        acts: Acts::new(acts),
-        docs: docs(consents.as_slice()),
-    })
+/// The creation of a usufruct of 20 in folio 7.
+fn usufruct_of(capital: u64) -> Act
+    requires { capital ≤ most_cents }
+{
+    creation(7, usufruct(capital, 20, 1))
 }
 
-/// The cancellation of the right that act 1 of a receipt creates, whose expiry is proved.
-fn cancellation(rt: &impl Abort, of: u32) -> Item {
-    let act = Act::Cancel {
-        folio: folio(rt, 7),
-        right: right(rt, of, 1),
-    };
-    let proof = [Doc::ExpiryProof { act: 1 }];
-    filing(rt, 10, act, docs(proof.as_slice()))
+/// Two charges and a usufruct, of which the last two have one group.
+fn three_rights() -> Item {
+    let acts = three(charge(10_000, 2), charge(20_000, 1), usufruct_of(5_000));
+    let consents = [consent(1, 10), consent(2, 10), consent(3, 10)];
+    Item::Filing(filing(10, acts, consents.as_slice()))
+}
+
+/// The cancellation of the right that act 1 of receipt 2 creates, whose expiry is proved.
+fn expired() -> Item {
+    filed(10, cancellation(7, right(2, 1)), &[expiry_proof(1)])
 }
 
 // ---- tables
@@ -50,10 +40,10 @@ fn cancellation(rt: &impl Abort, of: u32) -> Item {
 fn two_divisions_on_two_days(rt: HostRuntime) -> Result<(), NoMemory> {
     let alloc = rt.alloc();
     let mut journal = opened_by_one(&rt, alloc);
-    create(&rt, &mut journal, 4, usufruct(&rt, 5_000, 1));
-    create(&rt, &mut journal, 5, charge(&rt, 10_000, 1));
+    create(&rt, &mut journal, day(3, 4), usufruct_of(5_000));
+    create(&rt, &mut journal, day(3, 5), charge(10_000, 1));
     let wanted = "ranks 7\nrank 1 2.1\nrank 2 3.1\ncents 1-5000 2.1\ncents 5001-15000 3.1\n";
-    assert!(rt; has_table(&rt, alloc, &journal, wanted)?);
+    assert!(rt; has_table(alloc, &journal, wanted)?);
     Ok(())
 }
 
@@ -62,10 +52,10 @@ fn two_divisions_on_two_days(rt: HostRuntime) -> Result<(), NoMemory> {
 fn two_divisions_on_one_day(rt: HostRuntime) -> Result<(), NoMemory> {
     let alloc = rt.alloc();
     let mut journal = opened_by_one(&rt, alloc);
-    create(&rt, &mut journal, 4, charge(&rt, 10_000, 1));
-    create(&rt, &mut journal, 4, usufruct(&rt, 5_000, 1));
+    create(&rt, &mut journal, day(3, 4), charge(10_000, 1));
+    create(&rt, &mut journal, day(3, 4), usufruct_of(5_000));
     let wanted = "ranks 7\nrank 1 2.1\nrank 2 3.1\ncents 1-10000 2.1\ncents 10001-15000 3.1\n";
-    assert!(rt; has_table(&rt, alloc, &journal, wanted)?);
+    assert!(rt; has_table(alloc, &journal, wanted)?);
     Ok(())
 }
 
@@ -75,10 +65,10 @@ fn two_divisions_on_one_day(rt: HostRuntime) -> Result<(), NoMemory> {
 fn a_group_of_equal_rank(rt: HostRuntime) -> Result<(), NoMemory> {
     let alloc = rt.alloc();
     let mut journal = opened_by_one(&rt, alloc);
-    receive(&rt, &mut journal, 4, &three_rights(&rt));
+    receive(&rt, &mut journal, day(3, 4), &three_rights());
     let wanted =
         "ranks 7\nrank 1 2.2\nrank 1 2.3\nrank 2 2.1\ncents 1-25000 group 2.2 2.3\ncents 25001-35000 2.1\n";
-    assert!(rt; has_table(&rt, alloc, &journal, wanted)?);
+    assert!(rt; has_table(alloc, &journal, wanted)?);
     Ok(())
 }
 
@@ -87,11 +77,11 @@ fn a_group_of_equal_rank(rt: HostRuntime) -> Result<(), NoMemory> {
 fn a_right_that_is_gone(rt: HostRuntime) -> Result<(), NoMemory> {
     let alloc = rt.alloc();
     let mut journal = opened_by_one(&rt, alloc);
-    create(&rt, &mut journal, 4, usufruct(&rt, 5_000, 1));
-    create(&rt, &mut journal, 5, charge(&rt, 10_000, 1));
-    receive(&rt, &mut journal, 6, &cancellation(&rt, 2));
+    create(&rt, &mut journal, day(3, 4), usufruct_of(5_000));
+    create(&rt, &mut journal, day(3, 5), charge(10_000, 1));
+    receive(&rt, &mut journal, day(3, 6), &expired());
     let wanted = "ranks 7\nrank 1 3.1\ncents 1-10000 3.1\n";
-    assert!(rt; has_table(&rt, alloc, &journal, wanted)?);
+    assert!(rt; has_table(alloc, &journal, wanted)?);
     Ok(())
 }
 
@@ -100,9 +90,9 @@ fn a_right_that_is_gone(rt: HostRuntime) -> Result<(), NoMemory> {
 fn no_rights_and_no_folio(rt: HostRuntime) -> Result<(), NoMemory> {
     let alloc = rt.alloc();
     let journal = opened_by_one(&rt, alloc);
-    assert!(rt; has_table(&rt, alloc, &journal, "ranks 7\n")?);
+    assert!(rt; has_table(alloc, &journal, "ranks 7\n")?);
     let register = alone(alloc, &journal)?;
-    let other = rank_table(alloc, &register, &journal, folio(&rt, 8))?;
+    let other = rank_table(alloc, &register, &journal, folio(8))?;
     assert!(rt; other.is_none());
     Ok(())
 }

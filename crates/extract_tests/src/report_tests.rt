@@ -1,33 +1,20 @@
 //! Reports written down by hand from the rules.
-use crate::extract_journals::{by_owner, folio, opening_by, receipt, receive, spec};
-use act_model::{Act, Journal, RightKind};
+use crate::extract_journals::{by_owner, receive};
+use act_model::Journal;
 use folio_extract::{extract, report, verdict_line};
 use gb_base::NoMemory;
 use registrar::alone;
 use std::alloc::Global;
 use std::process::Abort;
+use test_items::{creation, day, folio, land_charge, opening, receipt};
 
 /// Folio 9 is opened before folio 7, and has a right.
 fn two_folios(rt: &impl Abort, alloc: Global) -> Journal {
-    let charge = Act::Create {
-        folio: folio(rt, 9),
-        spec: spec(rt, RightKind::LandCharge { rate_bp: 500 }, 10_000, 20),
-        reserve: None,
-    };
     let mut journal = Journal::new(alloc);
-    receive(
-        rt,
-        &mut journal,
-        1,
-        &by_owner(rt, 10, opening_by(rt, 9, 10)),
-    );
-    receive(
-        rt,
-        &mut journal,
-        1,
-        &by_owner(rt, 11, opening_by(rt, 7, 11)),
-    );
-    receive(rt, &mut journal, 4, &by_owner(rt, 10, charge));
+    receive(rt, &mut journal, day(3, 1), &by_owner(10, opening(9, 10)));
+    receive(rt, &mut journal, day(3, 1), &by_owner(11, opening(7, 11)));
+    let act = creation(9, land_charge(10_000, 20, 1));
+    receive(rt, &mut journal, day(3, 4), &by_owner(10, act));
     journal
 }
 
@@ -62,7 +49,7 @@ fn the_register_alone_gives_the_extract_of_the_report(rt: HostRuntime) -> Result
     let journal = two_folios(&rt, alloc);
     let register = alone(alloc, &journal)?;
     let whole = report(alloc, &register, &journal)?;
-    let text = extract(alloc, &register, folio(&rt, 7))?.expect(&rt, "an extract");
+    let text = extract(alloc, &register, folio(7))?.expect(&rt, "an extract");
     let mut before = Vec::new(alloc);
     before.extend_from_slice(b"receipt 1 entered\nreceipt 2 entered\nreceipt 3 entered\n")?;
     before.extend_from_slice(text.as_slice())?;
@@ -87,10 +74,10 @@ fn a_receipt_has_its_line(rt: HostRuntime) -> Result<(), NoMemory> {
     let alloc = rt.alloc();
     let journal = two_folios(&rt, alloc);
     let register = alone(alloc, &journal)?;
-    let text = verdict_line(alloc, &register, receipt(&rt, 2))?;
+    let text = verdict_line(alloc, &register, receipt(2))?;
     let line = text.expect(&rt, "a line");
     assert_eq!(rt; line.as_slice(), "receipt 2 entered\n".as_bytes());
-    let beyond = verdict_line(alloc, &register, receipt(&rt, 4))?;
+    let beyond = verdict_line(alloc, &register, receipt(4))?;
     assert!(rt; beyond.is_none());
     Ok(())
 }
