@@ -11,8 +11,7 @@ use test_items::{
 
 /// The act is rejected under this section, although owner 10 has consented to it.
 fn rejected(rt: &impl Abort, alloc: Global, act: Act, section: Section) {
-    let docs = [consent(1, 10)];
-    let judgement = verdict(rt, alloc, 10, act, docs.as_slice());
+    let judgement = verdict(rt, alloc, 10, &act, &[consent(1, 10)]);
     assert!(rt; rejects(&judgement, section));
 }
 

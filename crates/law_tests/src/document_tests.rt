@@ -80,8 +80,7 @@ fn a_cure_counts_from_its_receipt_on(rt: HostRuntime) {
 
 #[test]
 fn the_owners_of_the_notice_are_asked(rt: HostRuntime) {
-    let docs = [consent(1, 10)];
-    let mut register = charged(&rt, rt.alloc(), docs.as_slice());
+    let mut register = charged(&rt, rt.alloc(), &[consent(1, 10)]);
     at_title(&rt, &mut register, pending(4));
     let filing = receipt(4);
     at_title(&rt, &mut register, What::Notice { filing });
@@ -104,22 +103,19 @@ fn the_holder_of_the_notice_is_asked(rt: HostRuntime) {
     assert!(rt; enters(&judgement(&rt, &register, 4)));
     let mut register = assigning(&rt, rt.alloc());
     at_charge(&rt, &mut register, What::Holder { person });
-    let wanted = [defect(Section::Gbo39, 1)];
-    assert!(rt; waits(&judgement(&rt, &register, 4), wanted.as_slice()));
+    assert!(rt; waits(&judgement(&rt, &register, 4), &[defect(Section::Gbo39, 1)]));
 }
 
 #[test]
 fn who_waits_at_a_right_consents_to_its_cancellation(rt: HostRuntime) {
-    let docs = [consent(1, 20), consent(1, 10)];
-    let mut register = cancelling(&rt, rt.alloc(), docs.as_slice());
+    let mut register = cancelling(&rt, rt.alloc(), &[consent(1, 20), consent(1, 10)]);
     assert!(rt; enters(&judgement(&rt, &register, 4)));
     let later = filed(22, creation(7, land_charge(10_000, 22, 1)), &[]);
     receive(&rt, &mut register.journal, 5, &later);
     at_charge(&rt, &mut register, pending(5));
     assert!(rt; enters(&judgement(&rt, &register, 5)));
     at_charge(&rt, &mut register, pending(3));
-    let wanted = [defect(Section::Bgb876, 1)];
-    assert!(rt; waits(&judgement(&rt, &register, 5), wanted.as_slice()));
+    assert!(rt; waits(&judgement(&rt, &register, 5), &[defect(Section::Bgb876, 1)]));
     let of_who_waits = cure(4, &[consent(1, 24)]);
     receive(&rt, &mut register.journal, 6, &of_who_waits);
     assert!(rt; enters(&judgement(&rt, &register, 6)));

@@ -28,10 +28,10 @@ fn defects_by_section_and_then_by_act(rt: HostRuntime) {
         defect(Section::Gbo27, 1),
         defect(Section::Gbo27, 2),
     ];
-    assert!(rt; waits(&of_both, wanted.as_slice()));
+    assert!(rt; waits(&of_both, &wanted));
     let acts = two(cancellation(7, right(2, 1)), cancellation(7, right(2, 2)));
     let docs = [consent(1, 20), consent(2, 21), plain_consent(2, 10)];
     let crosswise = verdict_on(&rt, alloc, filing(10, acts, docs.as_slice()));
     let wanted = [defect(Section::Gbo29, 2), defect(Section::Gbo27, 1)];
-    assert!(rt; waits(&crosswise, wanted.as_slice()));
+    assert!(rt; waits(&crosswise, &wanted));
 }

@@ -38,13 +38,8 @@ fn exchanged(
     requires { 1 ≤ holder }
 {
     let docs = [consent(1, holder), consent(1, 10)];
-    verdict(
-        rt,
-        alloc,
-        holder,
-        exchange(7, recede, rise),
-        docs.as_slice(),
-    )
+    let act = exchange(7, recede, rise);
+    verdict(rt, alloc, holder, &act, docs.as_slice())
 }
 
 /// The judgement on the same exchange as receipt 5 behind receipt 4 of the register.
@@ -144,13 +139,11 @@ fn no_right_rises_ahead_of_a_reservation(rt: HostRuntime) {
 fn an_owner_does_not_apply_for_a_usufruct_to_recede(rt: HostRuntime) {
     let alloc = rt.alloc();
     let (usufruct, charge) = (right(3, 1), right(2, 2));
-    let docs = [consent(1, 24), consent(1, 10)];
     let act = exchange(7, usufruct, charge);
-    let usufruct_recedes = verdict(&rt, alloc, 10, act, docs.as_slice());
+    let usufruct_recedes = verdict(&rt, alloc, 10, &act, &[consent(1, 24), consent(1, 10)]);
     assert!(rt; rejects(&usufruct_recedes, Section::Gbo13));
-    let docs = [consent(1, 21), consent(1, 10)];
     let act = exchange(7, charge, usufruct);
-    let charge_recedes = verdict(&rt, alloc, 10, act, docs.as_slice());
+    let charge_recedes = verdict(&rt, alloc, 10, &act, &[consent(1, 21), consent(1, 10)]);
     assert!(rt; enters(&charge_recedes));
 }
 
@@ -166,6 +159,6 @@ fn a_reservation_serves_once(rt: HostRuntime) {
     put(&rt, &mut register.parts, 3, key, What::Exercised { by });
     assert!(rt; rejects(&judged_now(&rt, &register), Section::Bgb881));
     let act = exercised(right(2, 2));
-    let without_one = verdict(&rt, alloc, 23, act, docs.as_slice());
+    let without_one = verdict(&rt, alloc, 23, &act, docs.as_slice());
     assert!(rt; rejects(&without_one, Section::Bgb881));
 }

@@ -186,11 +186,11 @@ pub fn verdict_on(rt: &impl Abort, alloc: Global, filing: Filing) -> Judgement {
 }
 
 /// The judgement on a filing of one act with these documents.
-pub fn verdict(rt: &impl Abort, alloc: Global, applicant: u32, act: Act, docs: &[Doc]) -> Judgement
+pub fn verdict(rt: &impl Abort, alloc: Global, applicant: u32, act: &Act, docs: &[Doc]) -> Judgement
     requires applicant { 1 ≤ applicant }
     requires docs { length docs.now ≤ most_docs }
 {
-    verdict_on(rt, alloc, filing_of(applicant, act, docs))
+    verdict_on(rt, alloc, filing_of(applicant, act.clone().unwrap(), docs))
 }
 
 pub fn enters(judgement: &Judgement) -> bool {
