@@ -21,9 +21,10 @@ fn an_act_wants_an_open_folio(rt: HostRuntime) {
     rejected(&rt, alloc, transfer(8, 11), Section::Gbo3);
     rejected(&rt, alloc, conversion(8, right), Section::Gbo3);
     rejected(&rt, alloc, cancellation(8, right), Section::Gbo3);
-    let spec = land_charge(50_000, 23, 1);
-    rejected(&rt, alloc, exercise(8, right, spec), Section::Gbo3);
-    rejected(&rt, alloc, notice(8, spec), Section::Gbo3);
+    let take_up = exercise(8, right, land_charge(50_000, 23, 1));
+    rejected(&rt, alloc, take_up, Section::Gbo3);
+    let note = notice(8, land_charge(50_000, 23, 1));
+    rejected(&rt, alloc, note, Section::Gbo3);
 }
 
 #[test]

@@ -139,7 +139,9 @@ fn on_empty_parts(rt: &impl Abort, alloc: Global, journal: &Journal, n: u32) -> 
     let parts = MapParts::new(alloc, keys.as_slice())
         .ok()
         .expect(rt, "memory");
-    judged(rt, &parts, journal, n, journal.len())
+    let last = journal.len();
+    assert!(rt; last >= 1);
+    judged(rt, &parts, journal, n, last)
 }
 
 /// The 257th creating act of a folio is beyond the limit, whatever became of the others.
