@@ -37,7 +37,8 @@ fn add_keys(keys: &mut Vec<Key>, journal: &Journal, filing: ReceiptNo) -> Result
 
 /// Ends the test unless the parts are held of the filing that a lapse names.
 fn check_lapse(rt: &impl Abort, parts: &MapParts, journal: &Journal, item: ReceiptNo)
-    ensures { (m : ℕ) → lapse_at journal.now.receipts item ≡ Some m → (k : Key) → Contains (keys_of_filing journal.now.receipts m) k → IsTrue (is_held parts.now k) }
+    ensures { (m : ℕ) → lapse_at journal.now.receipts item ≡ Some m
+        → (k : Key) → Contains (keys_of_filing journal.now.receipts m) k → IsTrue (is_held parts.now k) }
 {
     match journal.get(item) {
         Some(receipt) => match &receipt.item {
