@@ -5,10 +5,6 @@ mod dockets;
 mod key_lists;
 pub mod laws;
 mod queues;
-#[cfg(test)]
-mod testing;
-#[cfg(test)]
-mod tests;
 mod touched;
 
 pub use dockets::Docket;

@@ -3,34 +3,18 @@
 #![tactic(auto)]
 
 mod applying;
-#[cfg(test)]
-mod closed_folio_tests;
 mod consent;
 mod consenters;
 mod defects;
-#[cfg(test)]
-mod document_tests;
 mod grounds;
 mod judgements;
 mod judging;
 mod lacks;
 mod needed;
 mod obstacles;
-#[cfg(test)]
-mod order_tests;
-#[cfg(test)]
-mod owner_tests;
 mod parts_read;
 mod persons;
 mod premises;
-#[cfg(test)]
-mod rank_tests;
-#[cfg(test)]
-mod table_tests;
-#[cfg(test)]
-mod test_register;
-#[cfg(test)]
-mod tests;
 mod waiting;
 
 pub use judgements::{Defect, Defects, Judgement};

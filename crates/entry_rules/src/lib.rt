@@ -3,17 +3,11 @@
 #![tactic(auto)]
 
 mod adding;
-#[cfg(test)]
-mod content_tests;
 mod contents;
 mod creations;
 mod entering;
 pub mod laws;
 mod placing;
-#[cfg(test)]
-mod testing;
-#[cfg(test)]
-mod tests;
 
 pub use entering::enter;
 

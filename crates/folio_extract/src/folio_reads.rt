@@ -65,8 +65,9 @@ pub(crate) fn has_sale_note(register: &Register, folio: FolioId) -> bool
     }
 }
 
-/// Whether a case runs in which no award stands.
-pub(crate) fn awaits_award(case: &CasePart) -> bool
+/// Whether a forced sale runs in which no award stands, so that its folio has the sale note (ZVG
+/// § 19).
+pub fn awaits_award(case: &CasePart) -> bool
     ensures { result ≡ is_running case.now.entries && is_none (award case.now.entries) }
 {
     case.running() && case.award().is_none()

@@ -11,8 +11,9 @@ use folio_line::CreatedRight;
 use folio_sections::{Created, RightPart};
 use gb_base::{Cents, NoMemory, Person, ReceiptNo, RightId};
 
-/// Adds a right, as it stands by the entries at it.
-pub(crate) fn add_right_line(
+/// Adds the line of a right, as it stands by the entries at it. Where no memory is found, a part of
+/// the line may stand in the text.
+pub fn add_right_line(
     text: &mut String,
     part: &RightPart,
     right: &CreatedRight,

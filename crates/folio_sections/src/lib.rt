@@ -6,23 +6,13 @@
 mod adding;
 mod any_part;
 mod case_part;
-#[cfg(test)]
-mod case_tests;
 mod entries;
 mod entry_list;
 mod map_parts;
-#[cfg(test)]
-mod map_tests;
 mod parts;
 mod right_part;
-#[cfg(test)]
-mod right_tests;
-#[cfg(test)]
-mod tests;
 mod title_part;
 mod title_places;
-#[cfg(test)]
-mod title_tests;
 mod waiters;
 
 pub use adding::{add, day_of, entry_by};

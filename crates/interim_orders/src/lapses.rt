@@ -33,7 +33,7 @@ pub fn lapse<P: Parts>(parts: &mut P, journal: &Journal, item: ReceiptNo) -> Lap
 }
 
 /// The filing whose lapse an item states; None where it is another item.
-pub(crate) fn lapse_at(journal: &Journal, item: ReceiptNo) -> Option<ReceiptNo>
+fn lapse_at(journal: &Journal, item: ReceiptNo) -> Option<ReceiptNo>
     ensures { result ≡ lapse_at journal.now.receipts item }
 {
     match journal.get(item) {

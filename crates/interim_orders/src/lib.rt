@@ -8,10 +8,6 @@ pub mod laws;
 mod notices;
 mod orders;
 mod states;
-#[cfg(test)]
-mod testing;
-#[cfg(test)]
-mod tests;
 
 pub use answers::Lapse;
 pub use lapses::lapse;

@@ -9,13 +9,7 @@ mod register;
 mod scratch;
 mod settling;
 mod steps;
-#[cfg(test)]
-mod testing;
-#[cfg(test)]
-mod tests;
 mod verdicts;
-#[cfg(test)]
-mod waiting_tests;
 
 pub use one_registrar::alone;
 pub use register::Register;

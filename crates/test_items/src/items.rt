@@ -28,6 +28,14 @@ pub fn filing_of(applicant: u32, act: Act, docs: &[Doc]) -> Filing
     filing(applicant, one(act), docs)
 }
 
+/// The item that is a filing of one act.
+pub fn filed(applicant: u32, act: Act, docs: &[Doc]) -> Item
+    requires applicant { 1 ≤ applicant }
+    requires docs { length docs.now ≤ most_docs }
+{
+    Item::Filing(filing_of(applicant, act, docs))
+}
+
 /// A cure of a filing by these documents.
 pub fn cure(of: u32, docs: &[Doc]) -> Item
     requires filing { 1 ≤ of }

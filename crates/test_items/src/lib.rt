@@ -19,8 +19,8 @@ pub use docs::{
     agreement, clearance, consent, documents, expiry_proof, no_documents, plain_consent,
 };
 pub use items::{
-    advance, arrears, award, call, cure, distribution, filing, filing_of, lapse, public_charge,
-    seizure_by, seizure_from,
+    advance, arrears, award, call, cure, distribution, filed, filing, filing_of, lapse,
+    public_charge, seizure_by, seizure_from,
 };
 pub use journals::receive;
 pub use numbers::{

@@ -1,0 +1,18 @@
+//! Tests of the texts of a register (`folio_extract`), by what it exports: a crate of tests proves
+//! them without proving `folio_extract` a second time.
+#![tactic(auto)]
+
+#[cfg(test)]
+mod exchange_tests;
+#[cfg(test)]
+mod extract_journals;
+#[cfg(test)]
+mod extract_tests;
+#[cfg(test)]
+mod full_line_tests;
+#[cfg(test)]
+mod rank_table_tests;
+#[cfg(test)]
+mod report_tests;
+#[cfg(test)]
+mod verdict_tests;
