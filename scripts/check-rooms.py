@@ -1,7 +1,7 @@
 #!/usr/bin/env python3
 """Checks what documents say of the code's rooms: that the words of docs/glossary.md stand in the code,
 that each must-fail edit stands in a row of promises and each row's edits are there, that there are not
-too many, and that crates.txt has the crates in order, with a user for each library.
+too many, and that crates.txt has the crates in order, with a user for each library but those of tests.
 
 Needs no built program.
 """
@@ -113,6 +113,14 @@ def is_program(crate):
     return any(re.search(r"^\s*(pub )?fn main\b", file.read_text(), re.M) for file in files)
 
 
+def is_of_tests(crate):
+    """Whether each module of the crate is for tests alone."""
+    root = CRATES / crate / "src" / "lib.rt"
+    lines = root.read_text().splitlines() if root.exists() else []
+    before = [lines[n - 1] for n, line in enumerate(lines) if re.match(r"(pub )?mod \w+;", line)]
+    return bool(before) and all(line == "#[cfg(test)]" for line in before)
+
+
 def check_crates(look, crates):
     uses = uses_of_crates()
     look.same("the crates of crates.txt", sorted(uses), crates)
@@ -121,7 +129,8 @@ def check_crates(look, crates):
         look.same(f"crates below {crate} that it uses", sorted(set(used) & set(uses) - above), [])
         above.add(crate)
     used_by_some = {crate for used in uses.values() for crate in used}
-    unused = [crate for crate in crates if crate not in used_by_some and not is_program(crate)]
+    wanted = [crate for crate in crates if not is_program(crate) and not is_of_tests(crate)]
+    unused = [crate for crate in wanted if crate not in used_by_some]
     look.same("libraries that no crate uses", unused, [])
 
 

@@ -1,7 +1,7 @@
 //! Generated heads, right and spoiled, against what each of their parts brings about.
 use crate::cut_link::CutLink;
-use crate::next_request;
-use crate::tests::spell;
+use crate::spelled::spell;
+use registry_http::next_request;
 use std::alloc::Global;
 use std::test::Fail;
 
