@@ -8,8 +8,6 @@ mod clocks;
 mod disks;
 mod doors;
 mod gates;
-#[cfg(test)]
-mod link_tests;
 mod links;
 mod list_clock;
 mod mem_disk;
@@ -25,8 +23,6 @@ mod sure_link;
 mod sure_listener;
 mod sure_sink;
 mod sure_source;
-#[cfg(test)]
-mod tests;
 
 pub use clocks::Clock;
 pub use disks::{Disk, DiskFailed};

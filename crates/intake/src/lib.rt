@@ -12,8 +12,6 @@ mod lines;
 mod list_session;
 mod receivers;
 mod session;
-#[cfg(test)]
-mod tests;
 mod writing;
 
 pub use built::is_built;

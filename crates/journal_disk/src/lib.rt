@@ -11,8 +11,6 @@ mod layout;
 mod logs;
 mod reading;
 mod scan;
-#[cfg(test)]
-mod tests;
 mod writing;
 
 pub use faults::{AppendFault, OpenFault};

@@ -8,8 +8,6 @@ pub mod laws;
 mod lengths;
 mod received;
 mod records;
-#[cfg(test)]
-mod tests;
 
 pub use books::Book;
 pub use faults::BookFault;

@@ -2,13 +2,7 @@
 //! for, and the bytes of a reply.
 #![tactic(auto)]
 
-#[cfg(test)]
-mod cut_link;
-#[cfg(test)]
-mod cut_tests;
 mod finding;
-#[cfg(test)]
-mod head_tests;
 mod headers;
 mod heads;
 pub mod laws;
@@ -16,13 +10,9 @@ mod lines;
 mod replies;
 mod request_parts;
 mod requests;
-#[cfg(test)]
-mod route_tests;
 mod routes;
 mod sending;
 mod targets;
-#[cfg(test)]
-mod tests;
 
 pub use finding::{RouteFault, route};
 pub use replies::{ReplyFault, write_reply};

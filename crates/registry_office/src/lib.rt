@@ -2,20 +2,10 @@
 #![tactic(auto)]
 
 mod disk_settling;
-#[cfg(test)]
-mod disk_tests;
-#[cfg(test)]
-mod list_tests;
 mod receiving;
 mod settling;
 mod statuses;
-#[cfg(test)]
-mod take_tests;
 mod taking;
-#[cfg(test)]
-mod test_runs;
-#[cfg(test)]
-mod tests;
 mod top;
 mod words;
 

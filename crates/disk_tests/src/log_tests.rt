@@ -1,16 +1,12 @@
 //! What no clause says: the bytes of the worked files, and an opening of each file round the edges.
 ghost use Rattle.std.specs.Prelude.{◌<◌, ◌≤◌};
 
-use crate::layout::{FILE_LIMIT, FIRST_GATE, FRAME_HEAD, HEADING, LONGEST_BODY, MARK, OPEN};
-use crate::{AppendFault, Log, OpenFault};
+use crate::worked_record::LAPSE;
 use gb_outside::MemDisk;
+use journal_disk::{AppendFault, Log, OpenFault};
 use std::alloc::{AllocError, Global};
 use std::process::Abort;
 use std::test::Fail;
-
-/// The lapse of filing 2 by sender 1, reference 5, stamped 2024-02-29 minute 540.
-const LAPSE: [u8; 23] =
-    *b"\x00\x00\x4d\x46\x02\x1c\x00\x00\x00\x01\x00\x00\x00\x00\x00\x00\x00\x05\x03\x00\x00\x00\x02";
 
 /// The journal of that one receipt.
 const ONE: [u8; 38] =
@@ -179,31 +175,33 @@ fn each_changed_byte_reads_as_the_layout_says(rt: HostRuntime) -> Result<(), Fai
     Ok(())
 }
 
-/// Adds a frame whose body has this size.
+/// Where the file ends: no gate stands at this offset or beyond.
+const LIMIT: usize = 128 * 1024 * 1024;
+
+/// Adds a frame whose body has this size: an open gate, the length, the body.
 fn add_frame(file: &mut Vec<u8>, size: usize) -> Result<(), AllocError>
-    requires { size ≤ LONGEST_BODY }
+    requires { size ≤ 1024 }
 {
-    file.push(OPEN)?;
+    file.push(1)?;
     file.extend_from_slice(&(size as u32).to_be_bytes())?;
     file.resize(file.len() + size, 7)
 }
 
 /// A journal in which a frame with a body of two bytes would put its closed gate at the limit. Its
-/// frames have bodies of 1,024 bytes, but for the last two.
+/// frames have bodies of 1,024 bytes, but for the last two. Ahead of a body stand 5 bytes, and
+/// ahead of the first frame 9.
 fn nearly_full(alloc: Global) -> Result<Vec<u8>, AllocError> {
-    let gate = FILE_LIMIT as usize - FRAME_HEAD - 2;
+    let gate = LIMIT - 5 - 2;
     let mut file = Vec::with_capacity(alloc, gate + 1)?;
-    file.push(MARK)?;
-    file.extend_from_slice(&HEADING)?;
-    let longest = FRAME_HEAD + LONGEST_BODY;
-    let left = gate - FIRST_GATE as usize;
-    let whole = left / longest - 1;
+    file.extend_from_slice(b"\x47GBJOURN1")?;
+    let left = gate - 9;
+    let whole = left / 1029 - 1;
     for _ in 0..whole {
-        add_frame(&mut file, LONGEST_BODY)?;
+        add_frame(&mut file, 1024)?;
     }
-    let rest = left - whole * longest;
-    add_frame(&mut file, rest / 2 - FRAME_HEAD)?;
-    add_frame(&mut file, rest - rest / 2 - FRAME_HEAD)?;
+    let rest = left - whole * 1029;
+    add_frame(&mut file, rest / 2 - 5)?;
+    add_frame(&mut file, rest - rest / 2 - 5)?;
     file.push(0)?;
     Ok(file)
 }
@@ -212,7 +210,7 @@ fn nearly_full(alloc: Global) -> Result<Vec<u8>, AllocError> {
 fn the_file_is_full_where_a_gate_would_stand_at_its_limit(rt: HostRuntime) -> Result<(), Fail> {
     let alloc = rt.alloc();
     let file = nearly_full(alloc)?;
-    let mut disk = MemDisk::new(alloc, &file, FILE_LIMIT as usize, 16, 8192, &[])?;
+    let mut disk = MemDisk::new(alloc, &file, LIMIT, 16, 8192, &[])?;
     let (mut log, frames) = Log::open(alloc, &mut disk)?;
     assert_eq!(rt; frames.len(), 130_436);
     assert_eq!(rt; log.append(&mut disk, b"ab"), Err(AppendFault::Full));

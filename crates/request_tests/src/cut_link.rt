@@ -4,19 +4,19 @@ use gb_outside::{Got, Link, Wrote};
 /// A connection that gives at most so many of its bytes at the next read, and so many at each one
 /// after that. It takes all that is written.
 #[derive(Debug, Drop)]
-pub(crate) struct CutLink<'a> {
+pub struct CutLink<'a> {
     bytes: &'a [u8],
     next: usize,
     then: usize,
 }
 
 impl<'a> CutLink<'a> {
-    pub(crate) fn new(bytes: &'a [u8], next: usize, then: usize) -> CutLink<'a> {
+    pub fn new(bytes: &'a [u8], next: usize, then: usize) -> CutLink<'a> {
         CutLink { bytes, next, then }
     }
 
     /// How many bytes were not read.
-    pub(crate) fn unread(&self) -> usize {
+    pub fn unread(&self) -> usize {
         self.bytes.len()
     }
 }

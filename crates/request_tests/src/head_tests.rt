@@ -1,7 +1,8 @@
 //! Generated heads, right and spoiled, against what each of their parts brings about.
 use crate::cut_link::CutLink;
-use crate::next_request;
-use crate::tests::spell;
+use crate::spelled::spell;
+use gb_base::NoMemory;
+use registry_http::next_request;
 use std::alloc::Global;
 use std::test::Fail;
 
@@ -144,6 +145,34 @@ impl Wanted {
     }
 }
 
+// The text of one of these parts, mostly of the first so many; it adds what that part brings about.
+fn part<T: Copy>(
+    dice: &mut Dice,
+    wanted: &mut Wanted,
+    parts: &[(T, Brings)],
+    good: usize,
+) -> Result<T, Fail> {
+    let count = parts.len();
+    let (text, brings) = *parts.get(dice.mostly_below(good, count)).ok_or("no part")?;
+    wanted.add(brings);
+    Ok(text)
+}
+
+// Throws a header and its end onto a head.
+fn throw_header(dice: &mut Dice, wanted: &mut Wanted, head: &mut Vec<u8>) -> Result<(), Fail> {
+    head.extend_from_slice(part(dice, wanted, &HEADERS, 14)?)?;
+    head.extend_from_slice(ENDS.get(dice.below(2)).ok_or("no end")?)?;
+    Ok(())
+}
+
+// Puts these pieces behind a head.
+fn put(head: &mut Vec<u8>, pieces: &[&[u8]]) -> Result<(), NoMemory> {
+    for piece in pieces {
+        head.extend_from_slice(piece)?;
+    }
+    Ok(())
+}
+
 // Throws a head and `xyz` behind it, and says what the answer to them is.
 fn throw(alloc: Global, dice: &mut Dice, head: &mut Vec<u8>) -> Result<String, Fail> {
     let mut wanted = Wanted {
@@ -151,36 +180,28 @@ fn throw(alloc: Global, dice: &mut Dice, head: &mut Vec<u8>) -> Result<String, F
         last: false,
         length: None,
     };
-    let blank = BLANKS.get(dice.mostly_below(3, 4)).ok_or("no blank")?;
-    let method = METHODS.get(dice.mostly_below(3, 6)).ok_or("no method")?;
-    let target = TARGETS.get(dice.mostly_below(5, 8)).ok_or("no target")?;
-    let version = VERSIONS.get(dice.mostly_below(2, 6)).ok_or("no version")?;
+    let blank = part(dice, &mut wanted, &BLANKS, 3)?;
+    let method = part(dice, &mut wanted, &METHODS, 3)?;
+    let target = part(dice, &mut wanted, &TARGETS, 5)?;
+    let version = part(dice, &mut wanted, &VERSIONS, 2)?;
     let end = ENDS.get(dice.below(2)).ok_or("no end")?;
-    wanted.add(blank.1);
-    wanted.add(method.1);
-    wanted.add(target.1);
-    wanted.add(version.1);
-    for piece in [
-        blank.0,
-        method.0.as_bytes(),
-        b" ",
-        target.0.as_bytes(),
-        b" ",
-        version.0,
-        end,
-    ] {
-        head.extend_from_slice(piece)?;
-    }
+    put(
+        head,
+        &[
+            blank,
+            method.as_bytes(),
+            b" ",
+            target.as_bytes(),
+            b" ",
+            version,
+            end,
+        ],
+    )?;
     for _ in 0..dice.below(5) {
-        let header = HEADERS.get(dice.mostly_below(14, 28)).ok_or("no header")?;
-        let end = ENDS.get(dice.below(2)).ok_or("no end")?;
-        wanted.add(header.1);
-        head.extend_from_slice(header.0)?;
-        head.extend_from_slice(end)?;
+        throw_header(dice, &mut wanted, head)?;
     }
-    head.extend_from_slice(end)?;
-    head.extend_from_slice(b"xyz")?;
-    wanted.answer(alloc, method.0, target.0)
+    put(head, &[end, b"xyz"])?;
+    wanted.answer(alloc, method, target)
 }
 
 #[test]

@@ -1,7 +1,7 @@
 //! Requests of links that give few bytes a read.
 use crate::cut_link::CutLink;
-use crate::tests::spell;
-use crate::{Next, next_request};
+use crate::spelled::spell;
+use registry_http::{Next, next_request};
 use std::alloc::Global;
 use std::test::Fail;
 

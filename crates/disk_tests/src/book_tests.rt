@@ -1,21 +1,18 @@
 //! What no clause says: the bytes of worked files, openings of bad ones, and devices that fail.
-use crate::{Book, BookFault, Received};
+use crate::worked_record::LAPSE;
 use act_model::{Item, well_formed};
 use gb_base::{Day, ReceiptNo, Stamp};
 use gb_outside::MemDisk;
+use receipt_journal::{Book, BookFault, Received};
 use std::alloc::{AllocError, Global};
 use std::process::Abort;
 use std::test::Fail;
 
-/// The lapse of filing 2 by sender 1, reference 5, stamped 2024-02-29 minute 540.
-const LAPSE: [u8; 23] =
-    *b"\x00\x00\x4d\x46\x02\x1c\x00\x00\x00\x01\x00\x00\x00\x00\x00\x00\x00\x05\x03\x00\x00\x00\x02";
-
-/// The same with a kind of item that there is not.
+/// The worked record with a kind of item that there is not.
 const OF_KIND_9: [u8; 23] =
     *b"\x00\x00\x4d\x46\x02\x1c\x00\x00\x00\x01\x00\x00\x00\x00\x00\x00\x00\x05\x09\x00\x00\x00\x02";
 
-/// The same lapse as reference 6, a minute earlier.
+/// Its lapse as reference 6, a minute earlier.
 const EARLIER: [u8; 23] =
     *b"\x00\x00\x4d\x46\x02\x1b\x00\x00\x00\x01\x00\x00\x00\x00\x00\x00\x00\x06\x03\x00\x00\x00\x02";
 

@@ -3,13 +3,14 @@ ghost use Rattle.std.specs.Prelude.{◌≡◌, ◌<◌, length, false, IfOk, is_
 ghost use Rattle.gb_outside.specs.Bytes.{read_failed};
 ghost use Rattle.gb_outside.specs.Faults.{Counts};
 
-use crate::{
+use gb_base::{Day, NoMemory, ReceiptNo, Stamp};
+use gb_outside::{
     Clock, DeskGate, Disk, DiskFailed, Door, Got, Link, ListClock, Listener, MemDisk, MemSink,
     MemSource, OpenGate, Sink, Source, SureDisk, SureLink, SureListener, SureSink, SureSource,
     Wrote,
 };
-use gb_base::{Day, NoMemory, ReceiptNo, Stamp};
 use std::alloc::Global;
+use std::process::Abort;
 use std::test::Fail;
 
 // A call through the bound, as the office makes it.
@@ -60,33 +61,39 @@ fn sources_without_faults_give_what_fits(rt: HostRuntime) {
     assert_eq!(rt; read_surely(b"", &mut into), Got::End);
 }
 
+// A read of up to two bytes gives this, and these bytes.
+fn reads<S: Source>(rt: &impl Abort, source: &mut S, got: Got, bytes: &[u8]) {
+    let mut into = [0; 2];
+    assert_eq!(rt; source.read(&mut into), got, "{bytes:?}");
+    assert!(rt; into.starts_with(bytes), "{bytes:?}");
+}
+
 #[test]
 fn a_source_fails_at_the_chosen_reads(rt: HostRuntime) {
     let mut source = MemSource::new(b"abcde", &[1, 3]);
-    let mut into = [0; 2];
-    assert_eq!(rt; source.read(&mut into), Got::Failed);
-    assert_eq!(rt; source.read(&mut into), Got::Bytes(2));
-    assert_eq!(rt; into, *b"ab");
-    assert_eq!(rt; source.read(&mut into), Got::Failed);
-    assert_eq!(rt; source.read(&mut into), Got::Bytes(2));
-    assert_eq!(rt; into, *b"cd");
-    assert_eq!(rt; source.read(&mut into), Got::Bytes(1));
-    assert_eq!(rt; into[0], b'e');
-    assert_eq!(rt; source.read(&mut into), Got::End);
+    reads(&rt, &mut source, Got::Failed, b"");
+    reads(&rt, &mut source, Got::Bytes(2), b"ab");
+    reads(&rt, &mut source, Got::Failed, b"");
+    reads(&rt, &mut source, Got::Bytes(2), b"cd");
+    reads(&rt, &mut source, Got::Bytes(1), b"e");
+    reads(&rt, &mut source, Got::End, b"");
+}
+
+// A write of this piece ends so.
+fn writes<K: Sink>(rt: &impl Abort, sink: &mut K, piece: &[u8], wrote: Wrote) {
+    assert_eq!(rt; sink.write(piece), wrote, "{piece:?}");
 }
 
 #[test]
 fn a_sink_takes_what_it_has_room_for(rt: HostRuntime) -> Result<(), Fail> {
     let mut sink = MemSink::new(rt.alloc(), 4, &[2])?;
-    assert_eq!(rt; sink.write(b"abc"), Wrote::Took(3));
-    assert_eq!(rt;
-        sink.write(b"d"),
-        Wrote::Failed,
-        "the second write is to fail"
-    );
-    assert_eq!(rt; sink.write(b"de"), Wrote::Took(1));
-    assert_eq!(rt; sink.write(b"e"), Wrote::Failed, "the room is used up");
-    assert_eq!(rt; sink.write(b""), Wrote::Took(0));
+    writes(&rt, &mut sink, b"abc", Wrote::Took(3));
+    // The second write is to fail.
+    writes(&rt, &mut sink, b"d", Wrote::Failed);
+    writes(&rt, &mut sink, b"de", Wrote::Took(1));
+    // The room is used up.
+    writes(&rt, &mut sink, b"e", Wrote::Failed);
+    writes(&rt, &mut sink, b"", Wrote::Took(0));
     assert_eq!(rt; sink.written(), b"abcd".as_slice());
     Ok(())
 }

@@ -1,26 +1,34 @@
 //! Connections in memory, and the door that they come through.
-use crate::{Door, Got, Link, Listener, MemLink, MemListener, Wrote};
+use gb_outside::{Door, Got, Link, Listener, MemLink, MemListener, Wrote};
+use std::process::Abort;
 use std::test::Fail;
+
+// A read of up to two bytes gives this, and these bytes.
+fn reads(rt: &impl Abort, link: &mut MemLink, got: Got, bytes: &[u8]) {
+    let mut into = [0; 2];
+    assert_eq!(rt; link.read(&mut into), got, "{bytes:?}");
+    assert!(rt; into.starts_with(bytes), "{bytes:?}");
+}
+
+// A write of this piece ends so.
+fn writes(rt: &impl Abort, link: &mut MemLink, piece: &[u8], wrote: Wrote) {
+    assert_eq!(rt; link.write(piece), wrote, "{piece:?}");
+}
 
 #[test]
 fn a_link_counts_its_reads_and_writes_together(rt: HostRuntime) -> Result<(), Fail> {
     let mut link = MemLink::new(rt.alloc(), b"abc", 4, &[2, 3])?;
-    let mut into = [0; 2];
-    assert_eq!(rt; link.read(&mut into), Got::Bytes(2));
-    assert_eq!(rt; into, *b"ab");
-    assert_eq!(rt;
-        link.write(b"x"),
-        Wrote::Failed,
-        "the second call is to fail"
-    );
-    assert_eq!(rt; link.read(&mut into), Got::Failed, "so is the third");
-    assert_eq!(rt; link.write(b"xyz"), Wrote::Took(3));
-    assert_eq!(rt; link.read(&mut into), Got::Bytes(1));
-    assert_eq!(rt; into[0], b'c');
-    assert_eq!(rt; link.read(&mut into), Got::End);
-    assert_eq!(rt; link.write(b"12"), Wrote::Took(1));
-    assert_eq!(rt; link.write(b"2"), Wrote::Failed, "the room is used up");
-    assert_eq!(rt; link.write(b""), Wrote::Took(0));
+    reads(&rt, &mut link, Got::Bytes(2), b"ab");
+    // The second call is to fail, and so is the third.
+    writes(&rt, &mut link, b"x", Wrote::Failed);
+    reads(&rt, &mut link, Got::Failed, b"");
+    writes(&rt, &mut link, b"xyz", Wrote::Took(3));
+    reads(&rt, &mut link, Got::Bytes(1), b"c");
+    reads(&rt, &mut link, Got::End, b"");
+    writes(&rt, &mut link, b"12", Wrote::Took(1));
+    // The room is used up.
+    writes(&rt, &mut link, b"2", Wrote::Failed);
+    writes(&rt, &mut link, b"", Wrote::Took(0));
     assert_eq!(rt; link.written(), b"xyz1".as_slice());
     Ok(())
 }

@@ -1,8 +1,8 @@
 //! Requests of links in memory.
-use crate::{Next, next_request};
+use crate::spelled::spell;
 use gb_outside::MemLink;
+use registry_http::{Next, next_request};
 use std::alloc::Global;
-use std::str;
 use std::test::Fail;
 
 const POST: &str = "POST /receipts HTTP/1.1\r\nHost: a\r\nContent-Length: 5\r\n\r\nhello";
@@ -15,17 +15,6 @@ fn answer(alloc: Global, bytes: &[u8], before: usize) -> Result<String, Fail> {
     let mut link = MemLink::new(alloc, bytes.get(before..).ok_or("no rest")?, 0, &[])?;
     let next = next_request(alloc, &mut link, &mut rest);
     spell(alloc, next, rest.len())
-}
-
-pub(crate) fn spell(alloc: Global, next: Next, kept: usize) -> Result<String, Fail> {
-    let Next::Request(request) = next else {
-        return Ok(format!(in alloc; "{next:?}")?);
-    };
-    let method = request.method().as_str();
-    let path = str::from_utf8(request.path()).map_err(|_| "no text")?;
-    let body = str::from_utf8(request.body()).map_err(|_| "no text")?;
-    let last = request.is_last();
-    Ok(format!(in alloc; "{method} {path} {body} {last} {kept}")?)
 }
 
 #[test]

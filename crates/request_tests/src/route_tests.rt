@@ -1,8 +1,8 @@
 //! The routes of paths and methods, and the bytes of replies.
-use crate::{ReplyFault, Route, RouteFault, route, write_reply};
 use gb_base::{FolioId, ReceiptNo};
 use gb_outside::MemLink;
 use http::{Method, StatusCode};
+use registry_http::{ReplyFault, Route, RouteFault, route, write_reply};
 use std::test::Fail;
 
 #[test]

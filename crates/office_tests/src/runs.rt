@@ -1,0 +1,94 @@
+//! Runs over objects in memory, for the tests.
+use gb_base::{Day, NoMemory, Stamp};
+use gb_outside::{Disk, ListClock, MemDisk, MemSink, MemSource, OpenGate, SureListener};
+use registry_office::{Status, run};
+use std::process::Abort;
+use std::rc::RcStr;
+use std::test::Fail;
+
+/// The words of a run, its input, and which reads and writes of it fail.
+#[derive(Clone, Copy)]
+pub struct Run<'a> {
+    pub command: &'a [&'a str],
+    pub input: &'a [u8],
+    pub failing_reads: &'a [u32],
+    pub failing_writes: &'a [u32],
+}
+
+impl Run<'_> {
+    /// How the run over the disk ended, and what was written.
+    pub fn done<R: AllocGlobal, D: Disk>(
+        &self,
+        rt: &R,
+        disk: &mut D,
+    ) -> Result<(Status, Vec<u8>), NoMemory> {
+        let alloc = rt.alloc();
+        let mut words = Vec::new(alloc);
+        for word in self.command {
+            words.push(RcStr::from_str(alloc, word)?)?;
+        }
+        let stamps = [Stamp::new(Day::new(19_783).unwrap(), 540).unwrap()];
+        let mut sink = MemSink::new(alloc, 1 << 16, self.failing_writes)?;
+        let status = run(
+            rt,
+            words.as_slice(),
+            &mut MemSource::new(self.input, self.failing_reads),
+            &mut sink,
+            disk,
+            &mut ListClock::new(&stamps),
+            &mut SureListener::new(Vec::new(alloc)),
+            &OpenGate,
+        );
+        Ok((status, Vec::from_slice(alloc, sink.written())?))
+    }
+
+    /// The run over the disk ends with this status, whatever it writes.
+    pub fn ends<R: AllocGlobal + Abort>(
+        &self,
+        rt: &R,
+        disk: &mut MemDisk,
+        status: Status,
+    ) -> Result<(), Fail> {
+        let (ended, _) = self.done(rt, disk)?;
+        assert_eq!(rt; ended, status);
+        Ok(())
+    }
+
+    /// The run over the disk ends with this status, and writes this text.
+    pub fn writes<R: AllocGlobal + Abort, D: Disk>(
+        &self,
+        rt: &R,
+        disk: &mut D,
+        status: Status,
+        text: &[u8],
+    ) -> Result<(), Fail> {
+        let (ended, written) = self.done(rt, disk)?;
+        assert_eq!(rt; ended, status);
+        assert_eq!(rt; written.as_slice(), text);
+        Ok(())
+    }
+}
+
+/// A run over this input of which nothing fails.
+pub fn run_of<'a>(command: &'a [&'a str], input: &'a [u8]) -> Run<'a> {
+    Run {
+        command,
+        input,
+        failing_reads: &[],
+        failing_writes: &[],
+    }
+}
+
+/// The journal of a disk is settled at two desks.
+pub fn settles<R: AllocGlobal + Abort>(
+    rt: &R,
+    disk: &mut MemDisk,
+    report: &[u8],
+) -> Result<(), Fail> {
+    run_of(&["settle", "--desks", "2"], &[]).writes(rt, disk, Status::Ok, report)
+}
+
+/// A disk with this file, of which the numbered calls fail.
+pub fn disk_of<R: AllocGlobal>(rt: &R, file: &[u8], fail: &[u32]) -> Result<MemDisk, NoMemory> {
+    MemDisk::new(rt.alloc(), file, 4096, 8192, 256, fail)
+}
