@@ -13,6 +13,10 @@ mod docket_tests;
 #[cfg(test)]
 mod document_tests;
 #[cfg(test)]
+mod drawn_entries;
+#[cfg(test)]
+mod drawn_part_tests;
+#[cfg(test)]
 mod entered_folios;
 #[cfg(test)]
 mod entering_tests;
@@ -32,6 +36,8 @@ mod map_tests;
 mod order_tests;
 #[cfg(test)]
 mod owner_tests;
+#[cfg(test)]
+mod plain_readers;
 #[cfg(test)]
 mod rank_tests;
 #[cfg(test)]
