@@ -16,6 +16,9 @@ use std::alloc::Global;
 use std::collections::BTreeMap;
 use std::marker::Model;
 
+/// How many creating acts a folio has at most, whatever became of their filings.
+pub const MOST_CREATIONS: usize = 256;
+
 /// The receipts of the office, numbered from 1 (GBO § 13): at most 200,000, no two of the same
 /// sender and reference, with stamps that never fall. In contracts it is the list of its receipts,
 /// and the item for whose receipt room is kept.

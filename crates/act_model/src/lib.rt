@@ -41,7 +41,7 @@ pub use filing_rules::{keeps_rules, share_group};
 pub use filings::{act_at, acts_of, applicant_of, created_before, filing_at, new_right};
 pub use groups::{has_equal, shares_its_group};
 pub use items::{Filing, Item};
-pub use journals::Journal;
+pub use journals::{Journal, MOST_CREATIONS};
 pub use land::Inventory;
 pub use matters::Matter;
 pub use people::Owners;

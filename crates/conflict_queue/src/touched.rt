@@ -5,12 +5,9 @@ ghost use Rattle.act_model.specs.Touches.{in_key_order};
 ghost use Rattle.conflict_queue.specs.Dockets.{keys_touched};
 ghost use Rattle.conflict_queue.specs.ItemKeys.{earlier_rights, keys_by_item, keys_of_named, keys_of_sale};
 
-use act_model::{Item, Journal, filing_keys};
+use act_model::{Item, Journal, MOST_CREATIONS, filing_keys};
 use gb_base::{FolioId, Key, NoMemory, ReceiptNo, RightId};
 use std::alloc::Global;
-
-/// The most creating acts of a folio, whose rights are keys of its forced sale.
-const MOST_CREATIONS: usize = 256;
 
 /// The keys that item n touches, in ascending order, each once (GBO § 17). They follow from the
 /// receipts up to it alone. They may want memory.
@@ -85,7 +82,8 @@ fn keys_of_sale(
     Ok(keys)
 }
 
-/// The rights that earlier receipts than item n create in the folio, among the first 256 of it.
+/// The rights that earlier receipts than item n create in the folio, among the first of it, as many
+/// as a folio has at most.
 pub(crate) fn earlier_rights(journal: &Journal, n: ReceiptNo, folio: FolioId) -> &[RightId]
     ensures { result.now ≡ earlier_rights journal.now.receipts n folio }
 {

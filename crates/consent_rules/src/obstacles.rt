@@ -9,12 +9,9 @@ ghost use Rattle.consent_rules.specs.inner.Held.{HasParts};
 
 use crate::parts_read::{live_right, lives, right_part, title_part};
 use crate::persons::acts_before;
-use act_model::{Act, Journal, Matter, new_right, shares_its_group};
+use act_model::{Act, Journal, MOST_CREATIONS, Matter, new_right, shares_its_group};
 use folio_sections::{Created, Parts};
 use gb_base::{Cents, FolioId, RightId};
-
-/// How many creating acts a folio has at most, whatever became of their filings.
-const MAX_CREATIONS: u32 = 256;
 
 /// Whether act a is a creating act beyond the 256th of its folio.
 pub fn is_beyond_limit(matter: &Matter, a: u8) -> bool
@@ -23,7 +20,7 @@ pub fn is_beyond_limit(matter: &Matter, a: u8) -> bool
     ensures { result ≡ is_beyond_limit matter.now.journal.now.receipts matter.now.number a }
 {
     match matter.journal.creating_rank(new_right(matter.number, a)) {
-        Some(rank) => rank > MAX_CREATIONS,
+        Some(rank) => rank as usize > MOST_CREATIONS,
         None => false,
     }
 }

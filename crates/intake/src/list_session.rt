@@ -9,7 +9,7 @@ ghost use Rattle.intake.specs.Faults.{answer_output_failed, answer_disk_failed, 
 ghost use Rattle.intake.specs.Grown.{DiskGrows};
 ghost use Rattle.intake.specs.Intakes.{whole_of, cut_of};
 ghost use Rattle.intake.specs.Requests.{Held, held_after};
-ghost use Rattle.intake.specs.Sessions.{Took};
+ghost use Rattle.intake.specs.Sessions.{most_input, Took};
 ghost use Rattle.intake.specs.declared.intakes.Intake.TheVariants.{OpeningList as ListFrom};
 ghost use Rattle.intake_requests.specs.declared.requests.Request.{Request};
 
@@ -87,18 +87,18 @@ pub fn answer_list<J: Receiver, S: Source, K: Sink>(
     requires clock { J.has_clock ≡ true }
     requires ready { J.ready receiver.old }
     ensures all { (held : Held) → J.holds receiver.old ≡ Some held
-        → OnOk result (Took (S.left source.old) (S.left source.new) (λ read. IsAtEnd (S.left source.new) × (length read ≤ MAX_INPUT)
+        → OnOk result (Took (S.left source.old) (S.left source.new) (λ read. IsAtEnd (S.left source.new) × (length read ≤ most_input)
         × Answered J.medium held (J.holds receiver.new) (K.written sink.old) (K.written sink.new) (whole_of (ListFrom sender) read)
         × DiskGrows J.reads J.moment J.since receiver.old receiver.new held.journal (held_after J.medium held (whole_of (ListFrom sender) read)).journal)) }
     ensures cut { (held : Held) → J.holds receiver.old ≡ Some held → (result ≡ Err SessionFault.Read) ⊎ (result ≡ Err SessionFault.TooLong)
-        → Took (S.left source.old) (S.left source.new) (λ read. Answered J.medium held (J.holds receiver.new) (K.written sink.old) (K.written sink.new) (cut_of (ListFrom sender) (take MAX_INPUT read))) }
+        → Took (S.left source.old) (S.left source.new) (λ read. Answered J.medium held (J.holds receiver.new) (K.written sink.old) (K.written sink.new) (cut_of (ListFrom sender) (take most_input read))) }
     ensures part { (held : Held) → J.holds receiver.old ≡ Some held
         → OnErr result (Took (S.left source.old) (S.left source.new) (λ read. (requests : List Request) × AreOf (whole_of (ListFrom sender)) (cut_of (ListFrom sender)) (S.left source.new) read requests
         × EndsEarly J.medium held (J.ticks receiver.new) (K.written sink.old) (K.written sink.new) (J.images receiver.new) requests
         × DiskGrows J.reads J.moment J.since receiver.old receiver.new held.journal (held_after J.medium held requests).journal)) }
     ensures at_end { OnOk result (Took (S.left source.old) (S.left source.new) (λ read. IsAtEnd (S.left source.new))) }
-    ensures short { (result ≡ Err SessionFault.TooLong → ⊥) → Took (S.left source.old) (S.left source.new) (λ read. length read ≤ MAX_INPUT) }
-    ensures long { result ≡ Err SessionFault.TooLong → Took (S.left source.old) (S.left source.new) (λ read. length read ≡ MAX_INPUT + 1) }
+    ensures short { (result ≡ Err SessionFault.TooLong → ⊥) → Took (S.left source.old) (S.left source.new) (λ read. length read ≤ most_input) }
+    ensures long { result ≡ Err SessionFault.TooLong → Took (S.left source.old) (S.left source.new) (λ read. length read ≡ most_input + 1) }
     ensures ready { session_disk_failed result ≡ false → J.ready receiver.new }
     ensures works { session_disk_failed result ≡ true → J.failed receiver.new ≡ true }
     ensures lent { J.lent receiver.new ≡ J.lent receiver.old }

@@ -9,7 +9,7 @@ ghost use Rattle.intake.specs.Faults.{answer_output_failed, answer_disk_failed, 
 ghost use Rattle.intake.specs.Grown.{DiskGrows};
 ghost use Rattle.intake.specs.Lines.{request_of_line, is_stamped_by_clock};
 ghost use Rattle.intake.specs.Requests.{Held, held_after};
-ghost use Rattle.intake.specs.Sessions.{behind, ended_requests, line_requests, Took};
+ghost use Rattle.intake.specs.Sessions.{behind, ended_requests, line_requests, most_input, Took};
 ghost use Rattle.intake_requests.specs.declared.requests.Request.{Request};
 
 use crate::answering::answer_request;
@@ -139,18 +139,18 @@ pub fn answer_lines<J: Receiver, S: Source, K: Sink>(
     // All lines are answered; or where the source fails or gives too much, just those that an LF ends
     // in the bytes read, of which the first 64 MiB count; else some of those.
     ensures all { (held : Held) → J.holds receiver.old ≡ Some held
-        → OnOk result (Took (S.left source.old) (S.left source.new) (λ read. IsAtEnd (S.left source.new) × (length read ≤ MAX_INPUT)
+        → OnOk result (Took (S.left source.old) (S.left source.new) (λ read. IsAtEnd (S.left source.new) × (length read ≤ most_input)
         × Answered J.medium held (J.holds receiver.new) (K.written sink.old) (K.written sink.new) (line_requests kind read)
         × DiskGrows J.reads J.moment J.since receiver.old receiver.new held.journal (held_after J.medium held (line_requests kind read)).journal)) }
     ensures cut { (held : Held) → J.holds receiver.old ≡ Some held → (result ≡ Err SessionFault.Read) ⊎ (result ≡ Err SessionFault.TooLong)
-        → Took (S.left source.old) (S.left source.new) (λ read. Answered J.medium held (J.holds receiver.new) (K.written sink.old) (K.written sink.new) (ended_requests kind [] (take MAX_INPUT read))) }
+        → Took (S.left source.old) (S.left source.new) (λ read. Answered J.medium held (J.holds receiver.new) (K.written sink.old) (K.written sink.new) (ended_requests kind [] (take most_input read))) }
     ensures part { (held : Held) → J.holds receiver.old ≡ Some held
         → OnErr result (Took (S.left source.old) (S.left source.new) (λ read. (requests : List Request) × AreOf (line_requests kind) (ended_requests kind []) (S.left source.new) read requests
         × EndsEarly J.medium held (J.ticks receiver.new) (K.written sink.old) (K.written sink.new) (J.images receiver.new) requests
         × DiskGrows J.reads J.moment J.since receiver.old receiver.new held.journal (held_after J.medium held requests).journal)) }
     ensures at_end { OnOk result (Took (S.left source.old) (S.left source.new) (λ read. IsAtEnd (S.left source.new))) }
-    ensures short { (result ≡ Err SessionFault.TooLong → ⊥) → Took (S.left source.old) (S.left source.new) (λ read. length read ≤ MAX_INPUT) }
-    ensures long { result ≡ Err SessionFault.TooLong → Took (S.left source.old) (S.left source.new) (λ read. length read ≡ MAX_INPUT + 1) }
+    ensures short { (result ≡ Err SessionFault.TooLong → ⊥) → Took (S.left source.old) (S.left source.new) (λ read. length read ≤ most_input) }
+    ensures long { result ≡ Err SessionFault.TooLong → Took (S.left source.old) (S.left source.new) (λ read. length read ≡ most_input + 1) }
     ensures ready { session_disk_failed result ≡ false → J.ready receiver.new }
     ensures works { session_disk_failed result ≡ true → J.failed receiver.new ≡ true }
     ensures lent { J.lent receiver.new ≡ J.lent receiver.old }

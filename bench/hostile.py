@@ -1,0 +1,79 @@
+#!/usr/bin/env python3
+"""Measures `settle --lines` over journals that are hard on it: seconds and greatest memory.
+
+hostile.py GENERATOR [--peer PEER] [--sizes N,N,..] [KIND ..]
+
+`GENERATOR KIND SIZE` writes a journal of one kind with so many lines. PEER is another program that takes
+`settle --desks 1 --lines` and writes the same report; it runs over the same lines, and what it writes is
+compared. A run that takes over ten minutes is stopped and said to be so.
+"""
+
+import argparse
+import os
+import pathlib
+import subprocess
+import tempfile
+import time
+
+PROGRAM = pathlib.Path(__file__).resolve().parent.parent / "grundbuch"
+KINDS = ["pending", "lapses", "notices", "cures", "others", "exchanges", "transfers", "cancel", "wide", "folios", "senders"]
+SIZES = [50_000, 100_000, 200_000]
+LONGEST = 600
+
+
+def run(program, lines, out):
+    """Seconds and greatest memory in MiB of one run; None where it took too long."""
+    start = time.monotonic()
+    child = subprocess.Popen([program, "settle", "--desks", "1", "--lines"], stdin=lines, stdout=out)
+    while True:
+        pid, status, used = os.wait4(child.pid, os.WNOHANG)
+        seconds = time.monotonic() - start
+        if pid:
+            child.returncode = os.waitstatus_to_exitcode(status)
+            return seconds, used.ru_maxrss // 1024, child.returncode
+        if seconds > LONGEST:
+            child.kill()
+            os.wait4(child.pid, 0)
+            return None
+        time.sleep(0.005)
+
+
+def shown(said):
+    if said is None:
+        return f"over {LONGEST} s"
+    seconds, memory, status = said
+    return f"{seconds:.2f} s, {memory} MiB" + (f", status {status}" if status else "")
+
+
+def measure(generator, peer, kind, size, folder):
+    lines = folder / "lines"
+    with lines.open("wb") as file:
+        subprocess.run([generator, kind, str(size)], stdout=file, check=True)
+    texts = []
+    said = []
+    for program in filter(None, [PROGRAM, peer]):
+        text = folder / f"text{len(texts)}"
+        with lines.open("rb") as source, text.open("wb") as sink:
+            said.append(run(program, source, sink))
+        texts.append(text)
+    line = f"{kind} {size}: {shown(said[0])}"
+    if peer:
+        same = None not in said and texts[0].read_bytes() == texts[1].read_bytes()
+        line += f"; the peer {shown(said[1])}; " + ("the same text" if same else "NOT the same text")
+    print(line, flush=True)
+
+
+def main():
+    words = argparse.ArgumentParser(description=__doc__, formatter_class=argparse.RawDescriptionHelpFormatter)
+    words.add_argument("generator")
+    words.add_argument("--peer")
+    words.add_argument("--sizes", default=",".join(map(str, SIZES)))
+    words.add_argument("kinds", nargs="*", default=KINDS)
+    given = words.parse_args()
+    with tempfile.TemporaryDirectory() as folder:
+        for kind in given.kinds:
+            for size in given.sizes.split(","):
+                measure(given.generator, given.peer, kind, int(size), pathlib.Path(folder))
+
+
+main()
