@@ -1,4 +1,4 @@
 -- Lemmas of this crate's own.
 pub mod HeldLemmas
 pub mod ListLemmas
-pub mod WaitingLemmas
+pub mod WaitersLeft

@@ -2,4 +2,3 @@
 pub mod Held
 pub mod Lacks
 pub mod Needed
-pub mod WaitingAt

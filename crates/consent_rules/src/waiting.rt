@@ -1,13 +1,13 @@
 //! The earlier filings that wait at a right (BGB § 876).
-ghost use Rattle.std.specs.Prelude.{◌≡◌, ◌==◌};
+ghost use Rattle.std.specs.Prelude.{◌≡◌, ◌==◌, false};
 ghost use Rattle.std.specs.List.{list_any};
+ghost use Rattle.std.specs.Option.{option_map_or};
 ghost use Rattle.consent_rules.specs.Persons.{waiting_applicants};
 ghost use Rattle.consent_rules.specs.inner.Lacks.{is_lacking};
-ghost use Rattle.consent_rules.specs.inner.WaitingAt.{applicant_at};
 
 use crate::lacks::{Lack, is_lacking};
 use act_model::{Journal, applicant_of};
-use folio_sections::{Entry, RightPart, What};
+use folio_sections::RightPart;
 use gb_base::{Person, ReceiptNo};
 use std::marker::Model;
 
@@ -59,45 +59,39 @@ impl<'a> Waiting<'a> {
 }
 
 /// Whether the person is an applicant of an earlier filing that waits at the right.
-#[tactic(auto, using(crate::proofs::WaitingLemmas::some_waiting))]
 fn waits(journal: &Journal, before: ReceiptNo, part: &RightPart, person: Person) -> bool
     ensures { result ≡ list_any (λ q. q == person) (waiting_applicants journal.now.receipts before part.now.entries) }
 {
-    for entry in part.entries() {
-        if applicant_at(journal, before, part, entry) == Some(person) {
+    let mut after = None;
+    while let Some(filing) = part.next_pending(after, before) {
+        if applicant_of(journal, filing) == Some(person) {
             return true;
         }
+        after = Some(filing);
     }
     false
 }
 
 /// Whether this is lacking from an applicant of an earlier filing that waits at the right.
-#[tactic(auto, using(crate::proofs::WaitingLemmas::some_waiting))]
 fn some_waits(journal: &Journal, before: ReceiptNo, part: &RightPart, lack: &Lack) -> bool
     ensures { result ≡ list_any (is_lacking lack.now) (waiting_applicants journal.now.receipts before part.now.entries) }
 {
-    for entry in part.entries() {
-        match applicant_at(journal, before, part, entry) {
-            Some(applicant) if is_lacking(lack, applicant) => return true,
-            _ => {}
+    let mut after = None;
+    while let Some(filing) = part.next_pending(after, before) {
+        if is_lacking_from(lack, applicant_of(journal, filing)) {
+            return true;
         }
+        after = Some(filing);
     }
     false
 }
 
-/// The applicant of the filing that the entry sets to wait, where that is earlier and still waits.
-fn applicant_at(
-    journal: &Journal,
-    before: ReceiptNo,
-    part: &RightPart,
-    entry: &Entry,
-) -> Option<Person>
-    ensures { result ≡ applicant_at journal.now.receipts before part.now.entries entry.now }
+/// Whether this is lacking from the applicant, if there is one.
+fn is_lacking_from(lack: &Lack, applicant: Option<Person>) -> bool
+    ensures { result ≡ option_map_or (is_lacking lack.now) applicant false }
 {
-    match &entry.what {
-        What::Pending { filing, .. } if *filing < before && part.pending(*filing).is_some() => {
-            applicant_of(journal, *filing)
-        }
-        _ => None,
+    match applicant {
+        Some(person) => is_lacking(lack, person),
+        None => false,
     }
 }

@@ -3,6 +3,7 @@ pub mod Additions
 pub mod Cases
 pub mod DistinctLists
 pub mod FilteredLists
+pub mod FirstAbove
 pub mod FirstWaiters
 pub mod HeldParts
 pub mod HeldRights

@@ -1,10 +1,9 @@
 -- Official notices that are entered at a key in ascending order, and key by key.
-use Rattle.std.proofs.Common.{◌≡◌, ℕ, suc, zero, Bool, true, false, cond, ◌&&◌, nat_lt, List, [], ◌∷◌, ◌++◌, drop, map, flat_map, find, filter, Option, Some, None, is_none, is_some, refl, sym, ap, subst, ◌∙◌, arith}
+use Rattle.std.proofs.Common.{◌≡◌, ℕ, suc, zero, Bool, true, false, cond, ◌&&◌, List, [], ◌∷◌, ◌++◌, drop, map, flat_map, find, filter, Option, Some, None, is_none, is_some, refl, sym, ap, subst, ◌∙◌, arith}
 use Rattle.std.specs.List.{AllByRecursion}
 use Rattle.std.specs.List.Sorted.{IsStrictlySortedBy}
 use Rattle.std.specs.Ordering.{is_eq}
 use Rattle.std.specs.declared.cmp.Ordering.TheVariants.{Less}
-use Rattle.std.proofs.lemmas.Bool.{false≢true}
 use Rattle.std.proofs.lemmas.Bool.Decides.{nat_tests}
 use Rattle.std.proofs.lemmas.List.{append-nil}
 use Rattle.std.proofs.lemmas.List.Concat.{flat_map_single}
@@ -18,105 +17,15 @@ use Rattle.interim_orders.specs.Notices.{notices_at}
 use Rattle.folio_sections.specs.Waiting.{waiting_unnoticed, receipts_before, is_above}
 use Rattle.folio_sections.specs.declared.entries.Entry.{Entry}
 use Rattle.folio_sections.specs.declared.entries.What.TheVariants as what
-use Rattle.folio_sections.specs.inner.Unnoticed.{lacks_notice}
+use Rattle.folio_sections.specs.inner.Unnoticed.{is_unnoticed}
 use Rattle.folio_sections.proofs.Additions.{none_at}
+use Rattle.folio_sections.proofs.FirstAbove.{above_further, all_above, first_above, none_above, unnoticed_ascend}
 use Rattle.folio_sections.proofs.Indexes.{find_passes}
-use Rattle.folio_sections.proofs.ListLemmas.{filter_all}
 use Rattle.folio_sections.proofs.Progress.{Progress, begins, ends, goes_on_by, has_room_by}
-use Rattle.folio_sections.proofs.Unchanged.{KeepsNotice, all_at, all_both, all_weaker, own_notice_stays, pending_stays}
-use Rattle.folio_sections.proofs.ReceiptsBefore.{receipts_before_next}
+use Rattle.folio_sections.proofs.Unchanged.{KeepsNotice, all_at, all_weaker, own_notice_stays, pending_stays}
 use Rattle.folio_sections.proofs.Unnoticed.{unnoticed_is}
 
-all_filtered : (P : ℕ → Type 0) (q : ℕ → Bool) (xs : List ℕ) → AllByRecursion P xs → AllByRecursion P (filter q xs)
-all_filtered P q [] all = tt
-all_filtered P q (x ∷ xs) all =
-    elim (q x) as (λ b. AllByRecursion P (cond b (x ∷ filter q xs) (filter q xs))) [
-      | true ↦ (all.0, all_filtered P q xs all.1)
-      | false ↦ all_filtered P q xs all.1
-    ]
-
--- ---- filings in ascending order
-
--- each number is below those behind it
-abbrev Ascends : List ℕ → Type 0
-Ascends [] = Unit {0}
-Ascends (x ∷ xs) = AllByRecursion (λ y. nat_lt x y ≡ true) xs × Ascends xs
-
-ascends_push : (xs : List ℕ) (y : ℕ) → Ascends xs → AllByRecursion (λ x. nat_lt x y ≡ true) xs → Ascends (xs ++ y ∷ [])
-ascends_push [] y up less = (tt, tt)
-ascends_push (x ∷ xs) y up less =
-    (all_both (λ z. nat_lt x z ≡ true) xs (y ∷ []) up.0 (less.0, tt), ascends_push xs y up.1 less.1)
-
-ascends_filter : (q : ℕ → Bool) (xs : List ℕ) → Ascends xs → Ascends (filter q xs)
-ascends_filter q [] up = tt
-ascends_filter q (x ∷ xs) up =
-    elim (q x) as (λ b. Ascends (cond b (x ∷ filter q xs) (filter q xs))) [
-      | true ↦ (all_filtered (λ y. nat_lt x y ≡ true) q xs up.0, ascends_filter q xs up.1)
-      | false ↦ ascends_filter q xs up.1
-    ]
-
-receipts_before_less : (m : ℕ) → AllByRecursion (λ x. nat_lt x m ≡ true) (receipts_before m)
-receipts_before_less zero = tt
-receipts_before_less (suc zero) = tt
-receipts_before_less (suc (suc n)) =
-    subst (AllByRecursion (λ x. nat_lt x (suc (suc n)) ≡ true)) (sym (receipts_before_next n)) (all_both (λ x. nat_lt x (suc (suc n)) ≡ true) (receipts_before (suc n)) (suc n ∷ [])
-    (all_weaker (λ x. nat_lt x (suc n) ≡ true) (λ x. nat_lt x (suc (suc n)) ≡ true) (receipts_before (suc n)) (λ x less. grind (arith, nat_tests, less)) (receipts_before_less (suc n)))
-    (grind (arith, nat_tests), tt))
-
-receipts_before_ascend : (m : ℕ) → Ascends (receipts_before m)
-receipts_before_ascend zero = tt
-receipts_before_ascend (suc zero) = tt
-receipts_before_ascend (suc (suc n)) = subst Ascends (sym (receipts_before_next n)) (ascends_push (receipts_before (suc n)) (suc n) (receipts_before_ascend (suc n)) (receipts_before_less (suc n)))
-
-unnoticed_ascend : (m : ℕ) (entries : List Entry) → Ascends (waiting_unnoticed m entries)
-unnoticed_ascend m entries =
-    subst Ascends (sym (unnoticed_is m entries)) (ascends_filter (λ n. lacks_notice n entries) (receipts_before m) (receipts_before_ascend m))
-
--- ---- the first above a number, and those behind it
-
-above_further : (after : Option ℕ) (n k : ℕ) → is_above after n ≡ true → nat_lt n k ≡ true → is_above after k ≡ true
-above_further None n k high above = refl
-above_further (Some m) n k high above = grind (arith, nat_tests, high, above)
-
-pub all_above : (xs : List ℕ) → filter (is_above None) xs ≡ xs
-all_above [] = refl
-all_above (x ∷ xs) = ap (λ ys. x ∷ ys) (all_above xs)
-
-found_has : (P : ℕ → Type 0) (p : ℕ → Bool) (xs : List ℕ) (n : ℕ) → AllByRecursion P xs → find p xs ≡ Some n → P n
-found_has P p [] n all h = absurd (false≢true (ap is_some h))
-found_has P p (x ∷ xs) n all h =
-    elim (p x) as (λ b. cond b (Some x) (find p xs) ≡ Some n → P n) [
-      | true ↦ λ here. let same : x ≡ n = cc in subst P same all.0
-      | false ↦ λ later. found_has P p xs n all.1 later
-    ] h
-
--- what is found is the first of those above the number, and the others are those above it
-pub first_above : (after : Option ℕ) (xs : List ℕ) (n : ℕ) → Ascends xs → find (is_above after) xs ≡ Some n → filter (is_above after) xs ≡ n ∷ filter (is_above (Some n)) xs
-first_above after [] n up h = absurd (false≢true (ap is_some h))
-first_above after (x ∷ xs) n up h =
-    elim (is_above after x) as (λ b. is_above after x ≡ b → cond b (Some x) (find (is_above after) xs) ≡ Some n → cond b (x ∷ filter (is_above after) xs) (filter (is_above after) xs) ≡ n ∷ cond (nat_lt n x) (x ∷ filter (is_above (Some n)) xs) (filter (is_above (Some n)) xs)) [
-      | true ↦ λ high here.
-          let same : x ≡ n = cc in
-          let itself : nat_lt x x ≡ false = grind (arith, nat_tests) in
-          let ours : filter (is_above after) xs ≡ xs =
-          filter_all (is_above after) xs (all_weaker (λ y. nat_lt x y ≡ true) (λ y. is_above after y ≡ true) xs (λ y above. above_further after x y high above) up.0) in
-          let theirs : filter (is_above (Some x)) xs ≡ xs = filter_all (is_above (Some x)) xs up.0 in
-          subst (λ k. x ∷ filter (is_above after) xs ≡ k ∷ cond (nat_lt k x) (x ∷ filter (is_above (Some k)) xs) (filter (is_above (Some k)) xs)) same
-          (ap (λ ys. x ∷ ys) (ours ∙ sym theirs ∙ ap (λ b. cond b (x ∷ filter (is_above (Some x)) xs) (filter (is_above (Some x)) xs)) (sym itself)))
-      | false ↦ λ low later.
-          let above : nat_lt x n ≡ true = found_has (λ y. nat_lt x y ≡ true) (is_above after) xs n up.0 later in
-          let not_less : nat_lt n x ≡ false = grind (arith, nat_tests, above) in
-          first_above after xs n up.1 later
-          ∙ ap (λ b. n ∷ cond b (x ∷ filter (is_above (Some n)) xs) (filter (is_above (Some n)) xs)) (sym not_less)
-    ] refl h
-
-none_above : (p : ℕ → Bool) (xs : List ℕ) → find p xs ≡ None → filter p xs ≡ []
-none_above p [] h = refl
-none_above p (x ∷ xs) h =
-    elim (p x) as (λ b. cond b (Some x) (find p xs) ≡ None → cond b (x ∷ filter p xs) (filter p xs) ≡ []) [
-      | true ↦ λ here. absurd (false≢true (sym (ap is_some here)))
-      | false ↦ λ later. none_above p xs later
-    ] h
+-- ---- the next at one key
 
 find_with : (p : ℕ → Bool) (b : Bool) (x : ℕ) (xs : List ℕ) → find p (cond b (x ∷ xs) xs) ≡ cond b (cond (p x) (Some x) (find p xs)) (find p xs)
 find_with p true x xs = refl
@@ -156,7 +65,7 @@ leaves_further after n e high leaves = λ k above. leaves k (above_further after
 own_leaves : (journal : List Receipt) (i : ℕ) (key : Key) (n : ℕ) → LeavesAbove (Some n) (entry_by journal i key (what.Notice n))
 own_leaves journal i key n = λ k above before. (refl, grind (arith, nat_tests, above))
 
-lacks_same : (after : Option ℕ) (xs ys : List Entry) → AllByRecursion (LeavesAbove after) ys → (n : ℕ) → is_above after n ≡ true → lacks_notice n (xs ++ ys) ≡ lacks_notice n xs
+lacks_same : (after : Option ℕ) (xs ys : List Entry) → AllByRecursion (LeavesAbove after) ys → (n : ℕ) → is_above after n ≡ true → is_unnoticed n (xs ++ ys) ≡ is_unnoticed n xs
 lacks_same after xs ys all n above =
     let own = all_weaker (LeavesAbove after) (KeepsNotice n) ys (λ e leaves. leaves n above) all in
     λ i. is_some (pending_stays n xs ys own i) && is_none (own_notice_stays n xs ys own i)
@@ -165,7 +74,7 @@ lacks_same after xs ys all n above =
 next_same : (after : Option ℕ) (m : ℕ) (xs ys : List Entry) → AllByRecursion (LeavesAbove after) ys → find (is_above after) (waiting_unnoticed m (xs ++ ys)) ≡ find (is_above after) (waiting_unnoticed m xs)
 next_same after m xs ys all =
     ap (find (is_above after)) (unnoticed_is m (xs ++ ys))
-    ∙ same_found (is_above after) (λ n. lacks_notice n (xs ++ ys)) (λ n. lacks_notice n xs) (lacks_same after xs ys all) (receipts_before m)
+    ∙ same_found (is_above after) (λ n. is_unnoticed n (xs ++ ys)) (λ n. is_unnoticed n xs) (lacks_same after xs ys all) (receipts_before m)
     ∙ sym (ap (find (is_above after)) (unnoticed_is m xs))
 
 -- How far the notices at a key have come: those of all filings above the last are left.

@@ -22,7 +22,7 @@ use Rattle.interim_orders.specs.Notices.{notices_at, notices_brought}
 use Rattle.folio_sections.specs.Waiting.{waiting_unnoticed, receipts_before}
 use Rattle.folio_sections.specs.declared.entries.Entry.{Entry}
 use Rattle.folio_sections.specs.declared.entries.What.TheVariants as what
-use Rattle.folio_sections.specs.inner.Unnoticed.{lacks_notice}
+use Rattle.folio_sections.specs.inner.Unnoticed.{is_unnoticed}
 use Rattle.folio_sections.proofs.Additions.{at_few, length-at, none_at}
 use Rattle.folio_sections.proofs.Unnoticed.{unnoticed_is}
 use Rattle.folio_sections.proofs.Unchanged.{all_weaker}
@@ -99,8 +99,8 @@ notices_fit journal m i at0 room roomy =
 pub unnoticed_few : (m : ℕ) (entries : List Entry) → length (waiting_unnoticed m entries) ≤ m
 unnoticed_few m entries =
     let all = ap length (unnoticed_is m entries) in
-    let kept = length-filter (λ n. lacks_notice n entries) (receipts_before m) in
-    let most = count_by-le-length (λ n. lacks_notice n entries) (receipts_before m) in
+    let kept = length-filter (λ n. is_unnoticed n entries) (receipts_before m) in
+    let most = count_by-le-length (λ n. is_unnoticed n entries) (receipts_before m) in
     let few = length-range_with_len 1 (m - 1) in
     omega arith
 

@@ -28,7 +28,7 @@ use Rattle.folio_sections.specs.declared.entries.Entry.{Entry}
 use Rattle.folio_sections.specs.declared.entries.What.{What}
 use Rattle.folio_sections.specs.declared.entries.What.TheVariants as what
 use Rattle.folio_sections.specs.declared.title_places.TitlePlace.{TitlePlace}
-use Rattle.folio_sections.specs.inner.Unnoticed.{lacks_notice}
+use Rattle.folio_sections.specs.inner.Unnoticed.{is_unnoticed}
 use Rattle.folio_sections.proofs.FilteredLists.{all_filtered}
 use Rattle.folio_sections.proofs.Unchanged.{all_both, all_weaker}
 use Rattle.folio_sections.proofs.Unnoticed.{unnoticed_is}
@@ -113,7 +113,7 @@ noticed_at : (journal : List Receipt) (m i : ℕ) (at : Key → List Entry) (key
 noticed_at journal m i at key within there =
     all_mapped (IsBrought journal m i) (λ n. entry_by journal i key (what.Notice n)) (waiting_unnoticed m (at key))
     (subst (AllByRecursion (λ n. IsBrought journal m i (entry_by journal i key (what.Notice n)))) (sym (unnoticed_is m (at key)))
-    (all_filtered (λ n. IsBrought journal m i (entry_by journal i key (what.Notice n))) (λ n. lacks_notice n (at key)) (receipts_before m)
+    (all_filtered (λ n. IsBrought journal m i (entry_by journal i key (what.Notice n))) (λ n. is_unnoticed n (at key)) (receipts_before m)
     (all_weaker (λ n. n ≤ i) (λ n. IsBrought journal m i (entry_by journal i key (what.Notice n))) (receipts_before m)
     (λ n earlier. noticed journal m i n key earlier there)
     (all_weaker (λ k. k < 1 + (m - 1)) (λ n. n ≤ i) (receipts_before m) (λ n less. omega arith) (all_in_range 1 (m - 1) (1 + (m - 1)) (omega arith))))))

@@ -1,11 +1,14 @@
-use Rattle.std.proofs.Common.{◌≡◌, ◌==◌, false, drop}
+use Rattle.std.proofs.Common.{◌≡◌, ◌==◌, length}
 use Rattle.std.specs.List.{list_any}
-use Rattle.std.specs.Option.{option_map_or}
 use Rattle.consent_rules.specs.Persons.{waiting_applicants}
-use Rattle.consent_rules.specs.inner.WaitingAt.{applicant_at}
+use Rattle.consent_rules.proofs.WaitersLeft.{applicants_above, left_above}
 use Rattle.consent_rules.proofs.waiting.waits.Given as goal
 
-abbrev pub invariant-loop-entry : goal.invariant-loop-entry
-invariant-loop-entry l =
-    list_any (λ e. option_map_or (λ q. q == l.person) (applicant_at l.journal.receipts l.before l.part.entries e) false) (drop l.entry-index l.part.entries)
+abbrev pub invariant-loop-filing : goal.invariant-loop-filing
+invariant-loop-filing l =
+    list_any (λ q. q == l.person) (applicants_above l.journal.receipts l.after l.before l.part.entries)
     ≡ list_any (λ q. q == l.person) (waiting_applicants l.journal.receipts l.before l.part.entries)
+
+-- how many filings are left
+abbrev pub decreases-loop-filing : goal.decreases-loop-filing
+decreases-loop-filing l = length (left_above l.after l.before l.part.entries)

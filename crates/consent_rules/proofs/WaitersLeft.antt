@@ -1,0 +1,59 @@
+-- The applicants of those filings that wait at a right and stand above a number: the ones that a loop still has to ask.
+use Rattle.std.proofs.Common.{◌≡◌, ℕ, ◌<◌, Bool, false, ◌||◌, List, ◌∷◌, length, filter, filter_map, find, Option, Some, None, refl, sym, ap, ◌∙◌, arith}
+use Rattle.std.specs.List.{list_any}
+use Rattle.std.specs.Option.{option_eq, option_map_or}
+use Rattle.act_model.specs.declared.receipts.Receipt.{Receipt}
+use Rattle.act_model.specs.Touches.{applicant_of}
+use Rattle.folio_sections.specs.Waiting.{is_above, waiting_before}
+use Rattle.folio_sections.specs.declared.entries.Entry.{Entry}
+use Rattle.folio_sections.proofs.FirstAbove.{all_above, first_above, none_above, waiting_ascend}
+use Rattle.consent_rules.specs.Persons.{waiting_applicants}
+use Rattle.consent_rules.proofs.ListLemmas.{any_given}
+
+-- the filings that are left, and their applicants
+abbrev pub left_above : Option ℕ → ℕ → List Entry → List ℕ
+left_above after m entries = filter (is_above after) (waiting_before m entries)
+
+abbrev pub applicants_above : List Receipt → Option ℕ → ℕ → List Entry → List ℕ
+applicants_above journal after m entries = filter_map (applicant_of journal) (left_above after m entries)
+
+-- at first all are left
+pub all_left : (p : ℕ → Bool) (journal : List Receipt) (m : ℕ) (entries : List Entry)
+    → list_any p (applicants_above journal None m entries) ≡ list_any p (waiting_applicants journal m entries)
+all_left p journal m entries = ap (λ ns. list_any p (filter_map (applicant_of journal) ns)) (all_above (waiting_before m entries))
+
+-- the one that is found is the first of those left
+first_left : (after : Option ℕ) (m n : ℕ) (entries : List Entry) → Some n ≡ find (is_above after) (waiting_before m entries)
+    → left_above after m entries ≡ n ∷ left_above (Some n) m entries
+first_left after m n entries is = first_above after (waiting_before m entries) n (waiting_ascend m entries) (sym is)
+
+-- so one fewer is left behind it
+pub fewer_left : (after : Option ℕ) (m n : ℕ) (entries : List Entry) → Some n ≡ find (is_above after) (waiting_before m entries)
+    → length (left_above (Some n) m entries) < length (left_above after m entries)
+fewer_left after m n entries is = let count = ap length (first_left after m n entries is) in omega arith
+
+-- and a test of those left is that of its applicant, or of those behind it
+next_left : (p : ℕ → Bool) (journal : List Receipt) (after : Option ℕ) (m n : ℕ) (entries : List Entry) → Some n ≡ find (is_above after) (waiting_before m entries)
+    → list_any p (applicants_above journal after m entries) ≡ (option_map_or p (applicant_of journal n) false || list_any p (applicants_above journal (Some n) m entries))
+next_left p journal after m n entries is =
+    ap (λ ns. list_any p (filter_map (applicant_of journal) ns)) (first_left after m n entries is)
+    ∙ any_given p (applicant_of journal n) (applicants_above journal (Some n) m entries)
+
+-- so what its applicant answers, or those behind it, is what all do
+pub asked_first : (p : ℕ → Bool) (journal : List Receipt) (after : Option ℕ) (m n : ℕ) (b : Bool) (entries : List Entry) → Some n ≡ find (is_above after) (waiting_before m entries)
+    → list_any p (applicants_above journal after m entries) ≡ list_any p (waiting_applicants journal m entries) → option_map_or p (applicant_of journal n) false ≡ b
+    → (b || list_any p (applicants_above journal (Some n) m entries)) ≡ list_any p (waiting_applicants journal m entries)
+asked_first p journal after m n b entries is so_far answer =
+    ap (λ c. c || list_any p (applicants_above journal (Some n) m entries)) (sym answer) ∙ sym (next_left p journal after m n entries is) ∙ so_far
+
+-- where none is found none is left, and none passed
+pub none_pass : (p : ℕ → Bool) (journal : List Receipt) (after : Option ℕ) (m : ℕ) (entries : List Entry) → None ≡ find (is_above after) (waiting_before m entries)
+    → list_any p (applicants_above journal after m entries) ≡ list_any p (waiting_applicants journal m entries)
+    → false ≡ list_any p (waiting_applicants journal m entries)
+none_pass p journal after m entries is so_far =
+    ap (λ ns. list_any p (filter_map (applicant_of journal) ns)) (sym (none_above (is_above after) (waiting_before m entries) (sym is))) ∙ so_far
+
+-- what may be there equals this
+pub given_is : (e : ℕ → ℕ → Bool) (o : Option ℕ) (y : ℕ) → option_map_or (λ x. e x y) o false ≡ option_eq e o (Some y)
+given_is e (Some x) y = refl
+given_is e None y = refl
