@@ -1,8 +1,12 @@
 //! What no clause says: the bytes of worked files, openings of bad ones, and devices that fail.
+ghost use Rattle.std.specs.Prelude.{◌≡◌, false, IsTrue};
+ghost use Rattle.act_model.specs.WellFormed.{well_formed};
+ghost use Rattle.receipt_journal.specs.Standing.{Stands};
+
 use crate::worked_record::LAPSE;
 use act_model::{Item, well_formed};
 use gb_base::{Day, ReceiptNo, Stamp};
-use gb_outside::MemDisk;
+use gb_outside::{Disk, MemDisk};
 use receipt_journal::{Book, BookFault, Received};
 use std::alloc::{AllocError, Global};
 use std::process::Abort;
@@ -49,6 +53,25 @@ fn disk_of(alloc: Global, file: &[u8], fail: &[u32]) -> Result<MemDisk, AllocErr
     MemDisk::new(alloc, file, 128, 128, 32, fail)
 }
 
+/// The book answers so to the item of sender 1 with reference 5.
+fn answers(
+    rt: &impl Abort,
+    alloc: Global,
+    book: &mut Book,
+    disk: &mut MemDisk,
+    item: &Item,
+    wanted: Received,
+)
+    requires item { IsTrue (well_formed item.now) }
+    requires stands { book.old.log.failed ≡ false
+        → Stands book.old (⟦<MemDisk as Disk>⟧.reads disk.old) (⟦<MemDisk as Disk>⟧.images disk.old) }
+    ensures stands { book.new.log.failed ≡ false
+        → Stands book.new (⟦<MemDisk as Disk>⟧.reads disk.new) (⟦<MemDisk as Disk>⟧.images disk.new) }
+{
+    let answer = book.receive(alloc, disk, stamp(rt), 1, 5, item);
+    assert_eq!(rt; answer, wanted);
+}
+
 #[test]
 fn a_lapse_makes_38_bytes_and_acts_once(rt: HostRuntime) -> Result<(), Fail> {
     let alloc = rt.alloc();
@@ -60,13 +83,13 @@ fn a_lapse_makes_38_bytes_and_acts_once(rt: HostRuntime) -> Result<(), Fail> {
     let first = receipt(&rt, 1);
     let mut disk = disk_of(alloc, &[], &[])?;
     let mut book = Book::open(alloc, &mut disk)?;
-    let answer = book.receive(alloc, &mut disk, stamp(&rt), 1, 5, &item);
-    assert_eq!(rt; answer, Received::Accepted(first));
+    let accepted = Received::Accepted(first);
+    answers(&rt, alloc, &mut book, &mut disk, &item, accepted);
     assert_eq!(rt; disk.bytes(), file.as_slice());
-    let again = book.receive(alloc, &mut disk, stamp(&rt), 1, 5, &item);
-    assert_eq!(rt; again, Received::Repeated(first));
-    let another = book.receive(alloc, &mut disk, stamp(&rt), 1, 5, &other);
-    assert_eq!(rt; another, Received::Differs(first));
+    let repeated = Received::Repeated(first);
+    answers(&rt, alloc, &mut book, &mut disk, &item, repeated);
+    let differs = Received::Differs(first);
+    answers(&rt, alloc, &mut book, &mut disk, &other, differs);
     assert_eq!(rt; disk.bytes(), file.as_slice());
     let reopened = Book::open(alloc, &mut disk)?;
     assert_eq!(rt; reopened.len(), 1);
@@ -105,12 +128,11 @@ fn a_failed_write_leaves_no_receipt(rt: HostRuntime) -> Result<(), Fail> {
     let file = file_of(alloc, &[], 0)?;
     let mut disk = disk_of(alloc, &file, &[5])?;
     let mut book = Book::open(alloc, &mut disk)?;
-    let answer = book.receive(alloc, &mut disk, stamp(&rt), 1, 5, &item);
-    assert_eq!(rt; answer, Received::Disk);
+    answers(&rt, alloc, &mut book, &mut disk, &item, Received::Disk);
     assert!(rt; book.failed());
     let left = disk.bytes().to_vec(alloc)?;
-    let next = book.receive(alloc, &mut disk, stamp(&rt), 1, 5, &item);
-    assert_eq!(rt; next, Received::MustReopen);
+    let failed = Received::MustReopen;
+    answers(&rt, alloc, &mut book, &mut disk, &item, failed);
     assert_eq!(rt; disk.bytes(), left.as_slice());
     let reopened = Book::open(alloc, &mut disk)?;
     assert_eq!(rt; reopened.len(), 0);
@@ -125,10 +147,10 @@ fn a_failed_second_sync_may_leave_the_receipt(rt: HostRuntime) -> Result<(), Fai
     let file = file_of(alloc, &[], 0)?;
     let mut disk = disk_of(alloc, &file, &[8])?;
     let mut book = Book::open(alloc, &mut disk)?;
-    let answer = book.receive(alloc, &mut disk, stamp(&rt), 1, 5, &item);
-    assert_eq!(rt; answer, Received::Disk);
+    answers(&rt, alloc, &mut book, &mut disk, &item, Received::Disk);
     let mut reopened = Book::open(alloc, &mut disk)?;
-    let again = reopened.receive(alloc, &mut disk, stamp(&rt), 1, 5, &item);
-    assert_eq!(rt; again, Received::Repeated(receipt(&rt, 1)));
+    let first = receipt(&rt, 1);
+    let repeated = Received::Repeated(first);
+    answers(&rt, alloc, &mut reopened, &mut disk, &item, repeated);
     Ok(())
 }
