@@ -221,7 +221,7 @@ pub fn capital(entries: &[Entry]) -> Option<Cents> {
 
 /// What is counted and named of a case.
 #[derive(Clone, Copy, Debug, PartialEq, Eq)]
-pub struct Case {
+pub struct CaseSeen {
     pub seizures: u32,
     pub registrations: u32,
     pub award: Option<ReceiptNo>,
@@ -229,7 +229,7 @@ pub struct Case {
 }
 
 /// A case that has none yet.
-const NONE_YET: Case = Case {
+const NONE_YET: CaseSeen = CaseSeen {
     seizures: 0,
     registrations: 0,
     award: None,
@@ -237,26 +237,26 @@ const NONE_YET: Case = Case {
 };
 
 /// The case behind the last distribution.
-pub fn case(entries: &[Entry]) -> Case {
-    entries.iter().fold(NONE_YET, case_by)
+pub fn counted(entries: &[Entry]) -> CaseSeen {
+    entries.iter().fold(NONE_YET, counted_by)
 }
 
-fn case_by(before: Case, entry: &Entry) -> Case {
+fn counted_by(before: CaseSeen, entry: &Entry) -> CaseSeen {
     match &entry.what {
         What::Distributed => NONE_YET,
-        What::Seized => Case {
+        What::Seized => CaseSeen {
             seizures: before.seizures.saturating_add(1),
             ..before
         },
-        What::Registered => Case {
+        What::Registered => CaseSeen {
             registrations: before.registrations.saturating_add(1),
             ..before
         },
-        What::Awarded { .. } => Case {
+        What::Awarded { .. } => CaseSeen {
             award: Some(entry.receipt),
             ..before
         },
-        What::Bids { .. } => Case {
+        What::Bids { .. } => CaseSeen {
             called: Some(entry.receipt),
             ..before
         },
