@@ -8,10 +8,7 @@
 SHAPE is `filings` in one folio, of which half are entered and the others rejected or set to wait;
 `openings`, each of a folio of its own; or `waiting`: filings in one folio, of which some are entered,
 some wait and are cured, some lapse and some are rejected. The program receives them
-into a journal in memory and settles it; the time is that of both. The parts of the register walk
-their lists. Each entry in a folio looks for the filings that still wait there: it walks the list
-once for each filing that was ever set to wait, so the time of a receipt grows with the square of
-the receipts before it, and twice as many take eight times as long. 10,000 take a minute and a half.
+into a journal in memory and settles it; the time is that of both.
 """
 
 import pathlib
