@@ -1,58 +1,233 @@
 #!/usr/bin/env python3
-"""Writes stamped lines that the office takes, for measuring.
+"""Writes stamped lines that the office takes, for measuring: generate.py SHAPE N
 
-generate.py one-folio N      one opening, then land charges in that folio
-generate.py many-folios N    N // 4 folios, each with its opening and three land charges
-generate.py waiting N        one folio with 255 land charges, and behind them transfers that wait for a clearance
+{shapes}
+
+What is drawn is the same each time.
 """
 import json
+import random
 import sys
 
-
-def line(number, act, applicant, more=()):
-    return json.dumps({
-        "day": "2024-03-01", "minute": number * 1439 // 1_000_000, "sender": 1, "reference": number,
-        "item": {"kind": "filing", "applicant": applicant, "conditional": False, "acts": [act],
-                 "docs": [{"doc": "consent", "act": 1, "person": applicant, "form": "certified"}, *more]},
-    }, separators=(",", ":"))
+FOLIO = 7
+OWNER = 10
+FIRST_DAY = "2005-03-01"
+BEHIND_THE_DEADLINE = "2005-04-02"
 
 
-def opening(folio):
-    return {"act": "open", "folio": folio, "district": 1, "parcel": folio, "sub": 0, "area": 500, "owners": [10]}
+# ---- lines
+
+def stamped(number, item, day=FIRST_DAY, sender=1, reference=None):
+    reference = number if reference is None else reference
+    line = {"day": day, "minute": 600, "sender": sender, "reference": reference, "item": item}
+    return json.dumps(line, separators=(",", ":"))
 
 
-def charge(folio, number):
-    return {"act": "create", "folio": folio, "kind": "land-charge", "rate": 500, "capital": 100_000 + number,
-            "holder": 20 + number % 50, "group": 1}
+def filing(acts, docs, applicant=OWNER):
+    return {"kind": "filing", "applicant": applicant, "conditional": False, "acts": acts, "docs": docs}
 
 
-def one_folio(count):
-    yield line(1, opening(7), 10)
-    for number in range(2, count + 1):
-        yield line(number, charge(7, number), 10)
+def cure(of, docs):
+    return {"kind": "cure", "filing": of, "docs": docs}
 
 
-def many_folios(count):
+def lapse(of):
+    return {"kind": "lapse", "filing": of}
+
+
+# ---- acts and documents
+
+def opening(folio, owner=OWNER):
+    return {"act": "open", "folio": folio, "district": 1, "parcel": 1, "sub": 0, "area": 500, "owners": [owner]}
+
+
+def charge(capital, holder=OWNER, folio=FOLIO, group=1):
+    return {"act": "create", "folio": folio, "kind": "land-charge", "rate": 500, "capital": capital,
+            "holder": holder, "group": group}
+
+
+def transfer(to):
+    return {"act": "transfer", "folio": FOLIO, "owners": [to]}
+
+
+def of_right(act, receipt, **more):
+    return {"act": act, "folio": FOLIO, "right": right(receipt), **more}
+
+
+def right(receipt):
+    return {"receipt": receipt, "act": 1}
+
+
+def exchange(recede, rise):
+    return {"act": "exchange", "folio": FOLIO, "recede": right(recede), "rise": right(rise)}
+
+
+def consent(person, form="certified", act=1):
+    return {"doc": "consent", "act": act, "person": person, "form": form}
+
+
+AGREEMENT = {"doc": "agreement", "act": 1}
+CLEARANCE = {"doc": "clearance", "act": 1}
+OPENED = filing([opening(FOLIO)], [consent(OWNER)])
+ENTERED_TRANSFER = filing([transfer(OWNER)], [consent(OWNER), AGREEMENT, CLEARANCE])
+WAITING_TRANSFER = filing([transfer(OWNER)], [consent(OWNER), AGREEMENT])
+
+
+def charges(upto):
+    """The opening, and behind it land charges up to this receipt."""
+    yield stamped(1, OPENED)
+    for number in range(2, upto + 1):
+        yield stamped(number, filing([charge(1_000_000 + number)], [consent(OWNER)]))
+
+
+# ---- shapes
+
+def one_folio(count, draws):
+    """one folio, and land charges in it, of which 256 are entered"""
+    yield from charges(count)
+
+
+def many_folios(count, draws):
+    """a folio for each four lines, opened and charged with three land charges"""
     for number in range(1, count + 1):
         folio, step = (number - 1) // 4 + 1, (number - 1) % 4
-        yield line(number, opening(folio) if step == 0 else charge(folio, number), 10)
+        act = opening(folio) if step == 0 else charge(100_000 + number, folio=folio)
+        yield stamped(number, filing([act], [consent(OWNER)]))
 
 
-def waiting(count):
-    transfer = {"act": "transfer", "folio": 7, "owners": [11]}
+def folios(count, draws):
+    """a folio a line, its number in no order, opened and charged with seven land charges"""
     for number in range(1, count + 1):
-        if number <= 256:
-            yield line(number, opening(7) if number == 1 else charge(7, number), 10)
+        folio = number * 2_654_435_761 % 2**32 or 1
+        acts = [opening(folio), *(charge(1_000 + number, folio=folio, group=group) for group in range(1, 8))]
+        yield stamped(number, filing(acts, [consent(OWNER, act=act) for act in range(1, 9)]))
+
+
+def transfers(count, draws):
+    """one folio and nothing but transfers of it"""
+    yield stamped(1, OPENED)
+    for number in range(2, count + 1):
+        yield stamped(number, ENTERED_TRANSFER)
+
+
+def pending(count, draws):
+    """half of the lines wait at one title; then transfers, cures and lapses, at any of them"""
+    half = count // 2
+    yield stamped(1, OPENED)
+    for number in range(2, half + 1):
+        yield stamped(number, WAITING_TRANSFER)
+    for number in range(half + 1, count + 1):
+        one = draws.randint(2, half)
+        item = draws.choice([ENTERED_TRANSFER, cure(one, [CLEARANCE]), lapse(one)])
+        yield stamped(number, item, BEHIND_THE_DEADLINE)
+
+
+def lapses(count, draws):
+    """half of the lines wait at one title; then each of them lapses, in no order"""
+    half = count // 2
+    yield stamped(1, OPENED)
+    for number in range(2, half + 1):
+        yield stamped(number, WAITING_TRANSFER)
+    order = list(range(2, half + 1))
+    draws.shuffle(order)
+    for number, one in enumerate(order, half + 1):
+        yield stamped(number, lapse(one), BEHIND_THE_DEADLINE)
+
+
+def notices(count, draws):
+    """ever more wait at one title; each hundredth line is entered and gives those before it notices"""
+    yield stamped(1, OPENED)
+    for number in range(2, count + 1):
+        yield stamped(number, ENTERED_TRANSFER if number % 100 == 0 else WAITING_TRANSFER)
+
+
+def cures(count, draws):
+    """one filing and nothing but cures of it in vain, each with consents of three new strangers"""
+    yield stamped(1, OPENED)
+    yield stamped(2, filing([transfer(11)], [consent(OWNER), AGREEMENT]))
+    for number in range(3, count + 1):
+        docs = [consent(4 * number + stranger, "plain") for stranger in range(3)]
+        yield stamped(number, cure(2, docs))
+
+
+def others(count, draws):
+    """a third of the lines wait at one right; then its cancellations, each cured by a consent at a time"""
+    third = count // 3
+    yield stamped(1, OPENED)
+    yield stamped(2, filing([charge(1_000)], [consent(OWNER)]))
+    for number in range(3, third + 1):
+        applicant = 1_000 + number
+        yield stamped(number, filing([of_right("assign", 2, holder=applicant)], [consent(OWNER, "plain")], applicant))
+    of, behind = None, 0
+    for number in range(third + 1, count + 1):
+        if of is None or behind == 30:
+            first = draws.randint(1_003, 1_000 + third)
+            docs = [consent(OWNER), *(consent(first + more) for more in range(30) if first + more <= 1_000 + third)]
+            of, behind = number, 0
+            yield stamped(number, filing([of_right("cancel", 2)], docs))
         else:
-            yield line(number, transfer, 10, [{"doc": "agreement", "act": 1}])
+            behind += 1
+            yield stamped(number, cure(of, [consent(draws.randint(1_003, 1_000 + third))]))
+
+
+def cancel(count, draws):
+    """256 rights of one folio, all cancelled in no order; then filings that name three of them"""
+    yield from charges(min(count, 257))
+    order = list(range(2, 258))
+    draws.shuffle(order)
+    for number in range(258, count + 1):
+        if order:
+            yield stamped(number, filing([of_right("cancel", order.pop())], [consent(OWNER)]))
+        else:
+            one, other, third = draws.sample(range(2, 258), 3)
+            yield stamped(number, filing([exchange(one, other), of_right("cancel", third)], []))
+
+
+def exchanges(count, draws):
+    """256 rights of one folio, then exchanges of any two of them"""
+    yield from charges(min(count, 257))
+    for number in range(258, count + 1):
+        one, other = draws.sample(range(2, 258), 2)
+        yield stamped(number, filing([exchange(one, other)], [consent(OWNER)]))
+
+
+def wide(count, draws):
+    """filings of 8 acts with 32 documents, 32 of them a folio"""
+    for number in range(1, count + 1):
+        folio = (number - 1) // 32 + 1
+        first = opening(folio) if (number - 1) % 32 == 0 else charge(1_000 + number, folio=folio)
+        acts = [first, *(charge(1_000 + number, folio=folio, group=group) for group in range(2, 9))]
+        docs = [consent(OWNER + person, act=act) for act in range(1, 9) for person in range(4)]
+        yield stamped(number, filing(acts, docs))
+
+
+def senders(count, draws):
+    """openings; from the middle on every second one was sent before"""
+    for number in range(1, count + 1):
+        again = number > count // 2 and number % 2 == 0
+        at = draws.randrange(number - 1) + 1 if again else number
+        item = filing([opening(at)], [consent(OWNER)])
+        yield stamped(number, item, sender=at % 60, reference=at // 60)
+
+
+def waiting(count, draws):
+    """one folio with 255 land charges, and behind them transfers that wait for a clearance"""
+    yield from charges(min(count, 256))
+    for number in range(257, count + 1):
+        yield stamped(number, WAITING_TRANSFER)
+
+
+SHAPES = {shape.__name__.replace("_", "-"): shape for shape in [
+    one_folio, many_folios, folios, transfers, pending, lapses, notices, cures, others, cancel, exchanges, wide,
+    senders, waiting]}
 
 
 def main():
-    shapes = {"one-folio": one_folio, "many-folios": many_folios, "waiting": waiting}
-    if len(sys.argv) != 3 or sys.argv[1] not in shapes:
-        sys.exit(__doc__)
-    for text in shapes[sys.argv[1]](int(sys.argv[2])):
+    if len(sys.argv) != 3 or sys.argv[1] not in SHAPES:
+        sys.exit(__doc__.format(shapes="\n".join(f"{name:12} {shape.__doc__}" for name, shape in SHAPES.items())))
+    for text in SHAPES[sys.argv[1]](int(sys.argv[2]), random.Random(7)):
         print(text)
 
 
-main()
+if __name__ == "__main__":
+    main()

@@ -1,9 +1,9 @@
 #!/usr/bin/env python3
 """Measures `settle --lines` over journals that are hard on it: seconds and greatest memory.
 
-hostile.py GENERATOR [--peer PEER] [--sizes N,N,..] [KIND ..]
+hostile.py [--peer PEER] [--sizes N,N,..] [SHAPE ..]
 
-`GENERATOR KIND SIZE` writes a journal of one kind with so many lines. PEER is another program that takes
+The shapes are those of generate.py, with so many lines each. PEER is another program that takes
 `settle --desks 1 --lines` and writes the same report; it runs over the same lines, and what it writes is
 compared. A run that takes over ten minutes is stopped and said to be so.
 """
@@ -12,11 +12,13 @@ import argparse
 import os
 import pathlib
 import subprocess
+import sys
 import tempfile
 import time
 
 PROGRAM = pathlib.Path(__file__).resolve().parent.parent / "grundbuch"
-KINDS = ["pending", "lapses", "notices", "cures", "others", "exchanges", "transfers", "cancel", "wide", "folios", "senders"]
+GENERATOR = pathlib.Path(__file__).resolve().parent / "generate.py"
+SHAPES = ["pending", "lapses", "notices", "cures", "others", "exchanges", "transfers", "cancel", "wide", "folios", "senders"]
 SIZES = [50_000, 100_000, 200_000]
 LONGEST = 600
 
@@ -45,10 +47,10 @@ def shown(said):
     return f"{seconds:.2f} s, {memory} MiB" + (f", status {status}" if status else "")
 
 
-def measure(generator, peer, kind, size, folder):
+def measure(peer, shape, size, folder):
     lines = folder / "lines"
     with lines.open("wb") as file:
-        subprocess.run([generator, kind, str(size)], stdout=file, check=True)
+        subprocess.run([sys.executable, GENERATOR, shape, str(size)], stdout=file, check=True)
     texts = []
     said = []
     for program in filter(None, [PROGRAM, peer]):
@@ -56,7 +58,7 @@ def measure(generator, peer, kind, size, folder):
         with lines.open("rb") as source, text.open("wb") as sink:
             said.append(run(program, source, sink))
         texts.append(text)
-    line = f"{kind} {size}: {shown(said[0])}"
+    line = f"{shape} {size}: {shown(said[0])}"
     if peer:
         same = None not in said and texts[0].read_bytes() == texts[1].read_bytes()
         line += f"; the peer {shown(said[1])}; " + ("the same text" if same else "NOT the same text")
@@ -65,15 +67,14 @@ def measure(generator, peer, kind, size, folder):
 
 def main():
     words = argparse.ArgumentParser(description=__doc__, formatter_class=argparse.RawDescriptionHelpFormatter)
-    words.add_argument("generator")
     words.add_argument("--peer")
     words.add_argument("--sizes", default=",".join(map(str, SIZES)))
-    words.add_argument("kinds", nargs="*", default=KINDS)
+    words.add_argument("shapes", nargs="*", default=SHAPES)
     given = words.parse_args()
     with tempfile.TemporaryDirectory() as folder:
-        for kind in given.kinds:
+        for shape in given.shapes:
             for size in given.sizes.split(","):
-                measure(given.generator, given.peer, kind, int(size), pathlib.Path(folder))
+                measure(given.peer, shape, int(size), pathlib.Path(folder))
 
 
 main()
