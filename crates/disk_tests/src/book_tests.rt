@@ -5,12 +5,12 @@ ghost use Rattle.receipt_journal.specs.Standing.{Stands};
 
 use crate::worked_record::LAPSE;
 use act_model::{Item, well_formed};
-use gb_base::{Day, ReceiptNo, Stamp};
 use gb_outside::{Disk, MemDisk};
 use receipt_journal::{Book, BookFault, Received};
 use std::alloc::{AllocError, Global};
 use std::process::Abort;
 use std::test::Fail;
+use test_items::{lapse, last_of_february, receipt, stamp};
 
 /// The worked record with a kind of item that there is not.
 const OF_KIND_9: [u8; 23] =
@@ -19,22 +19,6 @@ const OF_KIND_9: [u8; 23] =
 /// Its lapse as reference 6, a minute earlier.
 const EARLIER: [u8; 23] =
     *b"\x00\x00\x4d\x46\x02\x1b\x00\x00\x00\x01\x00\x00\x00\x00\x00\x00\x00\x06\x03\x00\x00\x00\x02";
-
-fn receipt(rt: &impl Abort, n: u32) -> ReceiptNo {
-    ReceiptNo::new(n).expect(rt, "a receipt")
-}
-
-/// 2024-02-29, minute 540.
-fn stamp(rt: &impl Abort) -> Stamp {
-    let day = Day::new(19_782).expect(rt, "a day");
-    Stamp::new(day, 540).expect(rt, "a stamp")
-}
-
-fn lapse(rt: &impl Abort, n: u32) -> Item {
-    Item::Lapse {
-        filing: receipt(rt, n),
-    }
-}
 
 /// A file with these records and the gate that ends them.
 fn file_of(alloc: Global, records: &[[u8; 23]], gate: u8) -> Result<Vec<u8>, AllocError> {
@@ -68,19 +52,19 @@ fn answers(
     ensures stands { book.new.log.failed ≡ false
         → Stands book.new (⟦<MemDisk as Disk>⟧.reads disk.new) (⟦<MemDisk as Disk>⟧.images disk.new) }
 {
-    let answer = book.receive(alloc, disk, stamp(rt), 1, 5, item);
+    let answer = book.receive(alloc, disk, stamp(last_of_february(), 540), 1, 5, item);
     assert_eq!(rt; answer, wanted);
 }
 
 #[test]
 fn a_lapse_makes_38_bytes_and_acts_once(rt: HostRuntime) -> Result<(), Fail> {
     let alloc = rt.alloc();
-    let item = lapse(&rt, 2);
-    let other = lapse(&rt, 3);
+    let item = lapse(2);
+    let other = lapse(3);
     assert!(rt; well_formed(&item) && well_formed(&other));
     let file = file_of(alloc, &[LAPSE], 0)?;
     assert_eq!(rt; file.len(), 38);
-    let first = receipt(&rt, 1);
+    let first = receipt(1);
     let mut disk = disk_of(alloc, &[], &[])?;
     let mut book = Book::open(alloc, &mut disk)?;
     let accepted = Received::Accepted(first);
@@ -123,7 +107,7 @@ fn a_bad_record_is_named_by_its_gate(rt: HostRuntime) -> Result<(), Fail> {
 #[test]
 fn a_failed_write_leaves_no_receipt(rt: HostRuntime) -> Result<(), Fail> {
     let alloc = rt.alloc();
-    let item = lapse(&rt, 2);
+    let item = lapse(2);
     assert!(rt; well_formed(&item));
     let file = file_of(alloc, &[], 0)?;
     let mut disk = disk_of(alloc, &file, &[5])?;
@@ -142,14 +126,14 @@ fn a_failed_write_leaves_no_receipt(rt: HostRuntime) -> Result<(), Fail> {
 #[test]
 fn a_failed_second_sync_may_leave_the_receipt(rt: HostRuntime) -> Result<(), Fail> {
     let alloc = rt.alloc();
-    let item = lapse(&rt, 2);
+    let item = lapse(2);
     assert!(rt; well_formed(&item));
     let file = file_of(alloc, &[], 0)?;
     let mut disk = disk_of(alloc, &file, &[8])?;
     let mut book = Book::open(alloc, &mut disk)?;
     answers(&rt, alloc, &mut book, &mut disk, &item, Received::Disk);
     let mut reopened = Book::open(alloc, &mut disk)?;
-    let first = receipt(&rt, 1);
+    let first = receipt(1);
     let repeated = Received::Repeated(first);
     answers(&rt, alloc, &mut reopened, &mut disk, &item, repeated);
     Ok(())

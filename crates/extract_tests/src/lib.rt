@@ -1,5 +1,4 @@
-//! Tests of the texts of a register (`folio_extract`), by what it exports: a crate of tests proves
-//! them without proving `folio_extract` a second time.
+//! Tests of folio_extract, by what it exports.
 #![tactic(auto)]
 
 #[cfg(test)]

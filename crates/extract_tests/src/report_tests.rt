@@ -6,14 +6,14 @@ use gb_base::NoMemory;
 use registrar::alone;
 use std::alloc::Global;
 use std::process::Abort;
-use test_items::{creation, day, folio, land_charge, opening, receipt};
+use test_items::{charge, day, folio, opening, receipt};
 
 /// Folio 9 is opened before folio 7, and has a right.
 fn two_folios(rt: &impl Abort, alloc: Global) -> Journal {
     let mut journal = Journal::new(alloc);
     receive(rt, &mut journal, day(3, 1), &by_owner(10, opening(9, 10)));
     receive(rt, &mut journal, day(3, 1), &by_owner(11, opening(7, 11)));
-    let act = creation(9, land_charge(10_000, 20, 1));
+    let act = charge(9, 10_000, 20);
     receive(rt, &mut journal, day(3, 4), &by_owner(10, act));
     journal
 }

@@ -4,10 +4,7 @@ use act_model::Act;
 use gb_base::Section;
 use std::alloc::Global;
 use std::process::Abort;
-use test_items::{
-    assignment, cancellation, consent, conversion, creation, exchange, exercise, filing,
-    land_charge, notice, right, transfer, two,
-};
+use test_items::{assignment, cancellation, charge, consent, conversion, exchange, exercise, filing, land_charge, notice, right, transfer, two};
 
 /// The act is rejected under this section, although owner 10 has consented to it.
 fn rejected(rt: &impl Abort, alloc: Global, act: Act, section: Section) {
@@ -37,7 +34,7 @@ fn an_act_on_rights_alone_wants_live_ones(rt: HostRuntime) {
 /// A right stands only once its filing is entered.
 #[test]
 fn a_filing_cannot_name_its_own_right(rt: HostRuntime) {
-    let create = creation(7, land_charge(10_000, 20, 1));
+    let create = charge(7, 10_000, 20);
     let cancel = cancellation(7, right(4, 1));
     let docs = [consent(1, 10), consent(2, 10), consent(2, 20)];
     let acts = two(create, cancel);

@@ -11,16 +11,13 @@ use folio_sections::What;
 use gb_base::Section;
 use std::alloc::Global;
 use std::process::Abort;
-use test_items::{
-    assignment, cancellation, consent, creation, cure, day, filed, filing_of, land_charge, owner,
-    person, receipt, right, right_key, title_key,
-};
+use test_items::{assignment, cancellation, charge, consent, cure, day, filed, filing_of, owner, person, receipt, right, right_key, title_key};
 
 /// The register with a filing by owner 10 for a land charge as receipt 4, with these documents.
 fn charged(rt: &impl Abort, alloc: Global, docs: &[Doc]) -> TestRegister
     requires docs { length docs.now ≤ most_docs }
 {
-    let act = creation(7, land_charge(10_000, 20, 1));
+    let act = charge(7, 10_000, 20);
     with_filing(rt, alloc, filing_of(10, act, docs))
 }
 
@@ -110,7 +107,7 @@ fn the_holder_of_the_notice_is_asked(rt: HostRuntime) {
 fn who_waits_at_a_right_consents_to_its_cancellation(rt: HostRuntime) {
     let mut register = cancelling(&rt, rt.alloc(), &[consent(1, 20), consent(1, 10)]);
     assert!(rt; enters(&judgement(&rt, &register, 4)));
-    let later = filed(22, creation(7, land_charge(10_000, 22, 1)), &[]);
+    let later = filed(22, charge(7, 10_000, 22), &[]);
     receive(&rt, &mut register.journal, 5, &later);
     at_charge(&rt, &mut register, pending(5));
     assert!(rt; enters(&judgement(&rt, &register, 5)));

@@ -9,24 +9,20 @@ use folio_sections::MapParts;
 use gb_base::Section;
 use std::alloc::Global;
 use std::process::Abort;
-use test_items::{
-    agreement, assignment, cancellation, clearance, consent, conversion, creation, exchange,
-    exercise, filing, filing_of, land_charge, opening, plain_consent, receipt, right, transfer,
-    two,
-};
+use test_items::{agreement, assignment, cancellation, charge, clearance, consent, conversion, exchange, exercise, filing, filing_of, land_charge, opening, plain_consent, receipt, right, transfer, two};
 
 /// The creation of a small land charge in a folio.
 fn small_charge(n: u32) -> Act
     requires { 1 ≤ n }
 {
-    creation(n, land_charge(10_000, 20, 1))
+    charge(n, 10_000, 20)
 }
 
 /// A land charge without a consent, with one in plain form, and with one of a stranger alone.
 #[test]
 fn a_charge_wants_the_owners_certified_consent(rt: HostRuntime) {
     let alloc = rt.alloc();
-    let act = creation(7, land_charge(10_000_000, 20, 1));
+    let act = charge(7, 10_000_000, 20);
     let none = verdict(&rt, alloc, 10, &act, &[]);
     assert!(rt; rejects(&none, Section::Gbo19));
     let in_plain_form = verdict(&rt, alloc, 10, &act, &[plain_consent(1, 10)]);

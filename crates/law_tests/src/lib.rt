@@ -1,5 +1,4 @@
-//! Tests of the crates of the law, by what they export: a crate of tests proves them without proving
-//! these crates a second time.
+//! Tests of the law from conflict_queue to registrar, by what these crates export.
 #![tactic(auto)]
 
 #[cfg(test)]
@@ -21,6 +20,8 @@ mod entered_folios;
 #[cfg(test)]
 mod entering_tests;
 #[cfg(test)]
+mod exchange_tests;
+#[cfg(test)]
 mod held_keys;
 #[cfg(test)]
 mod interim_parts;
@@ -38,8 +39,6 @@ mod order_tests;
 mod owner_tests;
 #[cfg(test)]
 mod plain_readers;
-#[cfg(test)]
-mod rank_tests;
 #[cfg(test)]
 mod registrar_tests;
 #[cfg(test)]

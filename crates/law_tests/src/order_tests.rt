@@ -1,15 +1,13 @@
 //! The order of grounds and of defects, where two acts have some.
 use crate::test_register::{defect, rejects, verdict_on, waits};
 use gb_base::Section;
-use test_items::{
-    assignment, cancellation, consent, creation, filing, land_charge, plain_consent, right, two,
-};
+use test_items::{assignment, cancellation, charge, consent, filing, plain_consent, right, two};
 
 /// A ground of the second act that is tested earlier than that of the first one.
 #[test]
 fn grounds_go_ahead_of_acts(rt: HostRuntime) {
     let usufruct = assignment(7, right(3, 1), 25);
-    let in_a_closed_folio = creation(8, land_charge(10_000, 20, 1));
+    let in_a_closed_folio = charge(8, 10_000, 20);
     let acts = two(usufruct, in_a_closed_folio);
     let judgement = verdict_on(&rt, rt.alloc(), filing(25, acts, &[]));
     assert!(rt; rejects(&judgement, Section::Gbo3));

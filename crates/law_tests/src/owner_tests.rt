@@ -9,10 +9,7 @@ use folio_sections::What;
 use gb_base::Section;
 use std::alloc::Global;
 use std::process::Abort;
-use test_items::{
-    cancellation, consent, creation, filing_of, land_charge, plain_consent, right, title_key,
-    two_owners,
-};
+use test_items::{cancellation, charge, consent, filing_of, plain_consent, right, title_key, two_owners};
 
 /// The judgement on an act for which owner 10 applies, where 11 is an owner too.
 fn beside_another(rt: &impl Abort, alloc: Global, act: &Act, docs: &[Doc]) -> Judgement
@@ -28,7 +25,7 @@ fn beside_another(rt: &impl Abort, alloc: Global, act: &Act, docs: &[Doc]) -> Ju
 #[test]
 fn each_owner_consents_to_a_charge(rt: HostRuntime) {
     let alloc = rt.alloc();
-    let act = creation(7, land_charge(10_000, 20, 1));
+    let act = charge(7, 10_000, 20);
     let both = beside_another(&rt, alloc, &act, &[consent(1, 10), consent(1, 11)]);
     assert!(rt; enters(&both));
     let one_silent = beside_another(&rt, alloc, &act, &[consent(1, 10)]);

@@ -263,3 +263,19 @@ fn counted_by(before: CaseSeen, entry: &Entry) -> CaseSeen {
         _ => before,
     }
 }
+
+/// How many entries stand behind the last distribution.
+pub fn behind_distributions(entries: &[Entry]) -> usize {
+    entries
+        .iter()
+        .rev()
+        .take_while(|entry| !is_distribution(&entry.what))
+        .count()
+}
+
+fn is_distribution(what: &What) -> bool {
+    match what {
+        What::Distributed => true,
+        _ => false,
+    }
+}

@@ -7,10 +7,7 @@ use act_model::Act;
 use gb_base::Section;
 use std::alloc::Global;
 use std::process::Abort;
-use test_items::{
-    agreement, assignment, cancellation, clearance, consent, conversion, creation, exchange,
-    exercise, expiry_proof, land_charge, notice, opening, plain_consent, right, transfer,
-};
+use test_items::{agreement, assignment, cancellation, charge, clearance, consent, conversion, exchange, exercise, expiry_proof, land_charge, notice, opening, plain_consent, right, transfer};
 
 /// An act that wants the consent of one person alone: none, a plain one, one of a stranger, and a
 /// certified one.
@@ -66,7 +63,7 @@ fn an_opening_wants_the_owner_named(rt: HostRuntime) {
 
 #[test]
 fn a_creation_wants_the_owner(rt: HostRuntime) {
-    let act = creation(7, land_charge(10_000, 20, 1));
+    let act = charge(7, 10_000, 20);
     wants_one(&rt, rt.alloc(), 10, 10, &act);
 }
 

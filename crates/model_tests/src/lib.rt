@@ -1,9 +1,4 @@
-//! Tests of what the crates of plain values, the model and the formats export. Nothing else stands
-//! here, so that those crates are proved once, without tests.
-//!
-//! - `gb_base`: `value_tests`, `share_tests`.
-//! - `act_model`: `journal_tests`, and `index_tests` for what a journal finds by its indexes.
-//! - `act_codec`: `spelling_tests`. `act_json`: `line_tests`. `opening_lists`: `opening_list_tests`.
+//! Tests of gb_base, act_model and the formats without a disk, by what these crates export.
 #![tactic(auto)]
 
 #[cfg(test)]

@@ -1,5 +1,4 @@
-//! Tests of registry_http by what it exports: requests of links that are cut anywhere, generated
-//! heads, routes, and the bytes of replies.
+//! Tests of registry_http, by what it exports.
 #![tactic(auto)]
 
 #[cfg(test)]

@@ -1,5 +1,5 @@
 //! Documents, and lists of them.
-ghost use Rattle.std.specs.Prelude.{◌≡◌, ◌≤◌, [], length};
+ghost use Rattle.std.specs.Prelude.{◌≡◌, ◌≤◌, length};
 ghost use Rattle.act_model.specs.Limits.{most_docs};
 
 use crate::person;
@@ -49,11 +49,4 @@ pub fn documents(list: &[Doc]) -> Docs
     ensures { result ≡ list.now }
 {
     Docs::new(ArrayVec::try_from(list).unwrap())
-}
-
-/// No documents.
-pub fn no_documents() -> Docs
-    ensures { result ≡ [] }
-{
-    Docs::new(ArrayVec::new())
 }

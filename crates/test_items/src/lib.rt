@@ -1,4 +1,4 @@
-//! Numbers, acts, documents, items and journals for tests. No code outside tests uses it.
+//! Numbers, acts, documents, items, journals and draws for tests. No code outside tests uses it.
 //!
 //! Each function takes numbers, and requires that they are in range: a test with literals proves
 //! that at once. Folios and persons are named by their numbers, a right by `right(2, 1)`.
@@ -6,6 +6,7 @@
 
 mod acts;
 mod docs;
+mod draws;
 mod items;
 mod journals;
 mod numbers;
@@ -16,8 +17,9 @@ pub use acts::{
     transfer_to, two, two_owners, usufruct,
 };
 pub use docs::{
-    agreement, clearance, consent, documents, expiry_proof, no_documents, plain_consent,
+    agreement, clearance, consent, documents, expiry_proof, plain_consent,
 };
+pub use draws::Draws;
 pub use items::{
     advance, arrears, award, call, cure, distribution, filed, filing, filing_of, lapse,
     public_charge, seizure_by, seizure_from,

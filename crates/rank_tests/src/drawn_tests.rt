@@ -1,6 +1,6 @@
 //! Lines that are written cent by cent, and what each right gets of them as the rules say it. Sums
 //! saturate, so that none of a test wants a proof.
-use crate::drawn::{Drawn, Draws};
+use crate::drawn_lines::{Drawn, drawn_line};
 use crate::lines::{filled, paid, threshold};
 use gb_base::{NoMemory, RightId};
 use rank_slots::{Knot, Piece, Place, Slots, Swap};
@@ -298,7 +298,7 @@ fn same_line(rt: &impl Abort, alloc: Global, drawn: &Drawn) -> Result<(), NoMemo
 fn drawn_lines_are_as_written_cent_by_cent(rt: HostRuntime) -> Result<(), Fail> {
     let mut draws = Draws::new(881);
     for _ in 0..200 {
-        let drawn = draws.line(rt.alloc())?;
+        let drawn = drawn_line(&mut draws, rt.alloc())?;
         same_line(&rt, rt.alloc(), &drawn)?;
     }
     Ok(())
