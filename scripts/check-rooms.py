@@ -19,6 +19,9 @@ PROMISES = checks.ROOT / "docs" / "promises.md"
 MOST_OF_A_CRATE = 12
 MOST_OF_ALL = 200
 
+# What tests are made of. No code outside tests uses it.
+MADE_FOR_TESTS = "test_items"
+
 # A name in backticks, and the crate or type that it is said to be of.
 NAME = re.compile(r"`([^`]+)`(?: of `?(\w+)`?)?")
 
@@ -128,10 +131,12 @@ def check_crates(look, crates):
     for crate, used in uses.items():
         look.same(f"crates below {crate} that it uses", sorted(set(used) & set(uses) - above), [])
         above.add(crate)
-    used_by_some = {crate for used in uses.values() for crate in used}
-    wanted = [crate for crate in crates if not is_program(crate) and not is_of_tests(crate)]
-    unused = [crate for crate in wanted if crate not in used_by_some]
-    look.same("libraries that no crate uses", unused, [])
+    of_tests = [crate for crate in crates if is_of_tests(crate)]
+    used_elsewhere = {crate for user, used in uses.items() if user not in of_tests for crate in used}
+    wanted = [crate for crate in crates if not is_program(crate) and crate not in [MADE_FOR_TESTS, *of_tests]]
+    look.same("libraries that tests alone use", [crate for crate in wanted if crate not in used_elsewhere], [])
+    users = [crate for crate, used in uses.items() if MADE_FOR_TESTS in used and crate not in of_tests]
+    look.same(f"crates that use {MADE_FOR_TESTS} and have other code than tests", users, [])
 
 
 def main():
