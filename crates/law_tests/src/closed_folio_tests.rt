@@ -4,7 +4,10 @@ use act_model::Act;
 use gb_base::Section;
 use std::alloc::Global;
 use std::process::Abort;
-use test_items::{assignment, cancellation, charge, consent, conversion, exchange, exercise, filing, land_charge, notice, right, transfer, two};
+use test_items::{
+    assignment, cancellation, charge, consent, conversion, exchange, exercise, filing, land_charge,
+    notice, right, transfer, two,
+};
 
 /// The act is rejected under this section, although owner 10 has consented to it.
 fn rejected(rt: &impl Abort, alloc: Global, act: Act, section: Section) {

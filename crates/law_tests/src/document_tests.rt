@@ -11,7 +11,10 @@ use folio_sections::What;
 use gb_base::Section;
 use std::alloc::Global;
 use std::process::Abort;
-use test_items::{assignment, cancellation, charge, consent, cure, day, filed, filing_of, owner, person, receipt, right, right_key, title_key};
+use test_items::{
+    assignment, cancellation, charge, consent, cure, day, filed, filing_of, owner, person, receipt,
+    right, right_key, title_key,
+};
 
 /// The register with a filing by owner 10 for a land charge as receipt 4, with these documents.
 fn charged(rt: &impl Abort, alloc: Global, docs: &[Doc]) -> TestRegister

@@ -3,9 +3,7 @@ ghost use Rattle.std.specs.Prelude.{◌≡◌};
 
 use folio_sections::{Created, Entry, RightForm, What};
 use gb_base::{Day, Key, Person, ReceiptNo};
-use test_items::{
-    Draws, cents, day, land_charge, owner, parcel, person, receipt, right,
-};
+use test_items::{Draws, cents, day, land_charge, owner, parcel, person, receipt, right};
 
 /// An entry at a key.
 pub fn drawn_entry(draws: &mut Draws, key: Key) -> Entry

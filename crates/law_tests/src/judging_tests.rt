@@ -9,7 +9,11 @@ use folio_sections::MapParts;
 use gb_base::Section;
 use std::alloc::Global;
 use std::process::Abort;
-use test_items::{agreement, assignment, cancellation, charge, clearance, consent, conversion, exchange, exercise, filing, filing_of, land_charge, opening, plain_consent, receipt, right, transfer, two};
+use test_items::{
+    agreement, assignment, cancellation, charge, clearance, consent, conversion, exchange,
+    exercise, filing, filing_of, land_charge, opening, plain_consent, receipt, right, transfer,
+    two,
+};
 
 /// The creation of a small land charge in a folio.
 fn small_charge(n: u32) -> Act

@@ -9,7 +9,9 @@ use folio_sections::What;
 use gb_base::Section;
 use std::alloc::Global;
 use std::process::Abort;
-use test_items::{cancellation, charge, consent, filing_of, plain_consent, right, title_key, two_owners};
+use test_items::{
+    cancellation, charge, consent, filing_of, plain_consent, right, title_key, two_owners,
+};
 
 /// The judgement on an act for which owner 10 applies, where 11 is an owner too.
 fn beside_another(rt: &impl Abort, alloc: Global, act: &Act, docs: &[Doc]) -> Judgement

@@ -7,7 +7,10 @@ use act_model::Act;
 use gb_base::Section;
 use std::alloc::Global;
 use std::process::Abort;
-use test_items::{agreement, assignment, cancellation, charge, clearance, consent, conversion, exchange, exercise, expiry_proof, land_charge, notice, opening, plain_consent, right, transfer};
+use test_items::{
+    agreement, assignment, cancellation, charge, clearance, consent, conversion, exchange,
+    exercise, expiry_proof, land_charge, notice, opening, plain_consent, right, transfer,
+};
 
 /// An act that wants the consent of one person alone: none, a plain one, one of a stranger, and a
 /// certified one.

@@ -52,7 +52,11 @@ fn drawn_places(draws: &mut Draws, alloc: Global) -> Result<Vec<Place>, NoMemory
 }
 
 /// The same places, some of those that stand alone dropped.
-fn with_some_dropped(draws: &mut Draws, alloc: Global, places: &[Place]) -> Result<Vec<Place>, NoMemory> {
+fn with_some_dropped(
+    draws: &mut Draws,
+    alloc: Global,
+    places: &[Place],
+) -> Result<Vec<Place>, NoMemory> {
     let mut after = Vec::new(alloc);
     for place in places {
         after.push(Place {

@@ -7,6 +7,7 @@ use rank_slots::{Knot, Piece, Place, Slots, Swap};
 use std::alloc::Global;
 use std::process::Abort;
 use std::test::Fail;
+use test_items::Draws;
 
 /// A line cent by cent, each as the right that takes it.
 #[derive(Debug, Drop)]

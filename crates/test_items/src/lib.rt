@@ -16,9 +16,7 @@ pub use acts::{
     land_charge, mortgage, notice, one, opening, opening_for, owner, parcel, spec, three, transfer,
     transfer_to, two, two_owners, usufruct,
 };
-pub use docs::{
-    agreement, clearance, consent, documents, expiry_proof, plain_consent,
-};
+pub use docs::{agreement, clearance, consent, documents, expiry_proof, plain_consent};
 pub use draws::Draws;
 pub use items::{
     advance, arrears, award, call, cure, distribution, filed, filing, filing_of, lapse,
