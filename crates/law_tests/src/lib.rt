@@ -1,8 +1,6 @@
-//! Tests of the law from conflict_queue to registrar, by what these crates export.
+//! Tests of what items touch, judging, entering, waiting and settling, by what the crates export.
 #![tactic(auto)]
 
-#[cfg(test)]
-mod case_tests;
 #[cfg(test)]
 mod closed_folio_tests;
 #[cfg(test)]
@@ -11,10 +9,6 @@ mod content_tests;
 mod docket_tests;
 #[cfg(test)]
 mod document_tests;
-#[cfg(test)]
-mod drawn_entries;
-#[cfg(test)]
-mod drawn_part_tests;
 #[cfg(test)]
 mod entered_folios;
 #[cfg(test)]
@@ -32,17 +26,11 @@ mod journals;
 #[cfg(test)]
 mod judging_tests;
 #[cfg(test)]
-mod map_tests;
-#[cfg(test)]
 mod order_tests;
 #[cfg(test)]
 mod owner_tests;
 #[cfg(test)]
-mod plain_readers;
-#[cfg(test)]
 mod registrar_tests;
-#[cfg(test)]
-mod right_tests;
 #[cfg(test)]
 mod settled_journals;
 #[cfg(test)]
@@ -50,8 +38,4 @@ mod table_tests;
 #[cfg(test)]
 mod test_register;
 #[cfg(test)]
-mod title_tests;
-#[cfg(test)]
 mod waiting_tests;
-#[cfg(test)]
-mod written_entries;
