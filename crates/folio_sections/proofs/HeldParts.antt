@@ -7,7 +7,7 @@ use Rattle.std.specs.Option.{option_map_or, option_or}
 use Rattle.std.specs.Ordering.{is_eq}
 use Rattle.std.proofs.lemmas.Bool.{false≢true}
 use Rattle.std.proofs.lemmas.List.{take_at}
-use Rattle.std.proofs.lemmas.List.Elements.{All-head, All-tail, length_all_zip}
+use Rattle.std.proofs.lemmas.List.Elements.{All-append, All-from_recursion, All-head, All-tail, length_all_zip}
 use Rattle.std.proofs.lemmas.List.Folds.{find-set, find_past}
 use Rattle.std.proofs.lemmas.List.Quantifiers.{position-Some}
 use Rattle.std.proofs.lemmas.Option.{slice_get-get_or}
@@ -230,3 +230,36 @@ pub keyed : {A : Type 0} (o : Option A) (view : A → PartState) (state : PartSt
     → IfSome o (λ part. view part ≡ state) → IfSome o (λ part. (view part).key ≡ key)
 keyed None view state key is same = tt
 keyed (Some part) view state key is same = ap (λ (s : PartState). s.key) same ∙ is
+
+-- ---- a further part, on which nothing stands
+
+found_pushed : (parts : List PartState) (p : PartState) (k : Key) → find (is_at k) (parts ++ p ∷ []) ≡ option_or (find (is_at k) parts) (cond (is_at k p) (Some p) None)
+found_pushed [] p k = refl
+found_pushed (q ∷ qs) p k =
+    elim (is_at k q) as (λ b. cond b (Some q) (find (is_at k) (qs ++ p ∷ [])) ≡ option_or (cond b (Some q) (find (is_at k) qs)) (cond (is_at k p) (Some p) None)) [
+      | true ↦ refl
+      | false ↦ found_pushed qs p k
+    ]
+
+nothing_more : (o : Option PartState) (b : Bool) (p : PartState) → p.entries ≡ [] → option_map_or (λ (q : PartState). q.entries) (option_or o (cond b (Some p) None)) [] ≡ option_map_or (λ (q : PartState). q.entries) o []
+nothing_more (Some q) b p none = refl
+nothing_more None true p none = none
+nothing_more None false p none = refl
+
+no_less : (o : Option PartState) (b : Bool) (p : PartState) → option_map_or (λ (q : PartState). q.room) o 0 ≤ option_map_or (λ (q : PartState). q.room) (option_or o (cond b (Some p) None)) 0
+no_less (Some q) b p = omega arith
+no_less None b p = omega arith
+
+pub entries_pushed : (parts all : List PartState) (p : PartState) → all ≡ parts ++ p ∷ [] → p.entries ≡ [] → entries_at all ≡ entries_at parts
+entries_pushed parts all p is none = λ j k.
+    (ap (λ ps. entries_at ps k) is ∙ ap (λ o. option_map_or (λ (q : PartState). q.entries) o []) (found_pushed parts p k) ∙ nothing_more (find (is_at k) parts) (is_at k p) p none) j
+
+pub room_pushed : (parts all : List PartState) (p : PartState) (k : Key) → all ≡ parts ++ p ∷ [] → room_at parts k ≤ room_at all k
+room_pushed parts all p k is =
+    subst (λ ps. room_at parts k ≤ room_at ps k) (sym is)
+    (subst (λ o. room_at parts k ≤ option_map_or (λ (q : PartState). q.room) o 0) (sym (found_pushed parts p k)) (no_less (find (is_at k) parts) (is_at k p) p))
+
+pub all_empty_pushed : (parts all : List PartState) (p : PartState) → all ≡ parts ++ p ∷ [] → All (λ q. q.entries ≡ []) parts → p.entries ≡ [] → All (λ q. q.entries ≡ []) all
+all_empty_pushed parts all p is none new =
+    subst (All (λ q. q.entries ≡ [])) (sym is)
+    (All-append (λ (q : PartState). q.entries ≡ []) parts (p ∷ []) none (All-from_recursion (λ (q : PartState). q.entries ≡ []) (p ∷ []) (new, tt)))

@@ -25,6 +25,7 @@ use std::marker::Model;
 /// The parts of a register at given keys. In contracts it is the list of its parts.
 #[derive(Drop)]
 pub struct MapParts {
+    alloc: Global,
     parts: Vec<AnyPart>,
     /// Where the part of a key stands.
     index: BTreeMap<Key, usize>,
@@ -54,7 +55,22 @@ impl MapParts {
         for key in keys {
             add_part(alloc, &mut parts, &mut index, *key)?;
         }
-        Ok(MapParts { parts, index })
+        Ok(MapParts {
+            alloc,
+            parts,
+            index,
+        })
+    }
+
+    /// Holds the part of a key too; nothing stands there where it was not held before. Where no
+    /// memory is found nothing changes.
+    pub fn hold(&mut self, key: Key) -> Result<(), NoMemory>
+        ensures held { OnOk result ((k : Key) → is_held self.new k ≡ (is_held self.old k || same_key key k)) }
+        ensures entries { entries_at self.new ≡ entries_at self.old }
+        ensures kept { (k : Key) → room_at self.old k ≤ room_at self.new k }
+        ensures unchanged { OnErr result (self.new ≡ self.old) }
+    {
+        add_part(self.alloc, &mut self.parts, &mut self.index, key)
     }
 
     /// Keeps room for n entries more in each part. Where no memory is found, some parts may have
@@ -184,7 +200,7 @@ fn numbered(id: RightId) -> RightId
     id
 }
 
-/// Adds the empty part of a key, unless there is one.
+/// Adds the empty part of a key, unless there is one. Where no memory is found nothing changes.
 fn add_part(
     alloc: Global,
     parts: &mut Vec<AnyPart>,
@@ -192,16 +208,20 @@ fn add_part(
     key: Key,
 ) -> Result<(), NoMemory>
     requires { IsIndexOf index.old parts.old.items }
-    ensures index { OnOk result (IsIndexOf index.new parts.new.items) }
+    ensures index { IsIndexOf index.new parts.new.items }
     ensures held { OnOk result ((k : Key) → is_held parts.new.items k ≡ (is_held parts.old.items k || same_key key k)) }
-    ensures empty { OnOk result (All (λ p. p.entries ≡ []) parts.old.items → All (λ p. p.entries ≡ []) parts.new.items) }
+    ensures entries { entries_at parts.new.items ≡ entries_at parts.old.items }
+    ensures kept { (k : Key) → room_at parts.old.items k ≤ room_at parts.new.items k }
+    ensures empty { All (λ p. p.entries ≡ []) parts.old.items → All (λ p. p.entries ≡ []) parts.new.items }
+    ensures unchanged { OnErr result (parts.new.items ≡ parts.old.items) }
 {
     if index.contains_key(&key) {
         return Ok(());
     }
     let end = parts.len();
-    parts.push(AnyPart::new(alloc, key))?;
+    parts.reserve(1)?;
     index.insert(key, end)?;
+    parts.push_reserved(AnyPart::new(alloc, key));
     Ok(())
 }
 
