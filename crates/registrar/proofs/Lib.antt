@@ -18,6 +18,7 @@ pub mod ExchangedKept
 pub mod ExchangesStand
 pub mod ExercisedOnce
 pub mod FitFilings
+pub mod GoingOn
 pub mod InPlaceKept
 pub mod ItemRooms
 pub mod ItemsKeep
@@ -26,6 +27,7 @@ pub mod JudgedLocally
 pub mod Keeping
 pub mod KnownExchanges
 pub mod LeavingRights
+pub mod Listing
 pub mod Locality
 pub mod NewAtTitles
 pub mod NewContents

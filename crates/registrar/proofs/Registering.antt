@@ -102,11 +102,11 @@ pub registrar_is : (journal : List Receipt) → settled_in_order journal (range_
 registrar_is journal = refl
 
 -- so the first n items always leave a kept register
-record Leaving (journal : List Receipt) (n : ℕ) : Type 0 where
-  verdicts : List Verdict
-  settled : SettledTo journal n (at (settled_in_order journal (range_with_len 1 n)).entries) verdicts
+pub record Leaving (journal : List Receipt) (n : ℕ) : Type 0 where
+  pub verdicts : List Verdict
+  pub settled : SettledTo journal n (at (settled_in_order journal (range_with_len 1 n)).entries) verdicts
 
-left_by : (journal : List Receipt) (n : ℕ) → IsJournal journal → Kept journal (λ k. []) → Leaving journal n
+pub left_by : (journal : List Receipt) (n : ℕ) → IsJournal journal → Kept journal (λ k. []) → Leaving journal n
 left_by journal zero stands empty = record { verdicts = []; settled = none_settled journal [] (All-nil (λ p. p.entries ≡ [])) empty }
 left_by journal (suc n) stands empty =
     let before = left_by journal n stands empty in

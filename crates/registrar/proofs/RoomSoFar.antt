@@ -1,57 +1,72 @@
--- Room that is made at one key after another.
-use Rattle.std.proofs.Common.{◌≡◌, ℕ, ◌+◌, ◌<◌, ◌≤◌, List, length, get_or, Contains, IsTrue, sym, ap, subst, ◌∙◌, ⊎_elim, arith}
-use Rattle.std.proofs.lemmas.Bool.{cases_eq}
-use Rattle.std.proofs.lemmas.List.{get_or_default}
+-- Keys are held, and room is made at one after another.
+use Rattle.std.proofs.Common.{◌≡◌, ℕ, ◌+◌, ◌<◌, ◌≤◌, Bool, true, false, ◌||◌, List, [], ◌∷◌, ◌++◌, length, get_or, take, Contains, IsTrue, refl, sym, ap, subst, ◌∙◌, ⊎_elim, arith}
+use Rattle.std.proofs.lemmas.Bool.{cases_eq, or_right}
+use Rattle.std.proofs.lemmas.Grind.{take_at_read}
+use Rattle.std.proofs.lemmas.List.{get_or_default, take_all}
+use Rattle.std.proofs.lemmas.List.Folds.{list_any-append}
+use Rattle.gb_base.specs.Keys.{same_key}
 use Rattle.gb_base.specs.declared.keys.Key.{Key}
-use Rattle.act_model.specs.Touches.{keys_in_order, keys_of_filing}
-use Rattle.act_model.specs.declared.receipts.Receipt.{Receipt}
-use Rattle.act_model.proofs.KeyOrder.{in_key_order_members}
-use Rattle.folio_sections.specs.Held.{entries_at, is_held, room_at}
+use Rattle.act_model.proofs.KeyOrder.{itself}
+use Rattle.folio_sections.specs.Held.{entries_at, is_given, is_held, room_at}
 use Rattle.folio_sections.specs.PartState.{PartState}
-use Rattle.registrar.specs.Rooms.{most_brought, room_to_enter}
-use Rattle.registrar.specs.inner.RoomToEnter.{HasRoomToEnter}
-use Rattle.registrar.proofs.UnnoticedFew.{unnoticed_at_most}
+use Rattle.registrar.specs.Rooms.{most_brought}
 
--- the first of these keys have room for filing m; no entry and no key has changed
-pub record RoomSoFar (m : ℕ) (before parts : List PartState) (keys : List Key) (done : ℕ) : Type 0 where
-  pub held : is_held parts ≡ is_held before
+-- the first of these keys are held too, and have room for what an item may bring; no entry has changed
+pub record RoomSoFar (before parts : List PartState) (keys : List Key) (done : ℕ) : Type 0 where
   pub entries : entries_at parts ≡ entries_at before
-  pub room : (i : ℕ) (d : Key) → i < done → room_to_enter m (entries_at before (get_or keys i d)) ≤ room_at parts (get_or keys i d)
+  pub held : (k : Key) → is_held parts k ≡ (is_held before k || is_given (take done keys) k)
+  pub room : (i : ℕ) (d : Key) → i < done → length (entries_at before (get_or keys i d)) + most_brought ≤ room_at parts (get_or keys i d)
 
--- room at one key more
-pub room_at_next : (journal : List Receipt) (m : ℕ) (before parts after : List PartState) (keys : List Key) (i many : ℕ) (key : Key)
-    → ((k : Key) → Contains (keys_of_filing journal m) k → IsTrue (is_held before k)) → RoomSoFar m before parts keys i
-    → keys ≡ keys_in_order journal m → i < length keys → key ≡ get_or keys i key
-    → many ≡ length (entries_at parts key) → is_held after ≡ is_held parts → entries_at after ≡ entries_at parts
-    → (IsTrue (is_held after key) → many + most_brought ≤ room_at after key) → ((k : Key) → room_at parts k ≤ room_at after k) → RoomSoFar m before after keys (i + 1)
-room_at_next journal m before parts after keys i many key all_held so_far all within is count held entries room kept =
-    let among : Contains (keys_in_order journal m) key = subst (λ ks. Contains ks key) all (i, within, sym is) in
-    let there : IsTrue (is_held after key) =
-    subst (λ f. IsTrue (f key)) (sym (held ∙ so_far.held)) (all_held key ((in_key_order_members (keys_of_filing journal m) key).0 among)) in
-    let stands : many ≡ length (entries_at before key) = count ∙ ap (λ f. length (f key)) so_far.entries in
-    let few = unnoticed_at_most m (entries_at before key) in
+or_nothing : (b : Bool) → (b || false) ≡ b
+or_nothing true = refl
+or_nothing false = refl
+
+or_in_turn : (a b c : Bool) → ((a || b) || c) ≡ (a || (b || c))
+or_in_turn true b c = refl
+or_in_turn false b c = refl
+
+pub room_at_none : (parts : List PartState) (keys : List Key) → RoomSoFar parts parts keys 0
+room_at_none parts keys = record { entries = refl; held = λ k. sym (or_nothing (is_held parts k)); room = λ i d less. absurd (omega arith) }
+
+given_next : (keys : List Key) (i : ℕ) (key k : Key) → i < length keys → key ≡ get_or keys i key → is_given (take (i + 1) keys) k ≡ (is_given (take i keys) k || same_key key k)
+given_next keys i key k within is =
+    ap (λ ks. is_given ks k) ((take_at_read keys i key within).1 ∙ ap (λ j. take i keys ++ j ∷ []) (sym is))
+    ∙ list_any-append (λ j. same_key j k) (take i keys) (key ∷ [])
+    ∙ ap (λ b. is_given (take i keys) k || b) (or_nothing (same_key key k))
+
+-- one key more
+pub room_at_next : (before parts held after : List PartState) (keys : List Key) (i many : ℕ) (key : Key) → RoomSoFar before parts keys i → i < length keys → key ≡ get_or keys i key
+    → ((k : Key) → is_held held k ≡ (is_held parts k || same_key key k)) → entries_at held ≡ entries_at parts → ((k : Key) → room_at parts k ≤ room_at held k)
+    → many ≡ length (entries_at held key) → is_held after ≡ is_held held → entries_at after ≡ entries_at held
+    → (IsTrue (is_held after key) → many + most_brought ≤ room_at after key) → ((k : Key) → room_at held k ≤ room_at after k) → RoomSoFar before after keys (i + 1)
+room_at_next before parts held after keys i many key so_far within is holds stays wider count same entries room kept =
+    let there : IsTrue (is_held after key) = subst IsTrue (sym (ap (λ f. f key) same ∙ holds key)) (or_right (is_held parts key) (same_key key key) (itself key)) in
+    let stands : many ≡ length (entries_at before key) = count ∙ ap (λ f. length (f key)) (stays ∙ so_far.entries) in
     let enough = room there in
-    let here : room_to_enter m (entries_at before key) ≤ room_at after key = omega arith in
+    let here : length (entries_at before key) + most_brought ≤ room_at after key = omega (arith, stands) in
     record {
-      held = held ∙ so_far.held;
-      entries = entries ∙ so_far.entries;
+      entries = entries ∙ stays ∙ so_far.entries;
+      held = λ k. ap (λ f. f k) same ∙ holds k ∙ ap (λ b. b || same_key key k) (so_far.held k) ∙ or_in_turn (is_held before k) (is_given (take i keys) k) (same_key key k)
+          ∙ ap (λ b. is_held before k || b) (sym (given_next keys i key k within is));
       room = λ j d less.
           ⊎_elim
-          (λ same.
-          let key_is : key ≡ get_or keys j d = is ∙ get_or_default keys i key d within ∙ ap (λ n. get_or keys n d) (sym same) in
-          subst (λ k. room_to_enter m (entries_at before k) ≤ room_at after k) key_is here)
+          (λ same_place.
+          let key_is : key ≡ get_or keys j d = is ∙ get_or_default keys i key d within ∙ ap (λ n. get_or keys n d) (sym same_place) in
+          subst (λ k. length (entries_at before k) + most_brought ≤ room_at after k) key_is here)
           (λ other.
           let earlier = so_far.room j d (omega (arith, other)) in
-          let wider = kept (get_or keys j d) in
+          let more = wider (get_or keys j d) in
+          let further = kept (get_or keys j d) in
           omega arith)
           (cases_eq j i);
     }
 
--- room at all keys
-pub room_at_all : (journal : List Receipt) (m : ℕ) (before parts : List PartState) (keys : List Key) (done : ℕ) → RoomSoFar m before parts keys done
-    → length keys ≤ done → keys ≡ keys_in_order journal m → HasRoomToEnter journal m (entries_at parts) (room_at parts)
-room_at_all journal m before parts keys done so_far last all k there =
-    let among : Contains keys k = subst (λ ks. Contains ks k) (sym all) ((in_key_order_members (keys_of_filing journal m) k).1 there) in
-    let enough : room_to_enter m (entries_at before k) ≤ room_at parts k =
-    subst (λ x. room_to_enter m (entries_at before x) ≤ room_at parts x) among.2 (so_far.room among.0 k (omega (arith, among.1))) in
-    subst (λ f. room_to_enter m (f k) ≤ room_at parts k) (sym so_far.entries) enough
+-- all keys
+pub held_all : (before parts : List PartState) (keys : List Key) (done : ℕ) (k : Key) → RoomSoFar before parts keys done → length keys ≤ done → is_held parts k ≡ (is_held before k || is_given keys k)
+held_all before parts keys done k so_far last = so_far.held k ∙ ap (λ ks. is_held before k || is_given ks k) (take_all done keys last)
+
+pub room_at_all : (before parts : List PartState) (keys : List Key) (done : ℕ) (k : Key) → RoomSoFar before parts keys done → length keys ≤ done → Contains keys k
+    → length (entries_at parts k) + most_brought ≤ room_at parts k
+room_at_all before parts keys done k so_far last there =
+    subst (λ f. length (f k) + most_brought ≤ room_at parts k) (sym so_far.entries)
+    (subst (λ x. length (entries_at before x) + most_brought ≤ room_at parts x) there.2 (so_far.room there.0 k (omega (arith, there.1))))

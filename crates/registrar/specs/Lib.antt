@@ -1,7 +1,8 @@
 -- What contracts cite.
 pub mod Brings
 pub mod Enters
-pub mod FilingKeys
+pub mod HasSettled
+pub mod HeldKeys
 pub mod OpenFolios
 pub mod RegisterState
 pub mod Rooms

@@ -1,6 +1,7 @@
 -- What only private clauses and proofs use.
+pub mod Behind
 pub mod Exchanges
-pub mod Named
+pub mod Listed
 pub mod OpenFolios
 pub mod RoomToEnter
 pub mod SettledTo

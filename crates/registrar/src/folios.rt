@@ -1,50 +1,46 @@
-//! The open folios of a register.
-ghost use Rattle.std.specs.Prelude.{◌≡◌, IfOk, filter_map};
-ghost use Rattle.gb_base.specs.declared.keys.Key.{Key};
+//! The list of a register's open folios.
+ghost use Rattle.std.specs.Prelude.{◌≡◌, ◌↔◌, ◌<◌, ◌≤◌, ◌+◌, ◌++◌, ℕ, length, filter, filter_map, vec_len, vec_capacity, AllPairs, Contains, IfOk};
 ghost use Rattle.gb_base.specs.declared.keys.Key.TheVariants.{Title};
-ghost use Rattle.folio_sections.specs.Held.{entries_at, is_given, is_held};
+ghost use Rattle.folio_sections.specs.Held.{entries_at};
 ghost use Rattle.folio_sections.specs.Titles.{is_open};
-ghost use Rattle.registrar.specs.inner.OpenFolios.{AreOpenFolios, open_folio_of_title};
+ghost use Rattle.registrar.specs.inner.Listed.{closed_folio_of_title};
 
 use folio_sections::{MapParts, Parts};
 use gb_base::{FolioId, Key, NoMemory};
 use std::alloc::Global;
 
-/// The open folios, ascending, of parts at these keys.
-pub(crate) fn open_folios(
+/// The folios whose titles are among these keys and not open.
+pub(crate) fn closed_folios(
     alloc: Global,
-    keys: &[Key],
     parts: &MapParts,
-) -> Result<Vec<FolioId>, NoMemory>
-    requires { (k : Key) → is_held parts.now k ≡ is_given keys.now k }
-    ensures { IfOk result (λ folios. AreOpenFolios folios.items (entries_at parts.now)) }
-{
-    let mut folios = open_folios_among(alloc, keys, parts)?;
-    folios.sort_unstable();
-    folios.dedup();
-    Ok(folios)
-}
-
-/// The folios whose titles are among these keys and open; one may come twice.
-fn open_folios_among(
-    alloc: Global,
     keys: &[Key],
-    parts: &MapParts,
 ) -> Result<Vec<FolioId>, NoMemory>
-    ensures { IfOk result (λ folios. folios.items ≡ filter_map (open_folio_of_title (entries_at parts.now)) keys.now) }
+    ensures { IfOk result (λ folios. folios.items ≡ filter_map (closed_folio_of_title (entries_at parts.now)) keys.now) }
 {
     keys.iter()
-        .filter_map(|key| open_folio_of_title(parts, key))
+        .filter_map(|key| closed_folio_of_title(parts, key))
         .collect(alloc)
 }
 
-/// The folio whose title has this key, where it is open.
-fn open_folio_of_title(parts: &MapParts, key: &Key) -> Option<FolioId>
-    ensures { result ≡ open_folio_of_title (entries_at parts.now) key.now }
+/// The folio whose title has this key, where it is not open.
+fn closed_folio_of_title(parts: &MapParts, key: &Key) -> Option<FolioId>
+    ensures { result ≡ closed_folio_of_title (entries_at parts.now) key.now }
 {
     match key {
-        Key::Title(folio) if is_open(parts, *folio) => Some(*folio),
+        Key::Title(folio) if !is_open(parts, *folio) => Some(*folio),
         _ => None,
+    }
+}
+
+/// Lists those of these folios that are open, behind the others. It takes no memory.
+pub(crate) fn list_open(list: &mut Vec<FolioId>, parts: &MapParts, folios: &[FolioId])
+    requires room { vec_len list.old + length folios.now ≤ vec_capacity list.old }
+    ensures { list.new.items ≡ list.old.items ++ filter (λ folio. is_open (entries_at parts.now (Title folio))) folios.now }
+{
+    for folio in folios {
+        if is_open(parts, *folio) {
+            list.push_reserved(*folio);
+        }
     }
 }
 
@@ -56,4 +52,13 @@ fn is_open(parts: &MapParts, folio: FolioId) -> bool
         Some(part) => part.is_open(),
         None => false,
     }
+}
+
+/// Puts folios into ascending order, each once.
+pub(crate) fn put_in_order(folios: &mut Vec<FolioId>)
+    ensures ascending { AllPairs (λ folio later. folio < later) folios.new.items }
+    ensures members { (folio : ℕ) → Contains folios.new.items folio ↔ Contains folios.old.items folio }
+{
+    folios.sort_unstable();
+    folios.dedup();
 }

@@ -7,6 +7,7 @@ mod making_room;
 mod one_registrar;
 mod register;
 mod scratch;
+mod settled;
 mod settling;
 mod steps;
 mod verdicts;

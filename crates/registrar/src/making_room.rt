@@ -1,32 +1,27 @@
 //! The room that the keys of an item keep for what it brings.
 //! Why so: docs/DECISIONS.md, "Room is kept at each key before an item is settled".
-ghost use Rattle.std.specs.Prelude.{◌≡◌, Contains, IsTrue, OnOk};
+ghost use Rattle.std.specs.Prelude.{◌≡◌, ◌||◌, ◌+◌, ◌≤◌, length, Contains, OnOk};
 ghost use Rattle.gb_base.specs.declared.keys.Key.{Key};
-ghost use Rattle.act_model.specs.Touches.{keys_of_filing};
-ghost use Rattle.folio_sections.specs.Held.{entries_at, is_held, room_at};
-ghost use Rattle.registrar.specs.inner.RoomToEnter.{HasRoomToEnter};
+ghost use Rattle.folio_sections.specs.Held.{entries_at, is_given, is_held, room_at};
+ghost use Rattle.registrar.specs.Rooms.{most_brought};
 
-use act_model::{Journal, filing_keys};
 use folio_sections::MapParts;
-use gb_base::{NoMemory, ReceiptNo};
+use gb_base::{Key, NoMemory};
 
 /// The most entries that an item brings at one key, official notices apart.
 const MOST_BROUGHT: usize = 3;
 
-/// Keeps room at each key of a filing for what its entry may bring: three entries, and an official
-/// notice for each filing that waits there. Room for as many as stand there serves these notices,
-/// since each such filing has an entry there; and so a key that grows is moved seldom.
-pub(crate) fn make_room(
-    parts: &mut MapParts,
-    journal: &Journal,
-    filing: ReceiptNo,
-) -> Result<(), NoMemory>
-    requires held { (k : Key) → Contains (keys_of_filing journal.now.receipts filing) k → IsTrue (is_held parts.old k) }
-    ensures held { is_held parts.new ≡ is_held parts.old }
+/// Holds the keys of an item, and keeps room at each of them for what it may bring: three entries,
+/// and an official notice for each filing that waits there. Room for as many as stand there serves
+/// these notices, since each such filing has an entry there; and so a key that grows is moved
+/// seldom.
+pub(crate) fn make_room(parts: &mut MapParts, keys: &[Key]) -> Result<(), NoMemory>
     ensures entries { entries_at parts.new ≡ entries_at parts.old }
-    ensures room { OnOk result (HasRoomToEnter journal.now.receipts filing (entries_at parts.new) (room_at parts.new)) }
+    ensures held { OnOk result ((k : Key) → is_held parts.new k ≡ (is_held parts.old k || is_given keys.now k)) }
+    ensures room { OnOk result ((k : Key) → Contains keys.now k → length (entries_at parts.new k) + most_brought ≤ room_at parts.new k) }
 {
-    for key in filing_keys(journal, filing).as_slice() {
+    for key in keys {
+        parts.hold(*key)?;
         let wanted = parts.len(*key) + MOST_BROUGHT;
         parts.reserve(*key, wanted)?;
     }

@@ -1,74 +1,89 @@
 //! The register that the one registrar leaves.
 //! Why so: docs/DECISIONS.md, "`Register::verdict` lends its verdict".
-ghost use Rattle.std.specs.Prelude.{◌≡◌, ◌-◌, ◌<◌, ◌≤◌, IfOk, IsTrue, slice_get};
+ghost use Rattle.std.specs.Prelude.{◌≡◌, ◌-◌, ◌+◌, ◌<◌, ◌≤◌, IfOk, IsTrue, OnErr, OnOk, length, slice_get};
 ghost use Rattle.std.specs.List.{enumerate_from};
 ghost use Rattle.std.specs.Option.{option_copied};
 ghost use Rattle.folio_sections.specs.Adding.{Adds};
 ghost use Rattle.folio_sections.specs.Held.{entries_at, is_held, room_at};
 ghost use Rattle.folio_sections.specs.HeldRights.{held_rights};
+ghost use Rattle.registrar.specs.HasSettled.{HasSettled};
 ghost use Rattle.registrar.specs.RegisterState.{verdict_among};
+ghost use Rattle.registrar.specs.inner.Behind.{register_of};
 
-use crate::Verdict;
+use crate::settled::Settled;
+use crate::{Scratch, Verdict};
+use act_model::Journal;
 use folio_line::HeldRights;
-use folio_sections::{CasePart, Entry, MapParts, Parts, RightPart, TitlePart};
+use folio_sections::{CasePart, Entry, Parts, RightPart, TitlePart};
 use gb_base::{FolioId, NoMemory, ReceiptNo, RightId};
+use kept_registers::laws::empty_register_is_kept;
 use std::alloc::Global;
 use std::marker::Model;
 
-/// The register of a journal: its parts at the keys of all filings and at no other, what became of
-/// each item, and the open folios.
+/// The register behind the items that are settled: its parts at their keys and at no other, what
+/// became of each item, and the open folios.
 #[derive(Drop)]
 pub struct Register {
-    parts: MapParts,
-    /// What became of each item, in the order of receipts.
-    verdicts: Vec<Verdict>,
-    /// The folios that were open once the journal was settled, ascending.
-    folios: Vec<FolioId>,
+    settled: Settled,
 }
 
 impl Model for Register {
-    ghost use Rattle.std.specs.List.{enumerate_from};
     ghost use Rattle.registrar.specs.RegisterState.{RegisterState};
+    ghost use Rattle.registrar.specs.inner.Behind.{register_of};
 
     ghost Value = { RegisterState };
 
-    ghost view = { λ a. record { parts = a.parts; verdicts = enumerate_from 1 a.verdicts.items; folios = a.folios.items } };
+    ghost view = { λ a. register_of a.settled };
 }
 
 impl Register {
-    /// These parts, verdicts on the items from receipt 1 on, and open folios.
-    pub(crate) fn new(parts: MapParts, verdicts: Vec<Verdict>, folios: Vec<FolioId>) -> Register
-        ensures parts { result.parts ≡ parts }
-        ensures verdicts { result.verdicts ≡ enumerate_from 1 verdicts.items }
-        ensures folios { result.folios ≡ folios.items }
+    /// The register of what is settled, with its open folios in order.
+    pub(crate) fn new(settled: Settled) -> Register
+        ensures { result ≡ register_of settled }
     {
-        Register {
-            parts,
-            verdicts,
-            folios,
-        }
+        Register { settled }
+    }
+
+    /// Settles the next item of the journal, behind those that are settled (GBO § 17). It keeps the
+    /// room for it first: where no memory is found, nothing is settled and no entry, verdict or open
+    /// folio changes.
+    pub fn settle_next(&mut self, scratch: &mut Scratch, journal: &Journal) -> Result<(), NoMemory>
+        requires more { length self.old.verdicts < length journal.now.receipts }
+        requires settled { HasSettled journal.now.receipts self.old }
+        ensures settled { OnOk result (HasSettled journal.now.receipts self.new) }
+        ensures one_more { OnOk result (length self.new.verdicts ≡ length self.old.verdicts + 1) }
+        ensures entries { OnErr result (entries_at self.new.parts ≡ entries_at self.old.parts) }
+        ensures verdicts { OnErr result (self.new.verdicts ≡ self.old.verdicts) }
+        ensures folios { OnErr result (self.new.folios ≡ self.old.folios) }
+    {
+        // Each prefix of a journal leaves a kept register, from the empty one on.
+        empty_register_is_kept();
+        journal.len();
+        self.settled.settle_next(scratch, journal)?;
+        self.settled.put_folios_in_order();
+        Ok(())
     }
 
     /// What became of receipt n; None where the journal that was settled has no such receipt.
     pub fn verdict(&self, n: ReceiptNo) -> Option<&Verdict>
         ensures value { option_copied result ≡ verdict_among self.now.verdicts n }
     {
-        at_number(self.verdicts.as_slice(), n)
+        at_number(self.settled.verdicts.as_slice(), n)
     }
 
     /// What became of each receipt, from the first on.
     pub fn verdicts(&self) -> &[Verdict]
         ensures value { enumerate_from 1 result.now ≡ self.now.verdicts }
     {
-        self.verdicts.as_slice()
+        self.settled.verdicts.as_slice()
     }
 
-    /// The open folios, ascending, as `alone` left them (GBO § 3): this list does not follow what is
-    /// appended later.
+    /// The open folios, ascending, behind the items that are settled (GBO § 3): this list does not
+    /// follow what is appended.
     pub fn folios(&self) -> &[FolioId]
         ensures value { result.now ≡ self.now.folios }
     {
-        self.folios.as_slice()
+        self.settled.folios.as_slice()
     }
 
     /// The rights of a folio whose parts are held, by receipt and act. However many parts are
@@ -76,7 +91,7 @@ impl Register {
     pub fn rights_in(&self, alloc: Global, folio: FolioId) -> Result<Vec<RightId>, NoMemory>
         ensures rights { IfOk result (λ rights. rights.items ≡ held_rights (is_held self.now.parts) folio) }
     {
-        self.parts.rights_in(alloc, folio)
+        self.settled.parts.rights_in(alloc, folio)
     }
 }
 
@@ -108,15 +123,15 @@ impl Parts for Register {
     ghost room = { λ r. room_at r.parts };
 
     fn title(&self, folio: FolioId) -> Option<&TitlePart> {
-        self.parts.title(folio)
+        self.settled.parts.title(folio)
     }
 
     fn right(&self, folio: FolioId, right: RightId) -> Option<&RightPart> {
-        self.parts.right(folio, right)
+        self.settled.parts.right(folio, right)
     }
 
     fn case(&self, folio: FolioId) -> Option<&CasePart> {
-        self.parts.case(folio)
+        self.settled.parts.case(folio)
     }
 
     /// Adds an entry at the end of its key's part; what became of each item stays, and so does the
@@ -129,6 +144,6 @@ impl Parts for Register {
         ensures verdicts { self.new.verdicts ≡ self.old.verdicts }
         ensures folios { self.new.folios ≡ self.old.folios }
     {
-        self.parts.append(entry);
+        self.settled.parts.append(entry);
     }
 }

@@ -1,10 +1,9 @@
-use Rattle.std.proofs.Common.{◌≡◌}
-use Rattle.folio_sections.specs.Held.{entries_at, is_held}
-use Rattle.registrar.specs.inner.SettledTo.{SettledTo}
+use Rattle.std.proofs.Common.{◌-◌, ◌≤◌, length}
+use Rattle.registrar.specs.inner.Behind.{IsBehind}
 use Rattle.registrar.proofs.one_registrar.settle_all.Given as goal
 
-abbrev pub invariant-loop-index : goal.invariant-loop-index
-invariant-loop-index l = record {
-  settled : SettledTo l.journal.receipts l.index (entries_at l.parts) l.verdicts.items;
-  held : is_held l.parts ≡ is_held l.fn.parts;
-}
+abbrev pub invariant-loop-scratch : goal.invariant-loop-scratch
+invariant-loop-scratch l = IsBehind l.journal.receipts l.settled × (length l.settled.verdicts.items ≤ length l.journal.receipts)
+
+abbrev pub decreases-loop-scratch : goal.decreases-loop-scratch
+decreases-loop-scratch l = length l.journal.receipts - length l.settled.verdicts.items
