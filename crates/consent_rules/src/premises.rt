@@ -8,7 +8,7 @@ ghost use Rattle.consent_rules.specs.inner.Held.{HasParts};
 
 use crate::parts_read::live_right;
 use act_model::{Act, Journal, RightSpec, created_before, filing_at, filing_keys};
-use folio_sections::Parts;
+use folio_sections::{Parts, is_held};
 use gb_base::{FolioId, Key, ReceiptNo, RightId};
 
 /// Whether the filing can be judged on these parts: it is there, the parts of its keys are held,
@@ -36,18 +36,7 @@ pub fn can_be_judged<P: Parts>(parts: &P, journal: &Journal, filing: ReceiptNo) 
 fn are_held<P: Parts>(parts: &P, keys: &[Key]) -> bool
     ensures { result ≡ list_all (P.holds parts.now) keys.now }
 {
-    keys.iter().all(|key| is_held(parts, *key))
-}
-
-/// Whether the part of a key is held.
-pub fn is_held<P: Parts>(parts: &P, key: Key) -> bool
-    ensures { result ≡ P.holds parts.now key }
-{
-    match key {
-        Key::Title(folio) => parts.title(folio).is_some(),
-        Key::Right(folio, right) => parts.right(folio, right).is_some(),
-        Key::Case(folio) => parts.case(folio).is_some(),
-    }
+    keys.iter().all(|key| is_held(parts, key))
 }
 
 /// Whether it is so of each of these acts of the filing.

@@ -94,6 +94,13 @@ impl RightPart {
         self.state = NEVER_CREATED;
     }
 
+    /// The entries, with what stands beside them.
+    pub(crate) fn list(&self) -> &EntryList
+        ensures { result.now.entries ≡ self.now.entries }
+    {
+        &self.list
+    }
+
     /// The entries, in order.
     pub fn entries(&self) -> &[Entry]
         ensures value { result.now ≡ self.now.entries }

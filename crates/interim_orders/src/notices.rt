@@ -1,14 +1,12 @@
 //! Official notices, which keep the places of filings that wait (GBO § 18(2)).
 ghost use Rattle.std.specs.Prelude.{◌≡◌, ◌≤◌, length, Contains, IsTrue};
-ghost use Rattle.std.specs.List.{find};
 ghost use Rattle.gb_base.specs.declared.keys.Key.{Key};
 ghost use Rattle.act_model.specs.Touches.{keys_of_filing};
 ghost use Rattle.folio_sections.specs.Adding.{AddsList, HasRoom};
 ghost use Rattle.interim_orders.specs.Notices.{notices_at, notices_brought};
-ghost use Rattle.folio_sections.specs.Waiting.{waiting_unnoticed, is_above};
 
 use act_model::{Journal, filing_keys};
-use folio_sections::{Parts, What, add, entry_by};
+use folio_sections::{Parts, What, add, entry_by, next_unnoticed_at};
 use gb_base::{Key, ReceiptNo};
 
 /// Enters, at each key of a filing that this item enters, the official notice of each earlier filing
@@ -41,32 +39,9 @@ fn enter_notices_at<P: Parts>(
     ensures held { P.holds parts.new ≡ P.holds parts.old }
 {
     let mut after = None;
-    while let Some(waiting) = next_unnoticed(parts, &key, after, filing) {
+    while let Some(waiting) = next_unnoticed_at(parts, &key, after, filing) {
         let what = What::Notice { filing: waiting };
         add(parts, entry_by(journal, item, key, what));
         after = Some(waiting);
-    }
-}
-
-/// The first filing above `after`, and below `filing`, that waits at this key without an official
-/// notice; None where there is none.
-fn next_unnoticed<P: Parts>(
-    parts: &P,
-    key: &Key,
-    after: Option<ReceiptNo>,
-    filing: ReceiptNo,
-) -> Option<ReceiptNo>
-    requires { IsTrue (P.holds parts.now key.now) }
-    ensures { result ≡ find (is_above after) (waiting_unnoticed filing (P.at parts.now key.now)) }
-{
-    match key {
-        Key::Title(folio) => parts.title(*folio).unwrap().next_unnoticed(after, filing),
-        Key::Right(folio, right) => {
-            parts
-                .right(*folio, *right)
-                .unwrap()
-                .next_unnoticed(after, filing)
-        }
-        Key::Case(folio) => parts.case(*folio).unwrap().next_unnoticed(after, filing),
     }
 }

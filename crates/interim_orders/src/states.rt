@@ -3,12 +3,11 @@
 ghost use Rattle.std.specs.Prelude.{◌≡◌, ◌<◌, Contains, IsTrue};
 ghost use Rattle.gb_base.specs.declared.keys.Key.{Key};
 ghost use Rattle.act_model.specs.Touches.{keys_of_filing};
-ghost use Rattle.folio_sections.specs.Waiting.{pending};
 ghost use Rattle.interim_orders.specs.Orders.{state_by, state_of, waits_until};
 
 use act_model::{Journal, filing_keys};
-use folio_sections::Parts;
-use gb_base::{Day, Key, ReceiptNo};
+use folio_sections::{Parts, pending_at};
+use gb_base::{Day, ReceiptNo};
 
 /// Whether a filing waits for cures (GBO § 18).
 #[derive(Clone, Copy, Debug, PartialEq, Eq)]
@@ -52,19 +51,7 @@ fn waits_until<P: Parts>(parts: &P, journal: &Journal, filing: ReceiptNo) -> Opt
     ensures { result ≡ waits_until journal.now.receipts filing (P.at parts.now) }
 {
     match filing_keys(journal, filing).as_slice().first() {
-        Some(key) => pending_at(parts, *key, filing),
+        Some(key) => pending_at(parts, key, filing),
         None => None,
-    }
-}
-
-/// The day until which a filing waits at this key; None where it does not wait there.
-fn pending_at<P: Parts>(parts: &P, key: Key, filing: ReceiptNo) -> Option<Day>
-    requires { IsTrue (P.holds parts.now key) }
-    ensures { result ≡ pending filing (P.at parts.now key) }
-{
-    match key {
-        Key::Title(folio) => parts.title(folio).unwrap().pending(filing),
-        Key::Right(folio, right) => parts.right(folio, right).unwrap().pending(filing),
-        Key::Case(folio) => parts.case(folio).unwrap().pending(filing),
     }
 }

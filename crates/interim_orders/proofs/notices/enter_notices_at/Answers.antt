@@ -14,14 +14,14 @@ add-requires-clause-room g c =
     subst (λ (e : Entry). HasRoom (g.P.Parts.room c.loop-waiting.parts) (e ∷ [])) (sym c.entry_by.ensures)
     (notice_fits c.args.journal.now.receipts c.args.filing c.args.item c.args.key c.loop-waiting.after c.in-Some.waiting (g.P.Parts.at c.args.parts.now) (g.P.Parts.at c.loop-waiting.parts)
     (g.P.Parts.room c.args.parts.now) (g.P.Parts.room c.loop-waiting.parts) (g.P.Parts.holds c.args.parts.now) (g.P.Parts.holds c.loop-waiting.parts)
-    c.loop-waiting.invariant (sym c.in-Some.is ∙ c.next_unnoticed.ensures) c.requires.room)
+    c.loop-waiting.invariant (sym c.in-Some.is ∙ c.next_unnoticed_at.ensures) c.requires.room)
 
 pub loop-waiting-smaller : goal.loop-waiting-smaller
 loop-waiting-smaller g c =
     let rest =
     next_noticed c.args.journal.now.receipts c.args.filing c.args.item c.args.key c.loop-waiting.after c.in-Some.waiting (g.P.Parts.at c.args.parts.now) (g.P.Parts.at c.loop-waiting.parts)
     (g.P.Parts.room c.args.parts.now) (g.P.Parts.room c.loop-waiting.parts) (g.P.Parts.holds c.args.parts.now) (g.P.Parts.holds c.loop-waiting.parts)
-    c.loop-waiting.invariant (sym c.in-Some.is ∙ c.next_unnoticed.ensures) in
+    c.loop-waiting.invariant (sym c.in-Some.is ∙ c.next_unnoticed_at.ensures) in
     let count = ap length rest in
     omega arith
 
@@ -31,7 +31,7 @@ loop-waiting-preserved g c =
     (g.P.Parts.at c.args.parts.now) (g.P.Parts.at c.loop-waiting.parts) (g.P.Parts.at c.add.new.parts)
     (g.P.Parts.room c.args.parts.now) (g.P.Parts.room c.loop-waiting.parts) (g.P.Parts.room c.add.new.parts)
     (g.P.Parts.holds c.args.parts.now) (g.P.Parts.holds c.loop-waiting.parts) (g.P.Parts.holds c.add.new.parts)
-    c.loop-waiting.invariant (sym c.in-Some.is ∙ c.next_unnoticed.ensures)
+    c.loop-waiting.invariant (sym c.in-Some.is ∙ c.next_unnoticed_at.ensures)
     (subst (λ (e : Entry). AddsList (g.P.Parts.at c.loop-waiting.parts) (g.P.Parts.at c.add.new.parts) (g.P.Parts.room c.loop-waiting.parts) (g.P.Parts.room c.add.new.parts) (e ∷ [])) c.entry_by.ensures c.add.ensures.added)
     c.add.ensures.held
 
@@ -39,4 +39,4 @@ pub returns-clause-added : goal.returns-clause-added
 returns-clause-added g c =
     all_noticed c.args.journal.now.receipts c.args.filing c.args.item c.args.key c.loop-waiting.after (g.P.Parts.at c.args.parts.now) (g.P.Parts.at c.loop-waiting.parts)
     (g.P.Parts.room c.args.parts.now) (g.P.Parts.room c.loop-waiting.parts) (g.P.Parts.holds c.args.parts.now) (g.P.Parts.holds c.loop-waiting.parts)
-    c.loop-waiting.invariant (sym c.in_default.is ∙ c.next_unnoticed.ensures)
+    c.loop-waiting.invariant (sym c.in_default.is ∙ c.next_unnoticed_at.ensures)
