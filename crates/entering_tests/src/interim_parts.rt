@@ -5,7 +5,7 @@ ghost use Rattle.act_model.specs.Touches.{keys_of_filing};
 ghost use Rattle.folio_sections.specs.Held.{is_held};
 ghost use Rattle.interim_orders.specs.Lapses.{lapse_at};
 
-use crate::held_keys::check_held;
+use crate::room::reserve;
 use act_model::{Item, Journal, filing_at, filing_keys};
 use folio_sections::{Entry, MapParts, Parts, What};
 use gb_base::{Day, Key, NoMemory, ReceiptNo};
@@ -15,6 +15,7 @@ use interim_orders::{
 use std::alloc::Global;
 use std::process::Abort;
 use test_items::receipt;
+use test_registers::are_held;
 
 // ---- what calls want
 
@@ -42,7 +43,7 @@ fn check_lapse(rt: &impl Abort, parts: &MapParts, journal: &Journal, item: Recei
 {
     match journal.get(item) {
         Some(receipt) => match &receipt.item {
-            Item::Lapse { filing } => check_held(rt, parts, journal, *filing),
+            Item::Lapse { filing } => assert!(rt; are_held(parts, journal, *filing)),
             _ => {}
         },
         None => {}
@@ -52,59 +53,41 @@ fn check_lapse(rt: &impl Abort, parts: &MapParts, journal: &Journal, item: Recei
 // ---- calls
 
 /// Opens the order of a filing.
-pub fn order(
-    rt: &impl Abort,
-    parts: &mut MapParts,
-    journal: &Journal,
-    filing: u32,
-) -> Result<Day, NoMemory>
+pub fn order(rt: &impl Abort, parts: &mut MapParts, journal: &Journal, filing: u32) -> Day
     requires { 1 ≤ filing }
 {
     let filing = receipt(filing);
     assert!(rt; filing_at(journal, filing).is_some());
-    parts.reserve_all(1)?;
-    check_held(rt, parts, journal, filing);
+    reserve(rt, parts, 1);
+    assert!(rt; are_held(parts, journal, filing));
     laws::room_for_order();
-    Ok(open_order(parts, journal, filing))
+    open_order(parts, journal, filing)
 }
 
 /// Ends the waiting of a filing by an item.
-pub fn close(
-    rt: &impl Abort,
-    parts: &mut MapParts,
-    journal: &Journal,
-    item: u32,
-    filing: u32,
-) -> Result<(), NoMemory>
+pub fn close(rt: &impl Abort, parts: &mut MapParts, journal: &Journal, item: u32, filing: u32)
     requires item { 1 ≤ item }
     requires filing { 1 ≤ filing }
 {
     let item = receipt(item);
     let filing = receipt(filing);
     assert!(rt; item.get() <= journal.len());
-    parts.reserve_all(1)?;
-    check_held(rt, parts, journal, filing);
+    reserve(rt, parts, 1);
+    assert!(rt; are_held(parts, journal, filing));
     laws::room_for_order();
     close_order(parts, journal, item, filing);
-    Ok(())
 }
 
 /// Enters the notices that the entry of a filing by itself brings.
-pub fn notices(
-    rt: &impl Abort,
-    parts: &mut MapParts,
-    journal: &Journal,
-    filing: u32,
-) -> Result<(), NoMemory>
+pub fn notices(rt: &impl Abort, parts: &mut MapParts, journal: &Journal, filing: u32)
     requires { 1 ≤ filing }
 {
     let filing = receipt(filing);
     assert!(rt; filing.get() <= journal.len());
-    parts.reserve_all(filing.get() as usize)?;
-    check_held(rt, parts, journal, filing);
+    reserve(rt, parts, filing.get() as usize);
+    assert!(rt; are_held(parts, journal, filing));
     laws::room_for_notices();
     enter_notices(parts, journal, filing, filing);
-    Ok(())
 }
 
 /// The state of a filing as an item finds it.
@@ -120,25 +103,20 @@ pub fn state_at(
 {
     let item = receipt(item);
     let filing = receipt(filing);
-    check_held(rt, parts, journal, filing);
+    assert!(rt; are_held(parts, journal, filing));
     state(parts, journal, item, filing)
 }
 
 /// The answer to an item as a lapse.
-pub fn lapsed(
-    rt: &impl Abort,
-    parts: &mut MapParts,
-    journal: &Journal,
-    item: u32,
-) -> Result<Lapse, NoMemory>
+pub fn lapsed(rt: &impl Abort, parts: &mut MapParts, journal: &Journal, item: u32) -> Lapse
     requires { 1 ≤ item }
 {
     let item = receipt(item);
     assert!(rt; item.get() <= journal.len());
-    parts.reserve_all(1)?;
+    reserve(rt, parts, 1);
     check_lapse(rt, parts, journal, item);
     laws::room_for_lapse();
-    Ok(lapse(parts, journal, item))
+    lapse(parts, journal, item)
 }
 
 // ---- what stands

@@ -1,8 +1,8 @@
 //! Filings of one or more acts without documents, and parts of folios in which they are entered.
 ghost use Rattle.std.specs.Prelude.{◌≤◌};
 
-use crate::held_keys::check_held;
 use crate::journals::receive;
+use crate::room::reserve;
 use act_model::{Act, Acts, Item, Journal, RightSpec, filing_at, filing_keys};
 use entry_rules::{MOST_ENTERED, enter, laws};
 use folio_sections::{Created, Entry, MapParts, Parts, TitlePart, What};
@@ -10,6 +10,7 @@ use gb_base::{Day, FolioId, Key, NoMemory, ReceiptNo, RightId};
 use std::alloc::Global;
 use std::process::Abort;
 use test_items::{creation, day, filing, folio, land_charge, receipt, usufruct};
+use test_registers::are_held;
 
 // ---- items
 
@@ -113,7 +114,7 @@ pub fn entered(
     requires filing { 1 ≤ of }
 {
     let parts = parts_of(alloc, journal, of)?;
-    entered_in(rt, parts, journal, item, of)
+    Ok(entered_in(rt, parts, journal, item, of))
 }
 
 /// The same, on an entry that stood at a title.
@@ -129,8 +130,8 @@ pub fn entered_on(
     requires filing { 1 ≤ of }
 {
     let parts = parts_of(alloc, journal, of)?;
-    let parts = stand(rt, parts, standing)?;
-    entered_in(rt, parts, journal, item, of)
+    let parts = stand(rt, parts, standing);
+    Ok(entered_in(rt, parts, journal, item, of))
 }
 
 /// Empty parts at the keys of a filing.
@@ -142,17 +143,17 @@ pub fn parts_of(alloc: Global, journal: &Journal, of: u32) -> Result<MapParts, N
 }
 
 /// The parts with one entry more at a title.
-pub fn stand(rt: &impl Abort, parts: MapParts, more: Standing) -> Result<MapParts, NoMemory> {
+pub fn stand(rt: &impl Abort, parts: MapParts, more: Standing) -> MapParts {
     let mut after = parts;
     assert!(rt; after.title(more.folio).is_some());
-    after.reserve_all(1)?;
+    reserve(rt, &mut after, 1);
     after.append(Entry {
         receipt: more.receipt,
         day: more.day,
         key: Key::Title(more.folio),
         what: more.what,
     });
-    Ok(after)
+    after
 }
 
 /// The parts once a filing is entered in them. Ends the test where one of the filing's keys is not
@@ -163,7 +164,7 @@ pub fn entered_in(
     journal: &Journal,
     item: u32,
     of: u32,
-) -> Result<MapParts, NoMemory>
+) -> MapParts
     requires item { 1 ≤ item }
     requires filing { 1 ≤ of }
 {
@@ -171,11 +172,11 @@ pub fn entered_in(
     let (item, of) = (receipt(item), receipt(of));
     assert!(rt; item.get() <= journal.len());
     assert!(rt; filing_at(journal, of).is_some());
-    after.reserve_all(MOST_ENTERED)?;
-    check_held(rt, &after, journal, of);
+    reserve(rt, &mut after, MOST_ENTERED);
+    assert!(rt; are_held(&after, journal, of));
     laws::room_for_entry();
     enter(&mut after, journal, item, of);
-    Ok(after)
+    after
 }
 
 /// The title of a folio.

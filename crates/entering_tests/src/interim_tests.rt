@@ -9,6 +9,8 @@ use crate::journals::receive_as;
 use act_model::{Item, Journal};
 use folio_sections::Entry;
 use interim_orders::{FilingState, Lapse};
+use std::alloc::Global;
+use std::process::Abort;
 use std::test::Fail;
 use test_items::{charge, day, filed, filing, lapse, receipt, right, right_key, title_key, two};
 
@@ -26,7 +28,7 @@ fn an_order_at_two_keys(rt: HostRuntime) -> Result<(), Fail> {
     let mut journal = Journal::new(rt.alloc());
     receive_as(&rt, &mut journal, 1, day(3, 1), &one_charge(8));
     let mut parts = parts_of(rt.alloc(), &journal)?;
-    let until = order(&rt, &mut parts, &journal, 1)?;
+    let until = order(&rt, &mut parts, &journal, 1);
     assert!(rt; until == day(4, 1));
     assert_eq!(rt; entries(&rt, &parts, title_key(8)).len(), 1);
     assert_eq!(rt; entries(&rt, &parts, right_key(8, right(1, 1))).len(), 1);
@@ -48,9 +50,9 @@ fn the_end_of_an_order_in_two_folios(rt: HostRuntime) -> Result<(), Fail> {
     receive_as(&rt, &mut journal, 1, day(3, 4), &both);
     receive_as(&rt, &mut journal, 2, day(3, 5), &one_charge(8));
     let mut parts = parts_of(rt.alloc(), &journal)?;
-    let until = order(&rt, &mut parts, &journal, 1)?;
+    let until = order(&rt, &mut parts, &journal, 1);
     assert!(rt; until == day(4, 3));
-    close(&rt, &mut parts, &journal, 2, 1)?;
+    close(&rt, &mut parts, &journal, 2, 1);
     assert!(rt; waited(entries(&rt, &parts, title_key(8))));
     assert!(rt; waited(entries(&rt, &parts, right_key(8, right(1, 2)))));
     assert!(rt; waited(entries(&rt, &parts, title_key(9))));
@@ -82,11 +84,11 @@ fn notices_of_two_filings(rt: HostRuntime) -> Result<(), Fail> {
     receive_as(&rt, &mut journal, 3, day(3, 4), &one_charge(8));
     receive_as(&rt, &mut journal, 4, day(3, 4), &one_charge(8));
     let mut parts = parts_of(rt.alloc(), &journal)?;
-    order(&rt, &mut parts, &journal, 4)?;
-    order(&rt, &mut parts, &journal, 2)?;
-    order(&rt, &mut parts, &journal, 1)?;
-    notices(&rt, &mut parts, &journal, 3)?;
-    notices(&rt, &mut parts, &journal, 3)?;
+    order(&rt, &mut parts, &journal, 4);
+    order(&rt, &mut parts, &journal, 2);
+    order(&rt, &mut parts, &journal, 1);
+    notices(&rt, &mut parts, &journal, 3);
+    notices(&rt, &mut parts, &journal, 3);
     assert_eq!(rt; entries(&rt, &parts, title_key(8)).len(), 5);
     let first = entry(&rt, &parts, title_key(8), 3);
     assert!(rt; is_notice(first, receipt(1)));
@@ -104,9 +106,9 @@ fn no_notice_once_the_waiting_has_ended(rt: HostRuntime) -> Result<(), Fail> {
     receive_as(&rt, &mut journal, 1, day(3, 1), &one_charge(8));
     receive_as(&rt, &mut journal, 2, day(3, 1), &one_charge(8));
     let mut parts = parts_of(rt.alloc(), &journal)?;
-    order(&rt, &mut parts, &journal, 1)?;
-    close(&rt, &mut parts, &journal, 2, 1)?;
-    notices(&rt, &mut parts, &journal, 2)?;
+    order(&rt, &mut parts, &journal, 1);
+    close(&rt, &mut parts, &journal, 2, 1);
+    notices(&rt, &mut parts, &journal, 2);
     assert_eq!(rt; entries(&rt, &parts, title_key(8)).len(), 2);
     Ok(())
 }
@@ -119,37 +121,43 @@ fn states_of_filings(rt: HostRuntime) -> Result<(), Fail> {
     receive_as(&rt, &mut journal, 2, day(3, 4), &one_charge(8));
     let mut parts = parts_of(rt.alloc(), &journal)?;
     assert!(rt; state_at(&rt, &parts, &journal, 2, 1) == FilingState::NotPending);
-    let until = order(&rt, &mut parts, &journal, 1)?;
+    let until = order(&rt, &mut parts, &journal, 1);
     assert!(rt; state_at(&rt, &parts, &journal, 2, 1) == FilingState::Pending { until });
-    order(&rt, &mut parts, &journal, 2)?;
+    order(&rt, &mut parts, &journal, 2);
     assert!(rt; state_at(&rt, &parts, &journal, 2, 2) == FilingState::NotPending);
     assert!(rt; state_at(&rt, &parts, &journal, 1, 2) == FilingState::NotPending);
     Ok(())
+}
+
+/// Three filings, and then a lapse of the second one on each of the first three days of April.
+fn lapsing(rt: &impl Abort, alloc: Global) -> Journal {
+    let mut journal = Journal::new(alloc);
+    receive_as(rt, &mut journal, 1, day(2, 29), &one_charge(8));
+    receive_as(rt, &mut journal, 2, day(3, 1), &one_charge(8));
+    receive_as(rt, &mut journal, 3, day(3, 4), &one_charge(8));
+    receive_as(rt, &mut journal, 4, day(4, 1), &lapse(2));
+    receive_as(rt, &mut journal, 5, day(4, 2), &lapse(2));
+    receive_as(rt, &mut journal, 6, day(4, 3), &lapse(2));
+    journal
 }
 
 /// Filing 2 waits until 2024-04-01. Filing 3 is entered, and brings its notice. A lapse on the last
 /// day is too early, one on the day behind it rejects, and then the filing does not wait.
 #[test]
 fn lapses_around_the_deadline(rt: HostRuntime) -> Result<(), Fail> {
-    let mut journal = Journal::new(rt.alloc());
-    receive_as(&rt, &mut journal, 1, day(2, 29), &one_charge(8));
-    receive_as(&rt, &mut journal, 2, day(3, 1), &one_charge(8));
-    receive_as(&rt, &mut journal, 3, day(3, 4), &one_charge(8));
-    receive_as(&rt, &mut journal, 4, day(4, 1), &lapse(2));
-    receive_as(&rt, &mut journal, 5, day(4, 2), &lapse(2));
-    receive_as(&rt, &mut journal, 6, day(4, 3), &lapse(2));
+    let journal = lapsing(&rt, rt.alloc());
     let mut parts = parts_of(rt.alloc(), &journal)?;
-    let until = order(&rt, &mut parts, &journal, 2)?;
+    let until = order(&rt, &mut parts, &journal, 2);
     assert!(rt; until == day(4, 1));
-    notices(&rt, &mut parts, &journal, 3)?;
+    notices(&rt, &mut parts, &journal, 3);
     assert!(rt; is_notice(entry(&rt, &parts, title_key(8), 1), receipt(2)));
-    assert!(rt; lapsed(&rt, &mut parts, &journal, 4)? == Lapse::TooEarly(until));
+    assert!(rt; lapsed(&rt, &mut parts, &journal, 4) == Lapse::TooEarly(until));
     assert_eq!(rt; entries(&rt, &parts, title_key(8)).len(), 2);
-    assert!(rt; lapsed(&rt, &mut parts, &journal, 5)? == Lapse::Rejected);
+    assert!(rt; lapsed(&rt, &mut parts, &journal, 5) == Lapse::Rejected);
     let ended = entry(&rt, &parts, title_key(8), 2);
     assert!(rt; ends_waiting(ended, receipt(2)));
     assert!(rt; ended.receipt == receipt(5));
-    assert!(rt; lapsed(&rt, &mut parts, &journal, 6)? == Lapse::NotPending);
+    assert!(rt; lapsed(&rt, &mut parts, &journal, 6) == Lapse::NotPending);
     assert_eq!(rt; entries(&rt, &parts, title_key(8)).len(), 3);
     Ok(())
 }
@@ -164,9 +172,9 @@ fn lapses_of_no_filing(rt: HostRuntime) -> Result<(), Fail> {
     receive_as(&rt, &mut journal, 3, day(5, 2), &lapse(4));
     receive_as(&rt, &mut journal, 4, day(5, 3), &one_charge(8));
     let mut parts = parts_of(rt.alloc(), &journal)?;
-    order(&rt, &mut parts, &journal, 4)?;
+    order(&rt, &mut parts, &journal, 4);
     for item in 1..5 {
-        assert!(rt; lapsed(&rt, &mut parts, &journal, item)? == Lapse::NotPending);
+        assert!(rt; lapsed(&rt, &mut parts, &journal, item) == Lapse::NotPending);
     }
     Ok(())
 }

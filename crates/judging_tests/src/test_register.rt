@@ -2,8 +2,6 @@
 ghost use Rattle.std.specs.Prelude.{◌≤◌, length};
 ghost use Rattle.act_model.specs.Limits.{most_docs};
 
-use crate::held_keys::is_held;
-use crate::journals::receive_as;
 use act_model::{Act, Doc, Filing, Item, Journal, RightSpec};
 use consent_rules::{Defect, Judgement, can_be_judged, judge};
 use folio_sections::{Created, Entry, MapParts, Parts, RightForm, What};
@@ -12,9 +10,10 @@ use std::alloc::Global;
 use std::process::Abort;
 use test_items::{
     cents, consent, creation, creation_reserving, filed, filing, filing_of, land_charge,
-    last_of_february, notice, opening, owner, parcel, receipt, right, right_key, title_key, two,
-    usufruct,
+    last_of_february, notice, opening, owner, parcel, receipt, received, right, right_key,
+    title_key, two, usufruct,
 };
+use test_registers::{full_right, is_held};
 
 /// A journal, and the parts that it is judged on.
 #[derive(Drop)]
@@ -27,7 +26,8 @@ pub struct TestRegister {
 pub fn receive(rt: &impl Abort, journal: &mut Journal, n: u32, item: &Item)
     requires { 1 ≤ n }
 {
-    receive_as(rt, journal, n, last_of_february(), item);
+    let answer = received(journal, last_of_february(), item);
+    assert_eq!(rt; answer, Some(receipt(n)));
 }
 
 /// An entry by receipt n at the end of a key's part.
@@ -49,17 +49,9 @@ fn add(rt: &impl Abort, parts: &mut MapParts, entry: Entry) {
     parts.append(entry);
 }
 
-/// A right in its full form, without a reservation.
+/// A right in its full form, placed on the last day of February, without a reservation.
 pub fn made(spec: RightSpec) -> Created {
-    Created {
-        spec,
-        form: RightForm::Full,
-        reserve: None,
-        ahead_of: None,
-        placed: last_of_february(),
-        behind: None,
-        equal: false,
-    }
+    full_right(spec, last_of_february())
 }
 
 /// Right a of receipt n stands in folio 7.

@@ -5,7 +5,7 @@ use crate::entered_folios::{
     small_charge, small_usufruct, stand, title,
 };
 use crate::journals::receive_as;
-use folio_sections::{Created, MapParts, RightForm};
+use folio_sections::MapParts;
 use gb_base::{Key, NoMemory};
 use std::alloc::Global;
 use std::test::Fail;
@@ -13,6 +13,7 @@ use test_items::{
     cancellation, creation, cure, day, exchange, exercise, expiry_proof, folio, last_of_february,
     mortgage, one, opening, receipt, right, three, two,
 };
+use test_registers::full_right;
 
 /// Empty parts at the title of folio 8 and at its rights 1.2, 2.1 and 3.1.
 fn parts_of_three(alloc: Global) -> Result<MapParts, NoMemory> {
@@ -35,15 +36,7 @@ fn an_opening_and_a_charge(rt: HostRuntime) -> Result<(), Fail> {
     assert_eq!(rt; title(&rt, &parts, 8).entries().len(), 2);
     assert!(rt; is_place(at_title(&rt, &parts, 8, 0), receipt(1), false, true));
     assert!(rt; is_opening(at_title(&rt, &parts, 8, 1)));
-    let wanted = Created {
-        spec: small_charge(1),
-        form: RightForm::Full,
-        reserve: None,
-        ahead_of: None,
-        placed: day(3, 1),
-        behind: None,
-        equal: false,
-    };
+    let wanted = full_right(small_charge(1), day(3, 1));
     assert!(rt; created(&rt, &parts, 8, right(1, 2)) == wanted);
     Ok(())
 }
@@ -62,9 +55,9 @@ fn a_notice_keeps_the_place(rt: HostRuntime) -> Result<(), Fail> {
         &cure(1, &[expiry_proof(1)]),
     );
     let parts = parts_of(rt.alloc(), &journal, 1)?;
-    let parts = stand(&rt, parts, pending(8, 1, day(3, 1)))?;
-    let parts = stand(&rt, parts, notice_of(8, 1, day(3, 2)))?;
-    let parts = entered_in(&rt, parts, &journal, 2, 1)?;
+    let parts = stand(&rt, parts, pending(8, 1, day(3, 1)));
+    let parts = stand(&rt, parts, notice_of(8, 1, day(3, 2)));
+    let parts = entered_in(&rt, parts, &journal, 2, 1);
     assert_eq!(rt; title(&rt, &parts, 8).entries().len(), 2);
     assert!(rt; created(&rt, &parts, 8, right(1, 1)).placed == day(3, 2));
     let entry = only_entry(&rt, &parts, 8, right(1, 1));
@@ -120,14 +113,14 @@ fn a_cure_enters_behind_its_notice(rt: HostRuntime) -> Result<(), Fail> {
         &cure(2, &[expiry_proof(1)]),
     );
     let parts = parts_of_three(rt.alloc())?;
-    let parts = entered_in(&rt, parts, &journal, 1, 1)?;
-    let parts = stand(&rt, parts, pending(8, 2, day(3, 1)))?;
-    let parts = stand(&rt, parts, notice_of(8, 2, day(3, 1)))?;
-    let parts = entered_in(&rt, parts, &journal, 3, 3)?;
+    let parts = entered_in(&rt, parts, &journal, 1, 1);
+    let parts = stand(&rt, parts, pending(8, 2, day(3, 1)));
+    let parts = stand(&rt, parts, notice_of(8, 2, day(3, 1)));
+    let parts = entered_in(&rt, parts, &journal, 3, 3);
     assert_eq!(rt; title(&rt, &parts, 8).entries().len(), 5);
     assert!(rt; is_place(at_title(&rt, &parts, 8, 4), receipt(3), false, true));
     assert!(rt; created(&rt, &parts, 8, right(3, 1)).behind == Some(receipt(2)));
-    let parts = entered_in(&rt, parts, &journal, 4, 2)?;
+    let parts = entered_in(&rt, parts, &journal, 4, 2);
     assert_eq!(rt; title(&rt, &parts, 8).entries().len(), 5);
     let made = created(&rt, &parts, 8, right(2, 1));
     assert!(rt; made.placed == day(3, 1));
