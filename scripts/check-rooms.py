@@ -20,7 +20,7 @@ MOST_OF_A_CRATE = 12
 MOST_OF_ALL = 200
 
 # What tests are made of. No code outside tests uses it.
-MADE_FOR_TESTS = "test_items"
+MADE_FOR_TESTS = ["test_items", "test_registers"]
 
 # A name in backticks, and the crate or type that it is said to be of.
 NAME = re.compile(r"`([^`]+)`(?: of `?(\w+)`?)?")
@@ -133,10 +133,11 @@ def check_crates(look, crates):
         above.add(crate)
     of_tests = [crate for crate in crates if is_of_tests(crate)]
     used_elsewhere = {crate for user, used in uses.items() if user not in of_tests for crate in used}
-    wanted = [crate for crate in crates if not is_program(crate) and crate not in [MADE_FOR_TESTS, *of_tests]]
+    wanted = [crate for crate in crates if not is_program(crate) and crate not in [*MADE_FOR_TESTS, *of_tests]]
     look.same("libraries that tests alone use", [crate for crate in wanted if crate not in used_elsewhere], [])
-    users = [crate for crate, used in uses.items() if MADE_FOR_TESTS in used and crate not in of_tests]
-    look.same(f"crates that use {MADE_FOR_TESTS} and have other code than tests", users, [])
+    for made in MADE_FOR_TESTS:
+        users = [crate for crate, used in uses.items() if made in used and crate not in [*MADE_FOR_TESTS, *of_tests]]
+        look.same(f"crates that use {made} and have other code than tests", users, [])
 
 
 def main():

@@ -56,6 +56,34 @@ fn answers(
     assert_eq!(rt; answer, wanted);
 }
 
+/// A book whose first receipt is the item answers by that to it and to another item.
+fn acts_once(
+    rt: &impl Abort,
+    alloc: Global,
+    book: &mut Book,
+    disk: &mut MemDisk,
+    item: &Item,
+    other: &Item,
+)
+    requires item { IsTrue (well_formed item.now) }
+    requires other { IsTrue (well_formed other.now) }
+    requires stands { book.old.log.failed ≡ false
+        → Stands book.old (⟦<MemDisk as Disk>⟧.reads disk.old) (⟦<MemDisk as Disk>⟧.images disk.old) }
+{
+    let repeated = Received::Repeated(receipt(1));
+    answers(rt, alloc, book, disk, item, repeated);
+    let differs = Received::Differs(receipt(1));
+    answers(rt, alloc, book, disk, other, differs);
+}
+
+/// The book that is opened again has the one receipt.
+fn opens_with_one(rt: &impl Abort, alloc: Global, disk: &mut MemDisk) -> Result<(), Fail> {
+    let reopened = Book::open(alloc, disk)?;
+    assert_eq!(rt; reopened.len(), 1);
+    assert_eq!(rt; reopened.journal().find(1, 5), Some(receipt(1)));
+    Ok(())
+}
+
 #[test]
 fn a_lapse_makes_38_bytes_and_acts_once(rt: HostRuntime) -> Result<(), Fail> {
     let alloc = rt.alloc();
@@ -64,21 +92,14 @@ fn a_lapse_makes_38_bytes_and_acts_once(rt: HostRuntime) -> Result<(), Fail> {
     assert!(rt; well_formed(&item) && well_formed(&other));
     let file = file_of(alloc, &[LAPSE], 0)?;
     assert_eq!(rt; file.len(), 38);
-    let first = receipt(1);
     let mut disk = disk_of(alloc, &[], &[])?;
     let mut book = Book::open(alloc, &mut disk)?;
-    let accepted = Received::Accepted(first);
+    let accepted = Received::Accepted(receipt(1));
     answers(&rt, alloc, &mut book, &mut disk, &item, accepted);
     assert_eq!(rt; disk.bytes(), file.as_slice());
-    let repeated = Received::Repeated(first);
-    answers(&rt, alloc, &mut book, &mut disk, &item, repeated);
-    let differs = Received::Differs(first);
-    answers(&rt, alloc, &mut book, &mut disk, &other, differs);
+    acts_once(&rt, alloc, &mut book, &mut disk, &item, &other);
     assert_eq!(rt; disk.bytes(), file.as_slice());
-    let reopened = Book::open(alloc, &mut disk)?;
-    assert_eq!(rt; reopened.len(), 1);
-    assert_eq!(rt; reopened.journal().find(1, 5), Some(first));
-    Ok(())
+    opens_with_one(&rt, alloc, &mut disk)
 }
 
 #[test]

@@ -206,6 +206,14 @@ fn nearly_full(alloc: Global) -> Result<Vec<u8>, AllocError> {
     Ok(file)
 }
 
+/// The log that is opened again has the further frame, and is full.
+fn opens_full(rt: &impl Abort, alloc: Global, disk: &mut MemDisk) -> Result<(), Fail> {
+    let (mut log, frames) = Log::open(alloc, disk)?;
+    assert_eq!(rt; frames.len(), 130_437);
+    assert_eq!(rt; log.append(disk, b"a"), Err(AppendFault::Full));
+    Ok(())
+}
+
 #[test]
 fn the_file_is_full_where_a_gate_would_stand_at_its_limit(rt: HostRuntime) -> Result<(), Fail> {
     let alloc = rt.alloc();
@@ -215,8 +223,5 @@ fn the_file_is_full_where_a_gate_would_stand_at_its_limit(rt: HostRuntime) -> Re
     assert_eq!(rt; frames.len(), 130_436);
     assert_eq!(rt; log.append(&mut disk, b"ab"), Err(AppendFault::Full));
     assert_eq!(rt; log.append(&mut disk, b"a"), Ok(()));
-    let (mut log, frames) = Log::open(alloc, &mut disk)?;
-    assert_eq!(rt; frames.len(), 130_437);
-    assert_eq!(rt; log.append(&mut disk, b"a"), Err(AppendFault::Full));
-    Ok(())
+    opens_full(&rt, alloc, &mut disk)
 }

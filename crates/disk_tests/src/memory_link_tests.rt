@@ -1,5 +1,6 @@
 //! Connections in memory, and the door that they come through.
 use gb_outside::{Door, Got, Link, Listener, MemLink, MemListener, Wrote};
+use std::alloc::Global;
 use std::process::Abort;
 use std::test::Fail;
 
@@ -33,12 +34,17 @@ fn a_link_counts_its_reads_and_writes_together(rt: HostRuntime) -> Result<(), Fa
     Ok(())
 }
 
+/// A door with two links: the first call of the second link fails, and so does the second accept.
+fn door_of_two(alloc: Global) -> Result<MemListener<'static>, Fail> {
+    let mut links = Vec::new(alloc);
+    links.push(MemLink::new(alloc, b"first", 8, &[])?)?;
+    links.push(MemLink::new(alloc, b"second", 8, &[1])?)?;
+    Ok(MemListener::new(alloc, links, &[2])?)
+}
+
 #[test]
 fn a_listener_keeps_the_links_taken_back(rt: HostRuntime) -> Result<(), Fail> {
-    let mut links = Vec::new(rt.alloc());
-    links.push(MemLink::new(rt.alloc(), b"first", 8, &[])?)?;
-    links.push(MemLink::new(rt.alloc(), b"second", 8, &[1])?)?;
-    let mut door = MemListener::new(rt.alloc(), links, &[2])?;
+    let mut door = door_of_two(rt.alloc())?;
     let Door::Open(mut first) = door.accept() else {
         return Err(Fail::from("no first link"));
     };

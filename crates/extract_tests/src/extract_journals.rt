@@ -3,14 +3,15 @@ ghost use Rattle.std.specs.Prelude.{◌≤◌};
 ghost use Rattle.gb_base.specs.Limits.{most_cents};
 ghost use Rattle.gb_base.specs.DayMinute.{IsStampDay};
 
-use act_model::{Act, Added, Item, Journal, well_formed};
+use act_model::{Act, Item, Journal};
 use folio_extract::rank_table;
 use gb_base::{Day, NoMemory};
 use registrar::alone;
 use std::alloc::Global;
 use std::process::Abort;
 use test_items::{
-    consent, creation, day, filed, folio, land_charge, opening, opening_for, receipt, two_owners,
+    consent, creation, day, filed, folio, land_charge, opening, opening_for, receipt, received,
+    two_owners,
 };
 
 // ---- items
@@ -40,10 +41,8 @@ pub fn by_owner(owner: u32, act: Act) -> Item
 pub fn receive(rt: &impl Abort, journal: &mut Journal, on: Day, item: &Item)
     requires { IsStampDay on }
 {
-    assert!(rt; well_formed(item));
     let next = receipt(journal.len() + 1);
-    let answer = test_items::receive(journal, on, item);
-    assert_eq!(rt; answer, Added::Accepted(next));
+    assert_eq!(rt; received(journal, on, item), Some(next));
 }
 
 /// Receipt 1 opens folio 7 for 11 and 10 on 1 March.

@@ -5,7 +5,7 @@ use crate::extract_journals::{by_owners, opened, receive};
 use act_model::{Acts, Doc, Item, Journal, RightKind};
 use folio_extract::{add_right_line, awaits_award, extract};
 use folio_line::CreatedRight;
-use folio_sections::{CasePart, Created, Entry, RightForm, RightPart, What};
+use folio_sections::{CasePart, Entry, RightPart, What};
 use gb_base::{FolioId, NoMemory};
 use registrar::alone;
 use std::alloc::Global;
@@ -16,6 +16,7 @@ use test_items::{
     filing, folio, land_charge, notice, person, plain_consent, receipt, right, right_key, spec,
     two, usufruct,
 };
+use test_registers::full_right;
 
 /// The extract of a folio of the register of a journal; empty where the folio is not open.
 fn extract_of(alloc: Global, journal: &Journal, folio: FolioId) -> Result<Vec<u8>, NoMemory> {
@@ -175,15 +176,7 @@ fn a_right_that_is_held_but_not_created_is_not_listed(rt: HostRuntime) -> Result
 fn bare_usufruct() -> CreatedRight {
     CreatedRight {
         id: right(3, 2),
-        made: Created {
-            spec: usufruct(1_000, 27, 1),
-            form: RightForm::Full,
-            reserve: None,
-            ahead_of: None,
-            placed: day(3, 1),
-            behind: None,
-            equal: false,
-        },
+        made: full_right(usufruct(1_000, 27, 1), day(3, 1)),
     }
 }
 

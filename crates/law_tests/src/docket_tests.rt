@@ -127,19 +127,30 @@ fn sale(rt: &impl Abort, alloc: Global) -> Journal {
     journal
 }
 
-#[test]
-fn a_call_touches_the_title_the_rights_and_the_sale(rt: HostRuntime) -> Result<(), Fail> {
-    let mut journal = sale(&rt, rt.alloc());
-    receive(&rt, &mut journal, &award(7, 60, 11_131_944));
-    receive(&rt, &mut journal, &distribution(7));
-    let docket = Docket::build(rt.alloc(), &journal)?;
-    let all = [
+/// The same with the award and the distribution.
+fn whole_sale(rt: &impl Abort, alloc: Global) -> Journal {
+    let mut journal = sale(rt, alloc);
+    receive(rt, &mut journal, &award(7, 60, 11_131_944));
+    receive(rt, &mut journal, &distribution(7));
+    journal
+}
+
+/// The keys of the title, of the three charges and of the sale.
+fn keys_of_sale() -> [Key; 5] {
+    [
         title_key(7),
         right_of(7, 2),
         right_of(7, 3),
         right_of(7, 4),
         case_key(7),
-    ];
+    ]
+}
+
+#[test]
+fn a_call_touches_the_title_the_rights_and_the_sale(rt: HostRuntime) -> Result<(), Fail> {
+    let journal = whole_sale(&rt, rt.alloc());
+    let docket = Docket::build(rt.alloc(), &journal)?;
+    let all = keys_of_sale();
     assert!(&rt; has_keys(&rt, rt.alloc(), &journal, &docket, 5, &all));
     assert!(&rt; has_keys(&rt, rt.alloc(), &journal, &docket, 6, &[case_key(7)]));
     assert!(&rt; has_keys(&rt, rt.alloc(), &journal, &docket, 9, &all));

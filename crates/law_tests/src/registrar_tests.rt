@@ -11,24 +11,33 @@ use act_model::{Item, Journal};
 use folio_sections::Parts;
 use gb_base::{Day, Section};
 use registrar::{Verdict, alone};
+use std::alloc::Global;
+use std::process::Abort;
 use std::test::Fail;
 use test_items::{
     assignment, cancellation, charge, consent, cure, day, distribution, filed, filing, folio,
     lapse, plain_consent, receipt, right, transfer, two,
 };
 
+/// Receipts 1 and 2 open folios 7 and 8, and 3 creates a charge in each; 4 creates one in folio 7,
+/// and 5 and 6 cure filing 3.
+fn filed_in_two_folios(rt: &impl Abort, alloc: Global) -> Journal {
+    let mut journal = opened(rt, alloc);
+    receive_opening(rt, &mut journal, 8);
+    let acts = two(charge(7, 100_000, 20), charge(8, 100_000, 20));
+    let both = filing(10, acts, &[plain_consent(1, 10), plain_consent(2, 10)]);
+    receive(rt, &mut journal, day(3, 1), &Item::Filing(both));
+    receive(rt, &mut journal, day(3, 4), &certified_charge(200_000, 21));
+    receive(rt, &mut journal, day(3, 5), &cured_by_owner(3));
+    receive(rt, &mut journal, day(3, 6), &cure(3, &[consent(2, 10)]));
+    journal
+}
+
 /// A filing waits in two folios and is noticed in one of them alone. Its cure places it there by
 /// the notice, and in the other by a place of its own.
 #[test]
 fn a_filing_in_two_folios(rt: HostRuntime) -> Result<(), Fail> {
-    let mut journal = opened(&rt, rt.alloc());
-    receive_opening(&rt, &mut journal, 8);
-    let acts = two(charge(7, 100_000, 20), charge(8, 100_000, 20));
-    let both = filing(10, acts, &[plain_consent(1, 10), plain_consent(2, 10)]);
-    receive(&rt, &mut journal, day(3, 1), &Item::Filing(both));
-    receive(&rt, &mut journal, day(3, 4), &certified_charge(200_000, 21));
-    receive(&rt, &mut journal, day(3, 5), &cured_by_owner(3));
-    receive(&rt, &mut journal, day(3, 6), &cure(3, &[consent(2, 10)]));
+    let journal = filed_in_two_folios(&rt, rt.alloc());
     let register = alone(rt.alloc(), &journal)?;
     assert!(rt; waits_for_two_consents(verdict(&rt, &register, 3), day(4, 1)));
     assert!(rt; is_entered(verdict(&rt, &register, 4)));

@@ -6,9 +6,11 @@ use crate::settled_journals::{
     is_not_pending, is_rejected, is_still_open, is_too_early, opened, placed, plain_charge,
     verdict, waits,
 };
-use act_model::{Filing, Item};
+use act_model::{Filing, Item, Journal};
 use gb_base::Section;
 use registrar::alone;
+use std::alloc::Global;
+use std::process::Abort;
 use std::test::Fail;
 use test_items::{
     agreement, charge, clearance, consent, cure, day, filed, filing_of, lapse, last_of_february,
@@ -134,18 +136,25 @@ fn a_cure_behind_the_deadline(rt: HostRuntime) -> Result<(), Fail> {
     Ok(())
 }
 
+/// Receipts 2 and 3 wait, 4 is a transfer to 11; 5 cures the first of them by the consent of 10, and
+/// 6 is a lapse of the second.
+fn sold_in_between(rt: &impl Abort, alloc: Global) -> Journal {
+    let mut journal = opened(rt, alloc);
+    receive(rt, &mut journal, day(3, 1), &plain_charge(100_000, 20));
+    receive(rt, &mut journal, day(3, 4), &plain_charge(200_000, 21));
+    let agreed = [consent(1, 10), agreement(1), clearance(1)];
+    let sale = filed(10, transfer(7, 11), &agreed);
+    receive(rt, &mut journal, day(3, 5), &sale);
+    receive(rt, &mut journal, day(3, 6), &cured_by_owner(2));
+    receive(rt, &mut journal, day(3, 7), &lapse(3));
+    journal
+}
+
 /// Two filings wait while the land goes to another. The owner at the moment of the notice is the
 /// one who has to consent to the first, and the deadline of the second is not over.
 #[test]
 fn a_transfer_between_filing_and_cure(rt: HostRuntime) -> Result<(), Fail> {
-    let mut journal = opened(&rt, rt.alloc());
-    receive(&rt, &mut journal, day(3, 1), &plain_charge(100_000, 20));
-    receive(&rt, &mut journal, day(3, 4), &plain_charge(200_000, 21));
-    let agreed = [consent(1, 10), agreement(1), clearance(1)];
-    let sale = filed(10, transfer(7, 11), &agreed);
-    receive(&rt, &mut journal, day(3, 5), &sale);
-    receive(&rt, &mut journal, day(3, 6), &cured_by_owner(2));
-    receive(&rt, &mut journal, day(3, 7), &lapse(3));
+    let journal = sold_in_between(&rt, rt.alloc());
     let register = alone(rt.alloc(), &journal)?;
     assert!(rt; waits(verdict(&rt, &register, 2), day(4, 1)));
     assert!(rt; waits(verdict(&rt, &register, 3), day(4, 3)));

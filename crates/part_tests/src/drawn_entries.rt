@@ -4,6 +4,7 @@ ghost use Rattle.std.specs.Prelude.{◌≡◌};
 use folio_sections::{Created, Entry, RightForm, What};
 use gb_base::{Day, Key, Person, ReceiptNo};
 use test_items::{Draws, cents, day, land_charge, owner, parcel, person, receipt, right};
+use test_registers::full_right;
 
 /// An entry at a key.
 pub fn drawn_entry(draws: &mut Draws, key: Key) -> Entry
@@ -94,13 +95,8 @@ fn creation(draws: &mut Draws) -> What {
     };
     let holder = 1 + draws.below(9);
     What::Created(Created {
-        spec: land_charge(100, holder, 1),
         form,
-        reserve: None,
-        ahead_of: None,
-        placed: day(1, 1),
-        behind: None,
-        equal: false,
+        ..full_right(land_charge(100, holder, 1), day(1, 1))
     })
 }
 

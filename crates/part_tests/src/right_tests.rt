@@ -7,6 +7,7 @@ use gb_base::{Key, NoMemory};
 use std::alloc::Global;
 use std::test::Fail;
 use test_items::{cents, day, folio, land_charge, person, receipt, right};
+use test_registers::full_right;
 
 /// Adds the entry of receipt n.
 fn add(part: &mut RightPart, n: u8, what: What) -> Result<(), NoMemory>
@@ -23,13 +24,8 @@ fn add(part: &mut RightPart, n: u8, what: What) -> Result<(), NoMemory>
 fn created(alloc: Global, form: RightForm) -> Result<RightPart, NoMemory> {
     let mut part = RightPart::new(alloc, Key::Right(folio(7), right(1, 2)));
     let made = Created {
-        spec: land_charge(100_000, 20, 1),
         form,
-        reserve: None,
-        ahead_of: None,
-        placed: day(1, 1),
-        behind: None,
-        equal: false,
+        ..full_right(land_charge(100_000, 20, 1), day(1, 1))
     };
     add(&mut part, 1, What::Created(made))?;
     Ok(part)

@@ -22,7 +22,7 @@ pub use items::{
     advance, arrears, award, call, cure, distribution, filed, filing, filing_of, lapse,
     public_charge, seizure_by, seizure_from,
 };
-pub use journals::receive;
+pub use journals::received;
 pub use numbers::{
     case_key, cents, day, folio, last_of_february, person, receipt, right, right_key, stamp,
     title_key,
