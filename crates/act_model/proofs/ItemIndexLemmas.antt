@@ -4,6 +4,7 @@ use Rattle.std.proofs.lemmas.Bool.{cases_Bool, eqb-true}
 use Rattle.std.proofs.lemmas.Grind.{flat_map-append}
 use Rattle.std.proofs.lemmas.List.{append-nil, take_all}
 use Rattle.std.proofs.lemmas.List.Elements.{filter_map-append}
+use Rattle.std.specs.Ordering.{nat_cmp}
 use Rattle.std.specs.List.{enumerate_from, filter_map, flat_map, cons_option}
 use Rattle.act_model.specs.declared.filing_acts.Act.{Act}
 use Rattle.act_model.specs.Acts.{folio_of}
@@ -62,7 +63,7 @@ creations_in-push journal r n folio at =
     ∙ ap (λ xs. creations_in journal folio ++ xs) (append-nil _ ∙ ap (λ k. creations_of_item folio k r.item) (omega arith))
 
 -- the indexes after one more receipt
-pub AreIndexesOf-push : (old new : ItemIndexes) (journal after : List Receipt) (r : Receipt) (n : ℕ) → after ≡ journal ++ r ∷ [] → n ≡ length journal + 1 → AreIndexesOf old journal → Adds old.cures new.cures (cures_by n r.item) → Adds old.creations new.creations (creations_by n r.item) → AreIndexesOf new after
+pub AreIndexesOf-push : (old new : ItemIndexes) (journal after : List Receipt) (r : Receipt) (n : ℕ) → after ≡ journal ++ r ∷ [] → n ≡ length journal + 1 → AreIndexesOf old journal → Adds nat_cmp old.cures new.cures (cures_by n r.item) → Adds nat_cmp old.creations new.creations (creations_by n r.item) → AreIndexesOf new after
 AreIndexesOf-push old new journal after r n same at are cures creations =
     subst (AreIndexesOf new) (sym same) (record {
       cures = λ m. cures m ∙ ap (λ xs. xs ++ cures_by n r.item m) (are.cures m) ∙ sym (cures_of-push journal r n m at);
@@ -70,13 +71,13 @@ AreIndexesOf-push old new journal after r n same at are cures creations =
     })
 
 -- wider lists are the same indexes, and keep the room that there was
-pub AreIndexesOf-widens : (old new : ItemIndexes) (journal : List Receipt) → Widens old.cures new.cures → Widens old.creations new.creations → AreIndexesOf old journal → AreIndexesOf new journal
+pub AreIndexesOf-widens : (old new : ItemIndexes) (journal : List Receipt) → Widens nat_cmp old.cures new.cures → Widens nat_cmp old.creations new.creations → AreIndexesOf old journal → AreIndexesOf new journal
 AreIndexesOf-widens old new journal cures creations are = record {
   cures = λ m. cures.listed m ∙ are.cures m;
   creations = λ folio. creations.listed folio ∙ are.creations folio;
 }
 
-pub HaveRoomFor-widens : (old new : ItemIndexes) (n : ℕ) (item : Item) → Widens old.cures new.cures → Widens old.creations new.creations → HaveRoomFor old n item → HaveRoomFor new n item
+pub HaveRoomFor-widens : (old new : ItemIndexes) (n : ℕ) (item : Item) → Widens nat_cmp old.cures new.cures → Widens nat_cmp old.creations new.creations → HaveRoomFor old n item → HaveRoomFor new n item
 HaveRoomFor-widens old new n item cures creations room = record {
   cures = λ m. le_trans (room.cures m) (cures.room m);
   creations = λ folio. le_trans (room.creations folio) (creations.room folio);

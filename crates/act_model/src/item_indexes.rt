@@ -1,6 +1,7 @@
 //! The indexes of a journal by what its items say.
 //! Why so: docs/DECISIONS.md, "The journal's index may lag by its last receipt".
 ghost use Rattle.std.specs.Prelude.{◌≡◌, ◌≤◌, ◌+◌, ℕ, [], length, OnOk};
+ghost use Rattle.std.specs.Ordering.{nat_cmp};
 ghost use Rattle.gb_base.specs.Limits.{most_acts};
 ghost use Rattle.act_model.specs.inner.ItemIndexes.{cures_by, creations_by, creations_by_acts, AreIndexesOf, HaveRoomFor};
 ghost use Rattle.act_model.specs.inner.Lists.{listed, Adds, HasRoom, Widens};
@@ -36,22 +37,22 @@ impl ItemIndexes {
 
     /// The cures of filing n.
     pub fn cures_of(&self, n: ReceiptNo) -> &[ReceiptNo]
-        ensures { result.now ≡ listed self.now.cures n }
+        ensures { result.now ≡ listed nat_cmp self.now.cures n }
     {
         listed(&self.cures, n.get())
     }
 
     /// The creating acts of the folio.
     pub fn creations_in(&self, folio: FolioId) -> &[RightId]
-        ensures { result.now ≡ listed self.now.creations folio }
+        ensures { result.now ≡ listed nat_cmp self.now.creations folio }
     {
         listed(&self.creations, folio.get())
     }
 
     /// Keeps room for item n.
     pub fn reserve(&mut self, n: ReceiptNo, item: &Item) -> Result<(), NoMemory>
-        ensures cures { Widens self.old.cures self.new.cures }
-        ensures creations { Widens self.old.creations self.new.creations }
+        ensures cures { Widens nat_cmp self.old.cures self.new.cures }
+        ensures creations { Widens nat_cmp self.old.creations self.new.creations }
         ensures room { OnOk result (HaveRoomFor self.new n item.now) }
     {
         match item {
@@ -68,8 +69,8 @@ impl ItemIndexes {
     /// Takes item n, for which there is room.
     pub fn add(&mut self, n: ReceiptNo, item: &Item)
         requires { HaveRoomFor self.old n item.now }
-        ensures cures { Adds self.old.cures self.new.cures (cures_by n item.now) }
-        ensures creations { Adds self.old.creations self.new.creations (creations_by n item.now) }
+        ensures cures { Adds nat_cmp self.old.cures self.new.cures (cures_by n item.now) }
+        ensures creations { Adds nat_cmp self.old.creations self.new.creations (creations_by n item.now) }
     {
         match item {
             Item::Cure { filing, .. } if *filing < n => push(&mut self.cures, filing.get(), n),
@@ -87,8 +88,8 @@ fn reserve_creations(
     acts: &[Act],
     alloc: Global,
 ) -> Result<(), NoMemory>
-    ensures widens { Widens creations.old creations.new }
-    ensures room { OnOk result ((n a : ℕ) → HasRoom creations.new (creations_by_acts n a acts.now)) }
+    ensures widens { Widens nat_cmp creations.old creations.new }
+    ensures room { OnOk result ((n a : ℕ) → HasRoom nat_cmp creations.new (creations_by_acts n a acts.now)) }
 {
     match acts {
         [] => Ok(()),
@@ -106,8 +107,8 @@ fn reserve_creations(
 fn push_creations(creations: &mut BTreeMap<u32, Vec<RightId>>, n: ReceiptNo, a: u8, acts: &[Act])
     requires from_one { 1 ≤ a }
     requires to_eight { a + length acts.now ≤ most_acts + 1 }
-    requires room { HasRoom creations.old (creations_by_acts n a acts.now) }
-    ensures { Adds creations.old creations.new (creations_by_acts n a acts.now) }
+    requires room { HasRoom nat_cmp creations.old (creations_by_acts n a acts.now) }
+    ensures { Adds nat_cmp creations.old creations.new (creations_by_acts n a acts.now) }
 {
     if let [act, rest @ ..] = acts {
         if act.right_created().is_some() {

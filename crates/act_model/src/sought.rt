@@ -3,7 +3,7 @@ ghost use Rattle.std.specs.Prelude.{◌≡◌};
 ghost use Rattle.act_model.specs.Documents.{is_agreement, is_certified_consent_of, is_clearance, is_consent_of, is_proof};
 
 use crate::{Doc, Form};
-use gb_base::Person;
+use gb_base::{Person, ReceiptNo};
 
 /// A test of a document.
 pub trait DocFilter {
@@ -19,7 +19,7 @@ pub trait DocFilter {
 }
 
 /// What is looked for, for the act of this number.
-#[derive(Clone, Copy, Debug)]
+#[derive(Clone, Copy, Debug, PartialEq, Eq, PartialOrd, Ord)]
 pub enum Sought {
     /// A consent of the person, in either form.
     Consent { act: u8, person: Person },
@@ -31,6 +31,15 @@ pub enum Sought {
     Clearance { act: u8 },
     /// The proof that a right has expired by law (GBO § 22).
     Proof { act: u8 },
+}
+
+/// What is looked for among the documents of a filing.
+#[derive(Clone, Copy, Debug, PartialEq, Eq, PartialOrd, Ord)]
+pub struct DocumentOf {
+    /// The filing.
+    pub filing: ReceiptNo,
+    /// What is looked for.
+    pub sought: Sought,
 }
 
 impl DocFilter for Sought {

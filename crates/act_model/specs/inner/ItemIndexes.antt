@@ -1,6 +1,7 @@
 -- The indexes of a journal by what its items say.
 use Rattle.std.specs.Prelude.{◌≡◌, ℕ, ◌+◌, ◌<◌, ◌&&◌, nat_lt, if◌then◌else◌, List, [], ◌∷◌, filter_map, Option, Some}
 use Rattle.std.specs.List.{enumerate_from}
+use Rattle.std.specs.Ordering.{nat_cmp}
 use Rattle.gb_base.specs.RightNo.{RightNo}
 use Rattle.act_model.specs.declared.filing_acts.Act.{Act}
 use Rattle.act_model.specs.declared.items.Item.{Item}
@@ -24,13 +25,13 @@ creations_by_acts n a acts folio = filter_map (creation_in folio n) (enumerate_f
 
 -- the indexes have the cures and the creating acts of all receipts, and no other
 pub record AreIndexesOf (indexes : ItemIndexes) (journal : List Receipt) : Type 0 where
-  pub cures : (m : ℕ) → listed indexes.cures m ≡ cures_of journal m
-  pub creations : (folio : ℕ) → listed indexes.creations folio ≡ creations_in journal folio
+  pub cures : (m : ℕ) → listed nat_cmp indexes.cures m ≡ cures_of journal m
+  pub creations : (folio : ℕ) → listed nat_cmp indexes.creations folio ≡ creations_in journal folio
 
 -- the indexes have room for what item n adds to them
 pub record HaveRoomFor (indexes : ItemIndexes) (n : ℕ) (item : Item) : Type 0 where
-  pub cures : HasRoom indexes.cures (cures_by n item)
-  pub creations : HasRoom indexes.creations (creations_by n item)
+  pub cures : HasRoom nat_cmp indexes.cures (cures_by n item)
+  pub creations : HasRoom nat_cmp indexes.creations (creations_by n item)
 
 -- A journal that is ready for an item: no receipt waits for the index by sender and reference, and there is room for one of
 -- the item, in the list and in the indexes by what items say.

@@ -1,5 +1,6 @@
 -- The journal takes one receipt more, which waits for the index by sender and reference.
 use Rattle.std.proofs.Common.{◌≡◌, ℕ, ◌+◌, ◌<◌, length, get_or, false, None, IsTrue, subst, sym, ap, ◌∙◌, arith}
+use Rattle.std.specs.Ordering.{nat_cmp}
 use Rattle.std.specs.Vec.{vec_len}
 use Rattle.std.proofs.lemmas.Grind.{common_steps}
 use Rattle.act_model.specs.declared.receipts.Receipt.{Receipt}
@@ -44,6 +45,6 @@ invariant_of-self c =
     λ k d h. subst (λ t. is_before t (get_or journal k d).stamp ≡ false) (sym stamped) (stamp_after-last journal c.args.stamp c.self-2.invariant.0.stamps k d h) in
     let pushed = Journal-push journal c.push_reserved.new.self.items r c.self-2.inside.numbers c.self-2.inside.indexed c.push_reserved.ensures.items c.self-2.invariant.0 c.self-2.invariant.1 all few well none later in
     let indexes = AreIndexesOf-push c.self-2.inside.indexes c.add.new.self journal c.push_reserved.new.self.items r c.unwrap-n.result c.push_reserved.ensures.items number c.self-2.invariant.2
-    (subst (λ i. Adds c.self-2.inside.indexes.cures c.add.new.self.cures (cures_by c.unwrap-n.result i)) (sym c.copy.ensures) c.add.ensures.cures)
-    (subst (λ i. Adds c.self-2.inside.indexes.creations c.add.new.self.creations (creations_by c.unwrap-n.result i)) (sym c.copy.ensures) c.add.ensures.creations) in
+    (subst (λ i. Adds nat_cmp c.self-2.inside.indexes.cures c.add.new.self.cures (cures_by c.unwrap-n.result i)) (sym c.copy.ensures) c.add.ensures.cures)
+    (subst (λ i. Adds nat_cmp c.self-2.inside.indexes.creations c.add.new.self.creations (creations_by c.unwrap-n.result i)) (sym c.copy.ensures) c.add.ensures.creations) in
     (pushed.0, pushed.1, indexes, λ i h. absurd (cc h))
