@@ -124,7 +124,7 @@ has_sought matter s =
 
 -- ---- who consents in cures
 
-any_weaker : {X : Type 0} (f g : X → Bool) (xs : List X) → ((x : X) → f x ≡ true → g x ≡ true) → list_any f xs ≡ true → list_any g xs ≡ true
+pub any_weaker : {X : Type 0} (f g : X → Bool) (xs : List X) → ((x : X) → f x ≡ true → g x ≡ true) → list_any f xs ≡ true → list_any g xs ≡ true
 any_weaker f g [] weaker h = h
 any_weaker f g (x ∷ xs) weaker h =
     ⊎_elim (λ here. or_left (g x) (list_any g xs) (weaker x here)) (λ later. or_right (g x) (list_any g xs) (any_weaker f g xs weaker later)) (or_cases (f x) (list_any f xs) h)
@@ -139,7 +139,7 @@ listed_passes B f (c ∷ cs) then h =
     (or_cases (f c) (list_any f cs) h)
 
 -- one who passes, as somebody who consents
-somebody_consents : (B : Type 0) (a : ℕ) (q : ℕ → Bool) (docs : List Doc) → ((p : ℕ) → q p ≡ true → list_any (is_consent_of a p) docs ≡ true → B) → list_any (is_consent_by a q) docs ≡ true → B
+pub somebody_consents : (B : Type 0) (a : ℕ) (q : ℕ → Bool) (docs : List Doc) → ((p : ℕ) → q p ≡ true → list_any (is_consent_of a p) docs ≡ true → B) → list_any (is_consent_by a q) docs ≡ true → B
 somebody_consents B a q [] then h = absurd (false≢true h)
 somebody_consents B a q (doc.Consent act p given ∷ docs) then h =
     ⊎_elim
@@ -150,7 +150,7 @@ somebody_consents B a q (doc.Agreement act ∷ docs) then h = somebody_consents 
 somebody_consents B a q (doc.TaxClearance act ∷ docs) then h = somebody_consents B a q docs then h
 somebody_consents B a q (doc.ExpiryProof act ∷ docs) then h = somebody_consents B a q docs then h
 
-consent_passes : (a p : ℕ) (q : ℕ → Bool) → q p ≡ true → (d : Doc) → is_consent_of a p d ≡ true → is_consent_by a q d ≡ true
+pub consent_passes : (a p : ℕ) (q : ℕ → Bool) → q p ≡ true → (d : Doc) → is_consent_of a p d ≡ true → is_consent_by a q d ≡ true
 consent_passes a p q passes (doc.Consent act r given) h =
     let parts = and_parts (eqb act a) (eqb r p) h in
     and_from (eqb act a) (q r) parts.0 (ap q (eqb-true r p parts.1) ∙ passes)

@@ -1,6 +1,7 @@
 -- Lemmas.
 pub mod CreationOrder
 pub mod CreationRanks
+pub mod ApplicantFilings
 pub mod ConsenterLemmas
 pub mod CureOrder
 mod DerivedEquality
