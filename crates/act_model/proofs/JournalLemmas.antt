@@ -36,7 +36,7 @@ number_from-other : (n sender reference : ℕ) (rs : List Receipt) (r : Receipt)
 number_from-other n s f [] r h = rw h
 number_from-other n s f (q ∷ rs) r h = ap (λ o. cond (is_sent_as s f q) (Some n) o) (number_from-other (n + 1) s f rs r h)
 
-is_at-pair : (a b c d : ℕ) → is_eq (ordering_then (nat_cmp a c) (nat_cmp b d)) ≡ (eqb a c && eqb b d)
+pub is_at-pair : (a b c d : ℕ) → is_eq (ordering_then (nat_cmp a c) (nat_cmp b d)) ≡ (eqb a c && eqb b d)
 is_at-pair a b c d = grind (arith, nat_tests)
 
 -- the index after one more receipt, of a sender and reference that it had not

@@ -1,42 +1,13 @@
 -- The documents that count for a filing (GBO §§ 18, 19, 29).
 -- Why so: docs/DECISIONS.md, "A document of no act counts for none".
-use Rattle.std.specs.Prelude.{ℕ, Bool, true, false, not, ◌&&◌, ◌==◌, nat_le, if◌then◌else◌, List, [], ◌++◌, length, filter, flat_map, Option, Some, None}
-use Rattle.std.specs.Option.{option_map_or}
-use Rattle.std.specs.List.{list_any}
+pub use Rattle.act_model.specs.DocumentTests.{act_of_doc, docs_by_cure, docs_of_cure, given, has_proof, is_agreement, is_certified_consent_of, is_clearance, is_consent_by, is_consent_of, is_plain, is_proof, is_strangers_consent}
+use Rattle.std.specs.Prelude.{ℕ, nat_le, List, ◌++◌, length, filter, flat_map}
 use Rattle.gb_base.specs.Limits.{is_between}
 use Rattle.act_model.specs.declared.documents.Doc.{Doc}
-use Rattle.act_model.specs.declared.documents.Form.{Form}
 use Rattle.act_model.specs.declared.items.Filing.{Filing}
-use Rattle.act_model.specs.declared.items.Item.{Item}
 use Rattle.act_model.specs.declared.matters.Matter.{Matter}
 use Rattle.act_model.specs.declared.receipts.Receipt.{Receipt}
 use Rattle.act_model.specs.Cures.{cures_of}
-use Rattle.act_model.specs.Receiving.{receipt_at}
-use Rattle.act_model.specs.declared.documents.Doc.TheVariants as doc
-use Rattle.act_model.specs.declared.documents.Form.TheVariants as form
-use Rattle.act_model.specs.declared.items.Item.TheVariants as item
-
--- the documents that a cure brings
-abbrev pub docs_of_cure : Item → List Doc
-docs_of_cure (item.Cure filing docs) = docs
-docs_of_cure (item.Filing f) = []
-docs_of_cure (item.Lapse m) = []
-docs_of_cure (item.Seize folio basis served) = []
-docs_of_cure (item.Register folio registered) = []
-docs_of_cure (item.OpenBids folio costs) = []
-docs_of_cure (item.Award folio buyer bid) = []
-docs_of_cure (item.Distribute folio) = []
-
--- the documents that receipt n brings as a cure
-abbrev pub docs_by_cure : List Receipt → ℕ → List Doc
-docs_by_cure journal n = option_map_or (λ r. docs_of_cure r.item) (receipt_at journal n) []
-
--- the act for which a document is
-abbrev pub act_of_doc : Doc → ℕ
-act_of_doc (doc.Consent act person given) = act
-act_of_doc (doc.Agreement act) = act
-act_of_doc (doc.TaxClearance act) = act
-act_of_doc (doc.ExpiryProof act) = act
 
 -- The documents of filing m, and then those of each of its cures up to receipt i, in order. One of an act that the filing
 -- does not have counts for nothing.
@@ -48,64 +19,3 @@ documents journal m f i =
 -- the documents that count for a filing as an item settles it
 unfoldable pub docs_of : Matter → List Doc
 docs_of matter = documents matter.journal.now.receipts matter.number matter.filing.now matter.item
-
--- ---- what stands among documents for act a
-
--- a consent of the person for the act, in either form
-abbrev pub is_consent_of : ℕ → ℕ → Doc → Bool
-is_consent_of a person (doc.Consent act p given) = act == a && p == person
-is_consent_of a person (doc.Agreement act) = false
-is_consent_of a person (doc.TaxClearance act) = false
-is_consent_of a person (doc.ExpiryProof act) = false
-
--- a certified consent of the person for the act
-abbrev pub is_certified_consent_of : ℕ → ℕ → Doc → Bool
-is_certified_consent_of a person (doc.Consent act p form.Certified) = act == a && p == person
-is_certified_consent_of a person (doc.Consent act p form.Plain) = false
-is_certified_consent_of a person (doc.Agreement act) = false
-is_certified_consent_of a person (doc.TaxClearance act) = false
-is_certified_consent_of a person (doc.ExpiryProof act) = false
-
--- the form in which the person has consented to the act: certified where some consent is; none where there is none
-abbrev pub given : List Doc → ℕ → ℕ → Option Form
-given docs a person =
-    if list_any (is_certified_consent_of a person) docs then Some form.Certified
-    else (if list_any (is_consent_of a person) docs then Some form.Plain else None)
-
--- the consent is in plain form
-abbrev pub is_plain : Option Form → Bool
-is_plain (Some form.Plain) = true
-is_plain (Some form.Certified) = false
-is_plain None = false
-
--- a consent for the act by somebody who is none of these persons
-abbrev pub is_strangers_consent : ℕ → List ℕ → Doc → Bool
-is_strangers_consent a persons (doc.Consent act p given) = act == a && not (list_any (λ q. q == p) persons)
-is_strangers_consent a persons (doc.Agreement act) = false
-is_strangers_consent a persons (doc.TaxClearance act) = false
-is_strangers_consent a persons (doc.ExpiryProof act) = false
-
--- the agreement on the transfer (GBO § 20)
-abbrev pub is_agreement : ℕ → Doc → Bool
-is_agreement a (doc.Agreement act) = act == a
-is_agreement a (doc.Consent act p given) = false
-is_agreement a (doc.TaxClearance act) = false
-is_agreement a (doc.ExpiryProof act) = false
-
--- the tax office's clearance of the transfer (GrEStG § 22)
-abbrev pub is_clearance : ℕ → Doc → Bool
-is_clearance a (doc.TaxClearance act) = act == a
-is_clearance a (doc.Consent act p given) = false
-is_clearance a (doc.Agreement act) = false
-is_clearance a (doc.ExpiryProof act) = false
-
--- the proof that the right has expired (GBO § 22)
-abbrev pub is_proof : ℕ → Doc → Bool
-is_proof a (doc.ExpiryProof act) = act == a
-is_proof a (doc.Consent act p given) = false
-is_proof a (doc.Agreement act) = false
-is_proof a (doc.TaxClearance act) = false
-
--- the act has an expiry proof
-abbrev pub has_proof : List Doc → ℕ → Bool
-has_proof docs a = list_any (is_proof a) docs

@@ -3,7 +3,9 @@ pub mod Acts
 pub mod Creations
 pub mod Cures
 pub mod Divisions
+pub mod DocumentTests
 pub mod Documents
+pub mod Filings
 pub mod Groups
 pub mod JournalState
 pub mod Limits

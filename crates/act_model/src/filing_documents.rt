@@ -1,26 +1,41 @@
 //! The documents that count for a filing (GBO §§ 18, 19, 29).
-ghost use Rattle.std.specs.Prelude.{◌≡◌, ◌&&◌, nat_le, filter, flat_map};
-ghost use Rattle.act_model.specs.Cures.{cures_of};
+ghost use Rattle.std.specs.Prelude.{◌≡◌, ◌&&◌, ℕ, length, false, nat_le};
 ghost use Rattle.std.specs.List.{list_any};
+ghost use Rattle.std.specs.Option.{option_map_or};
 ghost use Rattle.gb_base.specs.Limits.{is_between};
-ghost use Rattle.act_model.specs.Documents.{act_of_doc, docs_by_cure, docs_of_cure};
+ghost use Rattle.act_model.specs.Documents.{is_consent_by};
+ghost use Rattle.act_model.specs.Sought.{is_sought};
+ghost use Rattle.act_model.specs.inner.CureDocuments.{Rises};
+ghost use Rattle.act_model.specs.inner.Firsts.{first_cure};
 
-use crate::sought::{DocFilter, Sought};
-use crate::{Doc, Form, Item, Journal, Matter};
+use crate::cure_documents::Consenter;
+use crate::{Doc, Filing, Form, Matter, PersonTest, Sought};
 use gb_base::{Person, ReceiptNo};
 
 /// The documents that count for a filing: its own, and those of its cures up to the item that
-/// settles it, but for those of an act that it does not have.
+/// settles it, but for those of an act that it does not have. Its own are walked; what cures bring
+/// is found.
 impl<'a> Matter<'a> {
     ghost use Rattle.act_model.specs.Documents.{docs_of, given, has_proof};
 
-    /// Whether such a document counts.
+    /// Whether a document counts that is looked for so.
     #[tactic(auto, unfolding(crate::specs::Documents::docs_of))]
-    pub fn has<T: DocFilter>(&self, test: &T) -> bool
-        ensures { result ≡ list_any (T.test test.now) (docs_of self.now) }
+    pub fn has(&self, sought: &Sought) -> bool
+        ensures { result ≡ list_any (is_sought sought.now) (docs_of self.now) }
     {
-        let acts = self.filing.acts.list().len();
-        counts_among(self.filing.docs.list(), acts, test) || cures_have(self, acts, test)
+        has_act(self.filing, sought.act())
+            && (are_among(sought, self.filing.docs.list()) || cures_bring(self, sought))
+    }
+
+    /// Whether somebody consents to the act, in either form, who passes the test.
+    #[tactic(auto, unfolding(crate::specs::Documents::docs_of))]
+    pub fn some_consenter<T: PersonTest>(&self, act: u8, test: &T) -> bool
+        ensures { result ≡ list_any (is_consent_by act (T.test test.now)) (docs_of self.now) }
+    {
+        let in_cures = self.journal.cure_documents().consenters(self.number, act);
+        has_act(self.filing, act)
+            && (some_consent(self.filing.docs.list(), act, test)
+                || some_passes(in_cures, self.item, test))
     }
 
     /// The form in which the person has consented to the act: certified where some consent is;
@@ -45,77 +60,64 @@ impl<'a> Matter<'a> {
     }
 }
 
-/// Whether a cure of the filing, up to the item with which it is judged, brings such a document for one of
-/// so many acts.
-#[tactic(auto, using(crate::proofs::CureOrder::any_brought))]
-fn cures_have<T: DocFilter>(matter: &Matter, acts: usize, test: &T) -> bool
-    ensures { result ≡ list_any (T.test test.now) (filter (λ d. is_between 1 acts (act_of_doc d)) (flat_map (docs_by_cure matter.now.journal.now.receipts) (filter (λ n. nat_le n matter.now.item) (cures_of matter.now.journal.now.receipts matter.now.number)))) }
+/// Whether the filing has an act of this number.
+fn has_act(filing: &Filing, act: u8) -> bool
+    ensures { result ≡ is_between 1 (length filing.now.acts) act }
 {
-    // Cures ascend: none behind the item counts.
-    for number in matter.journal.cures_of(matter.number) {
-        if *number > matter.item {
-            return false;
-        }
-        if counts_among(docs_by_cure(matter.journal, *number), acts, test) {
-            return true;
-        }
+    1 <= act && act as usize <= filing.acts.list().len()
+}
+
+/// Whether one of these documents is looked for so.
+fn are_among(sought: &Sought, docs: &[Doc]) -> bool
+    ensures { result ≡ list_any (is_sought sought.now) docs.now }
+{
+    docs.iter().any(|doc| sought.is_met_by(doc))
+}
+
+/// Whether a cure of the filing, up to the item with which it is judged, brings what is looked for.
+fn cures_bring(matter: &Matter, sought: &Sought) -> bool
+    ensures { result ≡ option_map_or (λ n. nat_le n matter.now.item) (first_cure matter.now.journal.now.receipts matter.now.number sought.now) false }
+{
+    match matter
+        .journal
+        .cure_documents()
+        .first(matter.number, *sought)
+    {
+        Some(first) => first <= matter.item,
+        None => false,
     }
-    false
 }
 
-/// Whether such a document is among these, for one of so many acts.
-fn counts_among<T: DocFilter>(docs: &[Doc], acts: usize, test: &T) -> bool
-    ensures { result ≡ list_any (T.test test.now) (filter (λ d. is_between 1 acts (act_of_doc d)) docs.now) }
+/// Whether one of these documents is a consent to the act by a person who passes.
+fn some_consent<T: PersonTest>(docs: &[Doc], act: u8, test: &T) -> bool
+    ensures { result ≡ list_any (is_consent_by act (T.test test.now)) docs.now }
 {
-    for doc in docs {
-        if counts(doc, acts) && test.passes(doc) {
-            return true;
-        }
-    }
-    false
+    docs.iter().any(|doc| is_consent_by(doc, act, test))
 }
 
-/// Whether the document is for one of so many acts.
-fn counts(doc: &Doc, acts: usize) -> bool
-    ensures { result ≡ is_between 1 acts (act_of_doc doc.now) }
-{
-    let act = act_of_doc(doc);
-    1 <= act && act as usize <= acts
-}
-
-/// The act for which the document is.
-fn act_of_doc(doc: &Doc) -> u8
-    ensures { result ≡ act_of_doc doc.now }
+/// Whether the document is a consent to the act by a person who passes.
+fn is_consent_by<T: PersonTest>(doc: &Doc, number: u8, test: &T) -> bool
+    ensures { result ≡ is_consent_by number (T.test test.now) doc.now }
 {
     match doc {
-        Doc::Consent { act, .. } => *act,
-        Doc::Agreement { act } => *act,
-        Doc::TaxClearance { act } => *act,
-        Doc::ExpiryProof { act } => *act,
+        Doc::Consent { act, person, .. } => *act == number && test.passes(*person),
+        Doc::Agreement { .. } | Doc::TaxClearance { .. } | Doc::ExpiryProof { .. } => false,
     }
 }
 
-/// The documents that receipt n brings as a cure.
-fn docs_by_cure(journal: &Journal, n: ReceiptNo) -> &[Doc]
-    ensures { result.now ≡ docs_by_cure journal.now.receipts n }
+/// Whether one of these, who stand in the order of their first consents, consents up to receipt
+/// `item` and passes.
+fn some_passes<T: PersonTest>(consenters: &[Consenter], item: ReceiptNo, test: &T) -> bool
+    requires { (last : ℕ) × Rises 0 last consenters.now }
+    ensures { result ≡ list_any (λ c. nat_le c.first item && T.test test.now c.person) consenters.now }
 {
-    match journal.get(n) {
-        Some(receipt) => docs_of_cure(&receipt.item),
-        None => &[],
+    for consenter in consenters {
+        if consenter.first > item {
+            return false;
+        }
+        if test.passes(consenter.person) {
+            return true;
+        }
     }
-}
-
-fn docs_of_cure(item: &Item) -> &[Doc]
-    ensures { result.now ≡ docs_of_cure item.now }
-{
-    match item {
-        Item::Cure { docs, .. } => docs.list(),
-        Item::Filing(_)
-        | Item::Lapse { .. }
-        | Item::Seize { .. }
-        | Item::Register { .. }
-        | Item::OpenBids { .. }
-        | Item::Award { .. }
-        | Item::Distribute { .. } => &[],
-    }
+    false
 }

@@ -8,10 +8,11 @@ ghost use Rattle.act_model.specs.Limits.{most_receipts};
 ghost use Rattle.act_model.specs.inner.CreationOrder.{Rises};
 ghost use Rattle.act_model.specs.inner.Index.{IsIndexOf, IsIndexed};
 
+use crate::cure_documents::CureDocuments;
 use crate::filings::folio_of_right;
 use crate::item_indexes::ItemIndexes;
 use crate::{Added, Item, Receipt};
-use gb_base::{FolioId, NoMemory, ReceiptNo, RightId, Stamp};
+use gb_base::{FolioId, NoMemory, Person, ReceiptNo, RightId, Stamp};
 use std::alloc::Global;
 use std::collections::BTreeMap;
 use std::marker::Model;
@@ -66,6 +67,8 @@ impl Journal {
     ghost use Rattle.act_model.specs.Receiving.{answer_by, answer_to, journal_with, number_from, number_of, receipt_at, is_accepted, IsJournal};
     ghost use Rattle.act_model.specs.Creations.{creating_rank, creations_in};
     ghost use Rattle.act_model.specs.Cures.{cures_of};
+    ghost use Rattle.act_model.specs.Filings.{filings_of};
+    ghost use Rattle.act_model.specs.inner.CureDocuments.{AreDocumentsOf};
     ghost use Rattle.act_model.specs.JournalState.{has_room};
     ghost use Rattle.act_model.specs.WellFormed.{well_formed};
 
@@ -146,6 +149,20 @@ impl Journal {
         ensures few { length result.now ≤ 8 * most_receipts }
     {
         self.indexes.creations_in(folio)
+    }
+
+    /// The numbers of the filings of the applicant, ascending.
+    pub fn filings_of(&self, applicant: Person) -> &[ReceiptNo]
+        ensures { result.now ≡ filings_of self.now.receipts applicant }
+    {
+        self.indexes.filings_of(applicant)
+    }
+
+    /// What cures bring for the filings ahead of them.
+    pub(crate) fn cure_documents(&self) -> &CureDocuments
+        ensures { AreDocumentsOf result.now self.now.receipts }
+    {
+        self.indexes.documents()
     }
 
     /// The place of a creating act, from 1, among all of its folio; None where the id names none.

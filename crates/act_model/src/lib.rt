@@ -3,20 +3,22 @@
 //! - What comes in: `items`, `filing_acts` with `rights`, `land` and `people`, `documents`, and
 //!   `sales` for a forced sale. `filing_rules` and `ranges` say what is well formed.
 //! - The journal: `receipts`, `journals` and its answers `added`; `item_indexes` and `lists` are how
-//!   it finds cures and creating acts.
+//!   it finds cures, creating acts and filings, `cure_documents` and `firsts` what cures bring.
 //! - What follows from it: `filings` finds filings, acts and rights, `touched_keys` the keys that a
 //!   filing touches, `divisions` and `groups` what it creates; `matters` is a filing with the item
 //!   with which it is judged, `filing_documents` are the documents that count then, and `sought`
-//!   tests them.
+//!   says what is looked for among them.
 #![tactic(auto)]
 
 mod added;
+mod cure_documents;
 mod divisions;
 mod documents;
 mod filing_acts;
 mod filing_documents;
 mod filing_rules;
 mod filings;
+mod firsts;
 mod groups;
 mod item_indexes;
 mod items;
@@ -49,5 +51,5 @@ pub use ranges::well_formed;
 pub use receipts::Receipt;
 pub use rights::{RightKind, RightSpec};
 pub use sales::{Basis, Registration};
-pub use sought::{DocFilter, Sought};
+pub use sought::{PersonTest, Sought};
 pub use touched_keys::filing_keys;

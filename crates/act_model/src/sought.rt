@@ -5,21 +5,20 @@ ghost use Rattle.act_model.specs.Documents.{is_agreement, is_certified_consent_o
 use crate::{Doc, Form};
 use gb_base::Person;
 
-/// A test of a document.
-pub trait DocFilter {
-    ghost use Rattle.std.specs.Prelude.{Bool};
-    ghost use Rattle.act_model.specs.declared.documents.Doc.{Doc};
+/// A test of a person.
+pub trait PersonTest {
+    ghost use Rattle.std.specs.Prelude.{Bool, ℕ};
 
-    /// Whether the document passes.
-    ghost test: { Self → Doc → Bool };
+    /// Whether the person passes.
+    ghost test: { Self → ℕ → Bool };
 
-    /// Whether the document passes.
-    fn passes(&self, doc: &Doc) -> bool
-        ensures { result ≡ test self.now doc.now };
+    /// Whether the person passes.
+    fn passes(&self, person: Person) -> bool
+        ensures { result ≡ test self.now person };
 }
 
 /// What is looked for, for the act of this number.
-#[derive(Clone, Copy, Debug)]
+#[derive(Clone, Copy, Debug, PartialEq, Eq, PartialOrd, Ord)]
 pub enum Sought {
     /// A consent of the person, in either form.
     Consent { act: u8, person: Person },
@@ -33,12 +32,26 @@ pub enum Sought {
     Proof { act: u8 },
 }
 
-impl DocFilter for Sought {
-    ghost use Rattle.act_model.specs.Sought.{is_sought};
+impl Sought {
+    ghost use Rattle.act_model.specs.Sought.{act_sought, is_sought};
 
-    ghost test = { is_sought };
+    /// The act for which it is looked for.
+    pub fn act(&self) -> u8
+        ensures { result ≡ act_sought self.now }
+    {
+        match self {
+            Sought::Consent { act, .. } => *act,
+            Sought::Certified { act, .. } => *act,
+            Sought::Agreement { act } => *act,
+            Sought::Clearance { act } => *act,
+            Sought::Proof { act } => *act,
+        }
+    }
 
-    fn passes(&self, doc: &Doc) -> bool {
+    /// Whether the document is what is looked for.
+    pub fn is_met_by(&self, doc: &Doc) -> bool
+        ensures { result ≡ is_sought self.now doc.now }
+    {
         match self {
             Sought::Consent { act, person } => is_consent_of(doc, *act, *person),
             Sought::Certified { act, person } => is_certified_consent_of(doc, *act, *person),

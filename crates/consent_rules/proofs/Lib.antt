@@ -1,4 +1,6 @@
 -- Lemmas of this crate's own.
 pub mod HeldLemmas
 pub mod ListLemmas
+pub mod NextFilings
+pub mod PlainConsents
 pub mod WaitersLeft

@@ -26,10 +26,12 @@ pub fn has_stranger<P: Parts>(parts: &P, matter: &Matter, a: u8, act: &Act) -> b
     ensures { result ≡ has_stranger matter.now.journal.now.receipts matter.now.number (docs_of matter.now) (P.at parts.now) matter.now.filing.now.acts a act.now }
 {
     let consenters = needed(parts, matter, a, act);
-    matter.has(&Stranger {
-        act: a,
-        needed: &consenters,
-    })
+    matter.some_consenter(
+        a,
+        &Stranger {
+            needed: &consenters,
+        },
+    )
 }
 
 /// Whether somebody whose consent the act needs has given it in plain form alone (GBO § 29).

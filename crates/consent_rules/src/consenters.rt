@@ -7,7 +7,7 @@ ghost use Rattle.consent_rules.specs.inner.Needed.{everyone};
 
 use crate::lacks::{Lack, some_are_lacking};
 use crate::waiting::Waiting;
-use act_model::{Doc, DocFilter};
+use act_model::PersonTest;
 use arrayvec::ArrayVec;
 use gb_base::Person;
 
@@ -74,23 +74,20 @@ impl<'a> Consenters<'a> {
     }
 }
 
-/// A consent for the act by somebody whose consent it does not need.
+/// Somebody whose consent the act does not need.
 #[derive(Drop)]
 pub struct Stranger<'a> {
-    pub act: u8,
     pub needed: &'a Consenters<'a>,
 }
 
-impl<'a> DocFilter for Stranger<'a> {
-    ghost use Rattle.act_model.specs.Documents.{is_strangers_consent};
+impl<'a> PersonTest for Stranger<'a> {
+    ghost use Rattle.std.specs.Prelude.{not, ◌==◌};
+    ghost use Rattle.std.specs.List.{list_any};
     ghost use Rattle.consent_rules.specs.inner.Needed.{everyone};
 
-    ghost test = { λ s d. is_strangers_consent s.act (everyone s.needed.now) d };
+    ghost test = { λ s p. not (list_any (λ q. q == p) (everyone s.needed.now)) };
 
-    fn passes(&self, doc: &Doc) -> bool {
-        match doc {
-            Doc::Consent { act, person, .. } => *act == self.act && !self.needed.has(*person),
-            _ => false,
-        }
+    fn passes(&self, person: Person) -> bool {
+        !self.needed.has(person)
     }
 }

@@ -1,12 +1,13 @@
 //! The earlier filings that wait at a right (BGB § 876).
-ghost use Rattle.std.specs.Prelude.{◌≡◌, ◌==◌, false};
-ghost use Rattle.std.specs.List.{list_any};
+ghost use Rattle.std.specs.Prelude.{◌≡◌, ◌==◌, false, find, nat_le};
+ghost use Rattle.std.specs.List.{list_any, slice_get};
 ghost use Rattle.std.specs.Option.{option_map_or};
+ghost use Rattle.gb_base.specs.Ascending.{AscendsBy};
 ghost use Rattle.consent_rules.specs.Persons.{waiting_applicants};
 ghost use Rattle.consent_rules.specs.inner.Lacks.{is_lacking};
 
 use crate::lacks::{Lack, is_lacking};
-use act_model::{Journal, applicant_of};
+use act_model::{Journal, PersonTest, applicant_of};
 use folio_sections::RightPart;
 use gb_base::{Person, ReceiptNo};
 use std::marker::Model;
@@ -50,26 +51,76 @@ impl<'a> Waiting<'a> {
         waits(self.journal, self.before, self.part, person)
     }
 
-    /// Whether this is lacking from one of them.
+    /// Whether this is lacking from one of them. Who lacks the form has consented, so those are
+    /// asked who consent; else all of them, until one has not consented.
     pub fn some(&self, lack: &Lack) -> bool
         ensures { result ≡ list_any (is_lacking lack.now) self.now }
     {
-        some_waits(self.journal, self.before, self.part, lack)
+        match lack {
+            Lack::Consent(_, _) => some_waits(self.journal, self.before, self.part, lack),
+            Lack::Form(matter, act) => {
+                let lacking = LackingWaiter {
+                    waiting: self,
+                    lack,
+                };
+                matter.some_consenter(*act, &lacking)
+            }
+        }
     }
 }
 
-/// Whether the person is an applicant of an earlier filing that waits at the right.
+/// One of those who wait, from whom this is lacking.
+#[derive(Drop)]
+struct LackingWaiter<'a> {
+    waiting: &'a Waiting<'a>,
+    lack: &'a Lack<'a>,
+}
+
+impl<'a> PersonTest for LackingWaiter<'a> {
+    ghost use Rattle.std.specs.Prelude.{◌&&◌, ◌==◌};
+    ghost use Rattle.std.specs.List.{list_any};
+    ghost use Rattle.consent_rules.specs.inner.Lacks.{is_lacking};
+
+    ghost test = { λ w p. is_lacking w.lack.now p && list_any (λ q. q == p) w.waiting.now };
+
+    fn passes(&self, person: Person) -> bool {
+        is_lacking(self.lack, person) && self.waiting.has(person)
+    }
+}
+
+/// Whether the person is an applicant of an earlier filing that waits at the right: a filing that
+/// waits and one of the person, each the next at or above the other, until they are the same.
 fn waits(journal: &Journal, before: ReceiptNo, part: &RightPart, person: Person) -> bool
     ensures { result ≡ list_any (λ q. q == person) (waiting_applicants journal.now.receipts before part.now.entries) }
 {
+    let filings = journal.filings_of(person);
     let mut after = None;
-    while let Some(filing) = part.next_pending(after, before) {
-        if applicant_of(journal, filing) == Some(person) {
+    while let Some(waiting) = part.next_pending(after, before) {
+        let Some(filing) = first_from(filings, waiting) else {
+            return false;
+        };
+        if filing.get() == waiting.get() {
             return true;
         }
-        after = Some(filing);
+        after = ReceiptNo::new(filing.get() - 1);
     }
     false
+}
+
+/// The first of these numbers, which ascend, that is not below another.
+fn first_from(numbers: &[ReceiptNo], n: ReceiptNo) -> Option<ReceiptNo>
+    requires { AscendsBy (λ k. k) 1 numbers.now }
+    ensures { result ≡ find (nat_le n) numbers.now }
+{
+    let below = numbers.partition_point(|number| *number < n);
+    number_at(numbers, below)
+}
+
+/// The number at this place; None behind the last one.
+fn number_at(numbers: &[ReceiptNo], i: usize) -> Option<ReceiptNo>
+    ensures { result ≡ slice_get numbers.now i }
+{
+    numbers.get(i).copied()
 }
 
 /// Whether this is lacking from an applicant of an earlier filing that waits at the right.

@@ -1,6 +1,6 @@
--- Lists of values under numbers, as the indexes of a journal keep them.
+-- Lists of values under keys, as the indexes of a journal keep them.
 use Rattle.std.specs.Prelude.{◌≡◌, ℕ, ◌-◌, ◌≤◌, List, [], ◌++◌, length, Option, Some, None, Vec, vec_len, vec_capacity}
-use Rattle.std.specs.Ordering.{nat_cmp}
+use Rattle.std.specs.declared.cmp.Ordering.{Ordering}
 use Rattle.std.specs.BTreeMap.{BTreeMap, get}
 
 -- the values of a list, and none where there is no list
@@ -14,22 +14,22 @@ room_in None = 0
 room_in (Some list) = vec_capacity list - vec_len list
 
 -- the values that stand under k
-abbrev pub listed : {X Z : Type 0} → BTreeMap ℕ (Vec X Z) → ℕ → List X
-listed lists k = values_in (get nat_cmp lists k)
+abbrev pub listed : {K X Z : Type 0} → (K → K → Ordering) → BTreeMap K (Vec X Z) → K → List X
+listed cmp lists k = values_in (get cmp lists k)
 
 -- how many values more may come under k without memory
-abbrev pub room : {X Z : Type 0} → BTreeMap ℕ (Vec X Z) → ℕ → ℕ
-room lists k = room_in (get nat_cmp lists k)
+abbrev pub room : {K X Z : Type 0} → (K → K → Ordering) → BTreeMap K (Vec X Z) → K → ℕ
+room cmp lists k = room_in (get cmp lists k)
 
--- the same values stand under each number, and nowhere has room become less
-pub record Widens {X Z : Type 0} (old new : BTreeMap ℕ (Vec X Z)) : Type 0 where
-  pub listed : (k : ℕ) → listed new k ≡ listed old k
-  pub room : (k : ℕ) → room old k ≤ room new k
+-- the same values stand under each key, and nowhere has room become less
+pub record Widens {K X Z : Type 0} (cmp : K → K → Ordering) (old new : BTreeMap K (Vec X Z)) : Type 0 where
+  pub listed : (k : K) → listed cmp new k ≡ listed cmp old k
+  pub room : (k : K) → room cmp old k ≤ room cmp new k
 
--- there is room under each number k for the values of `more k`
-abbrev pub HasRoom : {X Z : Type 0} → BTreeMap ℕ (Vec X Z) → (ℕ → List X) → Type 0
-HasRoom lists more = (k : ℕ) → length (more k) ≤ room lists k
+-- there is room under each key k for the values of `more k`
+abbrev pub HasRoom : {K X Z : Type 0} → (K → K → Ordering) → BTreeMap K (Vec X Z) → (K → List X) → Type 0
+HasRoom cmp lists more = (k : _) → length (more k) ≤ room cmp lists k
 
--- the values of `more k` have come under each number k
-abbrev pub Adds : {X Z : Type 0} → BTreeMap ℕ (Vec X Z) → BTreeMap ℕ (Vec X Z) → (ℕ → List X) → Type 0
-Adds old new more = (k : ℕ) → listed new k ≡ listed old k ++ more k
+-- the values of `more k` have come under each key k
+abbrev pub Adds : {K X Z : Type 0} → (K → K → Ordering) → BTreeMap K (Vec X Z) → BTreeMap K (Vec X Z) → (K → List X) → Type 0
+Adds cmp old new more = (k : _) → listed cmp new k ≡ listed cmp old k ++ more k

@@ -1,0 +1,104 @@
+-- What the documents of cures are looked for as, and who consents in them.
+use Rattle.std.specs.Prelude.{◌≡◌, ℕ, ◌≤◌, Bool, true, false, ◌&&◌, ◌==◌, nat_lt, if◌then◌else◌, List, [], ◌∷◌, filter, length, Option, Some, None, is_none}
+use Rattle.std.specs.List.{list_any}
+use Rattle.std.specs.Option.{option_map_or, option_or}
+use Rattle.act_model.specs.declared.cure_documents.Consenter.{Consenter}
+use Rattle.act_model.specs.declared.cure_documents.CureDocuments.{CureDocuments}
+use Rattle.act_model.specs.declared.documents.Doc.{Doc}
+use Rattle.act_model.specs.declared.firsts.DocumentOf.{DocumentOf}
+use Rattle.act_model.specs.declared.items.Item.{Item}
+use Rattle.act_model.specs.declared.documents.Doc.TheVariants as doc
+use Rattle.act_model.specs.declared.documents.Form.TheVariants as form
+use Rattle.act_model.specs.declared.items.Item.TheVariants as item
+use Rattle.act_model.specs.declared.receipts.Receipt.{Receipt}
+use Rattle.act_model.specs.declared.sought.Sought.{Sought}
+use Rattle.act_model.specs.declared.sought.Sought.TheVariants as sought
+use Rattle.act_model.specs.DocumentTests.{is_consent_by}
+use Rattle.act_model.specs.Sought.{is_sought}
+use Rattle.act_model.specs.inner.Firsts.{first, first_cure, is_held}
+use Rattle.act_model.specs.inner.Index.{pair_cmp}
+use Rattle.act_model.specs.inner.Lists.{listed, room, Widens}
+
+-- the key of what is looked for among the documents of filing m
+abbrev pub key_of : ℕ → Sought → DocumentOf
+key_of m s = record { filing = m; sought = s }
+
+-- what a document is looked for as: a consent, whatever its form
+abbrev pub sought_as : Doc → Sought
+sought_as (doc.Consent a p given) = sought.Consent a p
+sought_as (doc.Agreement a) = sought.Agreement a
+sought_as (doc.TaxClearance a) = sought.Clearance a
+sought_as (doc.ExpiryProof a) = sought.Proof a
+
+-- what a certified consent is looked for as besides
+abbrev pub certified_as : Doc → Option Sought
+certified_as (doc.Consent a p form.Certified) = Some (sought.Certified a p)
+certified_as (doc.Consent a p form.Plain) = None
+certified_as (doc.Agreement a) = None
+certified_as (doc.TaxClearance a) = None
+certified_as (doc.ExpiryProof a) = None
+
+-- receipt n, where its documents for filing m have one that is looked for by this key
+abbrev pub found_in : ℕ → ℕ → List Doc → DocumentOf → Option ℕ
+found_in n m docs k = if m == k.filing && list_any (is_sought k.sought) docs then Some n else None
+
+-- receipt n, where its item is a cure of an earlier filing that brings what is looked for by this key
+abbrev pub found_by : ℕ → Item → DocumentOf → Option ℕ
+found_by n (item.Cure m docs) k = if nat_lt m n then found_in n m docs k else None
+found_by n other k = None
+
+-- what was first at each key stays, and what is found comes where there was none
+abbrev pub Finds : CureDocuments → CureDocuments → (DocumentOf → Option ℕ) → Type 0
+Finds old new found = (k : DocumentOf) → first new.firsts k ≡ option_or (first old.firsts k) (found k)
+
+-- who consents to act a of filing m in cures
+abbrev pub consenters_to : CureDocuments → ℕ → ℕ → List Consenter
+consenters_to documents m a = listed pair_cmp documents.consenters (m, a)
+
+-- this person, whose first consent is in receipt n
+abbrev pub is_consenter : ℕ → ℕ → Consenter → Bool
+is_consenter p n c = c.person == p && c.first == n
+
+-- who comes to those who consent to act a of filing m with a document of receipt n for filing `filing`
+abbrev pub new_consenters : ℕ → CureDocuments → ℕ → Doc → ℕ → ℕ → List Consenter
+new_consenters n documents filing (doc.Consent act p given) m a =
+    if (filing == m && act == a) && is_none (first documents.firsts (key_of filing (sought.Consent act p)))
+    then record { person = p; first = n } ∷ [] else []
+new_consenters n documents filing (doc.Agreement act) m a = []
+new_consenters n documents filing (doc.TaxClearance act) m a = []
+new_consenters n documents filing (doc.ExpiryProof act) m a = []
+
+-- the receipts begin at `from`, do not fall, and end at `last` at the latest
+abbrev pub Rises : ℕ → ℕ → List Consenter → Type 0
+Rises from last [] = Unit {0}
+Rises from last (c ∷ cs) = (from ≤ c.first) × ((c.first ≤ last) × Rises c.first last cs)
+
+-- Those who consent are the persons for whose consent a first cure is known, with that cure, in the order of receipts up to `last`.
+pub record AgreeTo (last : ℕ) (documents : CureDocuments) : Type 0 where
+  pub known : (m a p n : ℕ) → list_any (is_consenter p n) (consenters_to documents m a) ≡ option_map_or (λ f. f == n) (first documents.firsts (key_of m (sought.Consent a p))) false
+  pub rise : (m a : ℕ) → Rises 0 last (consenters_to documents m a)
+
+-- the first cures are those of the journal, and those who consent agree with them
+pub record AreDocumentsOf (documents : CureDocuments) (journal : List Receipt) : Type 0 where
+  pub first : (m : ℕ) (s : Sought) → first documents.firsts (key_of m s) ≡ first_cure journal m s
+  pub agree : AgreeTo (length journal) documents
+
+-- a consent to act a
+abbrev pub is_consent_to : ℕ → Doc → Bool
+is_consent_to a = is_consent_by a (λ p. true)
+
+-- there is room for what these documents of filing m bring
+pub record HasRoomForDocs (documents : CureDocuments) (m : ℕ) (docs : List Doc) : Type 0 where
+  pub held : (s : Sought) → list_any (is_sought s) docs ≡ true → is_held documents.firsts (key_of m s) ≡ true
+  pub consenters : (a : ℕ) → length (filter (is_consent_to a) docs) ≤ room pair_cmp documents.consenters (m, a)
+
+-- there is room for what item n brings
+abbrev pub HasRoomForItem : CureDocuments → ℕ → Item → Type 0
+HasRoomForItem documents n (item.Cure m docs) = nat_lt m n ≡ true → HasRoomForDocs documents m docs
+HasRoomForItem documents n other = Unit {0}
+
+-- the same is known, and nowhere has room become less
+pub record KeepsDocuments (old new : CureDocuments) : Type 0 where
+  pub first : (k : DocumentOf) → first new.firsts k ≡ first old.firsts k
+  pub held : (k : DocumentOf) → is_held old.firsts k ≡ true → is_held new.firsts k ≡ true
+  pub consenters : Widens pair_cmp old.consenters new.consenters
