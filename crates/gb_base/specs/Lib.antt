@@ -4,6 +4,7 @@ pub mod Limits
 pub mod RightNo
 pub mod DayMinute
 pub mod Deadlines
+pub mod Interest
 pub mod Keys
 pub mod Calendar
 pub mod Texts

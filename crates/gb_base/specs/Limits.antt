@@ -9,6 +9,14 @@ is_between low high n = nat_le low n && nat_le n high
 abbrev pub most_cents : ℕ
 most_cents = 10000000000000
 
+-- the greatest rate of interest, in hundredths of a percent a year
+abbrev pub most_rate : ℕ
+most_rate = 2000
+
+-- the most days for which interest is counted
+abbrev pub most_interest_days : ℕ
+most_interest_days = 83000
+
 -- sums of cents stay below this
 abbrev pub most_sum : ℕ
 most_sum = 1000000000000000000

@@ -4,6 +4,8 @@
 #[cfg(test)]
 mod index_tests;
 #[cfg(test)]
+mod interest_tests;
+#[cfg(test)]
 mod journal_tests;
 #[cfg(test)]
 mod line_tests;
