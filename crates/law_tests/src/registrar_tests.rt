@@ -148,8 +148,8 @@ fn what_a_register_answers(rt: HostRuntime) -> Result<(), Fail> {
     Ok(())
 }
 
-/// A register has parts at the keys of its journal's filings, also of one that is rejected, and at
-/// no other: at none of a forced sale, and of no folio that other items alone name.
+/// A register has parts at the keys of its journal's items, also of a filing that is rejected and of
+/// an item of a forced sale, and at no other.
 #[test]
 fn the_parts_of_a_register(rt: HostRuntime) -> Result<(), Fail> {
     let mut journal = opened(&rt, rt.alloc());
@@ -160,7 +160,8 @@ fn the_parts_of_a_register(rt: HostRuntime) -> Result<(), Fail> {
     let register = alone(rt.alloc(), &journal)?;
     assert!(rt; register.title(folio(7)).is_some());
     assert!(rt; at_title(&rt, &register, 8).is_empty());
-    assert!(rt; register.title(folio(9)).is_none());
+    assert!(rt; at_title(&rt, &register, 9).is_empty());
+    assert!(rt; register.case(folio(9)).is_some());
     assert!(rt; register.title(folio(999)).is_none());
     assert!(rt; register.case(folio(7)).is_none());
     Ok(())
