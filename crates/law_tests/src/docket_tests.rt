@@ -146,6 +146,14 @@ fn keys_of_sale() -> [Key; 5] {
     ]
 }
 
+/// What was at the keys of the whole sale before its items.
+fn sale_goes_back(rt: &impl Abort, docket: &Docket) {
+    assert_eq!(rt; previous(rt, docket, 9, case_key(7)), 8);
+    assert_eq!(rt; previous(rt, docket, 9, title_key(7)), 5);
+    assert_eq!(rt; previous(rt, docket, 5, right_of(7, 4)), 4);
+    assert_eq!(rt; previous(rt, docket, 11, right_of(7, 2)), 10);
+}
+
 #[test]
 fn a_call_touches_the_title_the_rights_and_the_sale(rt: HostRuntime) -> Result<(), Fail> {
     let journal = whole_sale(&rt, rt.alloc());
@@ -155,10 +163,7 @@ fn a_call_touches_the_title_the_rights_and_the_sale(rt: HostRuntime) -> Result<(
     assert!(&rt; has_keys(&rt, rt.alloc(), &journal, &docket, 6, &[case_key(7)]));
     assert!(&rt; has_keys(&rt, rt.alloc(), &journal, &docket, 9, &all));
     assert!(&rt; has_keys(&rt, rt.alloc(), &journal, &docket, 11, &all));
-    assert_eq!(&rt; previous(&rt, &docket, 9, case_key(7)), 8);
-    assert_eq!(&rt; previous(&rt, &docket, 9, title_key(7)), 5);
-    assert_eq!(&rt; previous(&rt, &docket, 5, right_of(7, 4)), 4);
-    assert_eq!(&rt; previous(&rt, &docket, 11, right_of(7, 2)), 10);
+    sale_goes_back(&rt, &docket);
     Ok(())
 }
 
@@ -174,6 +179,13 @@ fn sale_that_grows(rt: &impl Abort, alloc: Global) -> Journal {
     receive(rt, &mut journal, &lapse(99));
     receive(rt, &mut journal, &lapse(5));
     journal
+}
+
+/// What was at keys of the sale that grows before its items.
+fn grown_sale_goes_back(rt: &impl Abort, docket: &Docket) {
+    assert_eq!(rt; previous(rt, docket, 13, right_of(7, 12)), 12);
+    assert_eq!(rt; previous(rt, docket, 15, title_key(7)), 13);
+    assert_eq!(rt; previous(rt, docket, 12, case_key(7)), 9);
 }
 
 #[test]
@@ -203,9 +215,7 @@ fn a_call_touches_what_was_created_before_it(rt: HostRuntime) -> Result<(), Fail
     // Neither a later receipt nor what is no filing has keys for the item that names it.
     assert!(&rt; has_keys(&rt, rt.alloc(), &journal, &docket, 16, &[]));
     assert!(&rt; has_keys(&rt, rt.alloc(), &journal, &docket, 17, &[]));
-    assert_eq!(&rt; previous(&rt, &docket, 13, right_of(7, 12)), 12);
-    assert_eq!(&rt; previous(&rt, &docket, 15, title_key(7)), 13);
-    assert_eq!(&rt; previous(&rt, &docket, 12, case_key(7)), 9);
+    grown_sale_goes_back(&rt, &docket);
     Ok(())
 }
 
