@@ -1,7 +1,9 @@
 -- Lemmas on filters, tests and what elements bring.
-use Rattle.std.proofs.Common.{◌≡◌, Bool, true, false, cond, ◌||◌, List, [], ◌∷◌, ◌++◌, filter, filter_map, flat_map, Option, Some, None, inl, inr, refl, sym, ap, ◌∙◌, subst, ⊎_elim}
+use Rattle.std.proofs.Common.{◌≡◌, ℕ, ◌+◌, Bool, true, false, cond, ◌||◌, List, [], ◌∷◌, ◌++◌, filter, filter_map, flat_map, Option, Some, None, inl, inr, refl, sym, ap, ◌∙◌, subst, ⊎_elim, arith}
 use Rattle.std.specs.List.{AllByRecursion, cons_option, list_any}
 use Rattle.std.proofs.lemmas.Bool.{cases_Bool, cond-false, cond-true, false≢true, or_left, or_right}
+use Rattle.gb_base.specs.Ascending.{AscendsBy}
+use Rattle.gb_base.proofs.Ascending.{ascends_later}
 use Rattle.gb_base.proofs.Members.{In}
 
 pub filter_takes : {X : Type 0} (p : X → Bool) (x : X) (xs : List X) → p x ≡ true → filter p (x ∷ xs) ≡ x ∷ filter p xs
@@ -17,6 +19,17 @@ all_filtered P p (x ∷ xs) all =
     elim (p x) as (λ b. AllByRecursion P (cond b (x ∷ filter p xs) (filter p xs))) [
       | true ↦ (all.0, all_filtered P p xs all.1)
       | false ↦ all_filtered P p xs all.1
+    ]
+
+-- what is left of a list in ascending order is in this order
+pub filter_ascends : {X : Type 0} (f : X → ℕ) (p : X → Bool) (a : ℕ) (xs : List X) → AscendsBy f a xs → AscendsBy f a (filter p xs)
+filter_ascends f p a [] up = tt
+filter_ascends f p a (x ∷ xs) up =
+    let first = up.0 in
+    let rest = filter_ascends f p (f x + 1) xs up.1 in
+    elim (p x) as (λ b. AscendsBy f a (cond b (x ∷ filter p xs) (filter p xs))) [
+      | true ↦ (up.0, rest)
+      | false ↦ ascends_later f (f x + 1) a (filter p xs) (omega arith) rest
     ]
 
 -- where none passes nothing is left

@@ -2,6 +2,7 @@
 pub mod Additions
 pub mod Cases
 pub mod DistinctLists
+pub mod FilingsInOrder
 pub mod FilteredLists
 pub mod FirstAbove
 pub mod FirstWaiters
@@ -16,7 +17,7 @@ pub mod Progress
 pub mod ReceiptNumbers
 pub mod ReceiptsBefore
 pub mod Rights
+pub mod SweptFilings
 pub mod Titles
 pub mod Unchanged
 pub mod Unnoticed
-pub mod WaitersInOrder

@@ -1,4 +1,5 @@
 -- What private clauses and proofs alone use.
+pub mod FilingLists
 pub mod Kinds
 pub mod Listed
 pub mod Naming

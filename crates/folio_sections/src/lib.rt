@@ -8,6 +8,7 @@ mod any_part;
 mod case_part;
 mod entries;
 mod entry_list;
+mod filing_list;
 mod map_parts;
 mod parts;
 mod right_part;

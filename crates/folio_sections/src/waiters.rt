@@ -1,76 +1,72 @@
 //! The filings that wait at a key, beside its entries, so that no reader walks these.
-//! Why so: docs/DECISIONS.md, "A filing whose waiting has ended stays among the waiters".
+//! Why so: docs/DECISIONS.md, "A filing whose waiting has ended is swept, and its notice stays".
 //! Why so: docs/DECISIONS.md, "A part is asked for the next filing that waits without a notice".
-ghost use Rattle.std.specs.Prelude.{◌≡◌, ◌+◌, ◌≤◌, ◌<◌, ◌==◌, ◌&&◌, true, false, drop, take_while, ℕ, Some, None, [], length, find, if◌then◌else◌, get_or, option_copied, option_map, option_and_then, is_some, is_none, nat_lt, min, slice_get, vec_len, vec_capacity, OnOk, OnErr, IsOk};
+ghost use Rattle.std.specs.Prelude.{◌≡◌, ◌+◌, ◌≤◌, ◌<◌, ◌==◌, ◌&&◌, false, count_by, drop, take_while, ℕ, Some, None, [], length, find, if◌then◌else◌, get_or, option_map, is_none, nat_lt, min, vec_len, vec_capacity, OnOk, IsOk};
 ghost use Rattle.std.specs.Option.{option_or};
 ghost use Rattle.folio_sections.specs.Waiting.{is_notice_of, until_by};
+ghost use Rattle.folio_sections.specs.inner.FilingLists.{Ascends, value_in};
 ghost use Rattle.folio_sections.specs.inner.Unnoticed.{first_that, floor, is_wanted};
-ghost use Rattle.folio_sections.specs.inner.Waiters.{Ascends, AreInOrder, lacks_notice, notice_in, until_in, waiter_at, waiter_of, waits};
-ghost use Rattle.folio_sections.specs.declared.waiters.Waiter.{Waiter};
+ghost use Rattle.folio_sections.specs.inner.Waiters.{AreInOrder, FewEnded, Until, has_ended, lacks_notice, until_in, waits};
 
 use crate::What;
+use crate::filing_list::{OfFiling, count_to, put, value_of};
 use gb_base::{Day, NoMemory, ReceiptNo};
 use std::alloc::Global;
 
-/// What the entries at a key say of a filing's waiting there.
-#[derive(Clone, Copy)]
-pub(crate) struct Waiter {
-    filing: ReceiptNo,
-    /// The day until which it waits; None where it does not.
-    until: Option<Day>,
-    /// How many entries stand ahead of its official notice; None where it has none.
-    notice: Option<usize>,
-}
-
-/// The filings of whose waiting entries at a key speak, in order, each once.
+/// What the entries at a key say of the filings that wait there.
 #[derive(Drop)]
 pub(crate) struct Waiters {
-    list: Vec<Waiter>,
-    /// None of the first so many waits without a notice.
+    /// The day until which a filing waits, in the order of filings; None once its waiting has
+    /// ended.
+    until: Vec<OfFiling<Option<Day>>>,
+    /// How many entries stand ahead of the first official notice of a filing, in the order of
+    /// filings.
+    notices: Vec<OfFiling<usize>>,
+    /// None of the first so many that have a day waits without a notice.
     noticed: usize,
+    /// At most so many have ended: it counts each end since those that had ended were taken away.
+    ended: usize,
 }
 
 impl Waiters {
     /// Of no entries.
     pub fn new(alloc: Global) -> Waiters
         ensures order { AreInOrder result }
-        ensures empty { result.list.items ≡ [] }
+        ensures few { FewEnded result.until.items result.ended }
+        ensures until { result.until.items ≡ [] }
+        ensures notices { result.notices.items ≡ [] }
     {
         Waiters {
-            list: Vec::new(alloc),
+            until: Vec::new(alloc),
+            notices: Vec::new(alloc),
             noticed: 0,
+            ended: 0,
         }
     }
 
     /// The day until which a filing waits; None where it does not.
     pub fn until(&self, filing: ReceiptNo) -> Option<Day>
-        requires { Ascends 0 self.now.list.items }
-        ensures { result ≡ until_in filing self.now.list.items }
+        requires { AreInOrder self.now }
+        ensures { result ≡ until_in filing self.now.until.items }
     {
-        match self.find(filing) {
-            Some(waiter) => waiter.until,
-            None => None,
-        }
+        value_of(self.until.as_slice(), filing).unwrap_or(None)
     }
 
     /// How many entries stand ahead of the official notice of a filing; None where it has none.
     pub fn notice(&self, filing: ReceiptNo) -> Option<usize>
-        requires { Ascends 0 self.now.list.items }
-        ensures { result ≡ notice_in filing self.now.list.items }
+        requires { AreInOrder self.now }
+        ensures { result ≡ value_in filing self.now.notices.items }
     {
-        match self.find(filing) {
-            Some(waiter) => waiter.notice,
-            None => None,
-        }
+        value_of(self.notices.as_slice(), filing)
     }
 
     /// The first filing above `after`, and below `filing`, that waits; None where there is none.
     pub fn next_pending(&self, after: Option<ReceiptNo>, filing: ReceiptNo) -> Option<ReceiptNo>
         requires { AreInOrder self.now }
-        ensures { result ≡ first_that waits (floor after) filing self.now.list.items }
+        ensures { result ≡ first_that waits (floor after) filing self.now.until.items }
     {
         let floor = floor(after);
-        let start = count_to(self.list.as_slice(), floor);
+        let start = count_to(self.until.as_slice(), floor);
         first_waiting(self.behind(start), floor, filing)
     }
 
@@ -78,123 +74,174 @@ impl Waiters {
     /// None where there is none.
     pub fn next_unnoticed(&self, after: Option<ReceiptNo>, filing: ReceiptNo) -> Option<ReceiptNo>
         requires { AreInOrder self.now }
-        ensures { result ≡ first_that lacks_notice (floor after) filing self.now.list.items }
+        ensures { result ≡ first_that (lacks_notice self.now.notices.items) (floor after) filing self.now.until.items }
     {
         let floor = floor(after);
         let start = self.start_above(floor);
-        first_unnoticed(self.behind(start), floor, filing)
+        first_unnoticed(self.behind(start), self.notices.as_slice(), floor, filing)
     }
 
-    /// The waiters behind the first so many.
-    fn behind(&self, start: usize) -> &[Waiter]
-        requires { start ≤ length self.now.list.items }
-        ensures { result.now ≡ drop start self.now.list.items }
+    /// The days behind the first so many.
+    fn behind(&self, start: usize) -> &[OfFiling<Option<Day>>]
+        requires { start ≤ length self.now.until.items }
+        ensures { result.now ≡ drop start self.now.until.items }
     {
-        &self.list.as_slice()[start..]
+        &self.until.as_slice()[start..]
     }
 
-    /// From which waiter on there may be one of a filing above this number that lacks a notice.
+    /// From which day on there may be one of a filing above this number that lacks a notice.
     fn start_above(&self, floor: u32) -> usize
         requires { AreInOrder self.now }
-        ensures within { result ≤ length self.now.list.items }
-        ensures passed { (m k : ℕ) (d : Waiter) → k < result → is_wanted lacks_notice floor m (get_or self.now.list.items k d) ≡ false }
+        ensures within { result ≤ length self.now.until.items }
+        ensures passed { (m k : ℕ) (d : Until) → k < result → is_wanted (lacks_notice self.now.notices.items) floor m (get_or self.now.until.items k d) ≡ false }
     {
-        let list = self.list.as_slice();
-        count_to(list, floor).max(self.noticed.min(list.len()))
+        count_to(self.until.as_slice(), floor).max(self.noticed)
     }
 
-    /// The waiter of a filing.
-    fn find(&self, filing: ReceiptNo) -> Option<Waiter>
-        requires { Ascends 0 self.now.list.items }
-        ensures { result ≡ waiter_of filing self.now.list.items }
-    {
-        let list = self.list.as_slice();
-        waiter_at(list, count_below(list, filing), filing)
-    }
-
-    /// The waiter of a filing, or one that does not wait.
-    fn waiter(&self, filing: ReceiptNo) -> Waiter
-        requires { Ascends 0 self.now.list.items }
-        ensures filing { result.filing ≡ filing }
-        ensures until { result.until ≡ until_in filing self.now.list.items }
-        ensures notice { result.notice ≡ notice_in filing self.now.list.items }
-    {
-        match self.find(filing) {
-            Some(waiter) => Waiter { filing, ..waiter },
-            None => Waiter {
-                filing,
-                until: None,
-                notice: None,
-            },
-        }
-    }
-
-    /// Keeps room for n waiters in all.
+    /// Keeps room for n filings in all.
     pub fn reserve_in_all(&mut self, n: usize) -> Result<(), NoMemory>
-        requires { vec_len self.old.list ≤ n }
-        ensures same { self.new.list.items ≡ self.old.list.items }
+        requires few_until { vec_len self.old.until ≤ n }
+        requires few_notices { vec_len self.old.notices ≤ n }
+        ensures until { self.new.until.items ≡ self.old.until.items }
+        ensures notices { self.new.notices.items ≡ self.old.notices.items }
         ensures noticed { self.new.noticed ≡ self.old.noticed }
-        ensures len { vec_len self.new.list ≡ vec_len self.old.list }
-        ensures room { OnOk result (n ≤ vec_capacity self.new.list) }
-        ensures kept { vec_capacity self.old.list ≤ vec_capacity self.new.list }
-        ensures succeeds { n ≤ vec_capacity self.old.list → IsOk result }
+        ensures ended { self.new.ended ≡ self.old.ended }
+        ensures len_until { vec_len self.new.until ≡ vec_len self.old.until }
+        ensures len_notices { vec_len self.new.notices ≡ vec_len self.old.notices }
+        ensures room_until { OnOk result (n ≤ vec_capacity self.new.until) }
+        ensures room_notices { OnOk result (n ≤ vec_capacity self.new.notices) }
+        ensures kept_until { vec_capacity self.old.until ≤ vec_capacity self.new.until }
+        ensures kept_notices { vec_capacity self.old.notices ≤ vec_capacity self.new.notices }
+        ensures succeeds { n ≤ vec_capacity self.old.until → n ≤ vec_capacity self.old.notices → IsOk result }
     {
-        self.list.reserve(n - self.list.len())
+        self.until.reserve(n - self.until.len())?;
+        self.notices.reserve(n - self.notices.len())
     }
 
     /// Takes what a further entry says, with so many ahead of it. It takes no memory.
     pub fn note(&mut self, ahead: usize, what: &What)
         requires order { AreInOrder self.old }
-        requires room { vec_len self.old.list < vec_capacity self.old.list }
+        requires few { FewEnded self.old.until.items self.old.ended }
+        requires room_until { vec_len self.old.until < vec_capacity self.old.until }
+        requires room_notices { vec_len self.old.notices < vec_capacity self.old.notices }
         ensures order { AreInOrder self.new }
-        ensures until { (m : ℕ) → until_in m self.new.list.items ≡ until_by m (until_in m self.old.list.items) what.now }
-        ensures notice { (m : ℕ) → notice_in m self.new.list.items ≡ option_or (notice_in m self.old.list.items) (if is_notice_of m what.now then Some ahead else None) }
-        ensures len { vec_len self.new.list ≤ vec_len self.old.list + 1 }
-        ensures capacity { vec_capacity self.new.list ≡ vec_capacity self.old.list }
+        ensures few { FewEnded self.new.until.items self.new.ended }
+        ensures until { (m : ℕ) → until_in m self.new.until.items ≡ until_by m (until_in m self.old.until.items) what.now }
+        ensures notice { (m : ℕ) → value_in m self.new.notices.items ≡ option_or (value_in m self.old.notices.items) (if is_notice_of m what.now then Some ahead else None) }
+        ensures len_until { vec_len self.new.until ≤ vec_len self.old.until + 1 }
+        ensures len_notices { vec_len self.new.notices ≤ vec_len self.old.notices + 1 }
+        ensures capacity_until { vec_capacity self.new.until ≡ vec_capacity self.old.until }
+        ensures capacity_notices { vec_capacity self.new.notices ≡ vec_capacity self.old.notices }
     {
         match what {
-            What::Pending { filing, until } => {
-                let waiter = self.waiter(*filing);
-                self.put(with_until(waiter, Some(*until)));
-            }
+            What::Pending { filing, until } => self.set_to_wait(*filing, *until),
             What::Notice { filing } => {
-                let waiter = self.waiter(*filing);
-                self.put(with_notice(waiter, ahead));
+                self.keep_notice(*filing, ahead);
                 self.pass_noticed();
             }
             What::Settled { filing } => {
-                let waiter = self.waiter(*filing);
-                self.put(with_until(waiter, None));
+                self.end(*filing);
+                self.count_ended();
                 self.pass_noticed();
             }
             _ => {}
         }
     }
 
-    /// Puts a waiter in the place of that of its filing, or into its order where there is none.
-    fn put(&mut self, waiter: Waiter)
+    /// Sets a filing to wait until a day.
+    fn set_to_wait(&mut self, filing: ReceiptNo, until: Day)
         requires order { AreInOrder self.old }
-        requires room { vec_len self.old.list < vec_capacity self.old.list }
+        requires few { FewEnded self.old.until.items self.old.ended }
+        requires room { vec_len self.old.until < vec_capacity self.old.until }
         ensures order { AreInOrder self.new }
-        ensures there { (m : ℕ) → waiter_of m self.new.list.items ≡ if waiter.filing == m then Some waiter else waiter_of m self.old.list.items }
-        ensures len { vec_len self.new.list ≤ vec_len self.old.list + 1 }
-        ensures capacity { vec_capacity self.new.list ≡ vec_capacity self.old.list }
+        ensures few { FewEnded self.new.until.items self.new.ended }
+        ensures until { (m : ℕ) → until_in m self.new.until.items ≡ if filing == m then Some until else until_in m self.old.until.items }
+        ensures notices { self.new.notices ≡ self.old.notices }
+        ensures len { vec_len self.new.until ≤ vec_len self.old.until + 1 }
+        ensures capacity { vec_capacity self.new.until ≡ vec_capacity self.old.until }
     {
-        let index = count_below(self.list.as_slice(), waiter.filing);
-        self.noticed = mark_behind(self.noticed, index, &waiter);
-        match waiter_at(self.list.as_slice(), index, waiter.filing) {
-            Some(_) => self.list[index] = waiter,
-            None => self.list.insert(index, waiter).unwrap(),
+        let notice = self.notice(filing);
+        let value = Some(until);
+        let index = put(&mut self.until, OfFiling { filing, value });
+        self.noticed = mark_behind(self.noticed, index, notice);
+    }
+
+    /// Ends the waiting of a filing, which is yet to be counted.
+    fn end(&mut self, filing: ReceiptNo)
+        requires order { AreInOrder self.old }
+        requires few { FewEnded self.old.until.items self.old.ended }
+        requires room { vec_len self.old.until < vec_capacity self.old.until }
+        ensures order { AreInOrder self.new }
+        ensures counted { count_by has_ended self.new.until.items ≤ self.new.ended + 1 }
+        ensures until { (m : ℕ) → until_in m self.new.until.items ≡ if filing == m then None else until_in m self.old.until.items }
+        ensures notices { self.new.notices ≡ self.old.notices }
+        ensures len { vec_len self.new.until ≤ vec_len self.old.until + 1 }
+        ensures capacity { vec_capacity self.new.until ≡ vec_capacity self.old.until }
+    {
+        let value = None;
+        let _ = put(&mut self.until, OfFiling { filing, value });
+    }
+
+    /// Counts one more that has ended, or takes all that have away where they may be more than
+    /// half.
+    fn count_ended(&mut self)
+        requires order { AreInOrder self.old }
+        requires counted { count_by has_ended self.old.until.items ≤ self.old.ended + 1 }
+        ensures order { AreInOrder self.new }
+        ensures few { FewEnded self.new.until.items self.new.ended }
+        ensures until { (m : ℕ) → until_in m self.new.until.items ≡ until_in m self.old.until.items }
+        ensures notices { self.new.notices ≡ self.old.notices }
+        ensures len { vec_len self.new.until ≤ vec_len self.old.until }
+        ensures capacity { vec_capacity self.new.until ≡ vec_capacity self.old.until }
+    {
+        if self.ended < self.until.len() / 2 {
+            self.ended += 1;
+        } else {
+            self.sweep();
         }
+    }
+
+    /// Takes those away that have ended; the others are passed anew.
+    fn sweep(&mut self)
+        requires order { AreInOrder self.old }
+        ensures order { AreInOrder self.new }
+        ensures few { FewEnded self.new.until.items self.new.ended }
+        ensures until { (m : ℕ) → until_in m self.new.until.items ≡ until_in m self.old.until.items }
+        ensures notices { self.new.notices ≡ self.old.notices }
+        ensures len { vec_len self.new.until ≤ vec_len self.old.until }
+        ensures capacity { vec_capacity self.new.until ≡ vec_capacity self.old.until }
+    {
+        self.until.retain(|one| one.value.is_some());
+        self.noticed = 0;
+        self.ended = 0;
+    }
+
+    /// Keeps where the official notice of a filing stands; the first one stays.
+    fn keep_notice(&mut self, filing: ReceiptNo, ahead: usize)
+        requires order { AreInOrder self.old }
+        requires room { vec_len self.old.notices < vec_capacity self.old.notices }
+        ensures order { AreInOrder self.new }
+        ensures until { self.new.until ≡ self.old.until }
+        ensures ended { self.new.ended ≡ self.old.ended }
+        ensures notice { (m : ℕ) → value_in m self.new.notices.items ≡ option_or (value_in m self.old.notices.items) (if filing == m then Some ahead else None) }
+        ensures len { vec_len self.new.notices ≤ vec_len self.old.notices + 1 }
+        ensures capacity { vec_capacity self.new.notices ≡ vec_capacity self.old.notices }
+    {
+        let value = self.notice(filing).unwrap_or(ahead);
+        let _ = put(&mut self.notices, OfFiling { filing, value });
     }
 
     /// Moves the mark past those that do not wait without a notice.
     fn pass_noticed(&mut self)
         requires order { AreInOrder self.old }
         ensures order { AreInOrder self.new }
-        ensures list { self.new.list ≡ self.old.list }
+        ensures until { self.new.until ≡ self.old.until }
+        ensures ended { self.new.ended ≡ self.old.ended }
+        ensures notices { self.new.notices ≡ self.old.notices }
     {
-        while self.noticed < self.list.len() && !lacks_notice(&self.list[self.noticed]) {
+        while self.noticed < self.until.len()
+            && !lacks_notice(self.notices.as_slice(), &self.until[self.noticed])
+        {
             self.noticed += 1;
         }
     }
@@ -202,71 +249,35 @@ impl Waiters {
     /// Forgets all of them, and keeps the room.
     pub fn clear(&mut self)
         ensures order { AreInOrder self.new }
-        ensures empty { self.new.list.items ≡ [] }
-        ensures capacity { vec_capacity self.new.list ≡ vec_capacity self.old.list }
+        ensures few { FewEnded self.new.until.items self.new.ended }
+        ensures until { self.new.until.items ≡ [] }
+        ensures notices { self.new.notices.items ≡ [] }
+        ensures capacity_until { vec_capacity self.new.until ≡ vec_capacity self.old.until }
+        ensures capacity_notices { vec_capacity self.new.notices ≡ vec_capacity self.old.notices }
     {
-        self.list.clear();
+        self.until.clear();
+        self.notices.clear();
         self.noticed = 0;
+        self.ended = 0;
     }
 }
 
-/// The waiter with another day until which it waits.
-fn with_until(waiter: Waiter, until: Option<Day>) -> Waiter
-    ensures filing { result.filing ≡ waiter.filing }
-    ensures until { result.until ≡ until }
-    ensures notice { result.notice ≡ waiter.notice }
+/// Whether the filing waits, and has none of these notices.
+fn lacks_notice(notices: &[OfFiling<usize>], one: &OfFiling<Option<Day>>) -> bool
+    requires { Ascends 0 notices.now }
+    ensures { result ≡ lacks_notice notices.now one.now }
 {
-    Waiter { until, ..waiter }
+    one.value.is_some() && value_of(notices, one.filing).is_none()
 }
 
-/// The waiter with its notice, which stays where it has one.
-fn with_notice(waiter: Waiter, ahead: usize) -> Waiter
-    ensures filing { result.filing ≡ waiter.filing }
-    ensures until { result.until ≡ waiter.until }
-    ensures notice { result.notice ≡ option_or waiter.notice (Some ahead) }
+/// The mark behind a filing with this notice that is set to wait at an index.
+fn mark_behind(noticed: usize, index: usize, notice: Option<usize>) -> usize
+    ensures { result ≡ if is_none notice then min noticed index else noticed }
 {
-    Waiter {
-        notice: waiter.notice.or(Some(ahead)),
-        ..waiter
+    match notice {
+        Some(_) => noticed,
+        None => noticed.min(index),
     }
-}
-
-/// Whether it waits without a notice.
-fn lacks_notice(waiter: &Waiter) -> bool
-    ensures { result ≡ lacks_notice waiter.now }
-{
-    waiter.until.is_some() && waiter.notice.is_none()
-}
-
-/// The mark behind a waiter that is put at an index.
-fn mark_behind(noticed: usize, index: usize, waiter: &Waiter) -> usize
-    ensures { result ≡ if lacks_notice waiter.now then min noticed index else noticed }
-{
-    if lacks_notice(waiter) {
-        noticed.min(index)
-    } else {
-        noticed
-    }
-}
-
-/// The waiter at an index, where it is of this filing.
-fn waiter_at(list: &[Waiter], index: usize, filing: ReceiptNo) -> Option<Waiter>
-    ensures { result ≡ waiter_at filing (slice_get list.now index) }
-{
-    match list.get(index) {
-        Some(waiter) if waiter.filing == filing => Some(*waiter),
-        _ => None,
-    }
-}
-
-/// How many of the waiters are of filings below this one.
-fn count_below(list: &[Waiter], filing: ReceiptNo) -> usize
-    requires { Ascends 0 list.now }
-    ensures within { result ≤ length list.now }
-    ensures below { (k : ℕ) (d : Waiter) → k < result → nat_lt (get_or list.now k d).filing filing ≡ true }
-    ensures behind { (d : Waiter) → result < length list.now → nat_lt (get_or list.now result d).filing filing ≡ false }
-{
-    list.partition_point(|waiter| waiter.filing < filing)
 }
 
 /// The number above which filings are looked for.
@@ -279,31 +290,28 @@ fn floor(after: Option<ReceiptNo>) -> u32
     }
 }
 
-/// How many of the waiters are of filings up to this number.
-fn count_to(list: &[Waiter], floor: u32) -> usize
-    requires { Ascends 0 list.now }
-    ensures within { result ≤ length list.now }
-    ensures passed { (k : ℕ) (d : Waiter) → k < result → nat_lt floor (get_or list.now k d).filing ≡ false }
-{
-    list.partition_point(|waiter| waiter.filing.get() <= floor)
-}
-
-/// The first of these waiters that is above this number, and below `filing`, and waits.
-fn first_waiting(list: &[Waiter], floor: u32, filing: ReceiptNo) -> Option<ReceiptNo>
-    ensures { result ≡ option_map (λ w. w.filing) (find (λ w. nat_lt floor w.filing && waits w) (take_while (λ w. nat_lt w.filing filing) list.now)) }
+/// The first of these filings that is above this number, and below `filing`, and waits.
+fn first_waiting(list: &[OfFiling<Option<Day>>], floor: u32, filing: ReceiptNo) -> Option<ReceiptNo>
+    ensures { result ≡ option_map (λ x. x.filing) (find (λ x. nat_lt floor x.filing && waits x) (take_while (λ x. nat_lt x.filing filing) list.now)) }
 {
     list.iter()
         .take_while(|one| one.filing < filing)
-        .find(|one| floor < one.filing.get() && one.until.is_some())
+        .find(|one| floor < one.filing.get() && one.value.is_some())
         .map(|one| one.filing)
 }
 
-/// The first of these waiters that is above this number, and below `filing`, and lacks a notice.
-fn first_unnoticed(list: &[Waiter], floor: u32, filing: ReceiptNo) -> Option<ReceiptNo>
-    ensures { result ≡ option_map (λ w. w.filing) (find (λ w. nat_lt floor w.filing && lacks_notice w) (take_while (λ w. nat_lt w.filing filing) list.now)) }
+/// The first of these filings that is above this number, and below `filing`, and lacks a notice.
+fn first_unnoticed(
+    list: &[OfFiling<Option<Day>>],
+    notices: &[OfFiling<usize>],
+    floor: u32,
+    filing: ReceiptNo,
+) -> Option<ReceiptNo>
+    requires { Ascends 0 notices.now }
+    ensures { result ≡ option_map (λ x. x.filing) (find (λ x. nat_lt floor x.filing && lacks_notice notices.now x) (take_while (λ x. nat_lt x.filing filing) list.now)) }
 {
     list.iter()
         .take_while(|waiter| waiter.filing < filing)
-        .find(|waiter| floor < waiter.filing.get() && lacks_notice(waiter))
+        .find(|waiter| floor < waiter.filing.get() && lacks_notice(notices, waiter))
         .map(|waiter| waiter.filing)
 }

@@ -7,7 +7,7 @@ use Rattle.folio_sections.specs.PartState.{PartState}
 use Rattle.folio_sections.specs.declared.entries.Entry.{Entry}
 use Rattle.folio_sections.specs.declared.waiters.Waiters.{Waiters}
 use Rattle.folio_sections.specs.inner.Naming.{Rises}
-use Rattle.folio_sections.specs.inner.Waiters.{AreInOrder, SayAs}
+use Rattle.folio_sections.specs.inner.Waiters.{AreInOrder, FewEnded, SayAs}
 
 -- the key, the entries in order, the room for more, and how many stand ahead of each that names who is concerned
 pub record Listed : Type 0 where
@@ -24,14 +24,17 @@ part_of list = record { key = list.key; entries = list.entries; room = list.room
 pub record GoWith (key : Key) (entries : List Entry) (waiters : Waiters) (naming : List ℕ) : Type 0 where
   pub own : All (λ e. e.key ≡ key) entries
   pub order : AreInOrder waiters
-  pub say : SayAs waiters.list.items entries
+  pub few : FewEnded waiters.until.items waiters.ended
+  pub say : SayAs waiters.until.items waiters.notices.items entries
   pub rise : Rises 0 naming
   pub among : AllByRecursion (λ n. n < length entries) naming
 
 -- No list has more elements than there are entries, and each has room for as many as there are and as there is room for.
 pub record HaveRoom (entries : Vec Entry Global) (waiters : Waiters) (naming : Vec ℕ Global) (room : ℕ) : Type 0 where
-  pub few_waiters : vec_len waiters.list ≤ vec_len entries
+  pub few_until : vec_len waiters.until ≤ vec_len entries
+  pub few_notices : vec_len waiters.notices ≤ vec_len entries
   pub few_naming : vec_len naming ≤ vec_len entries
   pub room_entries : vec_len entries + room ≤ vec_capacity entries
-  pub room_waiters : vec_len entries + room ≤ vec_capacity waiters.list
+  pub room_until : vec_len entries + room ≤ vec_capacity waiters.until
+  pub room_notices : vec_len entries + room ≤ vec_capacity waiters.notices
   pub room_naming : vec_len entries + room ≤ vec_capacity naming

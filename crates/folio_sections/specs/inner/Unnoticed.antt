@@ -1,8 +1,8 @@
--- The first filing that waits at a key without an official notice, among its waiters.
+-- The first filing that waits at a key without an official notice, among those that wait.
 use Rattle.std.specs.Prelude.{ℕ, Bool, ◌&&◌, nat_lt, List, Option, Some, None, find, is_none, option_map}
 use Rattle.folio_sections.specs.Waiting.{is_pending, notice}
 use Rattle.folio_sections.specs.declared.entries.Entry.{Entry}
-use Rattle.folio_sections.specs.declared.waiters.Waiter.{Waiter}
+use Rattle.folio_sections.specs.inner.Waiters.{Until}
 
 -- filing n waits without a notice
 abbrev pub is_unnoticed : ℕ → List Entry → Bool
@@ -13,10 +13,10 @@ abbrev pub floor : Option ℕ → ℕ
 floor None = 0
 floor (Some n) = n
 
--- the waiter is of a filing above this number and below filing m, and passes
-abbrev pub is_wanted : (Waiter → Bool) → ℕ → ℕ → Waiter → Bool
-is_wanted t low m w = nat_lt w.filing m && (nat_lt low w.filing && t w)
+-- it is of a filing above this number and below filing m, and passes
+abbrev pub is_wanted : (Until → Bool) → ℕ → ℕ → Until → Bool
+is_wanted t low m x = nat_lt x.filing m && (nat_lt low x.filing && t x)
 
--- the filing of the first such waiter
-abbrev pub first_that : (Waiter → Bool) → ℕ → ℕ → List Waiter → Option ℕ
-first_that t low m ws = option_map (λ w. w.filing) (find (is_wanted t low m) ws)
+-- the first filing of which one is so
+abbrev pub first_that : (Until → Bool) → ℕ → ℕ → List Until → Option ℕ
+first_that t low m xs = option_map (λ x. x.filing) (find (is_wanted t low m) xs)

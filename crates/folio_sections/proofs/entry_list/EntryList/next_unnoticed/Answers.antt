@@ -6,5 +6,5 @@ use Rattle.folio_sections.proofs.entry_list.EntryList.next_unnoticed.Goals as go
 pub returns : goal.returns
 returns c =
     let go = c.self.invariant.0 in
-    c.next_unnoticed.ensures ∙ first_unnoticed c.args.after c.args.filing _ c.self.inside.entries.items go.order.ascend go.say
+    c.next_unnoticed.ensures ∙ first_unnoticed c.args.after c.args.filing c.self.inside.waiters.until.items c.self.inside.waiters.notices.items c.self.inside.entries.items go.order.until go.say
     ∙ ap (λ v. find (is_above c.args.after) (waiting_unnoticed c.args.filing v.entries)) c.self.view_is

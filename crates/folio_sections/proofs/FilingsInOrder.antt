@@ -1,34 +1,35 @@
--- Waiters in the order of their filings: one is found by its filing, written in its place, or put into the order.
-use Rattle.std.proofs.Common.{◌≡◌, ℕ, zero, suc, ◌+◌, ◌<◌, ◌≤◌, true, false, cond, ◌==◌, nat_lt, List, [], ◌∷◌, Option, Some, None, get_or, length, min, set, slice_get, take, refl, sym, ap, subst, ◌∙◌, arith}
+-- Values in the order of their filings: one is found by its filing, written in its place, or put into the order.
+use Rattle.std.proofs.Common.{◌≡◌, ℕ, zero, suc, ◌+◌, ◌<◌, ◌≤◌, Bool, true, false, cond, count_by, ◌==◌, nat_lt, List, [], ◌∷◌, Option, Some, None, get_or, length, option_map, set, slice_get, take, refl, sym, ap, subst, ◌∙◌, arith}
 use Rattle.std.specs.List.{AllByRecursion, insert}
 use Rattle.std.proofs.lemmas.Bool.{eqb-true}
 use Rattle.std.proofs.lemmas.Bool.Decides.{nat_tests}
-use Rattle.folio_sections.specs.declared.waiters.Waiter.{Waiter}
-use Rattle.folio_sections.specs.inner.Waiters.{Ascends, lacks_notice, waiter_at, waiter_of}
+use Rattle.std.proofs.lemmas.List.Sums.{sum_by-cons, sum_by-insert}
+use Rattle.folio_sections.specs.declared.filing_list.OfFiling.{OfFiling}
+use Rattle.folio_sections.specs.inner.FilingLists.{Ascends, at_filing, of_filing, value_in}
 
 -- the filings of the first i waiters are below m
-abbrev pub AreBelow : ℕ → List Waiter → ℕ → Type 0
-AreBelow m ws i = (k : ℕ) (d : Waiter) → k < i → nat_lt (get_or ws k d).filing m ≡ true
+abbrev pub AreBelow : {V : Type 0} → ℕ → List (OfFiling V) → ℕ → Type 0
+AreBelow {V = V} m ws i = (k : ℕ) (d : OfFiling V) → k < i → nat_lt (get_or ws k d).filing m ≡ true
 
-rest_below : (m : ℕ) (x : Waiter) (xs : List Waiter) (i : ℕ) → AreBelow m (x ∷ xs) (suc i) → AreBelow m xs i
+rest_below : {V : Type 0} (m : ℕ) (x : OfFiling V) (xs : List (OfFiling V)) (i : ℕ) → AreBelow m (x ∷ xs) (suc i) → AreBelow m xs i
 rest_below m x xs i below = λ k d less. below (suc k) d (omega arith)
 
-first_below : (m : ℕ) (x : Waiter) (xs : List Waiter) (i : ℕ) → AreBelow m (x ∷ xs) (suc i) → nat_lt x.filing m ≡ true
+first_below : {V : Type 0} (m : ℕ) (x : OfFiling V) (xs : List (OfFiling V)) (i : ℕ) → AreBelow m (x ∷ xs) (suc i) → nat_lt x.filing m ≡ true
 first_below m x xs i below = below zero x (omega arith)
 
 lower_is_other : (a m : ℕ) → nat_lt a m ≡ true → (a == m) ≡ false
 lower_is_other a m less = grind (arith, nat_tests, less)
 
 -- the filing at i is m
-pub found : (m : ℕ) (ws : List Waiter) (i : ℕ) (w : Waiter) → AreBelow m ws i → slice_get ws i ≡ Some w → (w.filing == m) ≡ true → waiter_of m ws ≡ Some w
+pub found : {V : Type 0} (m : ℕ) (ws : List (OfFiling V)) (i : ℕ) (w : OfFiling V) → AreBelow m ws i → slice_get ws i ≡ Some w → (w.filing == m) ≡ true → of_filing m ws ≡ Some w
 found m [] i w below at is = cc
 found m (x ∷ xs) zero w below at is =
     let same : x ≡ w = cc in
-    subst (λ v. cond (v.filing == m) (Some v) (waiter_of m xs) ≡ Some w) (sym same) (rw is refl)
+    subst (λ v. cond (v.filing == m) (Some v) (of_filing m xs) ≡ Some w) (sym same) (rw is refl)
 found m (x ∷ xs) (suc i) w below at is =
     rw (lower_is_other x.filing m (first_below m x xs i below)) (found m xs i w (rest_below m x xs i below) at is)
 
-pub none_below : (m a : ℕ) (ws : List Waiter) → Ascends a ws → m < a → waiter_of m ws ≡ None
+pub none_below : {V : Type 0} (m a : ℕ) (ws : List (OfFiling V)) → Ascends a ws → m < a → of_filing m ws ≡ None
 none_below m a [] up less = refl
 none_below m a (x ∷ xs) up less =
     let first = up.0 in
@@ -36,10 +37,10 @@ none_below m a (x ∷ xs) up less =
     rw other (none_below m (x.filing + 1) xs up.1 (omega arith))
 
 -- the filing at i, if any, is above m
-abbrev pub IsBehind : ℕ → List Waiter → ℕ → Type 0
-IsBehind m ws i = (d : Waiter) → i < length ws → m < (get_or ws i d).filing
+abbrev pub IsBehind : {V : Type 0} → ℕ → List (OfFiling V) → ℕ → Type 0
+IsBehind {V = V} m ws i = (d : OfFiling V) → i < length ws → m < (get_or ws i d).filing
 
-pub not_found : (m a : ℕ) (ws : List Waiter) (i : ℕ) → Ascends a ws → AreBelow m ws i → IsBehind m ws i → waiter_of m ws ≡ None
+pub not_found : {V : Type 0} (m a : ℕ) (ws : List (OfFiling V)) (i : ℕ) → Ascends a ws → AreBelow m ws i → IsBehind m ws i → of_filing m ws ≡ None
 not_found m a [] i up below behind = refl
 not_found m a (x ∷ xs) zero up below behind =
     let more = behind x (omega arith) in
@@ -50,10 +51,10 @@ not_found m a (x ∷ xs) (suc i) up below behind =
     (not_found m (x.filing + 1) xs i up.1 (rest_below m x xs i below) (λ d within. behind d (omega arith)))
 
 -- the filing at i, if any, is not below m
-abbrev pub IsNotBelow : ℕ → List Waiter → ℕ → Type 0
-IsNotBelow m ws i = (d : Waiter) → i < length ws → nat_lt (get_or ws i d).filing m ≡ false
+abbrev pub IsNotBelow : {V : Type 0} → ℕ → List (OfFiling V) → ℕ → Type 0
+IsNotBelow {V = V} m ws i = (d : OfFiling V) → i < length ws → nat_lt (get_or ws i d).filing m ≡ false
 
-pub is_of : (m : ℕ) (o : Option Waiter) (v : Waiter) → waiter_at m o ≡ Some v → (o ≡ Some v) × (v.filing ≡ m)
+pub is_of : {V : Type 0} (m : ℕ) (o : Option (OfFiling V)) (v : OfFiling V) → at_filing m o ≡ Some v → (o ≡ Some v) × (v.filing ≡ m)
 is_of m None v is = cc
 is_of m (Some w) v is =
     elim (w.filing == m) as (λ b. (w.filing == m) ≡ b → cond b (Some w) None ≡ Some v → (Some w ≡ Some v) × (v.filing ≡ m)) [
@@ -63,7 +64,19 @@ is_of m (Some w) v is =
       | false ↦ λ apart found. cc
     ] refl is
 
-pub is_behind : (m : ℕ) (ws : List Waiter) (i : ℕ) → waiter_at m (slice_get ws i) ≡ None → IsNotBelow m ws i → IsBehind m ws i
+-- where a value is found, it stands of that filing at the index
+pub is_there : {V : Type 0} (m : ℕ) (o : Option (OfFiling V)) (value : V) → option_map (λ x. x.value) (at_filing m o) ≡ Some value → (v : OfFiling V) × ((o ≡ Some v) × (v.filing ≡ m))
+is_there m o value is =
+    elim (at_filing m o) as (λ p. at_filing m o ≡ p → option_map (λ x. x.value) p ≡ Some value → (v : OfFiling _) × ((o ≡ Some v) × (v.filing ≡ m))) [
+      | Some v ↦ λ there found. (v, is_of m o v there)
+      | None ↦ λ there found. cc
+    ] refl is
+
+pub is_not_there : {V : Type 0} (o : Option (OfFiling V)) → option_map (λ x. x.value) o ≡ None → o ≡ None
+is_not_there None is = refl
+is_not_there (Some v) is = cc
+
+pub is_behind : {V : Type 0} (m : ℕ) (ws : List (OfFiling V)) (i : ℕ) → at_filing m (slice_get ws i) ≡ None → IsNotBelow m ws i → IsBehind m ws i
 is_behind m [] i none low = λ d within. absurd (omega arith)
 is_behind m (x ∷ xs) zero none low = λ d within.
     let not_less = low x (omega arith) in
@@ -73,10 +86,10 @@ is_behind m (x ∷ xs) zero none low = λ d within.
     ] refl none
 is_behind m (x ∷ xs) (suc i) none low = λ d within. is_behind m xs i none (λ e inside. low e (omega arith)) d (omega arith)
 
--- a search by halves gives the waiter of the filing
-pub searched : (m : ℕ) (ws : List Waiter) (i : ℕ) → Ascends 0 ws → AreBelow m ws i → IsNotBelow m ws i → waiter_at m (slice_get ws i) ≡ waiter_of m ws
+-- a search by halves gives what stands of the filing
+pub searched : {V : Type 0} (m : ℕ) (ws : List (OfFiling V)) (i : ℕ) → Ascends 0 ws → AreBelow m ws i → IsNotBelow m ws i → at_filing m (slice_get ws i) ≡ of_filing m ws
 searched m ws i up below low =
-    elim (waiter_at m (slice_get ws i)) as (λ o. waiter_at m (slice_get ws i) ≡ o → o ≡ waiter_of m ws) [
+    elim (at_filing m (slice_get ws i)) as (λ o. at_filing m (slice_get ws i) ≡ o → o ≡ of_filing m ws) [
       | Some v ↦ λ is.
           let of_it = is_of m (slice_get ws i) v is in
           let same : (v.filing == m) ≡ true = grind (arith, nat_tests, of_it.1) in
@@ -84,9 +97,9 @@ searched m ws i up below low =
       | None ↦ λ is. sym (not_found m 0 ws i up below (is_behind m ws i is low))
     ] refl
 
--- ---- a waiter behind others of lower filings
+-- ---- one behind others of lower filings
 
-step : (x w : Waiter) (n : ℕ) (new old : Option Waiter) → (x.filing == w.filing) ≡ false → new ≡ cond (w.filing == n) (Some w) old
+step : {V : Type 0} (x w : OfFiling V) (n : ℕ) (new old : Option (OfFiling V)) → (x.filing == w.filing) ≡ false → new ≡ cond (w.filing == n) (Some w) old
     → cond (x.filing == n) (Some x) new ≡ cond (w.filing == n) (Some w) (cond (x.filing == n) (Some x) old)
 step x w n new old other is =
     elim (x.filing == n) as (λ b. (x.filing == n) ≡ b → cond b (Some x) new ≡ cond (w.filing == n) (Some w) (cond b (Some x) old)) [
@@ -97,22 +110,22 @@ step x w n new old other is =
     ] refl
 
 -- written at its place
-pub written : (ws : List Waiter) (i : ℕ) (v w : Waiter) → AreBelow w.filing ws i → slice_get ws i ≡ Some v → v.filing ≡ w.filing
-    → (n : ℕ) → waiter_of n (set ws i w) ≡ cond (w.filing == n) (Some w) (waiter_of n ws)
+pub written : {V : Type 0} (ws : List (OfFiling V)) (i : ℕ) (v w : OfFiling V) → AreBelow w.filing ws i → slice_get ws i ≡ Some v → v.filing ≡ w.filing
+    → (n : ℕ) → of_filing n (set ws i w) ≡ cond (w.filing == n) (Some w) (of_filing n ws)
 written [] i v w below at same n = cc
 written (x ∷ xs) zero v w below at same n =
     let is : x ≡ v = cc in
     let filing : x.filing ≡ w.filing = ap (λ u. u.filing) is ∙ same in
-    subst (λ f. cond (w.filing == n) (Some w) (waiter_of n xs) ≡ cond (w.filing == n) (Some w) (cond (f == n) (Some x) (waiter_of n xs))) (sym filing)
-    (elim (w.filing == n) as (λ b. cond b (Some w) (waiter_of n xs) ≡ cond b (Some w) (cond b (Some x) (waiter_of n xs))) [
+    subst (λ f. cond (w.filing == n) (Some w) (of_filing n xs) ≡ cond (w.filing == n) (Some w) (cond (f == n) (Some x) (of_filing n xs))) (sym filing)
+    (elim (w.filing == n) as (λ b. cond b (Some w) (of_filing n xs) ≡ cond b (Some w) (cond b (Some x) (of_filing n xs))) [
       | true ↦ refl
       | false ↦ refl
     ])
 written (x ∷ xs) (suc i) v w below at same n =
-    step x w n (waiter_of n (set xs i w)) (waiter_of n xs) (lower_is_other x.filing w.filing (first_below w.filing x xs i below))
+    step x w n (of_filing n (set xs i w)) (of_filing n xs) (lower_is_other x.filing w.filing (first_below w.filing x xs i below))
     (written xs i v w (rest_below w.filing x xs i below) at same n)
 
-pub written_ascends : (a : ℕ) (ws : List Waiter) (i : ℕ) (v w : Waiter) → Ascends a ws → slice_get ws i ≡ Some v → v.filing ≡ w.filing → Ascends a (set ws i w)
+pub written_ascends : {V : Type 0} (a : ℕ) (ws : List (OfFiling V)) (i : ℕ) (v w : OfFiling V) → Ascends a ws → slice_get ws i ≡ Some v → v.filing ≡ w.filing → Ascends a (set ws i w)
 written_ascends a [] i v w up at same = cc
 written_ascends a (x ∷ xs) zero v w up at same =
     let is : x ≡ v = cc in
@@ -120,15 +133,15 @@ written_ascends a (x ∷ xs) zero v w up at same =
 written_ascends a (x ∷ xs) (suc i) v w up at same = (up.0, written_ascends (x.filing + 1) xs i v w up.1 at same)
 
 -- put into the order
-pub put_in : (ws : List Waiter) (i : ℕ) (w : Waiter) → i ≤ length ws → AreBelow w.filing ws i
-    → (n : ℕ) → waiter_of n (insert ws i w) ≡ cond (w.filing == n) (Some w) (waiter_of n ws)
+pub put_in : {V : Type 0} (ws : List (OfFiling V)) (i : ℕ) (w : OfFiling V) → i ≤ length ws → AreBelow w.filing ws i
+    → (n : ℕ) → of_filing n (insert ws i w) ≡ cond (w.filing == n) (Some w) (of_filing n ws)
 put_in ws zero w within below n = refl
 put_in [] (suc i) w within below n = absurd (omega arith)
 put_in (x ∷ xs) (suc i) w within below n =
-    step x w n (waiter_of n (insert xs i w)) (waiter_of n xs) (lower_is_other x.filing w.filing (first_below w.filing x xs i below))
+    step x w n (of_filing n (insert xs i w)) (of_filing n xs) (lower_is_other x.filing w.filing (first_below w.filing x xs i below))
     (put_in xs i w (omega arith) (rest_below w.filing x xs i below) n)
 
-pub put_in_ascends : (a : ℕ) (ws : List Waiter) (i : ℕ) (w : Waiter) → Ascends a ws → a ≤ w.filing → i ≤ length ws → AreBelow w.filing ws i → IsBehind w.filing ws i
+pub put_in_ascends : {V : Type 0} (a : ℕ) (ws : List (OfFiling V)) (i : ℕ) (w : OfFiling V) → Ascends a ws → a ≤ w.filing → i ≤ length ws → AreBelow w.filing ws i → IsBehind w.filing ws i
     → Ascends a (insert ws i w)
 put_in_ascends a [] zero w up low within below behind = (low, tt)
 put_in_ascends a (x ∷ xs) zero w up low within below behind =
@@ -171,34 +184,37 @@ first_put_in P (suc n) xs zero y within all is = (is (omega arith), fewer P (suc
 first_put_in P (suc n) [] (suc i) y within all is = absurd (omega arith)
 first_put_in P (suc n) (x ∷ xs) (suc i) y within all is = (all.0, first_put_in P n xs i y (omega arith) all.1 (λ less. is (omega arith)))
 
--- ---- one waiter more or another
+-- ---- values
 
--- the mark behind a waiter at i
-abbrev mark : ℕ → ℕ → Waiter → ℕ
-mark n i w = cond (lacks_notice w) (min n i) n
-
-mark_low : (n i : ℕ) (w : Waiter) → mark n i w ≤ n
-mark_low n i w =
-    elim (lacks_notice w) as (λ b. cond b (min n i) n ≤ n) [
-      | true ↦ omega arith
-      | false ↦ omega arith
+-- the value of what is put is that of its filing
+pub value_put : {V : Type 0} (w : OfFiling V) (n : ℕ) (new old : List (OfFiling V)) → of_filing n new ≡ cond (w.filing == n) (Some w) (of_filing n old)
+    → value_in n new ≡ cond (w.filing == n) (Some w.value) (value_in n old)
+value_put w n new old is =
+    ap (option_map (λ x. x.value)) is
+    ∙ elim (w.filing == n) as (λ b. option_map (λ x. x.value) (cond b (Some w) (of_filing n old)) ≡ cond b (Some w.value) (value_in n old)) [
+      | true ↦ refl
+      | false ↦ refl
     ]
 
-mark_is : (n i : ℕ) (w : Waiter) → i < mark n i w → lacks_notice w ≡ false
-mark_is n i w =
-    elim (lacks_notice w) as (λ b. i < cond b (min n i) n → b ≡ false) [
-      | true ↦ λ less. absurd (omega arith)
-      | false ↦ λ less. refl
-    ]
+-- ---- how many pass a test
 
-pub mark_written : (n : ℕ) (ws : List Waiter) (i : ℕ) (w : Waiter) → AllByRecursion (λ v. lacks_notice v ≡ false) (take n ws)
-    → AllByRecursion (λ v. lacks_notice v ≡ false) (take (mark n i w) (set ws i w))
-mark_written n ws i w all =
-    first_written (λ v. lacks_notice v ≡ false) (mark n i w) ws i w
-    (fewer (λ v. lacks_notice v ≡ false) n (mark n i w) ws (mark_low n i w) all) (mark_is n i w)
+one_for_another : (new old a b n : ℕ) → new ≡ b + n → old ≡ a + n → new ≤ old + b
+one_for_another new old a b n is was = omega arith
 
-pub mark_put_in : (n : ℕ) (ws : List Waiter) (i : ℕ) (w : Waiter) → i ≤ length ws → AllByRecursion (λ v. lacks_notice v ≡ false) (take n ws)
-    → AllByRecursion (λ v. lacks_notice v ≡ false) (take (mark n i w) (insert ws i w))
-mark_put_in n ws i w within all =
-    first_put_in (λ v. lacks_notice v ≡ false) (mark n i w) ws i w within
-    (fewer (λ v. lacks_notice v ≡ false) n (mark n i w) ws (mark_low n i w) all) (mark_is n i w)
+more_behind : (new old a b n m : ℕ) → new ≡ a + m → old ≡ a + n → m ≤ n + b → new ≤ old + b
+more_behind new old a b n m is was less = omega arith
+
+pub counted_written : {X : Type 0} (t : X → Bool) (xs : List X) (i : ℕ) (y : X) → count_by t (set xs i y) ≤ count_by t xs + cond (t y) 1 0
+counted_written t [] i y = omega arith
+counted_written t (x ∷ xs) zero y =
+    one_for_another (count_by t (y ∷ xs)) (count_by t (x ∷ xs)) (cond (t x) 1 0) (cond (t y) 1 0) (count_by t xs)
+    (sum_by-cons (λ z. cond (t z) 1 0) y xs) (sum_by-cons (λ z. cond (t z) 1 0) x xs)
+counted_written t (x ∷ xs) (suc i) y =
+    more_behind (count_by t (x ∷ set xs i y)) (count_by t (x ∷ xs)) (cond (t x) 1 0) (cond (t y) 1 0) (count_by t xs) (count_by t (set xs i y))
+    (sum_by-cons (λ z. cond (t z) 1 0) x (set xs i y)) (sum_by-cons (λ z. cond (t z) 1 0) x xs) (counted_written t xs i y)
+
+same_is_up_to : (n m : ℕ) → n ≡ m → n ≤ m
+same_is_up_to n m same = omega arith
+
+pub counted_put_in : {X : Type 0} (t : X → Bool) (xs : List X) (i : ℕ) (y : X) → count_by t (insert xs i y) ≤ count_by t xs + cond (t y) 1 0
+counted_put_in t xs i y = same_is_up_to (count_by t (insert xs i y)) (count_by t xs + cond (t y) 1 0) (sum_by-insert (λ z. cond (t z) 1 0) xs i y)
