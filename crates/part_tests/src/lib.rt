@@ -16,4 +16,6 @@ mod right_tests;
 #[cfg(test)]
 mod title_tests;
 #[cfg(test)]
+mod waiting_tests;
+#[cfg(test)]
 mod written_entries;
