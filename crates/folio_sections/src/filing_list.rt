@@ -1,5 +1,5 @@
 //! Lists with a value of each of several filings, in the order of these.
-ghost use Rattle.std.specs.Prelude.{◌≡◌, ◌+◌, ◌≤◌, ◌<◌, ◌==◌, true, false, drop, take, take_while, ℕ, Bool, Some, None, count_by, length, find, if◌then◌else◌, get_or, is_some, option_map, nat_lt, slice_get, vec_len, vec_capacity};
+ghost use Rattle.std.specs.Prelude.{◌≡◌, ◌+◌, ◌≤◌, ◌<◌, ◌==◌, true, false, take, ℕ, Bool, Some, count_by, length, if◌then◌else◌, get_or, option_map, nat_lt, slice_get, vec_len, vec_capacity};
 ghost use Rattle.std.specs.List.{AllByRecursion};
 ghost use Rattle.folio_sections.specs.declared.filing_list.OfFiling.{OfFiling};
 ghost use Rattle.folio_sections.specs.inner.FilingLists.{Ascends, at_filing, value_in};
@@ -32,8 +32,8 @@ fn value_at<V: Copy>(list: &[OfFiling<V>], index: usize, filing: ReceiptNo) -> O
 }
 
 /// Puts a value in the place of that of its filing, or into the order where there is none, and
-/// answers at which index. What the first so many fail they fail behind it, if this one does where
-/// it is among them; and of those that pass a test there is at most this one more.
+/// answers at which index. A test that the first so many fail they still fail, if this one does
+/// where it is among them; and at most one more passes a test than before.
 pub(crate) fn put<V: Copy>(list: &mut Vec<OfFiling<V>>, one: OfFiling<V>) -> usize
     requires order { Ascends 0 list.old.items }
     requires room { vec_len list.old < vec_capacity list.old }

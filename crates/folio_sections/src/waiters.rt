@@ -1,7 +1,7 @@
 //! The filings that wait at a key, beside its entries, so that no reader walks these.
 //! Why so: docs/DECISIONS.md, "A filing whose waiting has ended is swept, and its notice stays".
 //! Why so: docs/DECISIONS.md, "A part is asked for the next filing that waits without a notice".
-ghost use Rattle.std.specs.Prelude.{◌≡◌, ◌+◌, ◌≤◌, ◌<◌, ◌==◌, ◌&&◌, true, false, count_by, drop, take_while, ℕ, Some, None, [], length, find, if◌then◌else◌, get_or, option_map, is_none, is_some, nat_lt, min, vec_len, vec_capacity, OnOk, IsOk};
+ghost use Rattle.std.specs.Prelude.{◌≡◌, ◌+◌, ◌≤◌, ◌<◌, ◌==◌, ◌&&◌, false, count_by, drop, take_while, ℕ, Some, None, [], length, find, if◌then◌else◌, get_or, option_map, is_none, nat_lt, min, vec_len, vec_capacity, OnOk, IsOk};
 ghost use Rattle.std.specs.Option.{option_or};
 ghost use Rattle.folio_sections.specs.Waiting.{is_notice_of, until_by};
 ghost use Rattle.folio_sections.specs.inner.FilingLists.{Ascends, value_in};
@@ -24,7 +24,7 @@ pub(crate) struct Waiters {
     notices: Vec<OfFiling<usize>>,
     /// None of the first so many that have a day waits without a notice.
     noticed: usize,
-    /// How many have ended at most: how often a waiting ended since those that had were taken away.
+    /// At most so many have ended: it counts each end since those that had ended were taken away.
     ended: usize,
 }
 
