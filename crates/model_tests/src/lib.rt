@@ -2,6 +2,8 @@
 #![tactic(auto)]
 
 #[cfg(test)]
+mod document_tests;
+#[cfg(test)]
 mod index_tests;
 #[cfg(test)]
 mod interest_tests;
