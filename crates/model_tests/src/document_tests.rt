@@ -127,13 +127,24 @@ fn compare_act(rt: &impl Abort, matter: &Matter, act: u8) {
     ] {
         assert_eq!(rt; matter.has(&sought), walked(matter, &sought), "{sought:?}");
     }
-    assert_eq!(rt; matter.has_proof(act), walked(matter, &Sought::Proof { act }));
+    assert_eq!(rt;
+        matter.has_proof(act),
+        walked(matter, &Sought::Proof { act })
+    );
     let mut consents = false;
     for last in [1, 2, 3, 4, 5] {
         let person = person(last);
         consents = consents || walked(matter, &Sought::Consent { act, person });
-        assert_eq!(rt; matter.some_consenter(act, &UpTo { last }), consents, "{last}");
-        assert_eq!(rt; matter.given(act, person), form_walked(matter, act, person), "{last}");
+        assert_eq!(rt;
+            matter.some_consenter(act, &UpTo { last }),
+            consents,
+            "{last}"
+        );
+        assert_eq!(rt;
+            matter.given(act, person),
+            form_walked(matter, act, person),
+            "{last}"
+        );
     }
 }
 
