@@ -62,13 +62,15 @@ impl MapParts {
         })
     }
 
-    /// Holds the part of a key too; nothing stands there where it was not held before. Where no
-    /// memory is found nothing changes.
+    /// Holds the part of a key too; nothing stands there where it was not held before, and where it
+    /// was nothing changes. Where no memory is found nothing changes.
     pub fn hold(&mut self, key: Key) -> Result<(), NoMemory>
         ensures held { OnOk result ((k : Key) → is_held self.new k ≡ (is_held self.old k || same_key key k)) }
         ensures entries { entries_at self.new ≡ entries_at self.old }
         ensures kept { (k : Key) → room_at self.old k ≤ room_at self.new k }
         ensures unchanged { OnErr result (self.new ≡ self.old) }
+        ensures succeeds { IsTrue (is_held self.old key) → IsOk result }
+        ensures same { IsTrue (is_held self.old key) → self.new ≡ self.old }
     {
         add_part(self.alloc, &mut self.parts, &mut self.index, key)
     }
@@ -214,6 +216,8 @@ fn add_part(
     ensures kept { (k : Key) → room_at parts.old.items k ≤ room_at parts.new.items k }
     ensures empty { All (λ p. p.entries ≡ []) parts.old.items → All (λ p. p.entries ≡ []) parts.new.items }
     ensures unchanged { OnErr result (parts.new.items ≡ parts.old.items) }
+    ensures succeeds { IsTrue (is_held parts.old.items key) → IsOk result }
+    ensures same { IsTrue (is_held parts.old.items key) → parts.new.items ≡ parts.old.items }
 {
     if index.contains_key(&key) {
         return Ok(());

@@ -22,7 +22,7 @@ pub(crate) struct Waiters {
     /// How many entries stand ahead of the first official notice of a filing, in the order of
     /// filings.
     notices: Vec<OfFiling<usize>>,
-    /// None of the first so many that have a day waits without a notice.
+    /// None of the first so many of `until` waits without a notice.
     noticed: usize,
     /// At most so many have ended: it counts each end since those that had ended were taken away.
     ended: usize,

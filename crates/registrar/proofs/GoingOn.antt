@@ -1,6 +1,7 @@
 -- A settlement goes on by one item, and a register is one that has come so far.
-use Rattle.std.proofs.Common.{◌≡◌, ℕ, ◌+◌, ◌<◌, true, false, ◌||◌, List, [], ◌∷◌, ◌++◌, length, All, AllPairs, Contains, filter, filter_map, refl, sym, ap, subst, ◌∙◌}
+use Rattle.std.proofs.Common.{◌≡◌, ℕ, ◌+◌, ◌<◌, true, false, ◌||◌, List, [], ◌∷◌, ◌++◌, length, length-append, ◌≤◌, All, AllPairs, Contains, filter, filter_map, refl, sym, ap, subst, ◌∙◌, arith}
 use Rattle.std.proofs.lemmas.Bool.{or_left}
+use Rattle.std.proofs.lemmas.List.{append-nil}
 use Rattle.std.proofs.lemmas.List.Folds.{list_any-append}
 use Rattle.std.proofs.lemmas.List.FromFn.{length-enumerate_from}
 use Rattle.gb_base.specs.declared.keys.Key.{Key}
@@ -117,3 +118,17 @@ is_behind journal s stands empty has =
           ∙ listed_of_open (open_folios entries_then.entries) (λ k. at_key entries_then.entries k) (open_folios_are entries_then.entries) f
           ∙ ap (λ stand. is_open (stand (Title f))) (sym entries);
     }
+
+-- ---- open folios
+
+-- a list that has got no longer has got nothing more
+pub nothing_added : (before more all : List ℕ) → all ≡ before ++ more → length all ≤ length before → all ≡ before
+nothing_added before [] all whole short = whole ∙ append-nil before
+nothing_added before (f ∷ fs) all whole short =
+    let longer : length all ≡ length before + length (f ∷ fs) = ap (λ ns. length ns) whole ∙ length-append before (f ∷ fs) in
+    absurd (omega arith)
+
+-- the open folios of a register that has come so far are in order
+pub folios_in_order : (journal : List Receipt) (s : Settled) → HasSettled journal (register_of s) → AllPairs (λ folio later. folio < later) s.folios.items
+folios_in_order journal s has =
+    subst (AllPairs (λ folio later. folio < later)) (sym has.folios) (open_folios_are (settled_first journal (length (register_of s).verdicts)).entries).ascending

@@ -6,6 +6,7 @@ ghost use Rattle.std.specs.Option.{option_copied};
 ghost use Rattle.folio_sections.specs.Adding.{Adds};
 ghost use Rattle.folio_sections.specs.Held.{entries_at, is_held, room_at};
 ghost use Rattle.folio_sections.specs.HeldRights.{held_rights};
+ghost use Rattle.kept_registers.specs.Kept.{Kept};
 ghost use Rattle.registrar.specs.HasSettled.{HasSettled};
 ghost use Rattle.registrar.specs.RegisterState.{verdict_among};
 ghost use Rattle.registrar.specs.inner.Behind.{register_of};
@@ -46,12 +47,13 @@ impl Register {
 
     /// Settles the next item of the journal, behind those that are settled (GBO § 17). It keeps the
     /// room for it first: where no memory is found, nothing is settled and no entry, verdict or open
-    /// folio changes.
+    /// folio changes, but keys of the item may be held then, so such a register is to be made anew.
     pub fn settle_next(&mut self, scratch: &mut Scratch, journal: &Journal) -> Result<(), NoMemory>
         requires more { length self.old.verdicts < length journal.now.receipts }
         requires settled { HasSettled journal.now.receipts self.old }
         ensures settled { OnOk result (HasSettled journal.now.receipts self.new) }
         ensures one_more { OnOk result (length self.new.verdicts ≡ length self.old.verdicts + 1) }
+        ensures kept { OnOk result (Kept journal.now.receipts (entries_at self.new.parts)) }
         ensures entries { OnErr result (entries_at self.new.parts ≡ entries_at self.old.parts) }
         ensures verdicts { OnErr result (self.new.verdicts ≡ self.old.verdicts) }
         ensures folios { OnErr result (self.new.folios ≡ self.old.folios) }
@@ -59,8 +61,7 @@ impl Register {
         // Each prefix of a journal leaves a kept register, from the empty one on.
         empty_register_is_kept();
         journal.len();
-        self.settled.settle_next(scratch, journal)?;
-        self.settled.put_folios_in_order();
+        self.settled.settle_in_order(scratch, journal)?;
         Ok(())
     }
 

@@ -1,5 +1,5 @@
 //! What settling the items of a journal has come to, so far.
-ghost use Rattle.std.specs.Prelude.{◌≡◌, ◌<◌, ◌+◌, List, [], length, AllPairs, IfOk, OnErr, OnOk};
+ghost use Rattle.std.specs.Prelude.{◌≡◌, ◌<◌, ◌≤◌, ◌+◌, List, [], length, AllPairs, IfOk, OnErr, OnOk};
 ghost use Rattle.act_model.specs.Receiving.{IsJournal};
 ghost use Rattle.act_model.specs.declared.receipts.Receipt.{Receipt};
 ghost use Rattle.registrar.specs.inner.Behind.{IsBehind, Remains};
@@ -49,6 +49,7 @@ impl Settled {
         requires behind { IsBehind journal.now.receipts self.old }
         ensures behind { OnOk result (IsBehind journal.now.receipts self.new) }
         ensures one_more { OnOk result (length self.new.verdicts.items ≡ length self.old.verdicts.items + 1) }
+        ensures folios { OnOk result (length self.new.folios.items ≤ length self.old.folios.items → self.new.folios.items ≡ self.old.folios.items) }
         ensures remains { OnErr result (Remains self.old self.new) }
     {
         let item = number_behind(journal, self.verdicts.len());
@@ -60,6 +61,29 @@ impl Settled {
         let verdict = step(&mut self.parts, scratch, journal, item);
         self.verdicts.push_reserved(verdict);
         list_open(&mut self.folios, &self.parts, closed.as_slice());
+        Ok(())
+    }
+
+    /// The same, and the open folios stay in ascending order: they are sorted behind an item that
+    /// opens one.
+    pub fn settle_in_order(
+        &mut self,
+        scratch: &mut Scratch,
+        journal: &Journal,
+    ) -> Result<(), NoMemory>
+        requires more { length self.old.verdicts.items < length journal.now.receipts }
+        requires behind { IsBehind journal.now.receipts self.old }
+        requires ascending { AllPairs (λ folio later. folio < later) self.old.folios.items }
+        ensures behind { OnOk result (IsBehind journal.now.receipts self.new) }
+        ensures one_more { OnOk result (length self.new.verdicts.items ≡ length self.old.verdicts.items + 1) }
+        ensures ascending { OnOk result (AllPairs (λ folio later. folio < later) self.new.folios.items) }
+        ensures remains { OnErr result (Remains self.old self.new) }
+    {
+        let listed = self.folios.len();
+        self.settle_next(scratch, journal)?;
+        if self.folios.len() > listed {
+            self.put_folios_in_order();
+        }
         Ok(())
     }
 

@@ -4,7 +4,7 @@ use Rattle.gb_base.specs.declared.keys.Key.TheVariants.{Title}
 use Rattle.folio_sections.specs.Held.{entries_at, is_given, is_held, room_at}
 use Rattle.folio_sections.specs.Titles.{is_open}
 use Rattle.kept_registers.specs.Kept.{Kept}
-use Rattle.registrar.proofs.GoingOn.{next_behind}
+use Rattle.registrar.proofs.GoingOn.{next_behind, nothing_added}
 use Rattle.registrar.proofs.JournalKeys.{has_its_room, touched_is_given}
 use Rattle.registrar.specs.inner.Listed.{closed_folio_of_title}
 use Rattle.registrar.proofs.settled.Settled.settle_next.Goals as goal
@@ -44,3 +44,8 @@ returns-clause-behind c =
     (c.in_ok-closed.ensures ∙ ap (filter_map (closed_folio_of_title (entries_at c.make_room.new.parts))) (c.as_slice-2.ensures.value ∙ sym c.as_slice.ensures.value))
     (c.list_open.ensures ∙ ap (λ fs. fs ++ filter (λ folio. is_open (entries_at c.step-verdict.new.parts (Title folio))) c.as_slice-3.result.now) c.reserve.ensures.items
     ∙ ap (λ fs. c.args.self.now.folios.items ++ filter (λ folio. is_open (entries_at c.step-verdict.new.parts (Title folio))) fs) c.as_slice-3.ensures.value)
+
+pub returns-clause-folios : goal.returns-clause-folios
+returns-clause-folios c = λ short.
+    nothing_added c.args.self.now.folios.items (filter (λ folio. is_open (entries_at c.step-verdict.new.parts (Title folio))) c.as_slice-3.result.now) c.list_open.new.list.items
+    (c.list_open.ensures ∙ ap (λ fs. fs ++ filter (λ folio. is_open (entries_at c.step-verdict.new.parts (Title folio))) c.as_slice-3.result.now) c.reserve.ensures.items) short
