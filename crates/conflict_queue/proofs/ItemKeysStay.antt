@@ -24,7 +24,7 @@ all_both P (x ∷ xs) ys first second = (first.0, all_both P xs ys first.1 secon
 -- ---- what later receipts create
 
 -- the right is of item i or a later one
-abbrev IsLater : ℕ → RightNo → Type 0
+abbrev pub IsLater : ℕ → RightNo → Type 0
 IsLater i right = nat_lt right.receipt i ≡ false
 
 acts_later : (folio m i : ℕ) (numbered : List (ℕ × Act)) → i ≤ m → AllByRecursion (IsLater i) (filter_map (creation_in folio m) numbered)
@@ -42,17 +42,17 @@ item_later : (folio m i : ℕ) (w : Item) → i ≤ m → AllByRecursion (IsLate
 item_later folio m i (item.Filing f) within = acts_later folio m i (enumerate_from 1 f.acts) within
 item_later folio m i other within = tt
 
-receipts_later : (folio n i : ℕ) (more : List Receipt) → i ≤ n → AllByRecursion (IsLater i) (flat_map (λ p. creations_of_item folio p.0 p.1.item) (enumerate_from n more))
+pub receipts_later : (folio n i : ℕ) (more : List Receipt) → i ≤ n → AllByRecursion (IsLater i) (flat_map (λ p. creations_of_item folio p.0 p.1.item) (enumerate_from n more))
 receipts_later folio n i [] within = tt
 receipts_later folio n i (r ∷ rs) within =
     all_both (IsLater i) (creations_of_item folio n r.item) (flat_map (λ p. creations_of_item folio p.0 p.1.item) (enumerate_from (n + 1) rs))
     (item_later folio n i r.item within) (receipts_later folio (n + 1) i rs (omega arith))
 
-numbered_both : (n : ℕ) (xs ys : List Receipt) → enumerate_from n (xs ++ ys) ≡ enumerate_from n xs ++ enumerate_from (n + length xs) ys
+pub numbered_both : (n : ℕ) (xs ys : List Receipt) → enumerate_from n (xs ++ ys) ≡ enumerate_from n xs ++ enumerate_from (n + length xs) ys
 numbered_both n [] ys = ap (λ k. enumerate_from k ys) (omega arith)
 numbered_both n (x ∷ xs) ys = ap (λ rest. (n, x) ∷ rest) (numbered_both (n + 1) xs ys ∙ ap (λ k. enumerate_from (n + 1) xs ++ enumerate_from k ys) (omega arith))
 
-creations_both : (journal more : List Receipt) (folio : ℕ) → creations_in (journal ++ more) folio ≡ creations_in journal folio ++ flat_map (λ p. creations_of_item folio p.0 p.1.item) (enumerate_from (1 + length journal) more)
+pub creations_both : (journal more : List Receipt) (folio : ℕ) → creations_in (journal ++ more) folio ≡ creations_in journal folio ++ flat_map (λ p. creations_of_item folio p.0 p.1.item) (enumerate_from (1 + length journal) more)
 creations_both journal more folio =
     ap (λ numbered. flat_map (λ p. creations_of_item folio p.0 p.1.item) numbered) (numbered_both 1 journal more)
     ∙ flat_map-append (λ p. creations_of_item folio p.0 p.1.item) (enumerate_from 1 journal) (enumerate_from (1 + length journal) more)

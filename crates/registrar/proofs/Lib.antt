@@ -4,6 +4,7 @@ pub mod Added
 pub mod Additions
 pub mod Agreeing
 pub mod AnsweredOnce
+pub mod BringsAsBefore
 pub mod ByItem
 pub mod CasesKept
 pub mod ContainedParts
@@ -12,6 +13,7 @@ pub mod CuresKeep
 pub mod Dealing
 pub mod Elsewhere
 pub mod EnteredTitles
+pub mod EntersAsBefore
 pub mod EntersLocally
 pub mod EntriesKept
 pub mod ExchangedKept
@@ -23,12 +25,15 @@ pub mod InPlaceKept
 pub mod ItemRooms
 pub mod ItemsKeep
 pub mod JournalKeys
+pub mod JudgedAsBefore
 pub mod JudgedLocally
 pub mod Keeping
 pub mod KnownExchanges
+pub mod LaterReceipts
 pub mod LeavingRights
 pub mod Listing
 pub mod Locality
+pub mod NamedReceipts
 pub mod NewAtTitles
 pub mod NewContents
 pub mod NewExchanges
@@ -46,6 +51,7 @@ pub mod RightReads
 pub mod RisingNumbers
 pub mod RoomSoFar
 pub mod Rooms
+pub mod SettledAsBefore
 pub mod StandingParts
 pub mod StepLemmas
 pub mod UnnoticedFew

@@ -3,6 +3,7 @@ pub mod Brings
 pub mod Enters
 pub mod HasSettled
 pub mod HeldKeys
+pub mod NamesUpTo
 pub mod OpenFolios
 pub mod RegisterState
 pub mod Rooms

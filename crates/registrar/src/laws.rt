@@ -23,7 +23,9 @@ ghost use Rattle.interim_orders.specs.declared.states.FilingState.TheVariants.{P
 ghost use Rattle.registrar.specs.Brings.{brings};
 ghost use Rattle.registrar.specs.Enters.{enters};
 ghost use Rattle.conflict_queue.specs.ItemKeys.{keys_of_item};
-ghost use Rattle.registrar.specs.RegisterState.{verdict_among};
+ghost use Rattle.registrar.specs.HasSettled.{HasSettled, settled_first};
+ghost use Rattle.registrar.specs.NamesUpTo.{AllNameUpTo};
+ghost use Rattle.registrar.specs.RegisterState.{RegisterState, verdict_among};
 ghost use Rattle.registrar.specs.Settling.{registrar};
 ghost use Rattle.registrar.specs.declared.verdicts.Verdict.TheVariants.{Cured, Entered};
 
@@ -70,6 +72,17 @@ pub fn locality()
         → ((k : Key) → Contains (keys_of_item journal i) k → All (λ e. e.receipt < i) (register k))
         → ((k : Key) → Contains (keys_of_item journal i) k → other k ≡ register k)
         → brings journal i other ≡ brings journal i register }
+{}
+
+/// What an item brings follows from the receipts up to it: later receipts change nothing of it, on a
+/// register that names no later ones, as the register behind the first items of a journal. So one
+/// that has settled these has settled them of each journal that begins so.
+pub fn later_receipts_change_nothing()
+    ensures named { (journal : List Receipt) (n : ℕ) → AllNameUpTo n (at (settled_first journal n).entries) }
+    ensures brings { (journal more : List Receipt) (i : ℕ) (register : Key → List Entry) → i ≤ length journal → AllNameUpTo (length journal) register
+        → brings (journal ++ more) i register ≡ brings journal i register }
+    ensures settled { (journal more : List Receipt) (register : RegisterState) → length register.verdicts ≤ length journal → HasSettled journal register
+        → HasSettled (journal ++ more) register }
 {}
 
 /// In the register of each journal the live rights of a folio stand in the order of their filings
