@@ -81,7 +81,7 @@ impl Waiters {
         first_unnoticed(self.behind(start), self.notices.as_slice(), floor, filing)
     }
 
-    /// The days behind the first so many.
+    /// What `until` has behind the first so many.
     fn behind(&self, start: usize) -> &[OfFiling<Option<Day>>]
         requires { start ≤ length self.now.until.items }
         ensures { result.now ≡ drop start self.now.until.items }
@@ -89,7 +89,7 @@ impl Waiters {
         &self.until.as_slice()[start..]
     }
 
-    /// From which day on there may be one of a filing above this number that lacks a notice.
+    /// The place in `until` ahead of which no filing above this number lacks a notice.
     fn start_above(&self, floor: u32) -> usize
         requires { AreInOrder self.now }
         ensures within { result ≤ length self.now.until.items }

@@ -13,7 +13,7 @@ most_cents = 10000000000000
 abbrev pub most_rate : ℕ
 most_rate = 2000
 
--- the most days for which interest is counted
+-- the most days for which interest is counted; from the first day to the last there are fewer
 abbrev pub most_interest_days : ℕ
 most_interest_days = 83000
 

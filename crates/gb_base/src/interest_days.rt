@@ -6,7 +6,7 @@ ghost use Rattle.gb_base.specs.Limits.{most_interest_days, most_rate};
 use crate::{Cents, Day};
 
 /// The days from day a up to day b, without day b itself, where a year has 360 days and each month
-/// 30: the 31st of a month counts as its 30th. None where b is before a.
+/// 30: the 31st of a month counts as its 30th (ZVG § 47). 0 where b is before a.
 ///
 /// ```
 /// let a = Day::from_civil(2024, 1, 31)?;
@@ -32,8 +32,8 @@ fn commercial_day(day: Day) -> u32
     360 * u32::from(day.year()) + 30 * u32::from(day.month()) + u32::from(day.day()).min(30)
 }
 
-/// The interest on a capital for so many days, in whole cents. The rate is in
-/// hundredths of a percent a year, and a year has 360 days.
+/// The interest on a capital for so many days, in whole cents; it may pass the greatest amount. The
+/// rate is in hundredths of a percent a year, and a year has 360 days.
 pub fn interest(capital: Cents, rate_bp: u16, days: u32) -> u64
     requires rate { rate_bp ≤ most_rate }
     requires days { days ≤ most_interest_days }

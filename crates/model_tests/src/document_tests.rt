@@ -1,17 +1,17 @@
 //! Which documents count, in drawn journals of few filings with many cures: by the index of the
-//! journal, and by a walk over its receipts.
+//! journal, and by a walk over its receipts. Both ask a document by `Sought::is_met_by`, which is
+//! proved.
 ghost use Rattle.std.specs.Prelude.{◌≤◌};
 
-use act_model::{
-    Added, Doc, Form, Item, Journal, Matter, PersonTest, Sought, filing_at, well_formed,
-};
+use crate::journals::receive;
+use act_model::{Doc, Form, Item, Journal, Matter, PersonTest, Sought, filing_at};
 use gb_base::{NoMemory, Person, ReceiptNo};
 use std::alloc::Global;
 use std::process::Abort;
 use std::test::Fail;
 use test_items::{
-    Draws, agreement, charge, clearance, consent, cure, expiry_proof, filing, last_of_february,
-    opening, person, plain_consent, receipt, two,
+    Draws, agreement, charge, clearance, consent, cure, expiry_proof, filing, opening, person,
+    plain_consent, receipt, two,
 };
 
 /// The persons from 1 up to this one pass.
@@ -57,14 +57,6 @@ fn drawn_item(draws: &mut Draws, n: u32) -> Item
         let docs = [drawn_doc(draws), drawn_doc(draws)];
         cure(of, &docs)
     }
-}
-
-/// Receives the item, which is well formed.
-fn receive(rt: &impl Abort, journal: &mut Journal, item: &Item) {
-    assert!(rt; well_formed(item));
-    let n = journal.len() + 1;
-    let answer = test_items::receive(journal, last_of_february(), item);
-    assert_eq!(rt; answer, Added::Accepted(receipt(n)));
 }
 
 fn drawn_journal(rt: &(impl Abort + AllocGlobal), seed: u64) -> Journal {

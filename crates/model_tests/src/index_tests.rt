@@ -1,6 +1,7 @@
 //! The cures of filings and the creating acts of folios, in small journals.
 ghost use Rattle.std.specs.Prelude.{◌≤◌};
 
+use crate::journals::receive;
 use act_model::{Added, Item, Journal, well_formed};
 use std::process::Abort;
 use std::test::Fail;
@@ -30,13 +31,6 @@ fn three_rights() -> Item {
 fn opening_again() -> Item {
     let acts = two(opening(7, 10), charge(7, 10_000_000, 20));
     Item::Filing(filing(10, acts, &[]))
-}
-
-/// Sender 1 calls the item by its number, and it is received.
-fn receive(rt: &impl Abort, journal: &mut Journal, item: &Item) {
-    let next = receipt(journal.len() + 1);
-    let answer = received(journal, last_of_february(), item);
-    assert_eq!(rt; answer, Some(next));
 }
 
 #[test]

@@ -10,6 +10,8 @@ mod interest_tests;
 #[cfg(test)]
 mod journal_tests;
 #[cfg(test)]
+mod journals;
+#[cfg(test)]
 mod line_tests;
 #[cfg(test)]
 mod opening_list_tests;

@@ -3,7 +3,7 @@
 use crate::plain_readers as plain;
 use crate::written_entries::entry;
 use folio_sections::{RightPart, What};
-use gb_base::{NoMemory, ReceiptNo};
+use gb_base::{Day, NoMemory, ReceiptNo};
 use std::test::Fail;
 use test_items::{day, right, right_key};
 
@@ -57,7 +57,7 @@ fn filing_in_turn(step: u32, place: u32, count: u32) -> Option<ReceiptNo> {
 fn set_to_wait(part: &mut RightPart, step: u32, count: u32) -> Result<(), NoMemory> {
     for place in 1..TURN {
         if let Some(filing) = filing_in_turn(step, place, count) {
-            let until = day(2, 9);
+            let until = some_day(filing.get());
             add(part, What::Pending { filing, until })?;
         }
     }
@@ -87,10 +87,17 @@ fn end_so(part: &mut RightPart, step: u32, count: u32, most: u32) -> Result<bool
 }
 
 fn add(part: &mut RightPart, what: What) -> Result<(), NoMemory> {
-    let entry = entry(part.key(), 1, what);
+    let ahead = part.entries().len();
+    let mut entry = entry(part.key(), 1, what);
+    entry.day = some_day(ahead as u32);
     part.reserve(1)?;
     part.append(entry);
     Ok(())
+}
+
+/// A day that differs from number to number.
+fn some_day(number: u32) -> Day {
+    Day::new(number % 50_000 + 20_000).unwrap_or(day(2, 9))
 }
 
 /// Whether all that is read of the first so many filings is.

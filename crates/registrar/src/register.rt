@@ -38,7 +38,7 @@ impl Model for Register {
 }
 
 impl Register {
-    /// The register of what is settled, with its open folios in order.
+    /// The register of what is settled. Its caller has put the open folios in order.
     pub(crate) fn new(settled: Settled) -> Register
         ensures { result ≡ register_of settled }
     {
@@ -58,7 +58,8 @@ impl Register {
         ensures verdicts { OnErr result (self.new.verdicts ≡ self.old.verdicts) }
         ensures folios { OnErr result (self.new.folios ≡ self.old.folios) }
     {
-        // Each prefix of a journal leaves a kept register, from the empty one on.
+        // Called for their clauses: each prefix of a journal leaves a kept register, from the empty
+        // one on.
         empty_register_is_kept();
         journal.len();
         self.settled.settle_in_order(scratch, journal)?;

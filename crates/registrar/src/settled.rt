@@ -33,6 +33,7 @@ impl Settled {
         ensures behind { IfOk result (λ settled. (journal : List Receipt) → IsBehind journal settled) }
         ensures none { IfOk result (λ settled. settled.verdicts.items ≡ []) }
     {
+        // Called for its clause.
         empty_register_is_kept();
         Ok(Settled {
             alloc,
@@ -55,6 +56,7 @@ impl Settled {
         let item = number_behind(journal, self.verdicts.len());
         let keys = touches(self.alloc, journal, item)?;
         make_room(&mut self.parts, keys.as_slice())?;
+        // A folio opens once: those that are closed now and open behind the step are new.
         let closed = closed_folios(self.alloc, &self.parts, keys.as_slice())?;
         self.folios.reserve(closed.len())?;
         self.verdicts.reserve(1)?;
@@ -103,7 +105,7 @@ fn number_behind(journal: &Journal, count: usize) -> ReceiptNo
     ensures value { result ≡ count + 1 }
     ensures journal { IsJournal journal.now.receipts }
 {
-    // A journal holds fewer receipts than a number counts.
+    // Called for its clause: a journal holds fewer receipts than a number counts.
     journal.len();
     ReceiptNo::new(count as u32 + 1).unwrap()
 }
