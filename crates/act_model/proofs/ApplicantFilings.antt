@@ -27,7 +27,7 @@ filings_ascend journal person = ascend_from person 1 journal
 abbrev filed_at : ℕ → List Receipt → ℕ → Bool
 filed_at person rs i = option_map_or (λ r. is_filed_by person r.item) (slice_get rs i) false
 
-nothing : (b : Bool) → false ≡ (b && false)
+pub nothing : (b : Bool) → false ≡ (b && false)
 nothing true = refl
 nothing false = refl
 

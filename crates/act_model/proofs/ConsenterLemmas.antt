@@ -18,6 +18,7 @@ use Rattle.act_model.specs.inner.CureDocuments.{consenters_to, found_in, is_cons
 use Rattle.act_model.specs.inner.Firsts.{first}
 use Rattle.act_model.specs.inner.Index.{pair_cmp}
 use Rattle.act_model.specs.inner.Lists.{listed}
+use Rattle.act_model.proofs.DocumentKeys.{or_false}
 use Rattle.act_model.proofs.JournalLemmas.{is_at-pair}
 
 and_true : (b : Bool) → (b && true) ≡ b
@@ -68,10 +69,6 @@ rises_behind from n p (c ∷ cs) le up = (up.0, (up.1.0, rises_behind c.first n 
 pub rises_later : (from n last : ℕ) (cs : List Consenter) → n ≤ last → Rises from n cs → Rises from last cs
 rises_later from n last [] le up = tt
 rises_later from n last (c ∷ cs) le up = let within = up.1.0 in (up.0, (omega arith, rises_later c.first n last cs le up.1.1))
-
-or_false : (b : Bool) → (b || false) ≡ b
-or_false true = refl
-or_false false = refl
 
 -- whether a number is known, and this one
 abbrev pub is_known : ℕ → Option ℕ → Bool

@@ -1,5 +1,5 @@
 -- Lemmas on the cures of a filing, which ascend.
-use Rattle.std.proofs.Common.{◌≡◌, ℕ, ◌+◌, ◌<◌, Bool, true, false, ◌&&◌, if◌then◌else◌, nat_le, nat_lt, List, [], ◌∷◌, length, get_or, drop, Some, None, refl, arith, ◌||◌, cond, filter, flat_map, ap, ◌∙◌, add-one, drop-cons}
+use Rattle.std.proofs.Common.{◌≡◌, ℕ, ◌+◌, ◌<◌, Bool, true, false, ◌&&◌, if◌then◌else◌, nat_le, nat_lt, List, [], ◌∷◌, Some, None, refl, arith, ◌||◌, cond, filter, flat_map, ap, ◌∙◌}
 use Rattle.std.specs.List.{cons_option, enumerate_from, filter_map, list_any}
 use Rattle.act_model.specs.Cures.{cure_of, cures}
 use Rattle.act_model.specs.declared.receipts.Receipt.{Receipt}
@@ -38,8 +38,3 @@ pub any_brought : {X Y : Type 0} (p : Y → Bool) (t : X → Bool) (d : X → Li
     → list_any p (flat_map d (filter t xs)) ≡ list_any (λ x. t x && list_any p (d x)) xs
 any_brought p t d [] = refl
 any_brought p t d (x ∷ xs) = any_of_parts p d x (filter t xs) (t x) _ (any_brought p t d xs)
-
--- one that does not pass is passed over
-pub any_past : {X : Type 0} (p : X → Bool) (xs : List X) (i : ℕ) (x : X) → i < length xs → p (get_or xs i x) ≡ false
-    → list_any p (drop (i + 1) xs) ≡ list_any p (drop i xs)
-any_past p xs i x lt fails = rw (add-one, drop-cons xs i x) (rw fails refl)

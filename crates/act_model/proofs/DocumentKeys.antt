@@ -36,7 +36,7 @@ pub same_key : (k q : DocumentOf) → is_eq (document_cmp k q) ≡ true → k �
 unfolding document_cmp
 same_key k q h = keys_exact.same k q (order.matches_eq-law k q ∙ h)
 
-or_false : (b : Bool) → (b || false) ≡ b
+pub or_false : (b : Bool) → (b || false) ≡ b
 or_false true = refl
 or_false false = refl
 

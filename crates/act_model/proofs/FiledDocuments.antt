@@ -21,6 +21,7 @@ use Rattle.act_model.specs.Documents.{act_of_doc, docs_by_cure, docs_of, is_cons
 use Rattle.act_model.specs.Sought.{act_sought, is_sought}
 use Rattle.act_model.specs.inner.CureDocuments.{consenters_to, is_consenter, AreDocumentsOf}
 use Rattle.act_model.specs.inner.Firsts.{first_cure}
+use Rattle.act_model.proofs.ApplicantFilings.{nothing}
 use Rattle.act_model.proofs.ConsenterLemmas.{is_known}
 use Rattle.act_model.proofs.CureOrder.{any_brought, none_above}
 use Rattle.act_model.proofs.DocumentRoom.{eqb-itself}
@@ -33,10 +34,6 @@ one_more p d docs true b true rest is same so_far = ap (λ x. x || list_any p do
 one_more p d docs true b false rest is same so_far = ap (λ x. x || list_any p docs) is ∙ so_far
 one_more p d docs false b true rest is same so_far = so_far ∙ ap (λ c. c && rest) (sym (same refl)) ∙ ap (λ c. c && true) (same refl)
 one_more p d docs false b false rest is same so_far = so_far
-
-nothing : (b : Bool) → false ≡ (b && false)
-nothing true = refl
-nothing false = refl
 
 -- those of one act count where the filing has it
 of_one_act : (p : Doc → Bool) (a acts : ℕ) → ((d : Doc) → p d ≡ true → act_of_doc d ≡ a) → (docs : List Doc)

@@ -19,7 +19,6 @@ impl<'a> Matter<'a> {
     ghost use Rattle.act_model.specs.Documents.{docs_of, given, has_proof};
 
     /// Whether a document counts that is looked for so.
-    #[tactic(auto, unfolding(crate::specs::Documents::docs_of))]
     pub fn has(&self, sought: &Sought) -> bool
         ensures { result ≡ list_any (is_sought sought.now) (docs_of self.now) }
     {
@@ -28,7 +27,6 @@ impl<'a> Matter<'a> {
     }
 
     /// Whether somebody consents to the act, in either form, who passes the test.
-    #[tactic(auto, unfolding(crate::specs::Documents::docs_of))]
     pub fn some_consenter<T: PersonTest>(&self, act: u8, test: &T) -> bool
         ensures { result ≡ list_any (is_consent_by act (T.test test.now)) (docs_of self.now) }
     {
