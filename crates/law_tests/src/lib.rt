@@ -16,6 +16,8 @@ mod entering_tests;
 #[cfg(test)]
 mod exchange_tests;
 #[cfg(test)]
+mod growing_tests;
+#[cfg(test)]
 mod held_keys;
 #[cfg(test)]
 mod interim_parts;
