@@ -4,6 +4,8 @@
 #[cfg(test)]
 mod docket_tests;
 #[cfg(test)]
+mod growing_tests;
+#[cfg(test)]
 mod journals;
 #[cfg(test)]
 mod registrar_tests;

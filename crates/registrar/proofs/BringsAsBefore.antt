@@ -76,7 +76,7 @@ module _ (journal more : List Receipt) (stands : Key → List Entry) (named : Al
   cured_as_before m i (Reject section) filed within = ap {B = Brought} (λ es. record { entries = es; verdict = verdict.CureRejected section }) (end_stays m i filed within)
   cured_as_before m i (Interim defects) filed within = refl
 
-  pub judged_stays : (m i : ℕ) → m ≤ length journal → i ≤ length journal → judged (journal ++ more) m i stands ≡ judged journal m i stands
+  judged_stays : (m i : ℕ) → m ≤ length journal → i ≤ length journal → judged (journal ++ more) m i stands ≡ judged journal m i stands
   judged_stays m i filed within =
       let filing = filing_stays journal more m filed in
       λ j. option_map (λ f. judged_as_before journal more stands named m f i filed within j) (filing j)

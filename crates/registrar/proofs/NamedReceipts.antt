@@ -71,7 +71,7 @@ end_named : (n : ℕ) (journal : List Receipt) (m i : ℕ) → AllByRecursion (N
 end_named n journal m i = each_mapped (Names n) (λ k. entry_by journal i k (what.Settled m)) (keys_in_order journal m) (λ k. tt)
 
 -- the numbers before filing m
-pub before_up_to : (n m : ℕ) → m ≤ n → AllByRecursion (λ k. k ≤ n) (receipts_before m)
+before_up_to : (n m : ℕ) → m ≤ n → AllByRecursion (λ k. k ≤ n) (receipts_before m)
 before_up_to n m up = all_weaker (λ k. k < 1 + n) (λ k. k ≤ n) (receipts_before m) (λ k less. omega arith) (all_in_range 1 (m - 1) (1 + n) (omega arith))
 
 pub waiting_up_to : (n m : ℕ) (es : List Entry) → m ≤ n → AllByRecursion (λ k. k ≤ n) (waiting_before m es)

@@ -9,6 +9,7 @@ use Rattle.folio_sections.proofs.FilteredLists.{flat_map_alike}
 use Rattle.folio_sections.proofs.Unchanged.{all_both, all_weaker}
 use Rattle.folio_sections.specs.Entries.{at}
 use Rattle.folio_sections.specs.Held.{is_given}
+use Rattle.folio_sections.specs.declared.entries.Entry.{Entry}
 use Rattle.registrar.proofs.Added.{all_here}
 use Rattle.registrar.proofs.BringsAsBefore.{brings_as_before}
 use Rattle.registrar.proofs.ContainedParts.{all_in_range}
@@ -24,6 +25,9 @@ use Rattle.registrar.specs.Settling.{Settlement, settled_by, settled_next}
 
 -- ---- what the first items leave
 
+named_at : (n : ℕ) (es : List Entry) → AllByRecursion (Names n) es → AllNameUpTo n (at es)
+named_at n es all k = All-from_recursion (λ e. NamesUpTo n e.what k) (at es k) (all_here (λ j e. NamesUpTo n e.what j) es k all)
+
 entries_named : (journal : List Receipt) (n : ℕ) → AllByRecursion (Names n) (settled_first journal n).entries
 entries_named journal zero = tt
 entries_named journal (suc n) =
@@ -35,9 +39,7 @@ entries_named journal (suc n) =
     (all_both (Names (n + 1)) before.entries brought.entries (names_later n (n + 1) before.entries (omega arith) (entries_named journal n)) (brings_named journal (n + 1) (at before.entries))))
 
 pub settled_named : (journal : List Receipt) (n : ℕ) → AllNameUpTo n (at (settled_first journal n).entries)
-settled_named journal n k =
-    let es = (settled_first journal n).entries in
-    All-from_recursion (λ e. NamesUpTo n e.what k) (at es k) (all_here (λ j e. NamesUpTo n e.what j) es k (entries_named journal n))
+settled_named journal n = named_at n (settled_first journal n).entries (entries_named journal n)
 
 -- ---- the first items of a longer journal
 
@@ -46,9 +48,7 @@ first_as_before journal more zero within = refl
 first_as_before journal more (suc n) within =
     let before = settled_first journal n in
     let next : n + 1 ≡ suc n = omega arith in
-    let names : AllNameUpTo (length journal) (at before.entries) = λ k.
-    All-from_recursion (λ e. NamesUpTo (length journal) e.what k) (at before.entries k)
-    (all_here (λ j e. NamesUpTo (length journal) e.what j) before.entries k (names_later n (length journal) before.entries (omega arith) (entries_named journal n))) in
+    let names = named_at (length journal) before.entries (names_later n (length journal) before.entries (omega arith) (entries_named journal n)) in
     subst (λ m. settled_first (journal ++ more) m ≡ settled_first journal m) next
     (settled_more (journal ++ more) n
     ∙ ap (λ (s : Settlement). settled_next (journal ++ more) s (n + 1)) (first_as_before journal more n (omega arith))
