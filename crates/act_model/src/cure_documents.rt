@@ -29,7 +29,8 @@ pub struct Consenter {
 #[derive(Drop)]
 pub struct CureDocuments {
     alloc: Global,
-    /// The first cure that brings what may be looked for.
+    /// The first cure that brings what may be looked for; None where a place was made for a cure that
+    /// has not come.
     firsts: BTreeMap<DocumentOf, Option<ReceiptNo>>,
     /// Who consents, by the number of the filing and its act, in the order of receipt.
     consenters: BTreeMap<(u32, u8), Vec<Consenter>>,
@@ -103,7 +104,8 @@ impl CureDocuments {
         }
     }
 
-    /// Keeps room for so many who consent to the act to which the document consents.
+    /// Keeps room under the document's act for so many who consent: each document of the cure may name
+    /// another person.
     fn reserve_consenters(
         &mut self,
         filing: ReceiptNo,

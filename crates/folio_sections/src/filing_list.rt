@@ -32,8 +32,8 @@ fn value_at<V: Copy>(list: &[OfFiling<V>], index: usize, filing: ReceiptNo) -> O
 }
 
 /// Puts a value in the place of that of its filing, or into the order where there is none, and
-/// answers at which index. A test that the first so many fail they still fail, if this one does
-/// where it is among them; and at most one more passes a test than before.
+/// answers at which index. If none of the first n passes a test, none of the first n does behind it,
+/// unless this one is among them and passes; and of all, at most one more passes than before.
 pub(crate) fn put<V: Copy>(list: &mut Vec<OfFiling<V>>, one: OfFiling<V>) -> usize
     requires order { Ascends 0 list.old.items }
     requires room { vec_len list.old < vec_capacity list.old }

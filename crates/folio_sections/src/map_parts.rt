@@ -1,5 +1,5 @@
 //! Parts over keys that are given, found by key in logarithmic time.
-ghost use Rattle.std.specs.Prelude.{◌≡◌, ◌||◌, ℕ, ◌≤◌, [], All, List, IsTrue, IfOk, IsOk, OnOk, OnErr, IfSome, filter_map, is_some, length, find, position};
+ghost use Rattle.std.specs.Prelude.{◌≡◌, ◌||◌, ◌≤◌, [], All, List, IsTrue, IfOk, IsOk, OnOk, OnErr, filter_map, length, find, position};
 ghost use Rattle.std.specs.BTreeMap.{IsOrdered};
 ghost use Rattle.std.specs.BTreeMap.Range.{IsEntryInRange, IsLeBy};
 ghost use Rattle.std.specs.declared.ops.Bound.TheVariants.{Included};

@@ -1,5 +1,5 @@
 //! The part of a register at the title of a folio.
-ghost use Rattle.std.specs.Prelude.{◌≡◌, ◌||◌, ◌+◌, ◌≤◌, ◌<◌, take, drop, [], ◌∷◌, ◌++◌, All, IsOk, OnOk, OnErr, None, is_some, length, option_and_then, option_copied};
+ghost use Rattle.std.specs.Prelude.{◌≡◌, ◌||◌, ◌+◌, ◌≤◌, ◌<◌, take, drop, [], ◌∷◌, ◌++◌, All, IsOk, OnOk, OnErr, None, is_some, length};
 ghost use Rattle.std.specs.List.{list_any};
 ghost use Rattle.folio_sections.specs.Titles.{is_opening, inventory_by, owners_by, is_award_owner};
 ghost use Rattle.folio_sections.specs.inner.States.{award_by};

@@ -4,7 +4,7 @@ ghost use Rattle.act_model.specs.Limits.{most_docs};
 
 use act_model::{Act, Doc, Filing, Item, Journal, RightSpec};
 use consent_rules::{Defect, Judgement, can_be_judged, judge};
-use folio_sections::{Created, Entry, MapParts, Parts, RightForm, What};
+use folio_sections::{Created, Entry, MapParts, Parts, RightForm, What, is_held};
 use gb_base::{Key, RightId, Section};
 use std::alloc::Global;
 use std::process::Abort;
@@ -13,7 +13,7 @@ use test_items::{
     last_of_february, notice, opening, owner, parcel, receipt, received, right, right_key,
     title_key, two, usufruct,
 };
-use test_registers::{full_right, is_held};
+use test_registers::full_right;
 
 /// A journal, and the parts that it is judged on.
 #[derive(Drop)]
@@ -45,7 +45,7 @@ pub fn put(rt: &impl Abort, parts: &mut MapParts, n: u32, key: Key, what: What)
 
 fn add(rt: &impl Abort, parts: &mut MapParts, entry: Entry) {
     assert!(rt; parts.reserve_all(1).is_ok());
-    assert!(rt; is_held(parts, entry.key));
+    assert!(rt; is_held(parts, &entry.key));
     parts.append(entry);
 }
 

@@ -1,6 +1,6 @@
 //! The one registrar, who settles a journal in the order of its receipts (GBO § 17).
 //! Why so: docs/DECISIONS.md, "A register has the parts at the keys of the items that are settled".
-ghost use Rattle.std.specs.Prelude.{◌≡◌, ℕ, ◌≤◌, length, IfOk, OnOk};
+ghost use Rattle.std.specs.Prelude.{◌≡◌, length, IfOk};
 ghost use Rattle.gb_base.specs.declared.keys.Key.{Key};
 ghost use Rattle.folio_sections.specs.Entries.{at};
 ghost use Rattle.folio_sections.specs.Held.{entries_at, is_held, is_given};

@@ -5,7 +5,7 @@ ghost use Rattle.act_model.specs.Touches.{keys_of_filing};
 ghost use Rattle.folio_sections.specs.Held.{is_held};
 
 use act_model::{Journal, filing_keys};
-use folio_sections::{MapParts, Parts};
+use folio_sections::{MapParts, is_held};
 use gb_base::{Key, ReceiptNo};
 
 /// Whether the parts of all keys of a filing are held. A filing that is not there has no keys.
@@ -20,16 +20,5 @@ pub fn are_held(parts: &MapParts, journal: &Journal, filing: ReceiptNo) -> bool
 fn all_held(parts: &MapParts, keys: &[Key]) -> bool
     ensures { result ≡ list_all (is_held parts.now) keys.now }
 {
-    keys.iter().all(|key| is_held(parts, *key))
-}
-
-/// Whether the part of a key is held.
-pub fn is_held(parts: &MapParts, key: Key) -> bool
-    ensures { result ≡ is_held parts.now key }
-{
-    match key {
-        Key::Title(folio) => parts.title(folio).is_some(),
-        Key::Right(folio, right) => parts.right(folio, right).is_some(),
-        Key::Case(folio) => parts.case(folio).is_some(),
-    }
+    keys.iter().all(|key| is_held(parts, key))
 }

@@ -4,5 +4,5 @@
 mod held;
 mod rights;
 
-pub use held::{are_held, is_held};
+pub use held::are_held;
 pub use rights::full_right;
