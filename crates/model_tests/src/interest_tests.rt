@@ -56,5 +56,8 @@ fn interest_is_in_whole_cents(rt: HostRuntime) {
     assert_eq!(rt; interest_on(10_000_000, 0, 360), Some(0));
     assert_eq!(rt; interest_on(10_000_000, 500, 0), Some(0));
     // The greatest capital, rate and time.
-    assert_eq!(rt; interest_on(10_000_000_000_000, 2_000, 83_000), Some(461_111_111_111_111));
+    assert_eq!(rt;
+        interest_on(10_000_000_000_000, 2_000, 83_000),
+        Some(461_111_111_111_111)
+    );
 }

@@ -89,7 +89,7 @@ fn end_so(part: &mut RightPart, step: u32, count: u32, most: u32) -> Result<bool
 fn add(part: &mut RightPart, what: What) -> Result<(), NoMemory> {
     let ahead = part.entries().len();
     let mut entry = entry(part.key(), 1, what);
-    entry.day = some_day(ahead as u32);
+    entry.day = some_day((ahead % 50_000) as u32);
     part.reserve(1)?;
     part.append(entry);
     Ok(())
