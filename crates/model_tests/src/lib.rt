@@ -1,4 +1,4 @@
-//! Tests of gb_base, act_model and the formats without a disk, by what these crates export.
+//! Tests of gb_base and act_model, by what these crates export.
 #![tactic(auto)]
 
 #[cfg(test)]
@@ -12,12 +12,6 @@ mod journal_tests;
 #[cfg(test)]
 mod journals;
 #[cfg(test)]
-mod line_tests;
-#[cfg(test)]
-mod opening_list_tests;
-#[cfg(test)]
 mod share_tests;
-#[cfg(test)]
-mod spelling_tests;
 #[cfg(test)]
 mod value_tests;
