@@ -1,14 +1,18 @@
 -- Which names the members of an object have.
-use Rattle.std.proofs.Common.{◌≡◌, ℕ, List, [], ◌∷◌, map, Bor, String, BTreeMap, Global, string_bytes, bytes_eq, ◌||◌, refl, ap, arith, ◌<◌, ◌≤◌, length, decimal, ◌+◌, ◌++◌, length-append}
+use Rattle.std.proofs.Common.{◌≡◌, ℕ, Bool, List, [], ◌∷◌, map, Bor, Vec, Global, sym, bytes_eq, ◌||◌, ◌∙◌, refl, ap, arith, ◌<◌, ◌≤◌, length, decimal, ◌+◌, ◌++◌, length-append}
 use Rattle.std.proofs.lemmas.Fmt.{length-decimal-le}
 use Rattle.std.specs.List.{list_any, list_all}
-use Rattle.std.specs.BTreeMap.{keys}
+use Rattle.std.specs.Prelude.{if◌then◌else◌, Ok, Err, codes}
 use Rattle.std.proofs.lemmas.List.Folds.{list_any-append}
 use Rattle.std.proofs.lemmas.List.{append-nil}
-use Rattle.serde_json.specs.View.{members_view}
-use Rattle.serde_json.specs.declared.value.Value.{Value}
+use Rattle.json.specs.Value.{members_view}
+use Rattle.json.specs.declared.value.Value.{Value, Object}
+use Rattle.json.proofs.Trees.{view-Object}
+use Rattle.serde_json.specs.Data.{object, no_members}
 use Rattle.act_json.specs.inner.Helpers.{among}
-use Rattle.act_json.specs.Reading.{are_named, below}
+use Rattle.act_json.specs.inner.Values.{said, members_said, view}
+use Rattle.act_json.specs.Reading.{are_named, below, only}
+use Rattle.act_json.proofs.Said.{all_named, names_said}
 
 abbrev texts : List (Bor (List ℕ)) → List (List ℕ)
 texts names = map (λ (known : Bor (List ℕ)). known.now) names
@@ -24,16 +28,23 @@ among_both names others name =
     let second = among_is others name in
     (cc)
 
-named_by_entries : (names others : List (Bor (List ℕ))) (entries : List (String Global × Value))
-    → are_named (texts names ++ texts others) (members_view entries) ≡ list_all (λ (name : String Global). among names (string_bytes name) || among others (string_bytes name)) (map (λ e. e.0) entries)
-named_by_entries names others [] = refl
-named_by_entries names others (e ∷ entries) = grind (arith, among_both names others (string_bytes e.0), named_by_entries names others entries)
+named_by_list : {A : Type 0} (names others : List (Bor (List ℕ))) (members : List (Bor (List ℕ) × Value A))
+    → all_named (texts names ++ texts others) (members_view members) ≡ list_all (λ (m : Bor (List ℕ) × Value A). among names m.0.now || among others m.0.now) members
+named_by_list names others [] = refl
+named_by_list names others (m ∷ ms) = rw (among_both names others m.0.now, named_by_list names others ms) refl
 
--- the test of an object's members is the test of its keys
-pub are_named_by_keys : (members : BTreeMap (String Global) Value) (names others : List (Bor (List ℕ)))
-    → are_named (map (λ (known : Bor (List ℕ)). known.now) names ++ map (λ (known : Bor (List ℕ)). known.now) others) (members_view members.entries)
-    ≡ list_all (λ (name : String Global). among names (string_bytes name) || among others (string_bytes name)) (keys members)
-are_named_by_keys members names others = named_by_entries names others members.entries
+-- all members have one of these or those names
+abbrev pub are_all_among : {A : Type 0} (names others : List (Bor (List ℕ))) → List (Bor (List ℕ) × Value A) → Bool
+are_all_among names others members = list_all (λ m. among names m.0.now || among others m.0.now) members
+
+-- the test of what an object says is the test of its tree's names
+pub only_of_list : (v : Value Global) (members : Vec (Bor (List ℕ) × Value Global) Global) (names others : List (Bor (List ℕ))) (b : Bool)
+    → v ≡ Object members → b ≡ are_all_among names others members.items → (if b then Ok tt else Err (codes "*")) ≡ only (texts names ++ texts others) (view v)
+only_of_list v members names others b is test =
+    let named : are_named (texts names ++ texts others) (members_said (members_view members.items) no_members) ≡ b =
+    names_said (texts names ++ texts others) (members_view members.items) ∙ named_by_list names others members.items ∙ sym test in
+    let seen : view v ≡ object (members_said (members_view members.items) no_members) = ap view is ∙ ap said (view-Object members) in
+    rw (seen, named) refl
 
 pub no_more : (names : List (List ℕ)) → names ++ [] ≡ names
 no_more names = append-nil names

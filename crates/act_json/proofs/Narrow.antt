@@ -3,25 +3,25 @@ use Rattle.std.proofs.Common.{◌≡◌, ℕ, zero, suc, ◌<◌, ◌≤◌, Lis
 use Rattle.std.specs.Ordering.{match_ordering}
 use Rattle.serde_json.specs.Data.{Data, null, boolean, number, string, array, object, Items, Members, no_members, member}
 use Rattle.serde_json.specs.Find.{get, get_member, as_array}
-use Rattle.serde_json.specs.View.{view, items_view}
-use Rattle.serde_json.specs.declared.value.Value.{Value}
+use Rattle.json.specs.declared.value.Value.{Value}
 use Rattle.act_json.specs.inner.Helpers.{widest, items_widest, members_widest, count_of}
+use Rattle.act_json.specs.inner.Values.{view, items_view}
 
-pub count_of-items_view : (vs : List Value) → count_of (items_view vs) ≡ length vs
+pub count_of-items_view : {A : Type 0} (vs : List (Value A)) → count_of (items_view vs) ≡ length vs
 count_of-items_view [] = refl
 count_of-items_view (v ∷ vs) = ap suc (count_of-items_view vs)
 
-element_narrow : (vs : List Value) (i : ℕ) (d : Value) → i < length vs → widest (view (get_or vs i d)) ≤ items_widest (items_view vs)
+element_narrow : {A : Type 0} (vs : List (Value A)) (i : ℕ) (d : Value A) → i < length vs → widest (view (get_or vs i d)) ≤ items_widest (items_view vs)
 element_narrow [] i d h = absurd (omega arith)
 element_narrow (v ∷ vs) zero d h = omega arith
 element_narrow (v ∷ vs) (suc i) d h = omega (arith, element_narrow vs i d (omega arith))
 
 -- an element of an array
-pub widest_element : (vs : List Value) (i : ℕ) (v : Value) → i < length vs → v ≡ get_or vs i v → widest (view v) ≤ widest (array (items_view vs))
+pub widest_element : {A : Type 0} (vs : List (Value A)) (i : ℕ) (v : Value A) → i < length vs → v ≡ get_or vs i v → widest (view v) ≤ widest (array (items_view vs))
 widest_element vs i v h is = omega (arith, ap (λ x. widest (view x)) is, element_narrow vs i v h)
 
 -- the number of elements
-pub count_in_array : (vs : List Value) → length vs ≤ widest (array (items_view vs))
+pub count_in_array : {A : Type 0} (vs : List (Value A)) → length vs ≤ widest (array (items_view vs))
 count_in_array vs = omega (arith, count_of-items_view vs)
 
 at_order : (o : Ordering) (k : List ℕ) (e f : Data) (rest : Option Data) (n : ℕ) → match_ordering o rest (Some e) rest ≡ Some f → (rest ≡ Some f → widest f ≤ n) → widest e ≤ n → widest f ≤ n

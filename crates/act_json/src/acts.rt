@@ -3,15 +3,16 @@ ghost use Rattle.std.specs.Prelude.{◌≡◌, ◌≤◌, length, IfErr, IfOk, I
 ghost use Rattle.act_model.specs.WellFormed.{is_act, is_inventory};
 ghost use Rattle.act_json.specs.Grammar.{act_called, read_inventory, read_open, read_transfer, read_create, read_notice, read_convert, read_assign, read_cancel, read_exchange, read_exercise};
 ghost use Rattle.act_json.specs.inner.Helpers.{widest};
-ghost use Rattle.serde_json.specs.View.{view};
+ghost use Rattle.act_json.specs.inner.Values.{view};
 
 use crate::Path;
 use crate::reading::{FromJson, kind_word, member, number, only, only_of_both, optional};
 use crate::rights::{is_charge, spec, spec_names};
+use crate::values::string;
 use crate::words::{ActWord, RightWord, act_word};
 use act_model::{Act, Inventory};
 use gb_base::FolioId;
-use serde_json::Value;
+use json::Value;
 
 impl FromJson for ActWord {
     ghost use Rattle.act_json.specs.Reading.{word_of};
@@ -21,8 +22,8 @@ impl FromJson for ActWord {
 
     ghost longest = { 0 };
 
-    fn read(value: &Value) -> Result<ActWord, Path> {
-        value.as_str().and_then(act_word).ok_or(Path::here())
+    fn read(value: &Value<'_>) -> Result<ActWord, Path> {
+        string(value).and_then(act_word).ok_or(Path::here())
     }
 }
 
@@ -37,7 +38,7 @@ impl FromJson for Act {
     ghost keeps = { is_act };
 
     #[tactic(auto, unfolding(crate::specs::Grammar::read_act))]
-    fn read(value: &Value) -> Result<Act, Path> {
+    fn read(value: &Value<'_>) -> Result<Act, Path> {
         let word = kind_word(value, "act")?;
         let folio = member(value, "folio")?;
         act(value, word, folio)
@@ -45,7 +46,7 @@ impl FromJson for Act {
 }
 
 /// The act of this folio that is called so.
-fn act(value: &Value, word: ActWord, folio: FolioId) -> Result<Act, Path>
+fn act(value: &Value<'_>, word: ActWord, folio: FolioId) -> Result<Act, Path>
     requires { widest (view value.now) ≤ 99999 }
     ensures exact { result ≡ act_called word folio (view value.now) }
     ensures short { IfErr result (λ path. length path ≤ 15) }
@@ -65,7 +66,7 @@ fn act(value: &Value, word: ActWord, folio: FolioId) -> Result<Act, Path>
 }
 
 #[tactic(auto, unfolding(crate::specs::Grammar::read_open))]
-fn open(value: &Value, folio: FolioId) -> Result<Act, Path>
+fn open(value: &Value<'_>, folio: FolioId) -> Result<Act, Path>
     requires { widest (view value.now) ≤ 99999 }
     ensures exact { result ≡ read_open folio (view value.now) }
     ensures short { IfErr result (λ path. length path ≤ 15) }
@@ -86,7 +87,7 @@ fn open(value: &Value, folio: FolioId) -> Result<Act, Path>
     })
 }
 
-fn inventory(value: &Value) -> Result<Inventory, Path>
+fn inventory(value: &Value<'_>) -> Result<Inventory, Path>
     ensures exact { result ≡ read_inventory (view value.now) }
     ensures short { IfErr result (λ path. length path ≤ 8) }
     ensures good { IfOk result (λ inventory. IsTrue (is_inventory inventory)) }
@@ -104,7 +105,7 @@ fn inventory(value: &Value) -> Result<Inventory, Path>
 }
 
 #[tactic(auto, unfolding(crate::specs::Grammar::read_transfer))]
-fn transfer(value: &Value, folio: FolioId) -> Result<Act, Path>
+fn transfer(value: &Value<'_>, folio: FolioId) -> Result<Act, Path>
     requires { widest (view value.now) ≤ 99999 }
     ensures exact { result ≡ read_transfer folio (view value.now) }
     ensures short { IfErr result (λ path. length path ≤ 15) }
@@ -116,7 +117,7 @@ fn transfer(value: &Value, folio: FolioId) -> Result<Act, Path>
 }
 
 #[tactic(auto, unfolding(crate::specs::Grammar::read_create))]
-fn create(value: &Value, folio: FolioId) -> Result<Act, Path>
+fn create(value: &Value<'_>, folio: FolioId) -> Result<Act, Path>
     requires { widest (view value.now) ≤ 99999 }
     ensures exact { result ≡ read_create folio (view value.now) }
     ensures short { IfErr result (λ path. length path ≤ 15) }
@@ -134,7 +135,7 @@ fn create(value: &Value, folio: FolioId) -> Result<Act, Path>
 }
 
 #[tactic(auto, unfolding(crate::specs::Grammar::read_notice))]
-fn notice(value: &Value, folio: FolioId) -> Result<Act, Path>
+fn notice(value: &Value<'_>, folio: FolioId) -> Result<Act, Path>
     requires { widest (view value.now) ≤ 99999 }
     ensures exact { result ≡ read_notice folio (view value.now) }
     ensures short { IfErr result (λ path. length path ≤ 15) }
@@ -147,7 +148,7 @@ fn notice(value: &Value, folio: FolioId) -> Result<Act, Path>
 }
 
 #[tactic(auto, unfolding(crate::specs::Grammar::read_convert))]
-fn convert(value: &Value, folio: FolioId) -> Result<Act, Path>
+fn convert(value: &Value<'_>, folio: FolioId) -> Result<Act, Path>
     requires { widest (view value.now) ≤ 99999 }
     ensures exact { result ≡ read_convert folio (view value.now) }
     ensures short { IfErr result (λ path. length path ≤ 15) }
@@ -159,7 +160,7 @@ fn convert(value: &Value, folio: FolioId) -> Result<Act, Path>
 }
 
 #[tactic(auto, unfolding(crate::specs::Grammar::read_assign))]
-fn assign(value: &Value, folio: FolioId) -> Result<Act, Path>
+fn assign(value: &Value<'_>, folio: FolioId) -> Result<Act, Path>
     requires { widest (view value.now) ≤ 99999 }
     ensures exact { result ≡ read_assign folio (view value.now) }
     ensures short { IfErr result (λ path. length path ≤ 15) }
@@ -176,7 +177,7 @@ fn assign(value: &Value, folio: FolioId) -> Result<Act, Path>
 }
 
 #[tactic(auto, unfolding(crate::specs::Grammar::read_cancel))]
-fn cancel(value: &Value, folio: FolioId) -> Result<Act, Path>
+fn cancel(value: &Value<'_>, folio: FolioId) -> Result<Act, Path>
     requires { widest (view value.now) ≤ 99999 }
     ensures exact { result ≡ read_cancel folio (view value.now) }
     ensures short { IfErr result (λ path. length path ≤ 15) }
@@ -188,7 +189,7 @@ fn cancel(value: &Value, folio: FolioId) -> Result<Act, Path>
 }
 
 #[tactic(auto, unfolding(crate::specs::Grammar::read_exchange))]
-fn exchange(value: &Value, folio: FolioId) -> Result<Act, Path>
+fn exchange(value: &Value<'_>, folio: FolioId) -> Result<Act, Path>
     requires { widest (view value.now) ≤ 99999 }
     ensures exact { result ≡ read_exchange folio (view value.now) }
     ensures short { IfErr result (λ path. length path ≤ 15) }
@@ -205,7 +206,7 @@ fn exchange(value: &Value, folio: FolioId) -> Result<Act, Path>
 }
 
 #[tactic(auto, unfolding(crate::specs::Grammar::read_exercise))]
-fn exercise(value: &Value, folio: FolioId) -> Result<Act, Path>
+fn exercise(value: &Value<'_>, folio: FolioId) -> Result<Act, Path>
     requires { widest (view value.now) ≤ 99999 }
     ensures exact { result ≡ read_exercise folio (view value.now) }
     ensures short { IfErr result (λ path. length path ≤ 15) }

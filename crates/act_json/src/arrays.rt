@@ -4,18 +4,18 @@ ghost use Rattle.std.specs.List.{list_all};
 ghost use Rattle.act_json.specs.Reading.{within, elements, array_of};
 ghost use Rattle.act_json.specs.inner.Helpers.{widest};
 ghost use Rattle.serde_json.specs.Data.{array};
-ghost use Rattle.serde_json.specs.View.{view, items_view};
+ghost use Rattle.act_json.specs.inner.Values.{view, items_view};
 ghost use Rattle.std.specs.Prelude.{decimal};
 
-use crate::Path;
 use crate::reading::FromJson;
+use crate::{Path, values};
 use arrayvec::ArrayVec;
-use serde_json::Value;
+use json::Value;
 
 /// An array of `low` to N elements, which are read before they are counted.
 #[tactic(auto, using(crate::proofs::Narrow::as_array_narrow))]
 pub(crate) fn array<T: FromJson + Default, const N: usize>(
-    value: &Value,
+    value: &Value<'_>,
     low: usize,
 ) -> Result<ArrayVec<T, N>, Path>
     requires narrow { widest (view value.now) ≤ 99999 }
@@ -26,10 +26,10 @@ pub(crate) fn array<T: FromJson + Default, const N: usize>(
     ensures short { IfErr result (λ path. length path ≤ 6 + T.longest) }
     ensures good { IfOk result (λ list. IsTrue (list_all T.keeps list.items)) }
 {
-    let Some(values) = value.as_array() else {
+    let Some(values) = values::elements(value) else {
         return Err(Path::here());
     };
-    let list = elements(values.as_slice())?;
+    let list = elements(values)?;
     if values.len() < low || N < values.len() {
         return Err(Path::here());
     }
@@ -37,7 +37,9 @@ pub(crate) fn array<T: FromJson + Default, const N: usize>(
 }
 
 /// The elements, where they are at most N. All are read, also those that find no room.
-fn elements<T: FromJson + Default, const N: usize>(values: &[Value]) -> Result<ArrayVec<T, N>, Path>
+fn elements<T: FromJson + Default, const N: usize>(
+    values: &[Value<'_>],
+) -> Result<ArrayVec<T, N>, Path>
     requires narrow { widest (array (items_view values.now)) ≤ 99999 }
     requires short { T.longest < 26 }
     ensures exact { MatchResult result
@@ -57,7 +59,7 @@ fn elements<T: FromJson + Default, const N: usize>(values: &[Value]) -> Result<A
 
 /// The element at this index of an array.
 #[tactic(auto, using(crate::proofs::Names::digits_of_index))]
-fn element<T: FromJson>(value: &Value, index: usize) -> Result<T, Path>
+fn element<T: FromJson>(value: &Value<'_>, index: usize) -> Result<T, Path>
     requires narrow { widest (view value.now) ≤ 99999 }
     requires short { T.longest < 26 }
     requires few { index < 100000 }

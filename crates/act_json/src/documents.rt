@@ -4,13 +4,14 @@ ghost use Rattle.gb_base.specs.Limits.{is_between};
 ghost use Rattle.act_model.specs.WellFormed.{is_doc};
 ghost use Rattle.act_json.specs.Grammar.{doc_called, read_consent, bare};
 ghost use Rattle.act_json.specs.inner.Helpers.{widest};
-ghost use Rattle.serde_json.specs.View.{view};
+ghost use Rattle.act_json.specs.inner.Values.{view};
 
 use crate::Path;
 use crate::reading::{FromJson, kind_word, member, number, only};
+use crate::values::string;
 use crate::words::{DocWord, doc_word, form};
 use act_model::{Doc, Form};
-use serde_json::Value;
+use json::Value;
 
 impl FromJson for DocWord {
     ghost use Rattle.act_json.specs.Reading.{word_of};
@@ -20,8 +21,8 @@ impl FromJson for DocWord {
 
     ghost longest = { 0 };
 
-    fn read(value: &Value) -> Result<DocWord, Path> {
-        value.as_str().and_then(doc_word).ok_or(Path::here())
+    fn read(value: &Value<'_>) -> Result<DocWord, Path> {
+        string(value).and_then(doc_word).ok_or(Path::here())
     }
 }
 
@@ -33,8 +34,8 @@ impl FromJson for Form {
 
     ghost longest = { 0 };
 
-    fn read(value: &Value) -> Result<Form, Path> {
-        value.as_str().and_then(form).ok_or(Path::here())
+    fn read(value: &Value<'_>) -> Result<Form, Path> {
+        string(value).and_then(form).ok_or(Path::here())
     }
 }
 
@@ -49,7 +50,7 @@ impl FromJson for Doc {
     ghost keeps = { is_doc };
 
     #[tactic(auto, unfolding(crate::specs::Grammar::read_doc))]
-    fn read(value: &Value) -> Result<Doc, Path> {
+    fn read(value: &Value<'_>) -> Result<Doc, Path> {
         let word = kind_word(value, "doc")?;
         let act = number(value, "act", 1, 8)?;
         doc(value, word, act as u8)
@@ -57,7 +58,7 @@ impl FromJson for Doc {
 }
 
 /// The document for this act that is called so.
-fn doc(value: &Value, word: DocWord, act: u8) -> Result<Doc, Path>
+fn doc(value: &Value<'_>, word: DocWord, act: u8) -> Result<Doc, Path>
     requires narrow { widest (view value.now) ≤ 99999 }
     requires act { IsTrue (is_between 1 8 act) }
     ensures exact { result ≡ doc_called word act (view value.now) }
@@ -73,7 +74,7 @@ fn doc(value: &Value, word: DocWord, act: u8) -> Result<Doc, Path>
 }
 
 #[tactic(auto, unfolding(crate::specs::Grammar::read_consent))]
-fn consent(value: &Value, act: u8) -> Result<Doc, Path>
+fn consent(value: &Value<'_>, act: u8) -> Result<Doc, Path>
     requires narrow { widest (view value.now) ≤ 99999 }
     requires act { IsTrue (is_between 1 8 act) }
     ensures exact { result ≡ read_consent act (view value.now) }
@@ -87,7 +88,7 @@ fn consent(value: &Value, act: u8) -> Result<Doc, Path>
 }
 
 /// This document, which has no members besides its name and its act.
-fn bare(value: &Value, doc: Doc) -> Result<Doc, Path>
+fn bare(value: &Value<'_>, doc: Doc) -> Result<Doc, Path>
     ensures exact { result ≡ bare doc (view value.now) }
     ensures short { IfErr result (λ path. length path ≤ 1) }
     ensures good { IfOk result (λ found. found ≡ doc) }

@@ -3,14 +3,15 @@ ghost use Rattle.std.specs.Prelude.{◌≡◌, ◌≤◌, length, IfErr, IfOk, I
 ghost use Rattle.act_model.specs.WellFormed.{well_formed, keeps_rules, is_doc, is_act};
 ghost use Rattle.act_json.specs.Grammar.{read_filing, read_cure, read_lapse, read_seize, read_register, read_open_bids, read_award, read_distribute};
 ghost use Rattle.act_json.specs.inner.Helpers.{widest};
-ghost use Rattle.serde_json.specs.View.{view};
+ghost use Rattle.act_json.specs.inner.Values.{view};
 
 use crate::Path;
 use crate::arrays::array;
 use crate::reading::{FromJson, kind_word, member, only};
+use crate::values::string;
 use crate::words::{ItemWord, item_word};
 use act_model::{Acts, Docs, Filing, Item, keeps_rules};
-use serde_json::Value;
+use json::Value;
 
 impl FromJson for ItemWord {
     ghost use Rattle.act_json.specs.Reading.{word_of};
@@ -20,8 +21,8 @@ impl FromJson for ItemWord {
 
     ghost longest = { 0 };
 
-    fn read(value: &Value) -> Result<ItemWord, Path> {
-        value.as_str().and_then(item_word).ok_or(Path::here())
+    fn read(value: &Value<'_>) -> Result<ItemWord, Path> {
+        string(value).and_then(item_word).ok_or(Path::here())
     }
 }
 
@@ -36,7 +37,7 @@ impl FromJson for Docs {
 
     ghost keeps = { list_all is_doc };
 
-    fn read(value: &Value) -> Result<Docs, Path> {
+    fn read(value: &Value<'_>) -> Result<Docs, Path> {
         let list = array(value, 0)?;
         Ok(Docs::new(list))
     }
@@ -55,7 +56,7 @@ impl FromJson for Acts {
 
     ghost keeps = { λ acts. is_between 1 8 (length acts) && list_all is_act acts };
 
-    fn read(value: &Value) -> Result<Acts, Path> {
+    fn read(value: &Value<'_>) -> Result<Acts, Path> {
         let list = array(value, 1)?;
         Ok(Acts::new(list))
     }
@@ -72,7 +73,7 @@ impl FromJson for Item {
     ghost keeps = { well_formed };
 
     #[tactic(auto, unfolding(crate::specs::Grammar::any_item))]
-    fn read(value: &Value) -> Result<Item, Path> {
+    fn read(value: &Value<'_>) -> Result<Item, Path> {
         match kind_word(value, "kind")? {
             ItemWord::Filing => filing(value),
             ItemWord::Cure => cure(value),
@@ -87,7 +88,7 @@ impl FromJson for Item {
 }
 
 #[tactic(auto, unfolding(crate::specs::Grammar::read_filing))]
-fn filing(value: &Value) -> Result<Item, Path>
+fn filing(value: &Value<'_>) -> Result<Item, Path>
     requires { widest (view value.now) ≤ 99999 }
     ensures exact { result ≡ read_filing (view value.now) }
     ensures short { IfErr result (λ path. length path ≤ 26) }
@@ -110,7 +111,7 @@ fn filing(value: &Value) -> Result<Item, Path>
 }
 
 #[tactic(auto, unfolding(crate::specs::Grammar::read_cure))]
-fn cure(value: &Value) -> Result<Item, Path>
+fn cure(value: &Value<'_>) -> Result<Item, Path>
     requires { widest (view value.now) ≤ 99999 }
     ensures exact { result ≡ read_cure (view value.now) }
     ensures short { IfErr result (λ path. length path ≤ 26) }
@@ -123,7 +124,7 @@ fn cure(value: &Value) -> Result<Item, Path>
 }
 
 #[tactic(auto, unfolding(crate::specs::Grammar::read_lapse))]
-fn lapse(value: &Value) -> Result<Item, Path>
+fn lapse(value: &Value<'_>) -> Result<Item, Path>
     requires { widest (view value.now) ≤ 99999 }
     ensures exact { result ≡ read_lapse (view value.now) }
     ensures short { IfErr result (λ path. length path ≤ 26) }
@@ -135,7 +136,7 @@ fn lapse(value: &Value) -> Result<Item, Path>
 }
 
 #[tactic(auto, unfolding(crate::specs::Grammar::read_seize))]
-fn seize(value: &Value) -> Result<Item, Path>
+fn seize(value: &Value<'_>) -> Result<Item, Path>
     requires { widest (view value.now) ≤ 99999 }
     ensures exact { result ≡ read_seize (view value.now) }
     ensures short { IfErr result (λ path. length path ≤ 26) }
@@ -153,7 +154,7 @@ fn seize(value: &Value) -> Result<Item, Path>
 }
 
 #[tactic(auto, unfolding(crate::specs::Grammar::read_register))]
-fn register(value: &Value) -> Result<Item, Path>
+fn register(value: &Value<'_>) -> Result<Item, Path>
     requires { widest (view value.now) ≤ 99999 }
     ensures exact { result ≡ read_register (view value.now) }
     ensures short { IfErr result (λ path. length path ≤ 26) }
@@ -169,7 +170,7 @@ fn register(value: &Value) -> Result<Item, Path>
 }
 
 #[tactic(auto, unfolding(crate::specs::Grammar::read_open_bids))]
-fn open_bids(value: &Value) -> Result<Item, Path>
+fn open_bids(value: &Value<'_>) -> Result<Item, Path>
     requires { widest (view value.now) ≤ 99999 }
     ensures exact { result ≡ read_open_bids (view value.now) }
     ensures short { IfErr result (λ path. length path ≤ 26) }
@@ -182,7 +183,7 @@ fn open_bids(value: &Value) -> Result<Item, Path>
 }
 
 #[tactic(auto, unfolding(crate::specs::Grammar::read_award))]
-fn award(value: &Value) -> Result<Item, Path>
+fn award(value: &Value<'_>) -> Result<Item, Path>
     requires { widest (view value.now) ≤ 99999 }
     ensures exact { result ≡ read_award (view value.now) }
     ensures short { IfErr result (λ path. length path ≤ 26) }
@@ -196,7 +197,7 @@ fn award(value: &Value) -> Result<Item, Path>
 }
 
 #[tactic(auto, unfolding(crate::specs::Grammar::read_distribute))]
-fn distribute(value: &Value) -> Result<Item, Path>
+fn distribute(value: &Value<'_>) -> Result<Item, Path>
     requires { widest (view value.now) ≤ 99999 }
     ensures exact { result ≡ read_distribute (view value.now) }
     ensures short { IfErr result (λ path. length path ≤ 26) }

@@ -8,10 +8,12 @@ mod documents;
 mod items;
 mod lines;
 mod numbers;
+mod numerals;
 mod paths;
 mod reading;
 mod rights;
 mod sales;
+mod values;
 mod words;
 
 pub use lines::{LineFault, read_item, read_stamped};

@@ -5,14 +5,17 @@ ghost use Rattle.act_json.specs.inner.Helpers.{widest};
 ghost use Rattle.act_json.specs.Reading.{within, an_object};
 ghost use Rattle.act_json.specs.Lines.{longest_line, stamp, sender, reference, item_line, stamped_line, json_of, item_of, stamped_of, ReadsAs};
 ghost use Rattle.act_json.specs.inner.Parsing.{Parses};
-ghost use Rattle.serde_json.specs.View.{view};
+ghost use Rattle.act_json.specs.inner.Values.{view, tree_of};
+ghost use Rattle.json.specs.Value.{value_view};
 
 use crate::Path;
 use crate::reading::{an_object, member, number, only};
+use crate::values::is_in_range;
 use act_model::Item;
 use gb_base::{Day, Stamp};
-use serde_json::Value;
+use json::{Error, Reader, Scratch, Value};
 use std::alloc::Global;
+use std::str;
 
 /// Why a line is no item.
 #[derive(Debug, Drop)]
@@ -31,6 +34,9 @@ const FIRST_STAMP_DAY: u32 = 10_957;
 /// The last day on which receipts are stamped, 2149-12-31.
 const LAST_STAMP_DAY: u32 = 65_743;
 
+/// How deep arrays and objects nest in a line, as in `serde_json`.
+const MAX_DEPTH: usize = 127;
+
 /// The sender, the reference and the item of an unstamped line, of at most 65,536 bytes.
 /// The fault says that the line is no JSON, that it is no item and where it is wrong, or that
 /// memory ran out.
@@ -47,7 +53,8 @@ pub fn read_item(alloc: Global, line: &[u8]) -> Result<(u32, u64, Item), LineFau
     ensures exact { ReadsAs result (item_of line.now) }
     ensures well_formed { IfOk result (λ found. IsTrue (well_formed found.2)) }
 {
-    let value = parse(alloc, line)?;
+    let mut scratch = Scratch::new(alloc);
+    let value = parse(alloc, line, &mut scratch)?;
     match item_line(&value) {
         Ok(found) => Ok(found),
         Err(path) => Err(LineFault::NotItem(path)),
@@ -70,29 +77,60 @@ pub fn read_stamped(alloc: Global, line: &[u8]) -> Result<(Stamp, u32, u64, Item
     ensures exact { ReadsAs result (stamped_of line.now) }
     ensures well_formed { IfOk result (λ found. IsTrue (well_formed found.3)) }
 {
-    let value = parse(alloc, line)?;
+    let mut scratch = Scratch::new(alloc);
+    let value = parse(alloc, line, &mut scratch)?;
     match stamped_line(&value) {
         Ok(found) => Ok(found),
         Err(path) => Err(LineFault::NotItem(path)),
     }
 }
 
-/// The JSON value that the bytes are.
+/// The JSON value that the bytes are. Its texts are borrowed from the line, and from `scratch` where
+/// they have escapes.
 #[tactic(auto, using(crate::proofs::WidestRead::widest_read, crate::proofs::WidestRead::utf8_tests))]
-fn parse(alloc: Global, line: &[u8]) -> Result<Value, LineFault>
+fn parse<'a>(
+    alloc: Global,
+    line: &'a [u8],
+    scratch: &'a mut Scratch,
+) -> Result<Value<'a>, LineFault>
     requires { length line.now ≤ longest_line }
     ensures exact { Parses view result (json_of line.now) }
     ensures narrow { IfOk result (λ value. widest (view value) ≤ 99999) }
 {
-    match Value::from_slice(alloc, line) {
-        Ok(value) => Ok(value),
-        Err(error) if error.is_memory() => Err(LineFault::Memory),
-        Err(_) => Err(LineFault::NotJson),
+    let Ok(text) = str::from_utf8(line) else {
+        return Err(LineFault::NotJson);
+    };
+    let value = tree(alloc, text, scratch)?;
+    if is_in_range(&value) {
+        Ok(value)
+    } else {
+        Err(LineFault::NotJson)
+    }
+}
+
+/// The tree that the text is, whatever numbers are in it.
+fn tree<'a>(alloc: Global, text: &'a str, scratch: &'a mut Scratch) -> Result<Value<'a>, LineFault>
+    ensures { Parses value_view result (tree_of text.now) }
+{
+    let Ok(mut reader) = Reader::new(text, scratch) else {
+        return Err(LineFault::Memory);
+    };
+    match Value::read(alloc, &mut reader, MAX_DEPTH) {
+        Ok(value) => {
+            if reader.next().is_some() {
+                Err(LineFault::NotJson)
+            } else {
+                Ok(value)
+            }
+        }
+        Err(Error::Invalid) => Err(LineFault::NotJson),
+        // The others come of strict reading and of tapes.
+        Err(_) => Err(LineFault::Memory),
     }
 }
 
 #[tactic(auto, unfolding(crate::specs::Lines::item_line))]
-fn item_line(value: &Value) -> Result<(u32, u64, Item), Path>
+fn item_line(value: &Value<'_>) -> Result<(u32, u64, Item), Path>
     requires { widest (view value.now) ≤ 99999 }
     ensures exact { result ≡ item_line (view value.now) }
     ensures well_formed { IfOk result (λ found. IsTrue (well_formed found.2)) }
@@ -106,7 +144,7 @@ fn item_line(value: &Value) -> Result<(u32, u64, Item), Path>
 }
 
 #[tactic(auto, unfolding(crate::specs::Lines::stamped_line))]
-fn stamped_line(value: &Value) -> Result<(Stamp, u32, u64, Item), Path>
+fn stamped_line(value: &Value<'_>) -> Result<(Stamp, u32, u64, Item), Path>
     requires { widest (view value.now) ≤ 99999 }
     ensures exact { result ≡ stamped_line (view value.now) }
     ensures well_formed { IfOk result (λ found. IsTrue (well_formed found.3)) }
@@ -121,7 +159,7 @@ fn stamped_line(value: &Value) -> Result<(Stamp, u32, u64, Item), Path>
 }
 
 /// The line is an object; its path is a name of its own where it is none.
-fn line_object(value: &Value) -> Result<(), Path>
+fn line_object(value: &Value<'_>) -> Result<(), Path>
     ensures { result ≡ within (codes "line") (an_object (view value.now)) }
 {
     match an_object(value) {
@@ -130,7 +168,7 @@ fn line_object(value: &Value) -> Result<(), Path>
     }
 }
 
-fn stamp(value: &Value) -> Result<Stamp, Path>
+fn stamp(value: &Value<'_>) -> Result<Stamp, Path>
     requires { widest (view value.now) ≤ 99999 }
     ensures { result ≡ stamp (view value.now) }
 {
@@ -142,14 +180,14 @@ fn stamp(value: &Value) -> Result<Stamp, Path>
     Ok(Stamp::new(day, minute as u16).unwrap())
 }
 
-fn sender(value: &Value) -> Result<u32, Path>
+fn sender(value: &Value<'_>) -> Result<u32, Path>
     ensures { result ≡ sender (view value.now) }
 {
     let sender = number(value, "sender", 0, 4_294_967_295)?;
     Ok(sender as u32)
 }
 
-fn reference(value: &Value) -> Result<u64, Path>
+fn reference(value: &Value<'_>) -> Result<u64, Path>
     ensures { result ≡ reference (view value.now) }
 {
     number(value, "reference", 0, u64::MAX)

@@ -1,18 +1,18 @@
 //! Numbers of persons, folios and receipts, and amounts.
 ghost use Rattle.std.specs.Prelude.{◌≡◌, ◌<◌, [], IfErr, IfOk};
 ghost use Rattle.act_json.specs.Grammar.{serial};
-ghost use Rattle.serde_json.specs.View.{view};
+ghost use Rattle.act_json.specs.inner.Values.{view};
 
 use crate::Path;
 use crate::reading::{FromJson, read_whole};
 use gb_base::{Cents, FolioId, Person, ReceiptNo};
-use serde_json::Value;
+use json::Value;
 
 /// The greatest number of a person, a folio or a receipt.
 const LAST_SERIAL: u64 = 4_294_967_295;
 
 /// The number of a person, a folio or a receipt.
-fn serial(value: &Value) -> Result<u32, Path>
+fn serial(value: &Value<'_>) -> Result<u32, Path>
     ensures exact { result ≡ serial (view value.now) }
     ensures short { IfErr result (λ path. path ≡ []) }
     ensures positive { IfOk result (λ n. 0 < n) }
@@ -28,7 +28,7 @@ impl FromJson for Person {
 
     ghost longest = { 0 };
 
-    fn read(value: &Value) -> Result<Person, Path> {
+    fn read(value: &Value<'_>) -> Result<Person, Path> {
         let n = serial(value)?;
         Ok(Person::new(n).unwrap())
     }
@@ -41,7 +41,7 @@ impl FromJson for FolioId {
 
     ghost longest = { 0 };
 
-    fn read(value: &Value) -> Result<FolioId, Path> {
+    fn read(value: &Value<'_>) -> Result<FolioId, Path> {
         let n = serial(value)?;
         Ok(FolioId::new(n).unwrap())
     }
@@ -54,7 +54,7 @@ impl FromJson for ReceiptNo {
 
     ghost longest = { 0 };
 
-    fn read(value: &Value) -> Result<ReceiptNo, Path> {
+    fn read(value: &Value<'_>) -> Result<ReceiptNo, Path> {
         let n = serial(value)?;
         Ok(ReceiptNo::new(n).unwrap())
     }
@@ -70,7 +70,7 @@ impl FromJson for Cents {
 
     ghost keeps = { is_amount };
 
-    fn read(value: &Value) -> Result<Cents, Path> {
+    fn read(value: &Value<'_>) -> Result<Cents, Path> {
         let n = read_whole(value, 1, Cents::MAX)?;
         Ok(Cents::new(n).unwrap())
     }

@@ -1,20 +1,20 @@
 //! What a JSON value is read as, and the members of an object.
-ghost use Rattle.std.specs.Prelude.{◌≡◌, ◌+◌, ◌<◌, ◌≤◌, [], length, map, None, Some, MatchResult, IfErr, IfOk, IsTrue, string_bytes, ◌++◌, ◌||◌};
+ghost use Rattle.std.specs.Prelude.{◌≡◌, ◌+◌, ◌<◌, ◌≤◌, [], length, map, None, Some, MatchResult, IfErr, IfOk, IsTrue, ◌++◌, ◌||◌};
 ghost use Rattle.std.specs.List.{list_all};
-ghost use Rattle.std.specs.BTreeMap.{keys};
 ghost use Rattle.serde_json.specs.Find.{get};
-ghost use Rattle.serde_json.specs.View.{view};
+ghost use Rattle.act_json.specs.inner.Values.{view};
 ghost use Rattle.act_json.specs.Reading.{within, an_object, member, optional, only, read_whole, truth, kind_word};
 ghost use Rattle.act_json.specs.inner.Helpers.{widest, among};
 
 use crate::Path;
-use serde_json::{Map, Value};
+use crate::values::{named, whole_number};
+use json::Value;
 
 /// What stands in a line as a JSON value.
 pub(crate) trait FromJson: Drop {
     ghost use Rattle.std.specs.Prelude.{◌≡◌, ◌≤◌, ℕ, List, Bool, true, length, Result, IfErr, IfOk, IsTrue};
     ghost use Rattle.serde_json.specs.Data.{Data};
-    ghost use Rattle.serde_json.specs.View.{view};
+    ghost use Rattle.act_json.specs.inner.Values.{view};
     ghost use Rattle.act_json.specs.inner.Helpers.{widest};
 
     // What the grammar reads.
@@ -26,7 +26,7 @@ pub(crate) trait FromJson: Drop {
     // The ranges and rules that each value read keeps.
     ghost keeps: { Self → Bool } = { λ _. true };
 
-    fn read(value: &Value) -> Result<Self, Path>
+    fn read(value: &Value<'_>) -> Result<Self, Path>
         requires { widest (view value.now) ≤ 99999 }
         ensures exact { result ≡ reads (view value.now) }
         ensures short { IfErr result (λ path. length path ≤ longest) }
@@ -35,7 +35,7 @@ pub(crate) trait FromJson: Drop {
 
 /// The member of this name, which has to be there.
 #[tactic(auto, using(crate::proofs::Narrow::widest_member))]
-pub(crate) fn member<T: FromJson>(value: &Value, name: &str) -> Result<T, Path>
+pub(crate) fn member<T: FromJson>(value: &Value<'_>, name: &str) -> Result<T, Path>
     requires narrow { widest (view value.now) ≤ 99999 }
     requires short { length name.now + T.longest < 32 }
     ensures exact { result ≡ member name.now T.reads (view value.now) }
@@ -51,13 +51,13 @@ pub(crate) fn member<T: FromJson>(value: &Value, name: &str) -> Result<T, Path>
 
 /// The member of this name, where it is there.
 #[tactic(auto, using(crate::proofs::Narrow::widest_member))]
-pub(crate) fn optional<T: FromJson>(value: &Value, name: &str) -> Result<Option<T>, Path>
+pub(crate) fn optional<T: FromJson>(value: &Value<'_>, name: &str) -> Result<Option<T>, Path>
     requires narrow { widest (view value.now) ≤ 99999 }
     requires short { length name.now + T.longest < 32 }
     ensures exact { result ≡ optional name.now T.reads (view value.now) }
     ensures short { IfErr result (λ path. length path ≤ length name.now + 1 + T.longest) }
 {
-    let Some(found) = value.get(name) else {
+    let Some(found) = named(value, name) else {
         return Ok(None);
     };
     match T::read(found) {
@@ -67,7 +67,7 @@ pub(crate) fn optional<T: FromJson>(value: &Value, name: &str) -> Result<Option<
 }
 
 /// The member of this name, a whole number from `low` to `high`.
-pub(crate) fn number(value: &Value, name: &str, low: u64, high: u64) -> Result<u64, Path>
+pub(crate) fn number(value: &Value<'_>, name: &str, low: u64, high: u64) -> Result<u64, Path>
     requires { length name.now < 32 }
     ensures exact { result ≡ member name.now (read_whole low high) (view value.now) }
     ensures short { IfErr result (λ path. length path ≤ length name.now) }
@@ -81,12 +81,12 @@ pub(crate) fn number(value: &Value, name: &str, low: u64, high: u64) -> Result<u
 }
 
 /// A whole number from `low` to `high`.
-pub(crate) fn read_whole(value: &Value, low: u64, high: u64) -> Result<u64, Path>
+pub(crate) fn read_whole(value: &Value<'_>, low: u64, high: u64) -> Result<u64, Path>
     ensures exact { result ≡ read_whole low high (view value.now) }
     ensures short { IfErr result (λ path. path ≡ []) }
     ensures in_range { IfOk result (λ n. (low ≤ n) × (n ≤ high)) }
 {
-    match value.as_u64() {
+    match whole_number(value) {
         Some(n) if low <= n && n <= high => Ok(n),
         _ => Err(Path::here()),
     }
@@ -99,36 +99,35 @@ impl FromJson for bool {
 
     ghost longest = { 0 };
 
-    fn read(value: &Value) -> Result<bool, Path> {
+    fn read(value: &Value<'_>) -> Result<bool, Path> {
         value.as_bool().ok_or(Path::here())
     }
 }
 
-fn found<'v>(value: &'v Value, name: &str) -> Result<&'v Value, Path>
+fn found<'v, 'a>(value: &'v Value<'a>, name: &str) -> Result<&'v Value<'a>, Path>
     requires { length name.now < 32 }
     ensures { MatchResult result (λ v. get name.now (view value.now) ≡ Some (view v.now))
         (λ path. (path ≡ name.now) × (get name.now (view value.now) ≡ None)) }
 {
-    match value.get(name) {
+    match named(value, name) {
         Some(member) => Ok(member),
         None => Err(Path::of(name)),
     }
 }
 
 /// The value is an object.
-pub(crate) fn an_object(value: &Value) -> Result<(), Path>
+pub(crate) fn an_object(value: &Value<'_>) -> Result<(), Path>
     ensures exact { result ≡ an_object (view value.now) }
     ensures short { IfErr result (λ path. path ≡ []) }
 {
-    if value.is_object() {
-        Ok(())
-    } else {
-        Err(Path::here())
+    match value {
+        Value::Object(_) => Ok(()),
+        _ => Err(Path::here()),
     }
 }
 
 /// The word by which an object says its kind, in the member of this name.
-pub(crate) fn kind_word<W: FromJson>(value: &Value, name: &str) -> Result<W, Path>
+pub(crate) fn kind_word<W: FromJson>(value: &Value<'_>, name: &str) -> Result<W, Path>
     requires narrow { widest (view value.now) ≤ 99999 }
     requires short { length name.now + W.longest < 32 }
     ensures exact { result ≡ kind_word name.now W.reads (view value.now) }
@@ -140,7 +139,7 @@ pub(crate) fn kind_word<W: FromJson>(value: &Value, name: &str) -> Result<W, Pat
 
 /// The object has no member of another name.
 #[tactic(auto, using(crate::proofs::Names::no_more))]
-pub(crate) fn only(value: &Value, names: &[&str]) -> Result<(), Path>
+pub(crate) fn only(value: &Value<'_>, names: &[&str]) -> Result<(), Path>
     ensures exact { result ≡ only (map (λ name. name.now) names.now) (view value.now) }
     ensures short { IfErr result (λ path. length path ≤ 1) }
 {
@@ -148,27 +147,26 @@ pub(crate) fn only(value: &Value, names: &[&str]) -> Result<(), Path>
 }
 
 /// The object has no member of another name than these and those.
-#[tactic(auto, using(crate::proofs::Names::are_named_by_keys))]
-pub(crate) fn only_of_both(value: &Value, names: &[&str], others: &[&str]) -> Result<(), Path>
+pub(crate) fn only_of_both(value: &Value<'_>, names: &[&str], others: &[&str]) -> Result<(), Path>
     ensures exact { result ≡ only (map (λ name. name.now) names.now ++ map (λ name. name.now) others.now)
         (view value.now) }
     ensures short { IfErr result (λ path. length path ≤ 1) }
 {
-    let Some(members) = value.as_object() else {
+    let Value::Object(members) = value else {
         return Err(Path::here());
     };
-    if are_named(members, names, others) {
+    if are_named(members.as_slice(), names, others) {
         Ok(())
     } else {
         Err(Path::of("*"))
     }
 }
 
-fn are_named(members: &Map<String, Value>, names: &[&str], others: &[&str]) -> bool
-    ensures { result ≡ list_all (λ name. among names.now (string_bytes name) || among others.now (string_bytes name))
-        (keys members.now) }
+fn are_named(members: &[(&str, Value<'_>)], names: &[&str], others: &[&str]) -> bool
+    ensures { result ≡ list_all (λ member. among names.now member.0.now || among others.now member.0.now)
+        members.now }
 {
-    members.keys().all(|name| is_among(name.as_str(), names) || is_among(name.as_str(), others))
+    members.iter().all(|member| is_among(member.0, names) || is_among(member.0, others))
 }
 
 fn is_among(name: &str, names: &[&str]) -> bool

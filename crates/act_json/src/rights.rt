@@ -4,15 +4,16 @@ ghost use Rattle.act_model.specs.Acts.{is_in_division_three};
 ghost use Rattle.act_model.specs.WellFormed.{is_right_spec, is_right_kind};
 ghost use Rattle.act_json.specs.Grammar.{rate, read_kind, read_spec, spec_names, is_charge};
 ghost use Rattle.act_json.specs.inner.Helpers.{widest};
-ghost use Rattle.serde_json.specs.View.{view};
+ghost use Rattle.act_json.specs.inner.Values.{view};
 
 use crate::Path;
 use crate::arrays::array;
 use crate::reading::{FromJson, an_object, member, number, only};
+use crate::values::string;
 use crate::words::{RightWord, right_word};
 use act_model::{Owners, RightKind, RightSpec};
 use gb_base::RightId;
-use serde_json::Value;
+use json::Value;
 
 impl FromJson for RightId {
     ghost use Rattle.act_json.specs.Grammar.{read_right};
@@ -22,7 +23,7 @@ impl FromJson for RightId {
     ghost longest = { 8 };
 
     #[tactic(auto, unfolding(crate::specs::Grammar::read_right))]
-    fn read(value: &Value) -> Result<RightId, Path> {
+    fn read(value: &Value<'_>) -> Result<RightId, Path> {
         an_object(value)?;
         let receipt = member(value, "receipt")?;
         let act = number(value, "act", 1, 8)?;
@@ -39,7 +40,7 @@ impl FromJson for Owners {
     ghost longest = { 6 };
 
     #[tactic(auto, unfolding(crate::specs::Grammar::read_owners))]
-    fn read(value: &Value) -> Result<Owners, Path> {
+    fn read(value: &Value<'_>) -> Result<Owners, Path> {
         let persons = array(value, 1)?;
         Owners::new(persons).ok_or(Path::here())
     }
@@ -53,8 +54,8 @@ impl FromJson for RightWord {
 
     ghost longest = { 0 };
 
-    fn read(value: &Value) -> Result<RightWord, Path> {
-        value.as_str().and_then(right_word).ok_or(Path::here())
+    fn read(value: &Value<'_>) -> Result<RightWord, Path> {
+        string(value).and_then(right_word).ok_or(Path::here())
     }
 }
 
@@ -70,7 +71,7 @@ pub(crate) fn is_charge(word: RightWord) -> bool
 
 /// The right that an act describes, of the kind that is called so.
 #[tactic(auto, unfolding(crate::specs::Grammar::read_spec))]
-pub(crate) fn spec(value: &Value, word: RightWord) -> Result<RightSpec, Path>
+pub(crate) fn spec(value: &Value<'_>, word: RightWord) -> Result<RightSpec, Path>
     requires { widest (view value.now) ≤ 99999 }
     ensures exact { result ≡ read_spec word (view value.now) }
     ensures short { IfErr result (λ path. length path ≤ 9) }
@@ -90,7 +91,7 @@ pub(crate) fn spec(value: &Value, word: RightWord) -> Result<RightSpec, Path>
 }
 
 #[tactic(auto, unfolding(crate::specs::Grammar::read_kind))]
-fn kind(value: &Value, word: RightWord) -> Result<RightKind, Path>
+fn kind(value: &Value<'_>, word: RightWord) -> Result<RightKind, Path>
     ensures exact { result ≡ read_kind word (view value.now) }
     ensures short { IfErr result (λ path. length path ≤ 4) }
     ensures good { IfOk result (λ kind. IsTrue (is_right_kind kind)) }
@@ -111,7 +112,7 @@ fn kind(value: &Value, word: RightWord) -> Result<RightKind, Path>
 }
 
 /// The interest, in hundredths of a percent a year.
-fn rate(value: &Value) -> Result<u16, Path>
+fn rate(value: &Value<'_>) -> Result<u16, Path>
     ensures exact { result ≡ rate (view value.now) }
     ensures short { IfErr result (λ path. length path ≤ 4) }
     ensures in_range { IfOk result (λ bp. bp ≤ 2000) }

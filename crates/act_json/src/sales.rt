@@ -3,13 +3,14 @@ ghost use Rattle.std.specs.Prelude.{◌≡◌, ◌≤◌, length, IfErr, IfOk, I
 ghost use Rattle.act_model.specs.WellFormed.{is_basis, is_registration};
 ghost use Rattle.act_json.specs.Grammar.{basis_called, read_personal, read_from_right, registration_called, read_advance, read_charge, read_arrears};
 ghost use Rattle.act_json.specs.inner.Helpers.{widest};
-ghost use Rattle.serde_json.specs.View.{view};
+ghost use Rattle.act_json.specs.inner.Values.{view};
 
 use crate::Path;
 use crate::reading::{FromJson, kind_word, member, only};
+use crate::values::string;
 use crate::words::{BasisWord, RegistrationWord, basis_word, registration_word};
 use act_model::{Basis, Registration};
-use serde_json::Value;
+use json::Value;
 
 impl FromJson for BasisWord {
     ghost use Rattle.act_json.specs.Reading.{word_of};
@@ -19,8 +20,8 @@ impl FromJson for BasisWord {
 
     ghost longest = { 0 };
 
-    fn read(value: &Value) -> Result<BasisWord, Path> {
-        value.as_str().and_then(basis_word).ok_or(Path::here())
+    fn read(value: &Value<'_>) -> Result<BasisWord, Path> {
+        string(value).and_then(basis_word).ok_or(Path::here())
     }
 }
 
@@ -35,7 +36,7 @@ impl FromJson for Basis {
     ghost keeps = { is_basis };
 
     #[tactic(auto, unfolding(crate::specs::Grammar::read_basis))]
-    fn read(value: &Value) -> Result<Basis, Path> {
+    fn read(value: &Value<'_>) -> Result<Basis, Path> {
         match kind_word(value, "type")? {
             BasisWord::Personal => personal(value),
             BasisWord::Right => from_right(value),
@@ -44,7 +45,7 @@ impl FromJson for Basis {
 }
 
 #[tactic(auto, unfolding(crate::specs::Grammar::read_personal))]
-fn personal(value: &Value) -> Result<Basis, Path>
+fn personal(value: &Value<'_>) -> Result<Basis, Path>
     requires { widest (view value.now) ≤ 99999 }
     ensures exact { result ≡ read_personal (view value.now) }
     ensures short { IfErr result (λ path. length path ≤ 14) }
@@ -57,7 +58,7 @@ fn personal(value: &Value) -> Result<Basis, Path>
 }
 
 #[tactic(auto, unfolding(crate::specs::Grammar::read_from_right))]
-fn from_right(value: &Value) -> Result<Basis, Path>
+fn from_right(value: &Value<'_>) -> Result<Basis, Path>
     requires { widest (view value.now) ≤ 99999 }
     ensures exact { result ≡ read_from_right (view value.now) }
     ensures short { IfErr result (λ path. length path ≤ 14) }
@@ -76,9 +77,8 @@ impl FromJson for RegistrationWord {
 
     ghost longest = { 0 };
 
-    fn read(value: &Value) -> Result<RegistrationWord, Path> {
-        value
-            .as_str()
+    fn read(value: &Value<'_>) -> Result<RegistrationWord, Path> {
+        string(value)
             .and_then(registration_word)
             .ok_or(Path::here())
     }
@@ -95,7 +95,7 @@ impl FromJson for Registration {
     ghost keeps = { is_registration };
 
     #[tactic(auto, unfolding(crate::specs::Grammar::read_registration))]
-    fn read(value: &Value) -> Result<Registration, Path> {
+    fn read(value: &Value<'_>) -> Result<Registration, Path> {
         match kind_word(value, "type")? {
             RegistrationWord::Advance => advance(value),
             RegistrationWord::Charge => charge(value),
@@ -105,7 +105,7 @@ impl FromJson for Registration {
 }
 
 #[tactic(auto, unfolding(crate::specs::Grammar::read_advance))]
-fn advance(value: &Value) -> Result<Registration, Path>
+fn advance(value: &Value<'_>) -> Result<Registration, Path>
     requires { widest (view value.now) ≤ 99999 }
     ensures exact { result ≡ read_advance (view value.now) }
     ensures short { IfErr result (λ path. length path ≤ 14) }
@@ -118,7 +118,7 @@ fn advance(value: &Value) -> Result<Registration, Path>
 }
 
 #[tactic(auto, unfolding(crate::specs::Grammar::read_charge))]
-fn charge(value: &Value) -> Result<Registration, Path>
+fn charge(value: &Value<'_>) -> Result<Registration, Path>
     requires { widest (view value.now) ≤ 99999 }
     ensures exact { result ≡ read_charge (view value.now) }
     ensures short { IfErr result (λ path. length path ≤ 14) }
@@ -136,7 +136,7 @@ fn charge(value: &Value) -> Result<Registration, Path>
 }
 
 #[tactic(auto, unfolding(crate::specs::Grammar::read_arrears))]
-fn arrears(value: &Value) -> Result<Registration, Path>
+fn arrears(value: &Value<'_>) -> Result<Registration, Path>
     requires { widest (view value.now) ≤ 99999 }
     ensures exact { result ≡ read_arrears (view value.now) }
     ensures short { IfErr result (λ path. length path ≤ 14) }

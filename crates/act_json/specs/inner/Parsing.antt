@@ -1,12 +1,11 @@
 -- What parsing a line gives.
 use Rattle.std.specs.Prelude.{◌≡◌, Option, Some, None, Result, Ok, Err}
-use Rattle.serde_json.specs.Data.{Data}
 use Rattle.act_json.specs.declared.lines.LineFault.{LineFault}
 use Rattle.act_json.specs.declared.lines.LineFault.TheVariants.{NotJson, NotItem, Memory}
 
--- the value of the bytes, unless memory ran out
-abbrev pub Parses : {V : Type 0} → (V → Data) → Result V LineFault → Option Data → Type 0
-Parses view (Ok value) json = json ≡ Some (view value)
-Parses view (Err NotJson) json = json ≡ None
-Parses view (Err (NotItem path)) json = ⊥
-Parses view (Err Memory) json = Unit {0}
+-- what the bytes are, as a value says it, unless memory ran out
+abbrev pub Parses : {V D : Type 0} → (V → D) → Result V LineFault → Option D → Type 0
+Parses view (Ok value) meant = meant ≡ Some (view value)
+Parses view (Err NotJson) meant = meant ≡ None
+Parses view (Err (NotItem path)) meant = ⊥
+Parses view (Err Memory) meant = Unit {0}

@@ -1,0 +1,11 @@
+-- What is left is in range where all is.
+use Rattle.std.proofs.Common.{◌≡◌, drop}
+use Rattle.json.specs.Value.{items_view, members_view}
+use Rattle.act_json.specs.inner.Values.{items_in_range, members_in_range}
+use Rattle.act_json.proofs.values.+in_range.Given as goal
+
+abbrev pub invariant-are_in_range-loop-item : goal.invariant-are_in_range-loop-item
+invariant-are_in_range-loop-item l = items_in_range (items_view (drop l.item-index l.items)) ≡ items_in_range (items_view l.items)
+
+abbrev pub invariant-are_members_in_range-loop-member : goal.invariant-are_members_in_range-loop-member
+invariant-are_members_in_range-loop-member l = members_in_range (members_view (drop l.member-index l.members)) ≡ members_in_range (members_view l.members)
