@@ -1,6 +1,6 @@
 //! The journal of the office.
 //! Why so: docs/DECISIONS.md, "Room is kept for one item".
-ghost use Rattle.std.specs.Prelude.{◌≡◌, ◌⊎◌, ◌≤◌, ◌+◌, ◌-◌, ◌*◌, true, false, [], option_map, position, length, drop, IsTrue, IsOk, OnOk, OnErr, IfSome};
+ghost use Rattle.std.specs.Prelude.{◌≡◌, None, Some, ◌⊎◌, ◌≤◌, ◌+◌, ◌-◌, ◌*◌, true, false, [], option_map, position, length, drop, IsTrue, IsOk, OnOk, OnErr, IfSome};
 ghost use Rattle.std.specs.Option.{option_copied};
 ghost use Rattle.act_model.specs.Receiving.{answer_again, stamp_after, IsJournal};
 ghost use Rattle.gb_base.specs.RightNo.{same_right};
@@ -254,15 +254,24 @@ impl Journal {
         }
         let stamp = self.next_stamp(stamp);
         self.indexes.add(n, item);
+        let item = take_kept(&mut self.ready_for, item);
         self.receipts.push_reserved(Receipt {
             stamp,
             sender,
             reference,
-            item: item.copy(),
+            item,
         });
-        self.ready_for = None;
         Added::Accepted(n)
     }
+}
+
+/// Takes the item for whose receipt room is kept, which is this one; so it is not copied again.
+fn take_kept(ready_for: &mut Option<Item>, item: &Item) -> Item
+    requires { ready_for.old ≡ Some item.now }
+    ensures item { result ≡ item.now }
+    ensures spent { ready_for.new ≡ None }
+{
+    ready_for.take().unwrap()
 }
 
 /// Brings the last receipt into the index where it waits.

@@ -44,7 +44,7 @@ push_reserved-requires c =
 pub invariant_of-self : goal.invariant_of-self
 invariant_of-self c =
     let journal = c.self-2.inside.receipts.items in
-    let r : Receipt = record { stamp = c.next_stamp-stamp.result; sender = c.args.sender; reference = c.args.reference; item = c.copy.result } in
+    let r : Receipt = record { stamp = c.next_stamp-stamp.result; sender = c.args.sender; reference = c.args.reference; item = c.take_kept-item.result } in
     let as_before : journal ≡ c.args.self.now.receipts = ap (λ j. j.receipts) c.self-2.view_is ∙ c.reserve_one.ensures.receipts in
     let room : IsTrue (has_room c.reserve_one.new.self c.args.item.now) =
     no_error c.reserve_one.result (IsTrue (has_room c.reserve_one.new.self c.args.item.now)) c.is_err.result c.is_err.ensures.value c.if-is_err.false c.reserve_one.ensures.room in
@@ -54,7 +54,7 @@ invariant_of-self c =
     let few : length journal < 200000 = subst (λ rs. length rs < 200000) as_seen (omega arith) in
     let as_many = ap length as_seen in
     let number : c.unwrap-n.result ≡ length journal + 1 = grind (arith, common_steps, as_many) in
-    let well : IsTrue (well_formed c.copy.result) = subst (λ i. IsTrue (well_formed i)) (sym c.copy.ensures) c.requires.well in
+    let well : IsTrue (well_formed c.take_kept-item.result) = subst (λ i. IsTrue (well_formed i)) (sym c.take_kept-item.ensures.item) c.requires.well in
     let none : number_of c.args.sender c.args.reference journal ≡ None = rw as_before c.requires.unknown in
     let stamped : c.next_stamp-stamp.result ≡ stamp_after journal c.args.stamp = cc in
     let later : (k : ℕ) (d : Receipt) → k < length journal → is_before c.next_stamp-stamp.result (get_or journal k d).stamp ≡ false =
@@ -62,9 +62,15 @@ invariant_of-self c =
     let pushed = Journal-push journal c.push_reserved.new.self.items r c.self-2.inside.numbers c.self-2.inside.indexed c.push_reserved.ensures.items c.self-2.invariant.0 c.self-2.invariant.1 all few well none later in
     let indexes = AreIndexesOf-push c.self-2.inside.indexes c.add.new.self journal c.push_reserved.new.self.items r c.unwrap-n.result c.push_reserved.ensures.items number
     (number ∙ length_behind journal r c.push_reserved.new.self.items c.push_reserved.ensures.items) c.self-2.invariant.2
-    (subst (λ i. Adds nat_cmp c.self-2.inside.indexes.cures c.add.new.self.cures (cures_by c.unwrap-n.result i)) (sym c.copy.ensures) c.add.ensures.cures)
-    (subst (λ i. Adds nat_cmp c.self-2.inside.indexes.creations c.add.new.self.creations (creations_by c.unwrap-n.result i)) (sym c.copy.ensures) c.add.ensures.creations)
-    (subst (λ i. Adds nat_cmp c.self-2.inside.indexes.filings c.add.new.self.filings (filings_by c.unwrap-n.result i)) (sym c.copy.ensures) c.add.ensures.filings)
-    (subst (λ i. Finds c.self-2.inside.indexes.documents c.add.new.self.documents (found_by c.unwrap-n.result i)) (sym c.copy.ensures) c.add.ensures.finds)
+    (subst (λ i. Adds nat_cmp c.self-2.inside.indexes.cures c.add.new.self.cures (cures_by c.unwrap-n.result i)) (sym c.take_kept-item.ensures.item) c.add.ensures.cures)
+    (subst (λ i. Adds nat_cmp c.self-2.inside.indexes.creations c.add.new.self.creations (creations_by c.unwrap-n.result i)) (sym c.take_kept-item.ensures.item) c.add.ensures.creations)
+    (subst (λ i. Adds nat_cmp c.self-2.inside.indexes.filings c.add.new.self.filings (filings_by c.unwrap-n.result i)) (sym c.take_kept-item.ensures.item) c.add.ensures.filings)
+    (subst (λ i. Finds c.self-2.inside.indexes.documents c.add.new.self.documents (found_by c.unwrap-n.result i)) (sym c.take_kept-item.ensures.item) c.add.ensures.finds)
     c.add.ensures.agree in
     (pushed.0, pushed.1, indexes, λ i h. absurd (cc h))
+
+pub take_kept-item-requires : goal.take_kept-item-requires
+take_kept-item-requires c =
+    let room : IsTrue (has_room c.reserve_one.new.self c.args.item.now) =
+    no_error c.reserve_one.result (IsTrue (has_room c.reserve_one.new.self c.args.item.now)) c.is_err.result c.is_err.ensures.value c.if-is_err.false c.reserve_one.ensures.room in
+    ap (λ j. j.ready_for) c.self-2.view_is ∙ ready_for_it c.reserve_one.new.self.ready_for c.args.item.now room
