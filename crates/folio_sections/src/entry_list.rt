@@ -5,6 +5,7 @@ ghost use Rattle.folio_sections.specs.inner.Naming.{last_below, Rises};
 ghost use Rattle.std.specs.Prelude.{◌≡◌, ◌+◌, ◌<◌, ◌≤◌, vec_len, vec_capacity, [], ◌∷◌, ◌++◌, All, IsOk, OnOk, OnErr, None, find, if◌then◌else◌, length, option_copied, position};
 
 use crate::Entry;
+use crate::list_room::keep_room;
 use crate::waiters::Waiters;
 use gb_base::{Day, Key, NoMemory, ReceiptNo};
 use std::alloc::Global;
@@ -61,10 +62,11 @@ impl EntryList {
         ensures unchanged { OnErr result (self.new ≡ self.old) }
         ensures succeeds { n ≤ self.old.room → IsOk result }
     {
-        self.entries.reserve(n)?;
+        keep_room(&mut self.entries, n)?;
         let in_all = self.entries.len() + n;
         self.waiters.reserve_in_all(in_all)?;
-        self.naming.reserve(in_all - self.naming.len())?;
+        let more_naming = in_all - self.naming.len();
+        keep_room(&mut self.naming, more_naming)?;
         self.room = self.room.max(n);
         Ok(())
     }

@@ -10,6 +10,7 @@ mod entries;
 mod entry_list;
 mod filing_list;
 mod keyed;
+mod list_room;
 mod map_parts;
 mod parts;
 mod right_part;

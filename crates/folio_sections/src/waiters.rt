@@ -10,6 +10,7 @@ ghost use Rattle.folio_sections.specs.inner.Waiters.{AreInOrder, FewEnded, Until
 
 use crate::What;
 use crate::filing_list::{OfFiling, count_to, put, value_of};
+use crate::list_room::keep_room;
 use gb_base::{Day, NoMemory, ReceiptNo};
 use std::alloc::Global;
 
@@ -114,8 +115,10 @@ impl Waiters {
         ensures kept_notices { vec_capacity self.old.notices ≤ vec_capacity self.new.notices }
         ensures succeeds { n ≤ vec_capacity self.old.until → n ≤ vec_capacity self.old.notices → IsOk result }
     {
-        self.until.reserve(n - self.until.len())?;
-        self.notices.reserve(n - self.notices.len())
+        let more_until = n - self.until.len();
+        keep_room(&mut self.until, more_until)?;
+        let more_notices = n - self.notices.len();
+        keep_room(&mut self.notices, more_notices)
     }
 
     /// Takes what a further entry says, with so many ahead of it. It takes no memory.
