@@ -1,6 +1,5 @@
 -- Lemmas.
 pub mod Additions
-pub mod CaseNumbers
 pub mod Cases
 pub mod DistinctLists
 pub mod FilingsInOrder
@@ -14,6 +13,7 @@ pub mod ListLemmas
 pub mod Listed
 pub mod Naming
 pub mod Notices
+pub mod NumbersBehind
 pub mod Progress
 pub mod ReceiptNumbers
 pub mod ReceiptsBefore

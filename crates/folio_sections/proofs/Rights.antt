@@ -1,10 +1,10 @@
 -- What a right keeps, with one entry more.
-use Rattle.std.proofs.Common.{◌≡◌, ℕ, Bool, true, false, cond, if◌then◌else◌, ◌||◌, List, [], ◌∷◌, ◌++◌, Option, Some, None, fold, length, option_map, refl, sym, ap, subst, ◌∙◌}
+use Rattle.std.proofs.Common.{◌≡◌, ℕ, ◌+◌, ◌≤◌, Bool, true, false, cond, if◌then◌else◌, ◌||◌, List, [], ◌∷◌, ◌++◌, Option, Some, None, fold, length, option_map, refl, sym, ap, subst, ◌∙◌}
 use Rattle.std.specs.Option.{option_or}
 use Rattle.std.proofs.lemmas.Bool.{false≢true}
 use Rattle.std.proofs.lemmas.List.{append-nil, append_assoc}
-use Rattle.std.proofs.lemmas.List.Sums.{fold-append}
-use Rattle.folio_sections.specs.Rights.{created, created_by, holder, is_conversion, is_exercise, live_by, new_holder_by, remaining_by}
+use Rattle.std.proofs.lemmas.List.Sums.{count_by-le-length, fold-append}
+use Rattle.folio_sections.specs.Rights.{created, created_by, exchanges, holder, is_conversion, is_exchange, is_exercise, live_by, new_holder_by, remaining_by}
 use Rattle.folio_sections.specs.declared.entries.Created.{Created}
 use Rattle.folio_sections.specs.declared.entries.Entry.{Entry}
 use Rattle.folio_sections.specs.declared.entries.What.{What}
@@ -12,6 +12,7 @@ use Rattle.folio_sections.specs.declared.entries.What.TheVariants as what
 use Rattle.folio_sections.specs.declared.right_state.RightState.{RightState}
 use Rattle.folio_sections.specs.inner.Naming.{AreNamedAt}
 use Rattle.folio_sections.specs.inner.States.{IsRight, IsRightState, holder_named, names_holder, never_created, state_by, state_of}
+use Rattle.folio_sections.proofs.Cases.{count_push}
 use Rattle.folio_sections.proofs.Naming.{named_push, unnamed_push}
 use Rattle.folio_sections.proofs.Titles.{any_push}
 
@@ -72,16 +73,23 @@ walked_state is xs walk =
     subst (λ s. IsRightState s xs) (sym walk)
     (states_on never_created [] xs (record { live = refl; created = refl; converted = refl; new_holder = refl; remaining = refl; spent = refl }))
 
-right_push_of : (is : RightState) (xs : List Entry) (ns : List ℕ) (e : Entry) → IsRight is xs ns
-    → IsRight (state_by is e.what) (xs ++ e ∷ []) (if names_holder is.new_holder e.what then ns ++ length xs ∷ [] else ns)
-right_push_of is xs ns e right = record {
+right_push_of : (is : RightState) (count : ℕ) (xs : List Entry) (ns : List ℕ) (e : Entry) → IsRight is count xs ns
+    → IsRight (state_by is e.what) (count + cond (is_exchange e.what) 1 0) (xs ++ e ∷ []) (if names_holder is.new_holder e.what then ns ++ length xs ∷ [] else ns)
+right_push_of is count xs ns e right = record {
   state = state_push is xs e right.state;
+  counted = ap (λ n. n + cond (is_exchange e.what) 1 0) right.counted ∙ sym (count_push (λ f. is_exchange f.what) xs e);
   holder = subst (λ o. AreNamedAt holder holder_named (if names_holder o e.what then ns ++ length xs ∷ [] else ns) (xs ++ e ∷ [])) (sym right.state.new_holder) (holders_push ns xs e right.holder);
 }
 
-pub right_push : (is after : RightState) (xs ys : List Entry) (ns ms : List ℕ) (e : Entry) (names : Bool) → IsRight is xs ns
-    → after ≡ state_by is e.what → ys ≡ xs ++ e ∷ [] → names ≡ names_holder is.new_holder e.what → ms ≡ (if names then ns ++ length xs ∷ [] else ns) → IsRight after ys ms
-right_push is after xs ys ns ms e names right state more named naming =
-    subst (λ s. IsRight s ys ms) (sym state)
-    (subst (λ zs. IsRight (state_by is e.what) zs ms) (sym more)
-    (subst (IsRight (state_by is e.what) (xs ++ e ∷ [])) (sym (naming ∙ ap (λ b. if b then ns ++ length xs ∷ [] else ns) named)) (right_push_of is xs ns e right)))
+pub right_push : (is after : RightState) (count count' : ℕ) (xs ys : List Entry) (ns ms : List ℕ) (e : Entry) (names : Bool) → IsRight is count xs ns
+    → after ≡ state_by is e.what → count' ≡ count + cond (is_exchange e.what) 1 0 → ys ≡ xs ++ e ∷ []
+    → names ≡ names_holder is.new_holder e.what → ms ≡ (if names then ns ++ length xs ∷ [] else ns) → IsRight after count' ys ms
+right_push is after count count' xs ys ns ms e names right state counts more named naming =
+    subst (λ s. IsRight s count' ys ms) (sym state)
+    (subst (λ n. IsRight (state_by is e.what) n ys ms) (sym counts)
+    (subst (λ zs. IsRight (state_by is e.what) (count + cond (is_exchange e.what) 1 0) zs ms) (sym more)
+    (subst (IsRight (state_by is e.what) (count + cond (is_exchange e.what) 1 0) (xs ++ e ∷ [])) (sym (naming ∙ ap (λ b. if b then ns ++ length xs ∷ [] else ns) named)) (right_push_of is count xs ns e right))))
+
+-- no more exchanges than entries
+pub few_exchanges : (count : ℕ) (xs : List Entry) → count ≡ exchanges xs → count ≤ length xs
+few_exchanges count xs is = subst (λ n. n ≤ length xs) (sym is) (count_by-le-length (λ e. is_exchange e.what) xs)

@@ -1,10 +1,12 @@
 //! A forced sale as it stood before a receipt.
-ghost use Rattle.std.specs.Prelude.{◌≡◌, ◌≤◌, ◌++◌, [], ◌∷◌, None, fold, length, not, take};
+ghost use Rattle.std.specs.Prelude.{◌≡◌, ◌≤◌, IfSome, None, fold, length, not, take};
 ghost use Rattle.std.specs.List.{list_any, suffix_len};
-ghost use Rattle.folio_sections.specs.Cases.{award, award_by, call, call_by, case, is_distribution, is_registration, is_running, is_seizure, registration_numbers, seizure_numbers};
+ghost use Rattle.folio_sections.specs.Cases.{award, award_by, call, call_by, case, is_distribution, is_running, is_seizure, registration_numbers, seizure_numbers};
 ghost use Rattle.folio_sections.specs.Limits.{most_registrations, most_seizures};
-ghost use Rattle.folio_sections.specs.inner.States.{numbers_that};
 
+use crate::case_numbers::{
+    copy_numbers, first_registrations, first_seizures, is_distribution, is_seizure,
+};
 use crate::{CasePart, Entry, What};
 use arrayvec::ArrayVec;
 use gb_base::ReceiptNo;
@@ -43,35 +45,61 @@ impl<'a> CaseFront<'a> {
     pub fn running(&self) -> bool
         ensures { result ≡ is_running self.now }
     {
-        has_seizure(self.case())
+        match self.whole_part() {
+            Some(part) => part.running(),
+            None => has_seizure(self.case()),
+        }
     }
 
     /// The receipt of the case's last award (ZVG § 81); None where it had none.
     pub fn award(&self) -> Option<ReceiptNo>
         ensures { result ≡ award self.now }
     {
-        last_award(self.case())
+        match self.whole_part() {
+            Some(part) => part.award(),
+            None => last_award(self.case()),
+        }
     }
 
     /// The receipt of the case's last call to bid (ZVG § 66); None where it had none.
     pub fn called(&self) -> Option<ReceiptNo>
         ensures { result ≡ call self.now }
     {
-        last_call(self.case())
+        match self.whole_part() {
+            Some(part) => part.called(),
+            None => last_call(self.case()),
+        }
     }
 
     /// The receipts of the case's first 8 seizures (ZVG §§ 20, 27), in order.
     pub fn seized(&self) -> ArrayVec<ReceiptNo, 8>
         ensures { result.items ≡ take most_seizures (seizure_numbers self.now) }
     {
-        first_seizures(self.case())
+        match self.whole_part() {
+            Some(part) => copy_numbers(part.seized()),
+            None => first_seizures(self.case()),
+        }
     }
 
     /// The receipts of the case's first 32 registrations (ZVG § 37), in order.
     pub fn registered(&self) -> ArrayVec<ReceiptNo, 32>
         ensures { result.items ≡ take most_registrations (registration_numbers self.now) }
     {
-        first_registrations(self.case())
+        match self.whole_part() {
+            Some(part) => copy_numbers(part.registered()),
+            None => first_registrations(self.case()),
+        }
+    }
+
+    /// The part, where these are all of its entries: what it keeps beside them is then theirs.
+    fn whole_part(&self) -> Option<&CasePart>
+        ensures { IfSome result (λ part. part.now.entries ≡ self.now) }
+    {
+        if self.len == self.part.entries().len() {
+            Some(self.part)
+        } else {
+            None
+        }
     }
 
     /// The entries of the case: those behind the last distribution (ZVG § 105).
@@ -118,41 +146,6 @@ fn last_call(case: &[Entry]) -> Option<ReceiptNo>
         .fold(None, |before, entry| call_by(before, entry))
 }
 
-/// The receipts of the first 8 seizures among the entries of a case.
-fn first_seizures(case: &[Entry]) -> ArrayVec<ReceiptNo, 8>
-    ensures { result.items ≡ take most_seizures (numbers_that is_seizure case.now) }
-{
-    let mut numbers = ArrayVec::new();
-    for entry in case {
-        if is_seizure(&entry.what) {
-            push_while_room(&mut numbers, entry.receipt);
-        }
-    }
-    numbers
-}
-
-/// The receipts of the first 32 registrations among the entries of a case.
-fn first_registrations(case: &[Entry]) -> ArrayVec<ReceiptNo, 32>
-    ensures { result.items ≡ take most_registrations (numbers_that is_registration case.now) }
-{
-    let mut numbers = ArrayVec::new();
-    for entry in case {
-        if is_registration(&entry.what) {
-            push_while_room(&mut numbers, entry.receipt);
-        }
-    }
-    numbers
-}
-
-/// Puts a number behind the others, where there is room.
-fn push_while_room<const N: usize>(numbers: &mut ArrayVec<ReceiptNo, N>, number: ReceiptNo)
-    ensures { numbers.new.items ≡ take N (numbers.old.items ++ number ∷ []) }
-{
-    if !numbers.is_full() {
-        numbers.push(number);
-    }
-}
-
 /// The receipt of the award behind an entry: its own where it is one, else the one before.
 fn award_by(before: Option<ReceiptNo>, entry: &Entry) -> Option<ReceiptNo>
     ensures { result ≡ award_by entry.now.receipt before entry.now.what }
@@ -170,35 +163,5 @@ fn call_by(before: Option<ReceiptNo>, entry: &Entry) -> Option<ReceiptNo>
     match &entry.what {
         What::Bids { .. } => Some(entry.receipt),
         _ => before,
-    }
-}
-
-/// Whether a content seizes the land (ZVG § 20).
-fn is_seizure(what: &What) -> bool
-    ensures { result ≡ is_seizure what.now }
-{
-    match what {
-        What::Seized => true,
-        _ => false,
-    }
-}
-
-/// Whether a content registers a claim (ZVG § 37).
-fn is_registration(what: &What) -> bool
-    ensures { result ≡ is_registration what.now }
-{
-    match what {
-        What::Registered => true,
-        _ => false,
-    }
-}
-
-/// Whether a content distributes the proceeds (ZVG § 105).
-fn is_distribution(what: &What) -> bool
-    ensures { result ≡ is_distribution what.now }
-{
-    match what {
-        What::Distributed => true,
-        _ => false,
     }
 }

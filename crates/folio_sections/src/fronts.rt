@@ -11,5 +11,8 @@ pub(crate) fn count_below(entries: &[Entry], n: ReceiptNo) -> usize
     ensures within { result ≤ length entries.now }
     ensures front { take result entries.now ≡ below n entries.now }
 {
-    entries.partition_point(|entry| entry.receipt < n)
+    match entries.last() {
+        Some(last) if last.receipt >= n => entries.partition_point(|entry| entry.receipt < n),
+        _ => entries.len(),
+    }
 }

@@ -6,6 +6,7 @@
 mod adding;
 mod any_part;
 mod case_front;
+mod case_numbers;
 mod case_part;
 mod entries;
 mod entry_list;

@@ -1,12 +1,12 @@
 //! The part of a register at a right.
-ghost use Rattle.std.specs.Prelude.{◌≡◌, ◌+◌, ◌≤◌, [], ◌∷◌, ◌++◌, All, IsOk, OnOk, OnErr, length, take};
-ghost use Rattle.folio_sections.specs.Rights.{holder};
+ghost use Rattle.std.specs.Prelude.{◌≡◌, ◌+◌, ◌<◌, ◌≤◌, if◌then◌else◌, [], ◌∷◌, ◌++◌, All, IsOk, OnOk, OnErr, length, take};
+ghost use Rattle.folio_sections.specs.Rights.{holder, is_exchange};
 
 use crate::entry_list::EntryList;
 use crate::fronts::count_below;
 use crate::right_front::RightFront;
 use crate::right_state::{NEVER_CREATED, RightState, holder_named, names_holder, state_by};
-use crate::{Created, Entry};
+use crate::{Created, Entry, What};
 use gb_base::{Cents, Day, Key, NoMemory, Person, ReceiptNo};
 use std::alloc::Global;
 use std::marker::Model;
@@ -16,6 +16,8 @@ use std::marker::Model;
 pub struct RightPart {
     list: EntryList,
     state: RightState,
+    /// How many exchanges the right is in.
+    exchanges: usize,
 }
 
 impl Model for RightPart {
@@ -27,14 +29,14 @@ impl Model for RightPart {
 
     ghost view = { λ a. part_of a.list };
 
-    ghost invariant = { λ a. IsRight a.state a.list.entries a.list.naming };
+    ghost invariant = { λ a. IsRight a.state a.exchanges a.list.entries a.list.naming };
 }
 
 impl RightPart {
     ghost use Rattle.std.specs.List.{find};
     ghost use Rattle.folio_sections.specs.Fronts.{NeverFall, below};
     ghost use Rattle.folio_sections.specs.Waiting.{waiting_before, waiting_unnoticed, pending, is_above, notice};
-    ghost use Rattle.folio_sections.specs.Rights.{created, is_live, is_full, holder, holder_for, capital, is_spent};
+    ghost use Rattle.folio_sections.specs.Rights.{created, is_live, is_full, holder, holder_for, capital, exchanges, is_spent};
     ghost use Rattle.folio_sections.specs.inner.States.{IsRightState};
 
     /// The empty part at a key.
@@ -45,6 +47,7 @@ impl RightPart {
         RightPart {
             list: EntryList::new(alloc, key),
             state: NEVER_CREATED,
+            exchanges: 0,
         }
     }
 
@@ -71,6 +74,9 @@ impl RightPart {
     {
         let names = names_holder(self.state.new_holder, &entry.what);
         self.state = state_by(self.state, &entry.what);
+        let ahead = self.list.entries().len();
+        prove!(self.exchanges <= ahead);
+        self.exchanges = exchanges_by(self.exchanges, &entry.what);
         self.list.append(entry, names);
     }
 
@@ -82,6 +88,7 @@ impl RightPart {
     {
         self.list.clear();
         self.state = NEVER_CREATED;
+        self.exchanges = 0;
     }
 
     /// The entries, with what stands beside them.
@@ -194,6 +201,13 @@ impl RightPart {
         self.state.capital()
     }
 
+    /// How many exchanges the right is in (BGB § 880), whether they count or not.
+    pub fn exchanges(&self) -> usize
+        ensures { result ≡ exchanges self.now.entries }
+    {
+        self.exchanges
+    }
+
     /// Whether the right's reservation is spent (BGB § 881).
     pub fn spent(&self) -> bool
         ensures { result ≡ is_spent self.now.entries }
@@ -229,5 +243,16 @@ impl RightPart {
         ensures { result ≡ find (is_above after) (waiting_unnoticed filing self.now.entries) }
     {
         self.list.next_unnoticed(after, filing)
+    }
+}
+
+/// How many exchanges a right is in behind a content.
+fn exchanges_by(before: usize, what: &What) -> usize
+    requires { before < 18446744073709551615 }
+    ensures { result ≡ before + (if is_exchange what.now then 1 else 0) }
+{
+    match what {
+        What::Exchanged { .. } => before + 1,
+        _ => before,
     }
 }

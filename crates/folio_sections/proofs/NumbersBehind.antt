@@ -1,9 +1,11 @@
--- The first numbers of the entries that pass, with one entry more.
+-- The first numbers of the entries that pass, with one entry more, and those of a case.
 use Rattle.std.proofs.Common.{◌≡◌, ℕ, zero, suc, Bool, true, false, cond, ◌+◌, List, [], ◌∷◌, ◌++◌, filter, map, take, refl, sym, ap, ◌∙◌}
 use Rattle.std.proofs.lemmas.List.{append-nil}
+use Rattle.folio_sections.specs.Cases.{case, is_distribution}
 use Rattle.folio_sections.specs.declared.entries.Entry.{Entry}
 use Rattle.folio_sections.specs.declared.entries.What.{What}
-use Rattle.folio_sections.specs.inner.States.{numbers_that}
+use Rattle.folio_sections.specs.inner.States.{numbers_behind, numbers_that}
+use Rattle.folio_sections.proofs.Cases.{behind_another, behind_more}
 
 -- the first n, of the first n and one more
 take_again : (n : ℕ) (xs : List ℕ) (x : ℕ) → take n (take n xs ++ x ∷ []) ≡ take n (xs ++ x ∷ [])
@@ -42,3 +44,25 @@ pub next_unwanted : (n : ℕ) (t : What → Bool) (i : ℕ) (xs : List Entry) (e
     → before ≡ take n (numbers_that t (take i xs)) → t e.what ≡ false → after ≡ before → after ≡ take n (numbers_that t (take (i + 1) xs))
 next_unwanted n t i xs e before after more is fails_it stays =
     stays ∙ is ∙ unwanted_push n t (take i xs) e fails_it ∙ ap (λ ys. take n (numbers_that t ys)) (sym more)
+
+-- ---- of a case
+
+-- behind an entry
+pub numbers_on : (n : ℕ) (t : What → Bool) (xs : List Entry) (e : Entry) (before : List ℕ) → before ≡ take n (numbers_that t (case xs))
+    → numbers_behind n t before e.receipt e.what ≡ take n (numbers_that t (case (xs ++ e ∷ [])))
+numbers_on n t xs e before is =
+    elim (is_distribution e.what) as (λ b. is_distribution e.what ≡ b → (cond b [] (cond (t e.what) (take n (before ++ e.receipt ∷ [])) before)) ≡ take n (numbers_that t (case (xs ++ e ∷ [])))) [
+      | true ↦ λ ends. none n ∙ ap (λ ys. take n (numbers_that t ys)) (sym (behind_another (λ d. is_distribution d.what) xs e ends))
+      | false ↦ λ stays. went_on ∙ ap (λ ys. take n (numbers_that t ys)) (sym (behind_more (λ d. is_distribution d.what) xs e stays))
+    ] refl
+  where
+    none : (k : ℕ) → [] ≡ take {A = ℕ} k []
+    none zero = refl
+    none (suc k) = refl
+
+    went_on : cond (t e.what) (take n (before ++ e.receipt ∷ [])) before ≡ take n (numbers_that t (case xs ++ e ∷ []))
+    went_on =
+        elim (t e.what) as (λ b. t e.what ≡ b → cond b (take n (before ++ e.receipt ∷ [])) before ≡ take n (numbers_that t (case xs ++ e ∷ []))) [
+          | true ↦ λ passes. ap (λ ns. take n (ns ++ e.receipt ∷ [])) is ∙ wanted_push n t (case xs) e passes
+          | false ↦ λ fails_it. is ∙ unwanted_push n t (case xs) e fails_it
+        ] refl

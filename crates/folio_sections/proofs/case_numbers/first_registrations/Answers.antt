@@ -2,9 +2,9 @@ use Rattle.std.proofs.Common.{◌≡◌, ◌∙◌, ◌+◌, ◌∷◌, [], ◌+
 use Rattle.std.proofs.lemmas.List.{take_more}
 use Rattle.folio_sections.specs.Cases.{is_registration}
 use Rattle.folio_sections.specs.Limits.{most_registrations}
-use Rattle.folio_sections.proofs.CaseNumbers.{next_unwanted, next_wanted}
-use Rattle.folio_sections.proofs.case_front.first_registrations.Goals as goal
-use Rattle.folio_sections.proofs.case_front.first_registrations.Goals.{else-is_registration, then-is_registration}
+use Rattle.folio_sections.proofs.NumbersBehind.{next_unwanted, next_wanted}
+use Rattle.folio_sections.proofs.case_numbers.first_registrations.Goals as goal
+use Rattle.folio_sections.proofs.case_numbers.first_registrations.Goals.{else-is_registration, then-is_registration}
 
 pub loop-entry-preserved : goal.loop-entry-preserved
 loop-entry-preserved c =

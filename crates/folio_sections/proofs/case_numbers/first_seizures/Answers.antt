@@ -2,9 +2,9 @@ use Rattle.std.proofs.Common.{◌≡◌, ◌∙◌, ◌+◌, ◌∷◌, [], ◌+
 use Rattle.std.proofs.lemmas.List.{take_more}
 use Rattle.folio_sections.specs.Cases.{is_seizure}
 use Rattle.folio_sections.specs.Limits.{most_seizures}
-use Rattle.folio_sections.proofs.CaseNumbers.{next_unwanted, next_wanted}
-use Rattle.folio_sections.proofs.case_front.first_seizures.Goals as goal
-use Rattle.folio_sections.proofs.case_front.first_seizures.Goals.{else-is_seizure, then-is_seizure}
+use Rattle.folio_sections.proofs.NumbersBehind.{next_unwanted, next_wanted}
+use Rattle.folio_sections.proofs.case_numbers.first_seizures.Goals as goal
+use Rattle.folio_sections.proofs.case_numbers.first_seizures.Goals.{else-is_seizure, then-is_seizure}
 
 pub loop-entry-preserved : goal.loop-entry-preserved
 loop-entry-preserved c =
