@@ -22,13 +22,13 @@ dropped (x ∷ xs) = dropped xs
 fail_push : {X : Type 0} (p : X → Bool) (xs : List X) (x : X) → suffix_len (λ y. not (p y)) (xs ++ x ∷ []) ≡ cond (not (p x)) (1 + suffix_len (λ y. not (p y)) xs) 0
 fail_push p xs x = ap (prefix_len (λ y. not (p y))) (reverse-append xs (x ∷ []))
 
-behind_another : {X : Type 0} (p : X → Bool) (xs : List X) (x : X) → p x ≡ true → after_last p (xs ++ x ∷ []) ≡ []
+pub behind_another : {X : Type 0} (p : X → Bool) (xs : List X) (x : X) → p x ≡ true → after_last p (xs ++ x ∷ []) ≡ []
 behind_another p xs x is =
     let none : suffix_len (λ y. not (p y)) (xs ++ x ∷ []) ≡ 0 = fail_push p xs x ∙ ap (λ b. cond (not b) (1 + suffix_len (λ y. not (p y)) xs) 0) is in
     let all : length (xs ++ x ∷ []) - 0 ≡ length (xs ++ x ∷ []) = omega arith in
     ap (λ n. drop (length (xs ++ x ∷ []) - n) (xs ++ x ∷ [])) none ∙ ap (λ n. drop n (xs ++ x ∷ [])) all ∙ dropped (xs ++ x ∷ [])
 
-behind_more : {X : Type 0} (p : X → Bool) (xs : List X) (x : X) → p x ≡ false → after_last p (xs ++ x ∷ []) ≡ after_last p xs ++ x ∷ []
+pub behind_more : {X : Type 0} (p : X → Bool) (xs : List X) (x : X) → p x ≡ false → after_last p (xs ++ x ∷ []) ≡ after_last p xs ++ x ∷ []
 behind_more p xs x fails_it =
     let fails = suffix_len (λ y. not (p y)) xs in
     let more : suffix_len (λ y. not (p y)) (xs ++ x ∷ []) ≡ 1 + fails = fail_push p xs x ∙ ap (λ b. cond (not b) (1 + fails) 0) fails_it in
@@ -39,7 +39,7 @@ behind_more p xs x fails_it =
 
 -- ---- counted
 
-count_push : {X : Type 0} (p : X → Bool) (xs : List X) (x : X) → count_by p (xs ++ x ∷ []) ≡ count_by p xs + cond (p x) 1 0
+pub count_push : {X : Type 0} (p : X → Bool) (xs : List X) (x : X) → count_by p (xs ++ x ∷ []) ≡ count_by p xs + cond (p x) 1 0
 count_push p xs x =
     let both = sum_by-append (λ y. cond (p y) 1 0) xs (x ∷ []) in
     omega arith

@@ -13,9 +13,11 @@ pub mod ListLemmas
 pub mod Listed
 pub mod Naming
 pub mod Notices
+pub mod NumbersBehind
 pub mod Progress
 pub mod ReceiptNumbers
 pub mod ReceiptsBefore
+pub mod ReceiptsBelow
 pub mod Rights
 pub mod SweptFilings
 pub mod Titles

@@ -1,5 +1,5 @@
 -- What is read from the entries at a right.
-use Rattle.std.specs.Prelude.{ℕ, Bool, true, false, if◌then◌else◌, List, fold, Option, Some, None, option_map, is_some}
+use Rattle.std.specs.Prelude.{ℕ, Bool, true, false, if◌then◌else◌, List, count_by, fold, Option, Some, None, option_map, is_some}
 use Rattle.std.specs.Option.{option_or}
 use Rattle.std.specs.List.{list_any}
 use Rattle.folio_sections.specs.Waiting.{notice, before_notice}
@@ -86,3 +86,12 @@ is_exercise other = false
 -- the right's reservation is spent (BGB § 881)
 abbrev pub is_spent : List Entry → Bool
 is_spent entries = list_any (λ e. is_exercise e.what) entries
+
+-- a content exchanges the right's rank with that of another (BGB § 880)
+abbrev pub is_exchange : What → Bool
+is_exchange (what.Exchanged recede rise act) = true
+is_exchange other = false
+
+-- how many exchanges the right is in, whether they count or not (BGB § 880)
+abbrev pub exchanges : List Entry → ℕ
+exchanges entries = count_by (λ e. is_exchange e.what) entries

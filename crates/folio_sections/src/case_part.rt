@@ -1,12 +1,16 @@
 //! The part of a register at the forced sale of a folio.
 //! Why so: docs/DECISIONS.md, "A part counts its seizures up to the greatest `u32`".
 //! Why so: docs/DECISIONS.md, "The part of a forced sale answers like the others".
-ghost use Rattle.std.specs.Prelude.{◌≡◌, ◌+◌, ◌≤◌, ◌<◌, None, List, [], ◌∷◌, ◌++◌, All, IsOk, OnOk, OnErr, length, min};
+ghost use Rattle.std.specs.Prelude.{◌≡◌, ◌+◌, ◌≤◌, ◌<◌, None, List, [], ◌∷◌, ◌++◌, All, IsOk, OnOk, OnErr, length, min, take};
 ghost use Rattle.folio_sections.specs.declared.entries.Entry.{Entry};
 ghost use Rattle.folio_sections.specs.inner.States.{running_behind};
 
+use crate::case_front::CaseFront;
+use crate::case_numbers::{note_registration, note_seizure};
 use crate::entry_list::EntryList;
+use crate::fronts::count_below;
 use crate::{Entry, What};
+use arrayvec::ArrayVec;
 use gb_base::{Day, Key, NoMemory, ReceiptNo};
 use std::alloc::Global;
 use std::marker::Model;
@@ -16,6 +20,10 @@ use std::marker::Model;
 pub struct CasePart {
     list: EntryList,
     running: Running,
+    /// The receipts of the case's first 8 seizures, as many as it may have.
+    seized: ArrayVec<ReceiptNo, 8>,
+    /// The receipts of the case's first 32 registrations, as many as it may have.
+    registered: ArrayVec<ReceiptNo, 32>,
 }
 
 /// The case: what stands behind the last distribution.
@@ -32,18 +40,20 @@ struct Running {
 impl Model for CasePart {
     ghost use Rattle.folio_sections.specs.PartState.{PartState};
     ghost use Rattle.folio_sections.specs.inner.Listed.{part_of};
-    ghost use Rattle.folio_sections.specs.inner.States.{IsRunning};
+    ghost use Rattle.folio_sections.specs.inner.States.{IsCase};
 
     ghost Value = { PartState };
 
     ghost view = { λ a. part_of a.list };
 
-    ghost invariant = { λ a. IsRunning a.running a.list.entries };
+    ghost invariant = { λ a. IsCase a.running a.seized.items a.registered.items a.list.entries };
 }
 
 impl CasePart {
     ghost use Rattle.std.specs.List.{find};
-    ghost use Rattle.folio_sections.specs.Cases.{is_running, seizures, registrations, award, call, case};
+    ghost use Rattle.folio_sections.specs.Fronts.{NeverFall, below};
+    ghost use Rattle.folio_sections.specs.Cases.{is_running, seizures, registrations, award, call, case, registration_numbers, seizure_numbers};
+    ghost use Rattle.folio_sections.specs.Limits.{most_registrations, most_seizures};
     ghost use Rattle.folio_sections.specs.Waiting.{waiting_unnoticed, pending, is_above};
 
     /// The empty part at a key.
@@ -54,6 +64,8 @@ impl CasePart {
         CasePart {
             list: EntryList::new(alloc, key),
             running: case_from(0),
+            seized: ArrayVec::new(),
+            registered: ArrayVec::new(),
         }
     }
 
@@ -80,6 +92,8 @@ impl CasePart {
     {
         let ahead = self.list.entries().len();
         self.running = running_behind(ahead, self.running, &entry);
+        note_seizure(&mut self.seized, &entry);
+        note_registration(&mut self.registered, &entry);
         self.list.append(entry, false);
     }
 
@@ -91,6 +105,8 @@ impl CasePart {
     {
         self.list.clear();
         self.running = case_from(0);
+        self.seized.clear();
+        self.registered.clear();
     }
 
     /// The entries, with what stands beside them.
@@ -98,6 +114,21 @@ impl CasePart {
         ensures { result.now.entries ≡ self.now.entries }
     {
         &self.list
+    }
+
+    /// The forced sale as it stands.
+    pub fn whole(&self) -> CaseFront<'_>
+        ensures { result ≡ self.now.entries }
+    {
+        CaseFront::new(self, self.entries().len())
+    }
+
+    /// The forced sale as it stood before receipt n.
+    pub fn below(&self, n: ReceiptNo) -> CaseFront<'_>
+        requires rise { NeverFall self.now.entries }
+        ensures { result ≡ below n self.now.entries }
+    {
+        CaseFront::new(self, count_below(self.entries(), n))
     }
 
     /// The entries, in order.
@@ -142,6 +173,20 @@ impl CasePart {
         ensures { result ≡ min (registrations self.now.entries) 4294967295 }
     {
         self.running.registrations
+    }
+
+    /// The receipts of the case's first 8 seizures, in order.
+    pub(crate) fn seized(&self) -> &ArrayVec<ReceiptNo, 8>
+        ensures { result.now.items ≡ take most_seizures (seizure_numbers self.now.entries) }
+    {
+        &self.seized
+    }
+
+    /// The receipts of the case's first 32 registrations, in order.
+    pub(crate) fn registered(&self) -> &ArrayVec<ReceiptNo, 32>
+        ensures { result.now.items ≡ take most_registrations (registration_numbers self.now.entries) }
+    {
+        &self.registered
     }
 
     /// The receipt of the case's last award (ZVG § 81); None where it has none.

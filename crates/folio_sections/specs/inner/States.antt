@@ -1,15 +1,16 @@
 -- What each part keeps beside its entries.
-use Rattle.std.specs.Prelude.{◌≡◌, ℕ, ◌+◌, ◌≤◌, nat_lt, min, ◌||◌, Bool, true, false, List, length, drop, fold, is_none, Option, Some, None}
+use Rattle.std.specs.Prelude.{◌≡◌, ℕ, ◌+◌, ◌≤◌, nat_lt, min, ◌||◌, Bool, true, false, if◌then◌else◌, List, [], ◌∷◌, ◌++◌, length, drop, filter, fold, map, take, is_none, Option, Some, None}
 use Rattle.std.specs.List.{list_any}
 use Rattle.act_model.specs.declared.land.Inventory.{Inventory}
-use Rattle.folio_sections.specs.Cases.{award, call, case, registrations, seizures}
-use Rattle.folio_sections.specs.Rights.{created, created_by, holder, is_conversion, is_exercise, is_live, is_spent, live_by, new_holder_by, remaining_by}
+use Rattle.folio_sections.specs.Cases.{award, call, case, is_distribution, registration_numbers, registrations, seizure_numbers, seizures}
+use Rattle.folio_sections.specs.Limits.{most_registrations, most_seizures}
+use Rattle.folio_sections.specs.Rights.{created, created_by, exchanges, holder, is_conversion, is_exercise, is_live, is_spent, live_by, new_holder_by, remaining_by}
 use Rattle.folio_sections.specs.Titles.{inventory, is_award_owner, is_open, owners, owners_by}
 use Rattle.folio_sections.specs.declared.case_part.Running.{Running}
 use Rattle.folio_sections.specs.declared.entries.Entry.{Entry}
 use Rattle.folio_sections.specs.declared.entries.What.{What}
 use Rattle.folio_sections.specs.declared.entries.What.TheVariants as what
-use Rattle.folio_sections.specs.declared.right_part.RightState.{RightState}
+use Rattle.folio_sections.specs.declared.right_state.RightState.{RightState}
 use Rattle.folio_sections.specs.inner.Listed.{Listed}
 use Rattle.folio_sections.specs.inner.Naming.{AreNamedAt}
 
@@ -57,15 +58,37 @@ state_by before w = record {
   spent = before.spent || is_exercise w;
 }
 
--- the state is what is read from the entries, and the holder behind each number of them is named at these places
-pub record IsRight (is : RightState) (entries : List Entry) (naming : List ℕ) : Type 0 where
+-- the right of no entries
+abbrev pub never_created : RightState
+never_created = record { live = false; created = None; converted = false; new_holder = None; remaining = None; spent = false }
+
+-- the right of these entries
+abbrev pub state_of : List Entry → RightState
+state_of entries = fold (λ before e. state_by before e.what) never_created entries
+
+-- the state is what is read from the entries
+pub record IsRightState (is : RightState) (entries : List Entry) : Type 0 where
   pub live : is.live ≡ is_live entries
   pub created : is.created ≡ created entries
   pub converted : is.converted ≡ list_any (λ e. is_conversion e.what) entries
   pub new_holder : is.new_holder ≡ fold (λ before e. new_holder_by before e.what) None entries
   pub remaining : is.remaining ≡ fold (λ before e. remaining_by before e.what) None entries
   pub spent : is.spent ≡ is_spent entries
+
+-- a right keeps its state, how many exchanges it is in, and the places that name the holder behind each number of entries
+pub record IsRight (is : RightState) (count : ℕ) (entries : List Entry) (naming : List ℕ) : Type 0 where
+  pub state : IsRightState is entries
+  pub counted : count ≡ exchanges entries
   pub holder : AreNamedAt holder holder_named naming entries
+
+-- the receipts of the entries whose contents pass, in order
+abbrev pub numbers_that : (What → Bool) → List Entry → List ℕ
+numbers_that t entries = map (λ e. e.receipt) (filter (λ e. t e.what) entries)
+
+-- The first n numbers of a case behind an entry by item i: none behind a distribution, and one more behind a content that
+-- passes, where there are fewer.
+abbrev pub numbers_behind : ℕ → (What → Bool) → List ℕ → ℕ → What → List ℕ
+numbers_behind n t before i w = if is_distribution w then [] else if t w then take n (before ++ i ∷ []) else before
 
 -- the most that is counted of a case's seizures and registrations
 abbrev pub most_counted : ℕ
@@ -79,6 +102,12 @@ pub record IsRunning (case_is : Running) (entries : List Entry) : Type 0 where
   pub registrations : case_is.registrations ≡ min (registrations entries) most_counted
   pub award : case_is.award ≡ award entries
   pub called : case_is.called ≡ call entries
+
+-- a part keeps its case, and the numbers of the case's first seizures and registrations
+pub record IsCase (case_is : Running) (first_seized first_registered : List ℕ) (entries : List Entry) : Type 0 where
+  pub running : IsRunning case_is entries
+  pub seized : first_seized ≡ take most_seizures (seizure_numbers entries)
+  pub registered : first_registered ≡ take most_registrations (registration_numbers entries)
 
 -- the case behind a further entry by item i, with so many entries ahead
 abbrev pub running_behind : ℕ → Running → ℕ → What → Running

@@ -5,5 +5,5 @@ use Rattle.folio_sections.proofs.case_part.CasePart.running.Goals as goal
 
 pub returns : goal.returns
 returns c =
-    ap (nat_lt 0) c.self.invariant.seizures ∙ counted_any (λ e. is_seizure e.what) (case c.self.inside.list.entries)
+    ap (nat_lt 0) c.self.invariant.running.seizures ∙ counted_any (λ e. is_seizure e.what) (case c.self.inside.list.entries)
     ∙ ap (λ v. is_running v.entries) c.self.view_is
