@@ -1,0 +1,5 @@
+-- What contracts cite.
+pub mod Cases
+pub mod Claims
+pub mod Interest
+pub mod LowestBid

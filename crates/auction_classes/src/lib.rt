@@ -1,0 +1,6 @@
+//! What is claimed in a forced sale, class by class, the lowest bid, and what remains of each right (ZVG §§ 10 to 13, 43 to 52).
+#![tactic(auto)]
+
+mod claims;
+
+pub use claims::ClaimItem;
