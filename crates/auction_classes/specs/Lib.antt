@@ -1,5 +1,7 @@
 -- What contracts cite.
-pub mod Cases
 pub mod Claims
+pub mod ClassLines
 pub mod Interest
 pub mod LowestBid
+pub mod SaleClaims
+pub mod Sales
