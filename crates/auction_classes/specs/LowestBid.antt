@@ -8,8 +8,11 @@ use Rattle.act_model.specs.declared.sales.Basis.TheVariants as basis
 use Rattle.rank_slots.specs.Filled.{Filled, line}
 use Rattle.rank_slots.specs.Groups.{group_of}
 use Rattle.rank_slots.specs.Payments.{claim_of, knot_of, pay, reaches_end, threshold}
-use Rattle.auction_classes.specs.SaleClaims.{RightClaimed, SaleClaims, SeizedFor}
+use Rattle.auction_classes.specs.SaleClaims.{SaleClaims}
 use Rattle.auction_classes.specs.declared.claim_items.ClaimItem.{ClaimItem}
+use Rattle.auction_classes.specs.declared.claim_items.RightClaimed.{RightClaimed}
+use Rattle.auction_classes.specs.declared.claim_items.SeizedFor.{SeizedFor}
+use Rattle.auction_classes.specs.declared.lowest_bids.Lowest.{Lowest}
 
 -- ---- the seizure that is the base
 
@@ -31,10 +34,14 @@ cover_served c numbered =
     then Some (cover_by c.line_four (sum_by (λ before. personal_amount before.basis) (take (numbered.0 - 1) c.seizures)) numbered.1.basis)
     else None
 
+-- the lesser of two numbers, where the first is there
+abbrev pub lesser : Option ℕ → ℕ → Option ℕ
+lesser None n = Some n
+lesser (Some least) n = Some (min least n)
+
 -- the least of some numbers; none where there are none
 abbrev pub least : List ℕ → Option ℕ
-least [] = None
-least (n ∷ ns) = Some (fold min n ns)
+least numbers = fold lesser None numbers
 
 -- the cover of the base, which is the served seizure of least cover (ZVG § 44(2)); none where no seizure is served
 abbrev pub cover_of_base : SaleClaims → Option ℕ
@@ -61,17 +68,17 @@ abbrev pub is_paid_enough : Filled → RightClaimed → ℕ → Bool
 is_paid_enough filled x got = x.in_division_three || nat_le (claim_of filled.places x.right) got
 
 -- what remains of a right that gets so much: that less its interest (ZVG § 52)
-abbrev pub remaining_by : Filled → RightClaimed → ℕ → ℕ → ℕ
-remaining_by filled x cover got =
+abbrev pub remaining_by : Filled → ℕ → RightClaimed → ℕ → ℕ
+remaining_by filled cover x got =
     if is_paid_enough filled x got && (reaches_group filled x.right cover && reaches_knot filled x.right cover) then got - x.interest else 0
 
--- what remains of a right of class 4 at this cover
-abbrev pub remaining_of : SaleClaims → ℕ → RightClaimed → ℕ
-remaining_of c cover x = remaining_by c.line_four x cover (pay c.line_four x.right cover)
+-- what remains of a right of class 4, whose line this is, at this cover
+abbrev pub remaining_of : Filled → ℕ → RightClaimed → ℕ
+remaining_of filled cover x = remaining_by filled cover x (pay filled x.right cover)
 
 -- the same of the right of this number; 0 where it is no live right of class 4
 abbrev pub remaining : SaleClaims → ℕ → RightNo → ℕ
-remaining c cover right = option_map_or (remaining_of c cover) (find (λ x. same_right x.right right) c.rights) 0
+remaining c cover right = option_map_or (remaining_of c.line_four cover) (find (λ x. same_right x.right right) c.rights) 0
 
 -- ---- the lowest bid
 
@@ -85,17 +92,12 @@ total c cover = c.costs + (sum_by (λ claim. claim.capital) (filter is_ahead_of_
 
 -- the part that is paid in cash: the total without what remains (ZVG §§ 49, 52)
 abbrev pub cash : SaleClaims → ℕ → ℕ
-cash c cover = total c cover - sum_by (remaining_of c (cover_on_line c cover)) c.rights
+cash c cover = total c cover - sum_by (remaining_of c.line_four (cover_on_line c cover)) c.rights
 
--- what a call to bid answers: the total, the part in cash, and the part of the base's cover that lies on the line of class 4
-pub record LowestBid : Type 0 where
-  pub total : ℕ
-  pub cash : ℕ
-  pub cover : ℕ
-
-abbrev pub bid_by : SaleClaims → ℕ → LowestBid
+-- the total, the part in cash, and the part of the base's cover that lies on the line of class 4
+abbrev pub bid_by : SaleClaims → ℕ → Lowest
 bid_by c cover = record { total = total c cover; cash = cash c cover; cover = cover_on_line c cover }
 
 -- the lowest bid; none where no seizure is served (ZVG §§ 43, 44)
-abbrev pub lowest_bid : SaleClaims → Option LowestBid
+abbrev pub lowest_bid : SaleClaims → Option Lowest
 lowest_bid c = option_map (bid_by c) (cover_of_base c)
