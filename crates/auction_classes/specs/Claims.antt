@@ -3,7 +3,6 @@ use Rattle.std.specs.Prelude.{ℕ, ◌+◌, ◌-◌, Bool, true, false, not, ◌
 use Rattle.std.specs.Option.{option_map_or}
 use Rattle.gb_base.specs.Calendar.{date_of}
 use Rattle.gb_base.specs.RightNo.{RightNo, same_right}
-use Rattle.gb_base.specs.declared.keys.Key.{Key}
 use Rattle.gb_base.specs.declared.keys.Key.TheVariants.{Right, Title}
 use Rattle.act_model.specs.declared.sales.Basis.{Basis}
 use Rattle.act_model.specs.declared.sales.Basis.TheVariants as basis
@@ -16,16 +15,21 @@ use Rattle.folio_line.specs.FolioRights.{live_rights}
 use Rattle.folio_line.specs.FolioSlots.{capital_at}
 use Rattle.folio_line.specs.declared.folio_rights.CreatedRight.{CreatedRight}
 use Rattle.auction_classes.specs.Interest.{Accrual, arrears_in_class, current_interest, old_arrears, rate_of}
-use Rattle.auction_classes.specs.Sales.{Registered, Sale, Seizure, is_timely, number_seized, read, registrations_found, sale_day, seizures_found, year_seized}
+use Rattle.auction_classes.specs.Sales.{Registered, Sale, is_timely, number_seized, read, registrations_found, sale_day, seizures_found, year_seized}
 use Rattle.auction_classes.specs.declared.claim_items.ClaimItem.{ClaimItem}
 
 -- the entries at a right of the folio
 abbrev pub at_right : Sale → RightNo → List Entry
 at_right s id = read s (Right s.folio id)
 
+-- both are late, or both are timely
+abbrev pub are_both : Bool → Bool → Bool
+are_both true late = late
+are_both false late = not late
+
 -- the registrations of the case that are timely, or those that are late
 abbrev pub registrations_by : Sale → Bool → List Registered
-registrations_by s late = filter (λ r. is_timely s r.number == not late) (registrations_found s)
+registrations_by s late = filter (λ r. are_both late (not (is_timely s r.number))) (registrations_found s)
 
 -- ---- rights
 
@@ -75,8 +79,13 @@ claim_of_person class late person amount =
 -- a claim of a right, which its holder has
 abbrev pub claim_of_right : Sale → ℕ → Bool → ℕ → ℕ → CreatedRight → ClaimItem
 claim_of_right s class late interest amount x = record {
-  class = class; late = late; right = Some x.id; person = option_map_or (λ p. p) (holder (at_right s x.id)) 0;
-  interest = interest; capital = amount; with_previous = false;
+  class = class;
+  late = late;
+  right = Some x.id;
+  person = option_map_or (λ p. p) (holder (at_right s x.id)) 0;
+  interest = interest;
+  capital = amount;
+  with_previous = false;
 }
 
 -- an advance is of class 1 (ZVG § 10(1) no. 1)
@@ -144,12 +153,18 @@ are_of_one_group s x y = false
 -- the claim ranks equally with the one before it: both are of one class, both timely or both late, and of rights of one group
 abbrev pub ranks_with : Sale → Option ClaimItem → ClaimItem → Bool
 ranks_with s None c = false
-ranks_with s (Some before) c = before.class == c.class && ((before.late == c.late) && are_of_one_group s before.right c.right)
+ranks_with s (Some before) c = before.class == c.class && (are_both before.late c.late && are_of_one_group s before.right c.right)
 
 -- the claim, with what it has to do with the one before it
 abbrev pub behind_claim : Sale → Option ClaimItem → ClaimItem → ClaimItem
 behind_claim s before c = record {
-  class = c.class; late = c.late; right = c.right; person = c.person; interest = c.interest; capital = c.capital; with_previous = ranks_with s before c;
+  class = c.class;
+  late = c.late;
+  right = c.right;
+  person = c.person;
+  interest = c.interest;
+  capital = c.capital;
+  with_previous = ranks_with s before c;
 }
 
 -- each claim with what it has to do with the one before it

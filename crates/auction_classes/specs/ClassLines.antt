@@ -1,5 +1,5 @@
 -- The line of a class of rights, along which its money is shared (BGB §§ 879 to 881, ZVG § 11).
-use Rattle.std.specs.Prelude.{ℕ, ◌+◌, Bool, ◌==◌, ◌&&◌, if◌then◌else◌, List, filter, find}
+use Rattle.std.specs.Prelude.{ℕ, ◌+◌, Bool, ◌==◌, ◌&&◌, List, filter, find}
 use Rattle.std.specs.Option.{option_map_or}
 use Rattle.gb_base.specs.RightNo.{RightNo, same_right}
 use Rattle.folio_sections.specs.declared.entries.Entry.{Entry}

@@ -1,5 +1,5 @@
 -- The interest of a right: what is current, and what is in arrears (ZVG §§ 10, 13, 47).
-use Rattle.std.specs.Prelude.{ℕ, ◌+◌, ◌-◌, ◌==◌, ◌&&◌, List, find, max, min}
+use Rattle.std.specs.Prelude.{ℕ, ◌+◌, ◌-◌, ◌==◌, ◌&&◌, find, max, min}
 use Rattle.std.specs.List.{range_with_len}
 use Rattle.std.specs.Option.{option_map_or}
 use Rattle.gb_base.specs.Calendar.{date_of}

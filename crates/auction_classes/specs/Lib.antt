@@ -5,3 +5,4 @@ pub mod Interest
 pub mod LowestBid
 pub mod SaleClaims
 pub mod Sales
+pub mod inner

@@ -1,5 +1,5 @@
 -- The lowest bid, and what remains of each right (ZVG §§ 43, 44, 49, 52).
-use Rattle.std.specs.Prelude.{ℕ, ◌+◌, ◌-◌, Bool, true, not, ◌==◌, ◌&&◌, ◌||◌, nat_le, if◌then◌else◌, List, [], ◌∷◌, filter, filter_map, find, fold, length, min, sum_by, take, Option, Some, None, option_map}
+use Rattle.std.specs.Prelude.{ℕ, ◌+◌, ◌-◌, Bool, true, not, ◌==◌, ◌&&◌, ◌||◌, nat_le, if◌then◌else◌, List, filter_map, find, fold, length, min, sum_by, take, Option, Some, None, option_map}
 use Rattle.std.specs.List.{enumerate_from, list_all}
 use Rattle.std.specs.Option.{option_map_or}
 use Rattle.gb_base.specs.RightNo.{RightNo, same_right}
@@ -27,11 +27,11 @@ abbrev pub cover_by : Filled → ℕ → Basis → ℕ
 cover_by four before (basis.Personal creditor claim) = length (line four) + before
 cover_by four before (basis.FromRight right) = threshold four right
 
--- the cover of seizure i, from 1, where it is served
-abbrev pub cover_served : SaleClaims → ℕ × SeizedFor → Option ℕ
-cover_served c numbered =
+-- the cover of seizure i, from 1, of these, where it is served
+abbrev pub cover_served : Filled → List SeizedFor → ℕ × SeizedFor → Option ℕ
+cover_served four seizures numbered =
     if numbered.1.served
-    then Some (cover_by c.line_four (sum_by (λ before. personal_amount before.basis) (take (numbered.0 - 1) c.seizures)) numbered.1.basis)
+    then Some (cover_by four (sum_by (λ before. personal_amount before.basis) (take (numbered.0 - 1) seizures)) numbered.1.basis)
     else None
 
 -- the lesser of two numbers, where the first is there
@@ -44,8 +44,8 @@ abbrev pub least : List ℕ → Option ℕ
 least numbers = fold lesser None numbers
 
 -- the cover of the base, which is the served seizure of least cover (ZVG § 44(2)); none where no seizure is served
-abbrev pub cover_of_base : SaleClaims → Option ℕ
-cover_of_base c = least (filter_map (cover_served c) (enumerate_from 1 c.seizures))
+abbrev pub cover_of_base : Filled → List SeizedFor → Option ℕ
+cover_of_base four seizures = least (filter_map (cover_served four seizures) (enumerate_from 1 seizures))
 
 -- the part of that cover that lies on the line of class 4
 abbrev pub cover_on_line : SaleClaims → ℕ → ℕ
@@ -82,13 +82,13 @@ remaining c cover right = option_map_or (remaining_of c.line_four cover) (find (
 
 -- ---- the lowest bid
 
--- the claim is timely, and of class 1 or 3
-abbrev pub is_ahead_of_rights : ClaimItem → Bool
-is_ahead_of_rights claim = not claim.late && (claim.class == 1 || claim.class == 3)
+-- the cents of a claim that is timely and of class 1 or 3; none of any other
+abbrev pub cents_ahead : ClaimItem → ℕ
+cents_ahead claim = if not claim.late && (claim.class == 1 || claim.class == 3) then claim.capital else 0
 
 -- the total: costs, the timely claims of classes 1 and 3, and the cover (ZVG § 44(1))
 abbrev pub total : SaleClaims → ℕ → ℕ
-total c cover = c.costs + (sum_by (λ claim. claim.capital) (filter is_ahead_of_rights c.items) + cover)
+total c cover = c.costs + (sum_by cents_ahead c.items + cover)
 
 -- the part that is paid in cash: the total without what remains (ZVG §§ 49, 52)
 abbrev pub cash : SaleClaims → ℕ → ℕ
@@ -100,4 +100,4 @@ bid_by c cover = record { total = total c cover; cash = cash c cover; cover = co
 
 -- the lowest bid; none where no seizure is served (ZVG §§ 43, 44)
 abbrev pub lowest_bid : SaleClaims → Option Lowest
-lowest_bid c = option_map (bid_by c) (cover_of_base c)
+lowest_bid c = option_map (bid_by c) (cover_of_base c.line_four c.seizures)

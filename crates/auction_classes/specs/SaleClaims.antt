@@ -1,6 +1,5 @@
 -- All that a forced sale is reckoned from, put together (ZVG §§ 10 to 13, 43 to 47).
-use Rattle.std.specs.Prelude.{ℕ, ◌+◌, Bool, true, false, ◌&&◌, ◌==◌, nat_le, if◌then◌else◌, List, [], map}
-use Rattle.gb_base.specs.RightNo.{RightNo}
+use Rattle.std.specs.Prelude.{ℕ, ◌+◌, Bool, true, ◌&&◌, ◌==◌, nat_le, if◌then◌else◌, List, [], map}
 use Rattle.act_model.specs.Acts.{is_in_division_three}
 use Rattle.act_model.specs.declared.sales.Basis.{Basis}
 use Rattle.act_model.specs.declared.sales.Basis.TheVariants as basis

@@ -1,5 +1,5 @@
 -- The forced sale of a folio, as a call to bid, an award or a distribution finds it (ZVG §§ 20, 37, 66, 81).
-use Rattle.std.specs.Prelude.{◌≡◌, ℕ, ◌+◌, Bool, false, ◌==◌, nat_lt, List, filter_map, length, slice_get, IsSome, IsTrue, Option, Some, None, option_and_then, option_map}
+use Rattle.std.specs.Prelude.{ℕ, ◌+◌, Bool, false, ◌==◌, nat_lt, List, filter_map, length, slice_get, IsSome, IsTrue, Option, Some, None, option_and_then}
 use Rattle.std.specs.Option.{option_map_or}
 use Rattle.gb_base.specs.Calendar.{date_of}
 use Rattle.gb_base.specs.declared.keys.Key.{Key}

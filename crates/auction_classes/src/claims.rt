@@ -1,6 +1,8 @@
 //! The claims in a forced sale, in lists that keep their room.
 ghost use Rattle.std.specs.Prelude.{◌≡◌, ◌≤◌, IfOk, length};
+ghost use Rattle.rank_slots.specs.Filled.{empty};
 ghost use Rattle.auction_classes.specs.SaleClaims.{line_of, no_claims};
+ghost use Rattle.auction_classes.specs.inner.Reckoning.{filled_of};
 
 use crate::{ClaimItem, RightClaimed, SeizedFor};
 use gb_base::{NoMemory, Person};
@@ -54,14 +56,14 @@ impl Model for Claims {
     } };
 
     ghost invariant = { λ a. IsReckonable (record {
-        items = a.items.items;
-        costs = a.costs;
-        owners = a.owners.items;
-        seizures = a.seizures.items;
-        rights = a.rights.items;
-        line_four = filled_of a.line_four;
-        line_six = filled_of a.line_six;
-      }) };
+      items = a.items.items;
+      costs = a.costs;
+      owners = a.owners.items;
+      seizures = a.seizures.items;
+      rights = a.rights.items;
+      line_four = filled_of a.line_four;
+      line_six = filled_of a.line_six;
+    }) };
 }
 
 impl Claims {

@@ -1,9 +1,11 @@
 //! The lowest bid (ZVG §§ 44, 49).
-ghost use Rattle.std.specs.Prelude.{◌≡◌, ◌+◌, ◌*◌, ◌<◌, ◌≤◌, OnOk, filter, length, sum_by};
+ghost use Rattle.std.specs.Prelude.{◌≡◌, ◌+◌, ◌*◌, ◌<◌, ◌≤◌, OnOk, length, sum_by};
 ghost use Rattle.std.specs.Result.{result_ok};
 ghost use Rattle.gb_base.specs.Limits.{most_sum};
-ghost use Rattle.auction_classes.specs.LowestBid.{bid_by, is_ahead_of_rights, lowest_bid};
+ghost use Rattle.auction_classes.specs.LowestBid.{bid_by, cents_ahead, lowest_bid};
 
+use crate::covers::cover_of_base;
+use crate::remaining::remaining_in_all;
 use crate::{ClaimItem, Claims};
 use rank_slots::Slots;
 
@@ -35,7 +37,7 @@ impl Claims {
         ensures memory { slots.new.capacity ≡ slots.old.capacity }
     {
         self.fill_line(slots, 4);
-        match self.cover_of_base(slots) {
+        match cover_of_base(slots, &self.seizures) {
             Some(cover) => Ok(self.bid_by(slots, cover)),
             None => Err(NoServedCreditor),
         }
@@ -49,7 +51,7 @@ impl Claims {
     {
         let on_line = cover.min(slots.length());
         let total = self.costs + (ahead_of_rights(&self.items) + cover);
-        let remaining = self.remaining_in_all(slots, on_line);
+        let remaining = remaining_in_all(slots, on_line, &self.rights);
         Lowest {
             total,
             cash: u128::from(total).saturating_sub(remaining) as u64,
@@ -60,21 +62,23 @@ impl Claims {
 
 /// What the timely claims of classes 1 and 3 come to, in cents.
 fn ahead_of_rights(items: &[ClaimItem]) -> u64
-    requires { sum_by (λ claim. claim.capital) (filter is_ahead_of_rights items.now) < most_sum }
-    ensures { result ≡ sum_by (λ claim. claim.capital) (filter is_ahead_of_rights items.now) }
+    requires { sum_by cents_ahead items.now < most_sum }
+    ensures { result ≡ sum_by cents_ahead items.now }
 {
     let mut cents = 0;
     for claim in items {
-        if is_ahead_of_rights(claim) {
-            cents += claim.capital;
-        }
+        cents += cents_ahead(claim);
     }
     cents
 }
 
-/// Whether a claim is timely, and of class 1 or 3.
-fn is_ahead_of_rights(claim: &ClaimItem) -> bool
-    ensures { result ≡ is_ahead_of_rights claim.now }
+/// The cents of a claim that is timely and of class 1 or 3; 0 of any other.
+fn cents_ahead(claim: &ClaimItem) -> u64
+    ensures { result ≡ cents_ahead claim.now }
 {
-    !claim.late && (claim.class == 1 || claim.class == 3)
+    if !claim.late && (claim.class == 1 || claim.class == 3) {
+        claim.capital
+    } else {
+        0
+    }
 }

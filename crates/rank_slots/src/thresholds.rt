@@ -1,5 +1,5 @@
 //! From which sum on a right gets something.
-ghost use Rattle.std.specs.Prelude.{◌≡◌, ◌<◌, true};
+ghost use Rattle.std.specs.Prelude.{◌≡◌, ◌*◌, ◌<◌, true};
 ghost use Rattle.rank_slots.specs.Filled.{line};
 ghost use Rattle.rank_slots.specs.Groups.{group_of, keeps_place};
 ghost use Rattle.gb_base.specs.Limits.{most_sum};
@@ -23,6 +23,7 @@ impl Slots {
     pub fn threshold(&self, right: RightId) -> u64
         requires kept { keeps_place self.now.filled.places right ≡ true }
         ensures value { result ≡ threshold self.now.filled right }
+        ensures bound { result < 2 * most_sum }
     {
         match self.knot_of(right) {
             None => self.cents_ahead(right),

@@ -1,5 +1,5 @@
 -- A piece less is left to look at.
-use Rattle.std.proofs.Common.{◌≡◌, ◌+◌, ◌-◌, ◌&&◌, ◌||◌, ap, drop, not, sym, true, false, ◌∙◌}
+use Rattle.std.proofs.Common.{◌+◌, ◌-◌, ◌||◌, ap, drop, not, sym, ◌∙◌}
 use Rattle.std.specs.List.{list_any}
 use Rattle.gb_base.specs.RightNo.{same_right}
 use Rattle.rank_slots.specs.inner.Pieces.{line_of}

@@ -1,0 +1,4 @@
+-- Lemmas.
+pub mod ClaimedRights
+pub mod LeastCovers
+pub mod NoClaims
