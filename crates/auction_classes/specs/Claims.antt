@@ -14,8 +14,9 @@ use Rattle.folio_sections.specs.declared.entries.Entry.{Entry}
 use Rattle.folio_line.specs.FolioRights.{live_rights}
 use Rattle.folio_line.specs.FolioSlots.{capital_at}
 use Rattle.folio_line.specs.declared.folio_rights.CreatedRight.{CreatedRight}
-use Rattle.auction_classes.specs.Interest.{Accrual, arrears_in_class, current_interest, old_arrears, rate_of}
+use Rattle.auction_classes.specs.Interest.{arrears_in_class, current_interest, new_year, old_arrears, rate_of}
 use Rattle.auction_classes.specs.Sales.{Registered, Sale, is_timely, number_seized, read, registrations_found, sale_day, seizures_found, year_seized}
+use Rattle.auction_classes.specs.declared.accruals.Accrual.{Accrual}
 use Rattle.auction_classes.specs.declared.claim_items.ClaimItem.{ClaimItem}
 
 -- the entries at a right of the folio
@@ -44,8 +45,9 @@ accrual_of s x = record {
   capital = capital_at (read s) s.folio x.id;
   rate = rate_of x.made.spec.kind;
   entered = option_map_or (λ day. day) (entered_on (at_right s x.id)) 0;
-  seized = year_seized s;
   sale = sale_day s;
+  current_from = new_year (year_seized s - 1);
+  arrears_from = new_year (year_seized s - 3);
 }
 
 -- such a part of the arrears that are registered for a right

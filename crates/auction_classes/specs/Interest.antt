@@ -1,5 +1,5 @@
 -- The interest of a right: what is current, and what is in arrears (ZVG §§ 10, 13, 47).
-use Rattle.std.specs.Prelude.{ℕ, ◌+◌, ◌-◌, ◌==◌, ◌&&◌, find, max, min}
+use Rattle.std.specs.Prelude.{ℕ, ◌+◌, ◌==◌, ◌&&◌, find, max, min}
 use Rattle.std.specs.List.{range_with_len}
 use Rattle.std.specs.Option.{option_map_or}
 use Rattle.gb_base.specs.Calendar.{date_of}
@@ -7,6 +7,7 @@ use Rattle.gb_base.specs.Interest.{days360, interest}
 use Rattle.gb_base.specs.Limits.{last_day}
 use Rattle.act_model.specs.declared.rights.RightKind.{RightKind}
 use Rattle.act_model.specs.declared.rights.RightKind.TheVariants as kind
+use Rattle.auction_classes.specs.declared.accruals.Accrual.{Accrual}
 
 -- the number of 1 January of a year
 unfoldable pub new_year : ℕ → ℕ
@@ -18,22 +19,13 @@ rate_of (kind.Mortgage rate) = rate
 rate_of (kind.LandCharge rate) = rate
 rate_of other = 0
 
--- By what the interest of a right goes: its capital and rate, the day on which it was entered, the year of the first seizure, and
--- the day of the sale.
-pub record Accrual : Type 0 where
-  pub capital : ℕ
-  pub rate : ℕ
-  pub entered : ℕ
-  pub seized : ℕ
-  pub sale : ℕ
-
--- the interest from a day up to another
+-- the interest of a right from a day up to another
 abbrev pub interest_between : Accrual → ℕ → ℕ → ℕ
 interest_between x from until = interest x.capital x.rate (days360 from until)
 
 -- current interest begins on 1 January of the year before the seizure, or with the right's entry where that is later (ZVG § 13)
 abbrev pub begin_of_current : Accrual → ℕ
-begin_of_current x = max (new_year (x.seized - 1)) x.entered
+begin_of_current x = max x.current_from x.entered
 
 -- current interest, up to the 15th day behind the sale without that day (ZVG § 47)
 abbrev pub current_interest : Accrual → ℕ
@@ -42,8 +34,8 @@ current_interest x = interest_between x (begin_of_current x) (x.sale + 15)
 -- Of arrears from a day up to another, what the right's own class has: the part from 1 January of the third year before the
 -- seizure, and from the right's entry, up to the begin of current interest (ZVG § 10(1) no. 4).
 abbrev pub arrears_in_class : Accrual → ℕ → ℕ → ℕ
-arrears_in_class x from until = interest_between x (max from (max (new_year (x.seized - 3)) x.entered)) (min until (begin_of_current x))
+arrears_in_class x from until = interest_between x (max from (max x.arrears_from x.entered)) (min until (begin_of_current x))
 
 -- What class 8 has of them: the part before that 1 January (ZVG § 10(1) no. 8).
 abbrev pub old_arrears : Accrual → ℕ → ℕ → ℕ
-old_arrears x from until = interest_between x (max from x.entered) (min until (new_year (x.seized - 3)))
+old_arrears x from until = interest_between x (max from x.entered) (min until x.arrears_from)

@@ -2,6 +2,7 @@
 //! (ZVG §§ 10 to 13, 43 to 52).
 #![tactic(auto)]
 
+mod accruals;
 mod claim_items;
 mod claims;
 mod covers;
