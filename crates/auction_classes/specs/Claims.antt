@@ -15,8 +15,9 @@ use Rattle.folio_line.specs.FolioRights.{live_rights}
 use Rattle.folio_line.specs.FolioSlots.{capital_at}
 use Rattle.folio_line.specs.declared.folio_rights.CreatedRight.{CreatedRight}
 use Rattle.auction_classes.specs.Interest.{arrears_in_class, current_interest, new_year, old_arrears, rate_of}
-use Rattle.auction_classes.specs.Sales.{Registered, Sale, is_timely, number_seized, read, registrations_found, sale_day, seizures_found, year_seized}
+use Rattle.auction_classes.specs.Sales.{Sale, number_seized, read, registrations_found, sale_day, seizures_found, year_seized}
 use Rattle.auction_classes.specs.declared.accruals.Accrual.{Accrual}
+use Rattle.auction_classes.specs.declared.case_items.Registered.{Registered}
 use Rattle.auction_classes.specs.declared.claim_items.ClaimItem.{ClaimItem}
 
 -- the entries at a right of the folio
@@ -30,7 +31,7 @@ are_both false late = not late
 
 -- the registrations of the case that are timely, or those that are late
 abbrev pub registrations_by : Sale → Bool → List Registered
-registrations_by s late = filter (λ r. are_both late (not (is_timely s r.number))) (registrations_found s)
+registrations_by s late = filter (λ r. are_both late r.late) (registrations_found s)
 
 -- ---- rights
 

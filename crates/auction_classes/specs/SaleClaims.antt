@@ -8,7 +8,8 @@ use Rattle.folio_line.specs.declared.folio_rights.CreatedRight.{CreatedRight}
 use Rattle.rank_slots.specs.Filled.{Filled, empty}
 use Rattle.auction_classes.specs.Claims.{at_right, claims, former_owners, interest_of, rights_of_class}
 use Rattle.auction_classes.specs.ClassLines.{line_of_class}
-use Rattle.auction_classes.specs.Sales.{Sale, Seizure, costs_found, sale_day, seizures_found}
+use Rattle.auction_classes.specs.Sales.{Sale, costs_found, sale_day, seizures_found}
+use Rattle.auction_classes.specs.declared.case_items.Seizure.{Seizure}
 use Rattle.auction_classes.specs.declared.claim_items.ClaimItem.{ClaimItem}
 use Rattle.auction_classes.specs.declared.claim_items.RightClaimed.{RightClaimed}
 use Rattle.auction_classes.specs.declared.claim_items.SeizedFor.{SeizedFor}

@@ -1,5 +1,5 @@
 -- The forced sale of a folio, as a call to bid, an award or a distribution finds it (ZVG §§ 20, 37, 66, 81).
-use Rattle.std.specs.Prelude.{ℕ, ◌+◌, Bool, false, ◌==◌, nat_lt, List, filter_map, length, slice_get, IsSome, IsTrue, Option, Some, None, option_and_then}
+use Rattle.std.specs.Prelude.{ℕ, ◌+◌, Bool, true, false, ◌==◌, nat_le, List, filter_map, length, slice_get, IsSome, IsTrue, Option, Some, None, option_and_then}
 use Rattle.std.specs.Option.{option_map_or}
 use Rattle.gb_base.specs.Calendar.{date_of}
 use Rattle.gb_base.specs.declared.keys.Key.{Key}
@@ -8,11 +8,11 @@ use Rattle.act_model.specs.Receiving.{day_of, item_at}
 use Rattle.act_model.specs.declared.items.Item.{Item}
 use Rattle.act_model.specs.declared.items.Item.TheVariants as item
 use Rattle.act_model.specs.declared.receipts.Receipt.{Receipt}
-use Rattle.act_model.specs.declared.sales.Basis.{Basis}
-use Rattle.act_model.specs.declared.sales.Registration.{Registration}
 use Rattle.folio_sections.specs.Cases.{award, call, registration_numbers, seizure_numbers}
 use Rattle.folio_sections.specs.Fronts.{below}
 use Rattle.folio_sections.specs.declared.entries.Entry.{Entry}
+use Rattle.auction_classes.specs.declared.case_items.Registered.{Registered}
+use Rattle.auction_classes.specs.declared.case_items.Seizure.{Seizure}
 
 -- The journal, what stands at each key by items below the one that finds the sale, the folio, and the number of that item.
 pub record Sale : Type 0 where
@@ -52,25 +52,19 @@ costs_found s = option_map_or (λ costs. costs) (option_and_then (costs_named_by
 abbrev pub sale_day : Sale → ℕ
 sale_day s = option_map_or (day_of s.journal) (number_called s) 0
 
--- a registration of this number is timely: it came before the call (ZVG §§ 45, 110)
-abbrev pub is_timely : Sale → ℕ → Bool
-is_timely s n = option_map_or (nat_lt n) (number_called s) false
+-- a registration of this number is late: it did not come before the call (ZVG §§ 45, 110)
+abbrev pub is_late : Sale → ℕ → Bool
+is_late s n = option_map_or (λ called. nat_le called n) (number_called s) true
 
 -- ---- seizures
 
--- a seizure: its receipt, what it rests on, and the day on which it was served
-pub record Seizure : Type 0 where
-  pub number : ℕ
-  pub basis : Basis
-  pub served : ℕ
+abbrev pub seizure_by : Item → Option Seizure
+seizure_by (item.Seize folio basis served) = Some (record { basis = basis; served = served })
+seizure_by other = None
 
-abbrev pub seizure_by : ℕ → Item → Option Seizure
-seizure_by n (item.Seize folio basis served) = Some (record { number = n; basis = basis; served = served })
-seizure_by n other = None
-
--- the seizures of the case, in order
+-- the seizures of the case, in order: what each rests on, and the day on which it was served
 abbrev pub seizures_found : Sale → List Seizure
-seizures_found s = filter_map (λ n. option_and_then (seizure_by n) (item_at s.journal n)) (seizure_numbers (at_case s))
+seizures_found s = filter_map (λ n. option_and_then seizure_by (item_at s.journal n)) (seizure_numbers (at_case s))
 
 -- the number of the first seizure of the case, by which classes go; 0 where there is none
 abbrev pub number_seized : Sale → ℕ
@@ -82,18 +76,13 @@ year_seized s = (date_of (day_of s.journal (number_seized s))).year
 
 -- ---- registrations
 
--- what was registered, under its receipt
-pub record Registered : Type 0 where
-  pub number : ℕ
-  pub what : Registration
+abbrev pub registered_by : Bool → Item → Option Registered
+registered_by late (item.Register folio what) = Some (record { late = late; what = what })
+registered_by late other = None
 
-abbrev pub registered_by : ℕ → Item → Option Registered
-registered_by n (item.Register folio registered) = Some (record { number = n; what = registered })
-registered_by n other = None
-
--- the registrations of the case, in order
+-- the registrations of the case, in order; one is timely that came before the call (ZVG §§ 45, 110)
 abbrev pub registrations_found : Sale → List Registered
-registrations_found s = filter_map (λ n. option_and_then (registered_by n) (item_at s.journal n)) (registration_numbers (at_case s))
+registrations_found s = filter_map (λ n. option_and_then (registered_by (is_late s n)) (item_at s.journal n)) (registration_numbers (at_case s))
 
 -- ---- as of when the folio is read
 

@@ -3,6 +3,7 @@
 #![tactic(auto)]
 
 mod accruals;
+mod case_items;
 mod claim_items;
 mod claims;
 mod covers;

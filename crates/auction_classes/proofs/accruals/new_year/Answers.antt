@@ -1,5 +1,5 @@
 -- The calendar's day is the only one of its date.
-use Rattle.std.proofs.Common.{◌≡◌, IfSome, subst}
+use Rattle.std.proofs.Common.{IfSome, subst}
 use Rattle.gb_base.specs.Calendar.{IsCivilDay}
 use Rattle.auction_classes.proofs.NewYears.{new_year_is}
 use Rattle.auction_classes.proofs.accruals.new_year.Goals as goal
