@@ -11,6 +11,7 @@ pub mod JournalState
 pub mod Limits
 pub mod Persons
 pub mod Receiving
+pub mod SaleKeys
 pub mod Same
 pub mod Sought
 pub mod Touches

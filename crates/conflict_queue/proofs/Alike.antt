@@ -16,7 +16,8 @@ use Rattle.act_model.specs.declared.items.Item.{Item}
 use Rattle.act_model.specs.declared.items.Item.TheVariants as item
 use Rattle.act_model.specs.declared.receipts.Receipt.{Receipt}
 use Rattle.conflict_queue.specs.Dockets.{keys_touched}
-use Rattle.conflict_queue.specs.ItemKeys.{earlier_rights, keys_by_item, keys_of_item, keys_of_named, keys_of_sale}
+use Rattle.conflict_queue.specs.ItemKeys.{keys_by_item, keys_of_item, keys_of_named}
+use Rattle.act_model.specs.SaleKeys.{earlier_rights, keys_of_sale}
 use Rattle.conflict_queue.specs.inner.Sales.{folio_of_sale, AreSales, IsAhead, IsOfSale, TouchesSame}
 use Rattle.conflict_queue.proofs.Numbered.{some_is}
 use Rattle.conflict_queue.proofs.SaleKeys.{as_many, earlier_rise, sale_in_order}

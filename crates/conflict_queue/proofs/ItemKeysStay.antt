@@ -15,7 +15,8 @@ use Rattle.act_model.specs.declared.items.Item.TheVariants as item
 use Rattle.act_model.specs.declared.receipts.Receipt.{Receipt}
 use Rattle.act_model.proofs.KeysStay.{keys_of_filing_stay, receipt_stays}
 use Rattle.act_model.specs.Limits.{most_creations}
-use Rattle.conflict_queue.specs.ItemKeys.{earlier_rights, keys_by_item, keys_of_item, keys_of_named, keys_of_sale}
+use Rattle.conflict_queue.specs.ItemKeys.{keys_by_item, keys_of_item, keys_of_named}
+use Rattle.act_model.specs.SaleKeys.{earlier_rights, keys_of_sale}
 
 all_both : {X : Type 0} (P : X → Type 0) (xs ys : List X) → AllByRecursion P xs → AllByRecursion P ys → AllByRecursion P (xs ++ ys)
 all_both P [] ys first second = second

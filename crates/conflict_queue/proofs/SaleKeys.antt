@@ -18,7 +18,7 @@ use Rattle.act_model.specs.inner.CreationOrder.{is_from, Rises}
 use Rattle.act_model.proofs.CreationOrder.{creations_rise}
 use Rattle.act_model.proofs.KeyOrder.{has_decides, in_key_order_members, in_key_order_sorted, one_list}
 use Rattle.conflict_queue.specs.Dockets.{has_key}
-use Rattle.conflict_queue.specs.ItemKeys.{earlier_rights}
+use Rattle.act_model.specs.SaleKeys.{earlier_rights}
 
 -- ---- rights that rise
 

@@ -1,12 +1,10 @@
 -- The keys that an item touches (GBO § 17). They follow from the receipts up to it alone, whatever became of these.
-use Rattle.std.specs.Prelude.{ℕ, nat_lt, if◌then◌else◌, List, [], ◌∷◌, filter, map, take}
+use Rattle.std.specs.Prelude.{ℕ, nat_lt, if◌then◌else◌, List, [], ◌∷◌}
 use Rattle.std.specs.Option.{option_map_or}
-use Rattle.gb_base.specs.RightNo.{RightNo}
 use Rattle.gb_base.specs.declared.keys.Key.{Key}
-use Rattle.gb_base.specs.declared.keys.Key.TheVariants.{Title, Right, Case}
-use Rattle.act_model.specs.Creations.{creations_in}
-use Rattle.act_model.specs.Limits.{most_creations}
+use Rattle.gb_base.specs.declared.keys.Key.TheVariants.{Case}
 use Rattle.act_model.specs.Receiving.{receipt_at}
+use Rattle.act_model.specs.SaleKeys.{keys_of_sale}
 use Rattle.act_model.specs.Touches.{keys_of_filing}
 use Rattle.act_model.specs.declared.items.Item.{Item}
 use Rattle.act_model.specs.declared.items.Item.TheVariants as item
@@ -15,14 +13,6 @@ use Rattle.act_model.specs.declared.receipts.Receipt.{Receipt}
 -- the keys of filing m, as item i names it: none where it is no earlier one
 abbrev pub keys_of_named : List Receipt → ℕ → ℕ → List Key
 keys_of_named journal i m = if nat_lt m i then keys_of_filing journal m else []
-
--- the rights that earlier receipts than i create in the folio, among the first 256 of it
-abbrev pub earlier_rights : List Receipt → ℕ → ℕ → List RightNo
-earlier_rights journal i folio = filter (λ right. nat_lt right.receipt i) (take most_creations (creations_in journal folio))
-
--- the keys of a forced sale of the folio, its title and its rights, as item i finds them
-abbrev pub keys_of_sale : List Receipt → ℕ → ℕ → List Key
-keys_of_sale journal i folio = Case folio ∷ Title folio ∷ map (Right folio) (earlier_rights journal i folio)
 
 -- the keys of item i
 abbrev pub keys_by_item : List Receipt → ℕ → Item → List Key

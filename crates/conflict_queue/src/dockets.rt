@@ -2,7 +2,8 @@
 ghost use Rattle.std.specs.Prelude.{◌≡◌, ◌≤◌, ◌-◌, ◌++◌, ◌∷◌, [], map, length, OnOk, IfSome};
 ghost use Rattle.std.specs.List.{range_with_len};
 ghost use Rattle.conflict_queue.specs.Dockets.{keys_touched};
-ghost use Rattle.conflict_queue.specs.ItemKeys.{keys_of_named, keys_of_sale};
+ghost use Rattle.conflict_queue.specs.ItemKeys.{keys_of_named};
+ghost use Rattle.act_model.specs.SaleKeys.{keys_of_sale};
 ghost use Rattle.conflict_queue.specs.inner.Sales.{folio_of_sale, AreSales, IsAhead, TouchesSame};
 
 use crate::key_lists::KeyLists;

@@ -3,7 +3,8 @@ ghost use Rattle.std.specs.Prelude.{◌≡◌, ◌≤◌, Some, length, option_m
 ghost use Rattle.act_model.specs.Receiving.{receipt_at};
 ghost use Rattle.act_model.specs.Touches.{in_key_order};
 ghost use Rattle.conflict_queue.specs.Dockets.{keys_touched};
-ghost use Rattle.conflict_queue.specs.ItemKeys.{earlier_rights, keys_by_item, keys_of_named, keys_of_sale};
+ghost use Rattle.conflict_queue.specs.ItemKeys.{keys_by_item, keys_of_named};
+ghost use Rattle.act_model.specs.SaleKeys.{earlier_rights, keys_of_sale};
 
 use act_model::{Item, Journal, MOST_CREATIONS, filing_keys};
 use gb_base::{FolioId, Key, NoMemory, ReceiptNo, RightId};

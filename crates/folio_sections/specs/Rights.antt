@@ -19,6 +19,15 @@ created_by before other = before
 abbrev pub created : List Entry → Option Created
 created entries = fold (λ before e. created_by before e.what) None entries
 
+-- the day on which a right was entered, behind a content of this day
+abbrev pub entered_by : ℕ → Option ℕ → What → Option ℕ
+entered_by day before (what.Created made) = Some day
+entered_by day before other = before
+
+-- the day on which the right was entered (BGB § 873)
+abbrev pub entered_on : List Entry → Option ℕ
+entered_on entries = fold (λ before e. entered_by e.day before e.what) None entries
+
 -- whether the right is live behind a content
 abbrev pub live_by : Bool → What → Bool
 live_by before (what.Created made) = true

@@ -5,3 +5,4 @@ pub mod KeptEntries
 pub mod KeptPlaces
 pub mod KeptRights
 pub mod Ranks
+pub mod Standing

@@ -1,11 +1,14 @@
 -- Pieces stand for their line.
-use Rattle.std.proofs.Common.{◌≡◌, ℕ, ◌+◌, ◌-◌, ◌*◌, ◌<◌, ◌≤◌, Bool, true, false, cond, List, [], ◌∷◌, ◌++◌, count_by, drop, get_or, length, min, refl, replicate, subst, sum_by, sym, take, ap, arith, inl, inr, ◌∙◌}
-use Rattle.std.proofs.lemmas.Bool.{cases_lt}
-use Rattle.std.proofs.lemmas.List.{append-nil, drop_more, length-append, length-replicate, take-append-le, take-replicate, take_more}
+use Rattle.std.proofs.Common.{◌≡◌, ℕ, zero, suc, ◌+◌, ◌-◌, ◌*◌, ◌<◌, ◌≤◌, Bool, true, false, ◌&&◌, ◌||◌, cond, nat_lt, List, [], ◌∷◌, ◌++◌, count_by, drop, get_or, length, min, refl, replicate, subst, sum_by, sym, take, ap, arith, inl, inr, ◌∙◌}
+use Rattle.std.proofs.lemmas.Bool.{cases_lt, lt-ltb, le-ltb}
+use Rattle.std.proofs.Math.Bool.{or-false, or_self}
+use Rattle.std.proofs.lemmas.List.Folds.{list_any-append}
+use Rattle.std.specs.List.{list_any}
+use Rattle.std.proofs.lemmas.List.{append-nil, drop-append-le, drop-replicate, drop_more, length-append, length-replicate, take-append-le, take-replicate, take_more}
 use Rattle.std.proofs.lemmas.List.Concat.{flat_map-append}
 use Rattle.std.proofs.lemmas.List.Sums.{sum_by-append, sum_by-cons, sum_by_more, sum_by_more_le}
 use Rattle.std.proofs.lemmas.List.Folds.{sum_by-replicate}
-use Rattle.std.proofs.Math.Seq.{take-append-add}
+use Rattle.std.proofs.Math.Seq.{drop-append-add, take-append-add}
 use Rattle.gb_base.specs.RightNo.{RightNo}
 use Rattle.rank_slots.specs.declared.places.Piece.{Piece}
 use Rattle.rank_slots.specs.inner.Pieces.{line_of}
@@ -58,6 +61,29 @@ counted_front test left n c cs = elim (cases_lt left n) [
       ∙ sum_by-append (λ x. cond (test x) 1 0) (replicate n c) (take (left - n) cs)
       ∙ (λ i. (count_replicate test n c ∙ times_tally n (test c)) i + count_by test (take (left - n) cs)) in
       rw all front
+]
+
+-- whether one passes among some of one right
+any_replicate : (test : RightNo → Bool) (n : ℕ) (c : RightNo) → list_any test (replicate (suc n) c) ≡ test c
+any_replicate test zero c = or-false (test c)
+any_replicate test (suc n) c = ap (λ b. test c || b) (any_replicate test n c) ∙ or_self (test c)
+
+any_some : (test : RightNo → Bool) (n : ℕ) (c : RightNo) → 0 < n → list_any test (replicate n c) ≡ test c
+any_some test zero c some = absurd (omega arith)
+any_some test (suc n) c some = any_replicate test n c
+
+-- whether one passes behind the first `left` cents, where n of one right come first
+pub any_behind : (test : RightNo → Bool) (left n : ℕ) (c : RightNo) (cs : List RightNo)
+    → list_any test (drop left (replicate n c ++ cs)) ≡ (nat_lt left n && test c) || list_any test (drop (left - n) cs)
+any_behind test left n c cs = elim (cases_lt left n) [
+  | inl less ↦
+      let none : left - n ≡ 0 = omega arith in
+      let front = drop-append-le left (replicate n c) cs (omega (arith, length-replicate n c)) ∙ ap (λ xs. xs ++ cs) (drop-replicate left n c) in
+      let some = list_any-append test (replicate (n - left) c) cs ∙ ap (λ b. b || list_any test cs) (any_some test (n - left) c (omega arith)) in
+      rw (none, lt-ltb left n less) (ap (list_any test) front ∙ some)
+  | inr more ↦
+      let whole : length (replicate n c) + (left - n) ≡ left = omega (arith, length-replicate n c) in
+      rw (le-ltb left n more) (ap (λ k. list_any test (drop k (replicate n c ++ cs))) (sym whole) ∙ ap (list_any test) (drop-append-add (replicate n c) cs (left - n)))
 ]
 
 -- ---- at the piece that a loop reads

@@ -1,5 +1,5 @@
 -- What each right gets of a sum that is paid along the cent line (BGB §§ 879, 881).
-use Rattle.std.specs.Prelude.{ℕ, ◌+◌, ◌-◌, Bool, ◌==◌, ◌||◌, not, if◌then◌else◌, List, Option, Some, None, count_by, filter, find, length, map, sum_by, take}
+use Rattle.std.specs.Prelude.{ℕ, ◌+◌, ◌-◌, Bool, ◌==◌, ◌||◌, not, if◌then◌else◌, List, Option, Some, None, count_by, drop, filter, find, length, map, sum_by, take}
 use Rattle.std.specs.List.{list_any, position_or_len, prefix_len, range_with_len}
 use Rattle.std.specs.Option.{option_map_or}
 use Rattle.gb_base.specs.RightNo.{RightNo, same_right}
@@ -56,6 +56,10 @@ paid_out filled t = sum_by (λ p. pay filled p.right t) (filter (λ p. not p.dro
 -- how many cents of the line stand ahead of a group
 abbrev pub cents_ahead : List Place → List RightNo → ℕ
 cents_ahead group line = position_or_len (is_of_group group) line
+
+-- a sum reaches the last cent of a right on the line
+abbrev pub reaches_end : Filled → RightNo → ℕ → Bool
+reaches_end filled right t = not (list_any (same_right right) (drop t (line filled)))
 
 -- The greatest sum up to which a right gets nothing. It looks no further than the line's length: of that sum each right that
 -- stands alone, and is not dropped, gets something.

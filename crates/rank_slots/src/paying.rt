@@ -56,8 +56,8 @@ impl Slots {
             - self.pay_reserved(knot, t)
     }
 
-    /// The knot of this right.
-    pub(crate) fn knot_of(&self, right: RightId) -> Option<Knot>
+    /// The knot that ties this right, if one does. Takes no memory.
+    pub fn knot_of(&self, right: RightId) -> Option<Knot>
         ensures value { result ≡ knot_of self.now.filled.knots right }
         ensures fits { CanFill self.now.filled }
     {
@@ -67,8 +67,8 @@ impl Slots {
             .copied()
     }
 
-    /// The claim of this right; 0 where it has no place.
-    pub(crate) fn claim_of(&self, right: RightId) -> u64
+    /// The claim of this right, in cents; 0 where it has no place. Takes no memory.
+    pub fn claim_of(&self, right: RightId) -> u64
         ensures value { result ≡ claim_of self.now.filled.places right }
         ensures bound { result < most_sum }
     {

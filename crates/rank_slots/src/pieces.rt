@@ -1,6 +1,7 @@
 //! The pieces of a line: neighbouring cents of one right are joined.
-ghost use Rattle.std.specs.Prelude.{◌≡◌, ◌+◌, ◌<◌, ◌≤◌, ◌++◌, count_by, length, replicate, sum_by, take, vec_capacity, vec_len};
-ghost use Rattle.std.specs.List.{position_or_len};
+ghost use Rattle.std.specs.Prelude.{◌≡◌, ◌+◌, ◌<◌, ◌≤◌, ◌++◌, ◌&&◌, nat_lt, not, count_by, drop, length, replicate, sum_by, take, vec_capacity, vec_len};
+ghost use Rattle.std.specs.List.{list_any, position_or_len};
+ghost use Rattle.gb_base.specs.RightNo.{same_right};
 ghost use Rattle.gb_base.specs.Limits.{most_sum};
 ghost use Rattle.rank_slots.specs.Payments.{cents_ahead, is_of_group};
 ghost use Rattle.rank_slots.specs.inner.Pieces.{AreJoined, line_of};
@@ -80,4 +81,25 @@ fn pieces_ahead(pieces: &[Piece], group: &[Place]) -> usize
         .iter()
         .take_while(|piece| !holds(group, piece.right))
         .count()
+}
+
+/// Whether the first t cents reach the last cent of this right.
+pub(crate) fn reaches_end(pieces: &[Piece], right: RightId, t: u64) -> bool
+    ensures { result ≡ not (list_any (same_right right) (drop t (line_of pieces.now))) }
+{
+    let mut left = t;
+    for piece in pieces {
+        if has_cents_behind(piece, right, left) {
+            return false;
+        }
+        left = left.saturating_sub(piece.cents);
+    }
+    true
+}
+
+/// Whether the piece is this right's, and has more than t cents.
+fn has_cents_behind(piece: &Piece, right: RightId, t: u64) -> bool
+    ensures { result ≡ (nat_lt t piece.now.cents && same_right right piece.now.right) }
+{
+    t < piece.cents && piece.right == right
 }

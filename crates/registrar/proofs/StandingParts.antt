@@ -26,7 +26,7 @@ use Rattle.registrar.proofs.StepLemmas.{brings_leaves, keys_are, step_knows}
 use Rattle.registrar.proofs.WaitingStates.{found_waiting}
 use Rattle.registrar.specs.Brings.{Brought, brings}
 use Rattle.conflict_queue.specs.ItemKeys.{keys_by_item, keys_of_item}
-use Rattle.registrar.specs.Standing.{StandsFor, StandsForKept}
+use Rattle.kept_registers.specs.Standing.{StandsFor, StandsForKept}
 use Rattle.registrar.specs.inner.Exchanges.{KnowsItsExchanges}
 
 -- ---- a judge knows the same of two registers that agree at a filing's keys

@@ -9,5 +9,4 @@ pub mod RegisterState
 pub mod Rooms
 pub mod ScratchRoom
 pub mod Settling
-pub mod Standing
 pub mod inner

@@ -9,7 +9,7 @@ ghost use Rattle.folio_sections.specs.declared.entries.Entry.{Entry};
 ghost use Rattle.registrar.specs.Brings.{brings};
 ghost use Rattle.conflict_queue.specs.ItemKeys.{keys_of_item};
 ghost use Rattle.registrar.specs.Rooms.{HasItsRoom};
-ghost use Rattle.registrar.specs.Standing.{StandsFor, StandsForKept};
+ghost use Rattle.kept_registers.specs.Standing.{StandsFor, StandsForKept};
 
 use crate::settling::settle;
 use crate::{Scratch, Verdict};

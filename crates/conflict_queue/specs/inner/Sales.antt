@@ -8,7 +8,8 @@ use Rattle.act_model.specs.declared.items.Item.{Item}
 use Rattle.act_model.specs.declared.items.Item.TheVariants as item
 use Rattle.act_model.specs.declared.receipts.Receipt.{Receipt}
 use Rattle.conflict_queue.specs.Dockets.{keys_touched}
-use Rattle.conflict_queue.specs.ItemKeys.{keys_of_item, keys_of_sale}
+use Rattle.conflict_queue.specs.ItemKeys.{keys_of_item}
+use Rattle.act_model.specs.SaleKeys.{keys_of_sale}
 
 -- the folio all keys of whose sale the item touches; none where it touches others
 abbrev pub folio_of_sale : Item → Option ℕ

@@ -1,6 +1,7 @@
 -- What an item names, and the last item of its sale, touch what it touches.
 use Rattle.std.proofs.Common.{ap}
-use Rattle.conflict_queue.specs.ItemKeys.{keys_by_item, keys_of_named, keys_of_sale}
+use Rattle.conflict_queue.specs.ItemKeys.{keys_by_item, keys_of_named}
+use Rattle.act_model.specs.SaleKeys.{keys_of_sale}
 use Rattle.conflict_queue.proofs.Alike.{alike}
 use Rattle.conflict_queue.proofs.dockets.touched_alike.Goals as goal
 

@@ -1,0 +1,5 @@
+-- Lemmas.
+pub mod ClaimedRights
+pub mod LeastCovers
+pub mod NewYears
+pub mod NoClaims

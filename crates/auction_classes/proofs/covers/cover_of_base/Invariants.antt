@@ -1,0 +1,6 @@
+-- What is left is covered as in the whole.
+use Rattle.auction_classes.proofs.LeastCovers.{CoversLeft}
+use Rattle.auction_classes.proofs.covers.cover_of_base.Given as goal
+
+abbrev pub invariant-loop-seizure : goal.invariant-loop-seizure
+invariant-loop-seizure l = CoversLeft l.slots.filled l.seizures l.seizure-index l.least l.before

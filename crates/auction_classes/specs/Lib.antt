@@ -1,0 +1,8 @@
+-- What contracts cite.
+pub mod Claims
+pub mod ClassLines
+pub mod Interest
+pub mod LowestBid
+pub mod SaleClaims
+pub mod Sales
+pub mod inner

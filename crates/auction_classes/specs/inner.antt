@@ -1,0 +1,2 @@
+-- What private clauses and proofs alone cite.
+pub mod Reckoning

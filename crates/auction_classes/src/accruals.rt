@@ -1,0 +1,94 @@
+//! The interest of a right: what is current, and what is in arrears (ZVG §§ 10, 13, 47).
+ghost use Rattle.std.specs.Prelude.{◌≡◌, ◌+◌, ◌≤◌};
+ghost use Rattle.gb_base.specs.Limits.{first_year, last_stamp_day, last_year, most_rate};
+ghost use Rattle.auction_classes.specs.Interest.{arrears_in_class, begin_of_current, current_interest, interest_between, new_year, old_arrears, rate_of};
+
+use act_model::RightKind;
+use gb_base::{Cents, Day, days360, interest};
+
+/// By what the interest of a right goes.
+#[derive(Clone, Copy)]
+pub(crate) struct Accrual {
+    pub capital: Cents,
+    /// In hundredths of a percent a year.
+    pub rate: u16,
+    /// The day on which the right was entered.
+    pub entered: Day,
+    /// The day of the sale.
+    pub sale: Day,
+    /// 1 January of the year before the first seizure's (ZVG § 13).
+    pub current_from: Day,
+    /// 1 January of the third year before it (ZVG § 10(1) no. 4).
+    pub arrears_from: Day,
+}
+
+impl Accrual {
+    /// The current interest, in cents.
+    pub fn current_interest(&self) -> u64
+        requires rate { self.now.rate ≤ most_rate }
+        requires sale { self.now.sale ≤ last_stamp_day }
+        ensures value { result ≡ current_interest self.now }
+        ensures at_most { result ≤ 461111111111111 }
+    {
+        let end = Day::new(self.sale.number() + 15).unwrap();
+        self.interest_between(self.begin_of_current(), end)
+    }
+
+    /// The part of arrears from a day up to another that the right's own class has, in cents.
+    pub fn arrears_in_class(&self, from: Day, until: Day) -> u64
+        requires rate { self.now.rate ≤ most_rate }
+        ensures value { result ≡ arrears_in_class self.now from until }
+        ensures at_most { result ≤ 461111111111111 }
+    {
+        let begin = from.max(self.arrears_from.max(self.entered));
+        self.interest_between(begin, until.min(self.begin_of_current()))
+    }
+
+    /// The part of them that class 8 has, in cents.
+    pub fn old_arrears(&self, from: Day, until: Day) -> u64
+        requires rate { self.now.rate ≤ most_rate }
+        ensures value { result ≡ old_arrears self.now from until }
+        ensures at_most { result ≤ 461111111111111 }
+    {
+        self.interest_between(from.max(self.entered), until.min(self.arrears_from))
+    }
+
+    /// The day on which current interest begins.
+    fn begin_of_current(&self) -> Day
+        ensures { result ≡ begin_of_current self.now }
+    {
+        self.current_from.max(self.entered)
+    }
+
+    /// The interest from a day up to another, in cents.
+    fn interest_between(&self, from: Day, until: Day) -> u64
+        requires rate { self.now.rate ≤ most_rate }
+        ensures value { result ≡ interest_between self.now from until }
+        ensures at_most { result ≤ 461111111111111 }
+    {
+        interest(self.capital, self.rate, days360(from, until))
+    }
+}
+
+/// The rate of a right, in hundredths of a percent a year; one of division II bears no interest.
+pub(crate) fn rate_of(kind: RightKind) -> u16
+    ensures { result ≡ rate_of kind }
+{
+    match kind {
+        RightKind::Mortgage { rate_bp } => rate_bp,
+        RightKind::LandCharge { rate_bp } => rate_bp,
+        _ => 0,
+    }
+}
+
+/// 1 January of a year.
+pub(crate) fn new_year(year: u16) -> Day
+    requires from { first_year ≤ year }
+    requires to { year ≤ last_year }
+    ensures { result ≡ new_year year }
+{
+    let first = Day::from_civil(year, 1, 1).unwrap();
+    // Called for its clause: the day is one of the range.
+    first.number();
+    first
+}

@@ -1,0 +1,15 @@
+//! What is claimed in a forced sale, class by class, the lowest bid, and what remains of each right
+//! (ZVG §§ 10 to 13, 43 to 52).
+#![tactic(auto)]
+
+mod accruals;
+mod case_items;
+mod claim_items;
+mod claims;
+mod covers;
+mod lowest_bids;
+mod remaining;
+
+pub use claim_items::{ClaimItem, RightClaimed, SeizedFor};
+pub use claims::Claims;
+pub use lowest_bids::{Lowest, NoServedCreditor};
