@@ -230,6 +230,11 @@ impl Written {
             .saturating_sub(reserved)
     }
 
+    /// Whether cents of the right stand behind the first t.
+    fn has_cents_behind(&self, right: RightId, t: usize) -> bool {
+        self.cents.iter().skip(t).any(|cent| *cent == right)
+    }
+
     /// Whether all of a group get nothing of the first t cents.
     fn get_nothing(&self, group: &[Place], t: usize) -> bool {
         group.iter().all(|place| self.pay(place.right, t) == 0)
@@ -272,10 +277,20 @@ fn same_threshold(rt: &impl Abort, slots: &Slots, written: &Written, group: &[Pl
     }
 }
 
+/// t cents reach the last cent of a right where none of its cents stands behind them.
+fn same_ends(rt: &impl Abort, slots: &Slots, written: &Written, places: &[Place], t: usize) {
+    for place in places {
+        let reached = slots.reaches_end(place.right, t as u64);
+        let behind = written.has_cents_behind(place.right, t);
+        assert_eq!(rt; reached, !behind, "{t} cents, {place:?}");
+    }
+}
+
 /// Whatever is paid along the line, each right gets what it gets of the written one.
 fn same_sums(rt: &impl Abort, slots: &Slots, written: &Written, places: &[Place]) {
     for t in 0..=written.cents.len() {
         same_pays(rt, slots, written, places, t);
+        same_ends(rt, slots, written, places, t);
     }
     for group in &written.groups {
         same_threshold(rt, slots, written, group);
