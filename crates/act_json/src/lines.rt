@@ -124,7 +124,7 @@ fn tree<'a>(alloc: Global, text: &'a str, scratch: &'a mut Scratch) -> Result<Va
             }
         }
         Err(Error::Invalid) => Err(LineFault::NotJson),
-        // The others come of strict reading and of tapes.
+        // No other error comes here but want of memory.
         Err(_) => Err(LineFault::Memory),
     }
 }

@@ -135,6 +135,76 @@ fn a_line_that_is_no_json_is_told_apart(rt: HostRuntime) {
     }
 }
 
+/// Arrays that nest this deep, with nothing inside.
+fn nested(alloc: Global, depth: usize) -> Result<String, Fail> {
+    let mut line = String::new(alloc);
+    for _ in 0..depth {
+        line.push('[')?;
+    }
+    for _ in 0..depth {
+        line.push(']')?;
+    }
+    Ok(line)
+}
+
+#[test]
+fn a_line_that_nests_too_deep_is_no_json(rt: HostRuntime) -> Result<(), Fail> {
+    assert_wrong_path(&rt, nested(rt.alloc(), 127)?.as_str(), "line");
+    let line = nested(rt.alloc(), 128)?;
+    assert!(rt; line.len() <= 65_536);
+    let fault = read_item(rt.alloc(), line.as_bytes()).err();
+    assert!(rt; matches!(fault, Some(LineFault::NotJson)));
+    Ok(())
+}
+
+#[test]
+fn a_number_beyond_all_floats_is_no_json_wherever_it_stands(rt: HostRuntime) -> Result<(), Fail> {
+    for (number, path) in [
+        ("1e308", "item.acts.0.*"),
+        ("-1e308", "item.acts.0.*"),
+        ("18446744073709551616", "item.acts.0.*"),
+    ] {
+        let member = format!(in rt.alloc(); r#""area":800,"x":[{number}]"#)?;
+        let line = changed(rt.alloc(), OPENING, r#""area":800"#, member.as_str())?;
+        assert_wrong_path(&rt, line.as_str(), path);
+    }
+    for number in ["1e309", "-1e309"] {
+        let member = format!(in rt.alloc(); r#""area":800,"x":[{number}]"#)?;
+        let line = changed(rt.alloc(), OPENING, r#""area":800"#, member.as_str())?;
+        assert!(rt; line.len() <= 65_536);
+        let fault = read_stamped(rt.alloc(), line.as_bytes()).err();
+        assert!(rt; matches!(fault, Some(LineFault::NotJson)), "{number}");
+    }
+    Ok(())
+}
+
+#[test]
+fn the_last_member_of_a_name_counts(rt: HostRuntime) -> Result<(), Fail> {
+    let first = r#""sender":0,"minute":"x","sender":1"#;
+    let line = changed(rt.alloc(), OPENING, r#""sender":1"#, first)?;
+    assert_wrong_path(&rt, line.as_str(), "minute");
+    let line = changed(
+        rt.alloc(),
+        OPENING,
+        r#""minute":540"#,
+        r#""minute":"x","minute":540"#,
+    )?;
+    assert_eq!(rt; filing(&rt, line.as_str()).applicant.get(), 10);
+    Ok(())
+}
+
+#[test]
+fn an_escape_counts_for_what_it_stands_for(rt: HostRuntime) -> Result<(), Fail> {
+    let line = changed(
+        rt.alloc(),
+        OPENING,
+        r#""kind":"filing","applicant""#,
+        r#""k\u0069nd":"fil\u0069ng","\u0061pplicant""#,
+    )?;
+    assert_eq!(rt; filing(&rt, line.as_str()).applicant.get(), 10);
+    Ok(())
+}
+
 #[test]
 fn a_line_that_is_handed_in_has_no_stamp(rt: HostRuntime) -> Result<(), Fail> {
     assert!(rt; OPENING.len() <= 65_536);
