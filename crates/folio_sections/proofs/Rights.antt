@@ -89,7 +89,3 @@ right_push is after count count' xs ys ns ms e names right state counts more nam
     (subst (λ n. IsRight (state_by is e.what) n ys ms) (sym counts)
     (subst (λ zs. IsRight (state_by is e.what) (count + cond (is_exchange e.what) 1 0) zs ms) (sym more)
     (subst (IsRight (state_by is e.what) (count + cond (is_exchange e.what) 1 0) (xs ++ e ∷ [])) (sym (naming ∙ ap (λ b. if b then ns ++ length xs ∷ [] else ns) named)) (right_push_of is count xs ns e right))))
-
--- no more exchanges than entries
-pub few_exchanges : (count : ℕ) (xs : List Entry) → count ≡ exchanges xs → count ≤ length xs
-few_exchanges count xs is = subst (λ n. n ≤ length xs) (sym is) (count_by-le-length (λ e. is_exchange e.what) xs)
