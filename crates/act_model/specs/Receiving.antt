@@ -1,6 +1,6 @@
 -- How a journal receives an item (GBO § 13): one number acts once, and stamps never fall.
 -- Why so: docs/DECISIONS.md, "An early line gets the last receipt's stamp".
-use Rattle.std.specs.Prelude.{◌≡◌, ℕ, ◌+◌, ◌-◌, ◌≤◌, Bool, true, false, ◌&&◌, ◌||◌, ◌==◌, nat_lt, nat_le, if◌then◌else◌, List, [], ◌∷◌, ◌++◌, length, slice_get, All, AllPairs, IsTrue, Option, Some, None}
+use Rattle.std.specs.Prelude.{◌≡◌, ℕ, ◌+◌, ◌-◌, ◌≤◌, Bool, true, false, ◌&&◌, ◌||◌, ◌==◌, nat_lt, nat_le, if◌then◌else◌, List, [], ◌∷◌, ◌++◌, length, slice_get, All, AllPairs, IsTrue, Option, Some, None, option_map}
 use Rattle.std.specs.Option.{option_map_or}
 use Rattle.gb_base.specs.DayMinute.{DayMinute}
 use Rattle.act_model.specs.declared.items.Item.{Item}
@@ -40,6 +40,10 @@ number_of sender reference journal = number_from 1 sender reference journal
 -- receipt n, from 1
 abbrev pub receipt_at : List Receipt → ℕ → Option Receipt
 receipt_at journal n = if n == 0 then None else slice_get journal (n - 1)
+
+-- the item of receipt n
+abbrev pub item_at : List Receipt → ℕ → Option Item
+item_at journal n = option_map (λ r. r.item) (receipt_at journal n)
 
 -- the stamp day of receipt n; 0 where there is none
 abbrev pub day_of : List Receipt → ℕ → ℕ

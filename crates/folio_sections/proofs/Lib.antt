@@ -1,5 +1,6 @@
 -- Lemmas.
 pub mod Additions
+pub mod CaseNumbers
 pub mod Cases
 pub mod DistinctLists
 pub mod FilingsInOrder
@@ -16,6 +17,7 @@ pub mod Notices
 pub mod Progress
 pub mod ReceiptNumbers
 pub mod ReceiptsBefore
+pub mod ReceiptsBelow
 pub mod Rights
 pub mod SweptFilings
 pub mod Titles

@@ -2,15 +2,16 @@
 use Rattle.std.proofs.Common.{◌≡◌, ℕ, Bool, true, false, cond, if◌then◌else◌, ◌||◌, List, [], ◌∷◌, ◌++◌, Option, Some, None, fold, length, option_map, refl, sym, ap, subst, ◌∙◌}
 use Rattle.std.specs.Option.{option_or}
 use Rattle.std.proofs.lemmas.Bool.{false≢true}
+use Rattle.std.proofs.lemmas.List.{append-nil, append_assoc}
 use Rattle.std.proofs.lemmas.List.Sums.{fold-append}
 use Rattle.folio_sections.specs.Rights.{created, created_by, holder, is_conversion, is_exercise, live_by, new_holder_by, remaining_by}
 use Rattle.folio_sections.specs.declared.entries.Created.{Created}
 use Rattle.folio_sections.specs.declared.entries.Entry.{Entry}
 use Rattle.folio_sections.specs.declared.entries.What.{What}
 use Rattle.folio_sections.specs.declared.entries.What.TheVariants as what
-use Rattle.folio_sections.specs.declared.right_part.RightState.{RightState}
+use Rattle.folio_sections.specs.declared.right_state.RightState.{RightState}
 use Rattle.folio_sections.specs.inner.Naming.{AreNamedAt}
-use Rattle.folio_sections.specs.inner.States.{IsRight, holder_named, names_holder, state_by}
+use Rattle.folio_sections.specs.inner.States.{IsRight, IsRightState, holder_named, names_holder, never_created, state_by, state_of}
 use Rattle.folio_sections.proofs.Naming.{named_push, unnamed_push}
 use Rattle.folio_sections.proofs.Titles.{any_push}
 
@@ -49,16 +50,33 @@ holders_push ns xs e are =
 walked : {B : Type 0} (f : B → What → B) (start before : B) (xs : List Entry) (e : Entry) → before ≡ fold (λ b d. f b d.what) start xs → f before e.what ≡ fold (λ b d. f b d.what) start (xs ++ e ∷ [])
 walked f start before xs e is = ap (λ b. f b e.what) is ∙ sym (fold-append (λ b d. f b d.what) start xs (e ∷ []))
 
+state_push : (is : RightState) (xs : List Entry) (e : Entry) → IsRightState is xs → IsRightState (state_by is e.what) (xs ++ e ∷ [])
+state_push is xs e state = record {
+  live = walked live_by false is.live xs e state.live;
+  created = walked created_by None is.created xs e state.created;
+  converted = ap (λ b. b || is_conversion e.what) state.converted ∙ sym (any_push (λ f. is_conversion f.what) xs e);
+  new_holder = walked new_holder_by None is.new_holder xs e state.new_holder;
+  remaining = walked remaining_by None is.remaining xs e state.remaining;
+  spent = ap (λ b. b || is_exercise e.what) state.spent ∙ sym (any_push (λ f. is_exercise f.what) xs e);
+}
+
+-- a walk on over further entries
+states_on : (is : RightState) (xs ys : List Entry) → IsRightState is xs → IsRightState (fold (λ s e. state_by s e.what) is ys) (xs ++ ys)
+states_on is xs [] state = subst (IsRightState is) (sym (append-nil xs)) state
+states_on is xs (y ∷ ys) state =
+    subst (IsRightState (fold (λ s e. state_by s e.what) is (y ∷ ys))) (append_assoc xs (y ∷ []) ys)
+    (states_on (state_by is y.what) (xs ++ y ∷ []) ys (state_push is xs y state))
+
+pub walked_state : (is : RightState) (xs : List Entry) → is ≡ state_of xs → IsRightState is xs
+walked_state is xs walk =
+    subst (λ s. IsRightState s xs) (sym walk)
+    (states_on never_created [] xs (record { live = refl; created = refl; converted = refl; new_holder = refl; remaining = refl; spent = refl }))
+
 right_push_of : (is : RightState) (xs : List Entry) (ns : List ℕ) (e : Entry) → IsRight is xs ns
     → IsRight (state_by is e.what) (xs ++ e ∷ []) (if names_holder is.new_holder e.what then ns ++ length xs ∷ [] else ns)
 right_push_of is xs ns e right = record {
-  live = walked live_by false is.live xs e right.live;
-  created = walked created_by None is.created xs e right.created;
-  converted = ap (λ b. b || is_conversion e.what) right.converted ∙ sym (any_push (λ f. is_conversion f.what) xs e);
-  new_holder = walked new_holder_by None is.new_holder xs e right.new_holder;
-  remaining = walked remaining_by None is.remaining xs e right.remaining;
-  spent = ap (λ b. b || is_exercise e.what) right.spent ∙ sym (any_push (λ f. is_exercise f.what) xs e);
-  holder = subst (λ o. AreNamedAt holder holder_named (if names_holder o e.what then ns ++ length xs ∷ [] else ns) (xs ++ e ∷ [])) (sym right.new_holder) (holders_push ns xs e right.holder);
+  state = state_push is xs e right.state;
+  holder = subst (λ o. AreNamedAt holder holder_named (if names_holder o e.what then ns ++ length xs ∷ [] else ns) (xs ++ e ∷ [])) (sym right.state.new_holder) (holders_push ns xs e right.holder);
 }
 
 pub right_push : (is after : RightState) (xs ys : List Entry) (ns ms : List ℕ) (e : Entry) (names : Bool) → IsRight is xs ns

@@ -1,6 +1,7 @@
 -- What is read from the entries at a forced sale.
-use Rattle.std.specs.Prelude.{ℕ, Bool, true, false, List, count_by, fold, Option, Some, None}
+use Rattle.std.specs.Prelude.{ℕ, Bool, true, false, List, count_by, filter, fold, map, Option, Some, None}
 use Rattle.std.specs.List.{list_any, after_last}
+use Rattle.folio_sections.specs.Fronts.{below}
 use Rattle.folio_sections.specs.declared.entries.Entry.{Entry}
 use Rattle.folio_sections.specs.declared.entries.What.{What}
 use Rattle.folio_sections.specs.declared.entries.What.TheVariants as what
@@ -13,6 +14,10 @@ is_distribution other = false
 -- the case: what stands behind the last distribution
 abbrev pub case : List Entry → List Entry
 case entries = after_last (λ e. is_distribution e.what) entries
+
+-- the case, as it stood before receipt n
+abbrev pub case_below : ℕ → List Entry → List Entry
+case_below n entries = case (below n entries)
 
 -- a content seizes the land (ZVG § 20)
 abbrev pub is_seizure : What → Bool
@@ -27,6 +32,10 @@ is_running entries = list_any (λ e. is_seizure e.what) (case entries)
 abbrev pub seizures : List Entry → ℕ
 seizures entries = count_by (λ e. is_seizure e.what) (case entries)
 
+-- the receipts of the case's seizures, in order (ZVG §§ 20, 27)
+abbrev pub seizure_numbers : List Entry → List ℕ
+seizure_numbers entries = map (λ e. e.receipt) (filter (λ e. is_seizure e.what) (case entries))
+
 -- a content registers a claim (ZVG § 37)
 abbrev pub is_registration : What → Bool
 is_registration what.Registered = true
@@ -35,6 +44,10 @@ is_registration other = false
 -- how many registrations the case has (ZVG § 37)
 abbrev pub registrations : List Entry → ℕ
 registrations entries = count_by (λ e. is_registration e.what) (case entries)
+
+-- the receipts of the case's registrations, in order (ZVG § 37)
+abbrev pub registration_numbers : List Entry → List ℕ
+registration_numbers entries = map (λ e. e.receipt) (filter (λ e. is_registration e.what) (case entries))
 
 -- the receipt of the award behind an entry: its own where it is one, else the one before
 abbrev pub award_by : ℕ → Option ℕ → What → Option ℕ

@@ -5,7 +5,9 @@ ghost use Rattle.std.specs.Prelude.{◌≡◌, ◌+◌, ◌≤◌, ◌<◌, None
 ghost use Rattle.folio_sections.specs.declared.entries.Entry.{Entry};
 ghost use Rattle.folio_sections.specs.inner.States.{running_behind};
 
+use crate::case_front::CaseFront;
 use crate::entry_list::EntryList;
+use crate::fronts::count_below;
 use crate::{Entry, What};
 use gb_base::{Day, Key, NoMemory, ReceiptNo};
 use std::alloc::Global;
@@ -43,6 +45,7 @@ impl Model for CasePart {
 
 impl CasePart {
     ghost use Rattle.std.specs.List.{find};
+    ghost use Rattle.folio_sections.specs.Fronts.{NeverFall, below};
     ghost use Rattle.folio_sections.specs.Cases.{is_running, seizures, registrations, award, call, case};
     ghost use Rattle.folio_sections.specs.Waiting.{waiting_unnoticed, pending, is_above};
 
@@ -98,6 +101,21 @@ impl CasePart {
         ensures { result.now.entries ≡ self.now.entries }
     {
         &self.list
+    }
+
+    /// The forced sale as it stands.
+    pub fn whole(&self) -> CaseFront<'_>
+        ensures { result ≡ self.now.entries }
+    {
+        CaseFront::new(self, self.entries().len())
+    }
+
+    /// The forced sale as it stood before receipt n.
+    pub fn below(&self, n: ReceiptNo) -> CaseFront<'_>
+        requires rise { NeverFall self.now.entries }
+        ensures { result ≡ below n self.now.entries }
+    {
+        CaseFront::new(self, count_below(self.entries(), n))
     }
 
     /// The entries, in order.

@@ -5,24 +5,32 @@
 
 mod adding;
 mod any_part;
+mod case_front;
 mod case_part;
 mod entries;
 mod entry_list;
 mod filing_list;
+mod fronts;
 mod keyed;
 mod map_parts;
 mod parts;
+mod right_front;
 mod right_part;
+mod right_state;
+mod title_front;
 mod title_part;
 mod title_places;
 mod waiters;
 
 pub use adding::{add, day_of, entry_by};
+pub use case_front::CaseFront;
 pub use case_part::CasePart;
 pub use entries::{Created, Entry, RightForm, What};
 pub use keyed::{is_held, next_unnoticed_at, pending_at};
 pub use map_parts::MapParts;
 pub use parts::Parts;
+pub use right_front::RightFront;
 pub use right_part::RightPart;
+pub use title_front::TitleFront;
 pub use title_part::TitlePart;
 pub use title_places::{TitlePlace, behind, own_place};

@@ -1,10 +1,12 @@
 //! The part of a register at a right.
 ghost use Rattle.std.specs.Prelude.{◌≡◌, ◌+◌, ◌≤◌, [], ◌∷◌, ◌++◌, All, IsOk, OnOk, OnErr, length, take};
-ghost use Rattle.folio_sections.specs.Rights.{created_by, live_by, is_conversion, new_holder_by, holder, remaining_by, is_exercise};
-ghost use Rattle.folio_sections.specs.inner.States.{holder_named, names_holder, state_by};
+ghost use Rattle.folio_sections.specs.Rights.{holder};
 
 use crate::entry_list::EntryList;
-use crate::{Created, Entry, RightForm, What};
+use crate::fronts::count_below;
+use crate::right_front::RightFront;
+use crate::right_state::{NEVER_CREATED, RightState, holder_named, names_holder, state_by};
+use crate::{Created, Entry};
 use gb_base::{Cents, Day, Key, NoMemory, Person, ReceiptNo};
 use std::alloc::Global;
 use std::marker::Model;
@@ -14,20 +16,6 @@ use std::marker::Model;
 pub struct RightPart {
     list: EntryList,
     state: RightState,
-}
-
-/// The right as its entries leave it.
-#[derive(Clone, Copy)]
-struct RightState {
-    live: bool,
-    created: Option<Created>,
-    /// Whether the right of a priority notice is entered (BGB § 883(3)).
-    converted: bool,
-    /// The last new holder.
-    new_holder: Option<Person>,
-    /// The capital that the last award left.
-    remaining: Option<Cents>,
-    spent: bool,
 }
 
 impl Model for RightPart {
@@ -44,8 +32,10 @@ impl Model for RightPart {
 
 impl RightPart {
     ghost use Rattle.std.specs.List.{find};
+    ghost use Rattle.folio_sections.specs.Fronts.{NeverFall, below};
     ghost use Rattle.folio_sections.specs.Waiting.{waiting_before, waiting_unnoticed, pending, is_above, notice};
     ghost use Rattle.folio_sections.specs.Rights.{created, is_live, is_full, holder, holder_for, capital, is_spent};
+    ghost use Rattle.folio_sections.specs.inner.States.{IsRightState};
 
     /// The empty part at a key.
     pub fn new(alloc: Global, key: Key) -> RightPart
@@ -101,6 +91,28 @@ impl RightPart {
         &self.list
     }
 
+    /// What is read from the entries, kept as they come.
+    pub(crate) fn state(&self) -> &RightState
+        ensures { IsRightState result.now self.now.entries }
+    {
+        &self.state
+    }
+
+    /// The right as it stands.
+    pub fn whole(&self) -> RightFront<'_>
+        ensures { result ≡ self.now.entries }
+    {
+        RightFront::new(self, self.entries().len())
+    }
+
+    /// The right as it stood before receipt n.
+    pub fn below(&self, n: ReceiptNo) -> RightFront<'_>
+        requires rise { NeverFall self.now.entries }
+        ensures { result ≡ below n self.now.entries }
+    {
+        RightFront::new(self, count_below(self.entries(), n))
+    }
+
     /// The entries, in order.
     pub fn entries(&self) -> &[Entry]
         ensures value { result.now ≡ self.now.entries }
@@ -135,10 +147,7 @@ impl RightPart {
     pub fn full(&self) -> bool
         ensures { result ≡ is_full self.now.entries }
     {
-        match self.state.created {
-            Some(made) => self.state.converted || made.form == RightForm::Full,
-            None => false,
-        }
+        self.state.full()
     }
 
     /// The holder: the last new one, else that of the creation (BGB § 873); None where there is
@@ -167,7 +176,7 @@ impl RightPart {
     }
 
     /// The holder behind the first so many entries.
-    fn holder_ahead(&self, ahead: usize) -> Option<Person>
+    pub(crate) fn holder_ahead(&self, ahead: usize) -> Option<Person>
         requires { ahead ≤ length self.now.entries }
         ensures { result ≡ holder (take ahead self.now.entries) }
     {
@@ -182,13 +191,7 @@ impl RightPart {
     pub fn capital(&self) -> Option<Cents>
         ensures { result ≡ capital self.now.entries }
     {
-        match self.state.remaining {
-            Some(capital) => Some(capital),
-            None => match &self.state.created {
-                Some(made) => Some(made.spec.capital),
-                None => None,
-            },
-        }
+        self.state.capital()
     }
 
     /// Whether the right's reservation is spent (BGB § 881).
@@ -226,114 +229,5 @@ impl RightPart {
         ensures { result ≡ find (is_above after) (waiting_unnoticed filing self.now.entries) }
     {
         self.list.next_unnoticed(after, filing)
-    }
-}
-
-/// The right of no entries.
-const NEVER_CREATED: RightState = RightState {
-    live: false,
-    created: None,
-    converted: false,
-    new_holder: None,
-    remaining: None,
-    spent: false,
-};
-
-/// The right behind a content.
-fn state_by(before: RightState, what: &What) -> RightState
-    ensures { result ≡ state_by before what.now }
-{
-    RightState {
-        live: live_by(before.live, what),
-        created: created_by(before.created, what),
-        converted: before.converted || is_conversion(what),
-        new_holder: new_holder_by(before.new_holder, what),
-        remaining: remaining_by(before.remaining, what),
-        spent: before.spent || is_exercise(what),
-    }
-}
-
-/// Whether the right is live behind a content.
-fn live_by(before: bool, what: &What) -> bool
-    ensures { result ≡ live_by before what.now }
-{
-    match what {
-        What::Created(_) => true,
-        What::Cancelled { .. } => false,
-        What::Expired => false,
-        _ => before,
-    }
-}
-
-/// The right as created behind a content: the one that it creates, else the one before.
-fn created_by(before: Option<Created>, what: &What) -> Option<Created>
-    ensures { result ≡ created_by before what.now }
-{
-    match what {
-        What::Created(made) => Some(*made),
-        _ => before,
-    }
-}
-
-/// Whether a content enters the right of a priority notice.
-fn is_conversion(what: &What) -> bool
-    ensures { result ≡ is_conversion what.now }
-{
-    match what {
-        What::Converted => true,
-        _ => false,
-    }
-}
-
-/// The holder behind a content that names a new one, else the one before.
-fn new_holder_by(before: Option<Person>, what: &What) -> Option<Person>
-    ensures { result ≡ new_holder_by before what.now }
-{
-    match what {
-        What::Holder { person } => Some(*person),
-        _ => before,
-    }
-}
-
-/// Whether a content names the holder behind it, where this is the last new one: a creation does
-/// where there is no new one yet.
-fn names_holder(before: Option<Person>, what: &What) -> bool
-    ensures { result ≡ names_holder before what.now }
-{
-    match what {
-        What::Created(_) => before.is_none(),
-        What::Holder { .. } => true,
-        _ => false,
-    }
-}
-
-/// The holder whom a content names.
-fn holder_named(what: &What) -> Option<Person>
-    ensures { result ≡ holder_named what.now }
-{
-    match what {
-        What::Created(made) => Some(made.spec.holder),
-        What::Holder { person } => Some(*person),
-        _ => None,
-    }
-}
-
-/// The capital behind a content that leaves a new one, else the one before.
-fn remaining_by(before: Option<Cents>, what: &What) -> Option<Cents>
-    ensures { result ≡ remaining_by before what.now }
-{
-    match what {
-        What::Remains { capital } => Some(*capital),
-        _ => before,
-    }
-}
-
-/// Whether a content spends the right's reservation.
-fn is_exercise(what: &What) -> bool
-    ensures { result ≡ is_exercise what.now }
-{
-    match what {
-        What::Exercised { .. } => true,
-        _ => false,
     }
 }

@@ -5,6 +5,8 @@ ghost use Rattle.folio_sections.specs.Titles.{is_opening, inventory_by, owners_b
 ghost use Rattle.folio_sections.specs.inner.States.{award_by};
 
 use crate::entry_list::EntryList;
+use crate::fronts::count_below;
+use crate::title_front::TitleFront;
 use crate::{Entry, What};
 use act_model::{Inventory, Owners};
 use arrayvec::ArrayVec;
@@ -36,6 +38,7 @@ impl Model for TitlePart {
 
 impl TitlePart {
     ghost use Rattle.std.specs.List.{find};
+    ghost use Rattle.folio_sections.specs.Fronts.{NeverFall, below};
     ghost use Rattle.folio_sections.specs.Waiting.{waiting_unnoticed, pending, is_above, notice};
     ghost use Rattle.folio_sections.specs.Titles.{is_open, inventory, owners, owners_for};
 
@@ -99,6 +102,21 @@ impl TitlePart {
         &self.list
     }
 
+    /// The title as it stands.
+    pub fn whole(&self) -> TitleFront<'_>
+        ensures { result ≡ self.now.entries }
+    {
+        TitleFront::new(self, self.entries().len())
+    }
+
+    /// The title as it stood before receipt n.
+    pub fn below(&self, n: ReceiptNo) -> TitleFront<'_>
+        requires rise { NeverFall self.now.entries }
+        ensures { result ≡ below n self.now.entries }
+    {
+        TitleFront::new(self, count_below(self.entries(), n))
+    }
+
     /// The entries, in order.
     pub fn entries(&self) -> &[Entry]
         ensures value { result.now ≡ self.now.entries }
@@ -147,7 +165,7 @@ impl TitlePart {
     }
 
     /// The owners behind the first so many entries.
-    fn owners_ahead(&self, ahead: usize) -> Option<Owners>
+    pub(crate) fn owners_ahead(&self, ahead: usize) -> Option<Owners>
         requires { ahead ≤ length self.now.entries }
         ensures { result ≡ owners (take ahead self.now.entries) }
     {
@@ -199,7 +217,7 @@ fn opened_by(before: bool, what: &What) -> bool
 }
 
 /// Whether a content opens the folio.
-fn is_opening(what: &What) -> bool
+pub(crate) fn is_opening(what: &What) -> bool
     ensures { result ≡ is_opening what.now }
 {
     match what {

@@ -1,13 +1,13 @@
 -- What holds of the forced sales of a register that comes about (ZVG).
-use Rattle.std.specs.Prelude.{◌≡◌, ℕ, ◌<◌, ◌≤◌, Bool, true, false, ◌&&◌, nat_lt, List, All, Any, AllPairs, count_by, filter, slice_get, IfSome, IsTrue, IsSomeAnd, Option, Some, None, option_map, option_and_then}
+use Rattle.std.specs.Prelude.{◌≡◌, ℕ, ◌<◌, ◌≤◌, Bool, false, ◌&&◌, List, All, Any, AllPairs, count_by, slice_get, IfSome, IsTrue, IsSomeAnd, Option, Some, None, option_and_then}
 use Rattle.std.specs.Option.{option_map_or}
 use Rattle.gb_base.specs.RightNo.{RightNo, same_right}
 use Rattle.gb_base.specs.declared.keys.Key.{Key}
 use Rattle.gb_base.specs.declared.keys.Key.TheVariants.{Title, Right, Case}
 use Rattle.act_model.specs.declared.items.Item.{Item}
 use Rattle.act_model.specs.declared.receipts.Receipt.{Receipt}
-use Rattle.act_model.specs.Receiving.{receipt_at}
-use Rattle.folio_sections.specs.Cases.{case, is_seizure}
+use Rattle.act_model.specs.Receiving.{item_at}
+use Rattle.folio_sections.specs.Cases.{case_below, is_registration, is_seizure}
 use Rattle.folio_sections.specs.Limits.{most_registrations, most_seizures}
 use Rattle.folio_sections.specs.Titles.{is_opening}
 use Rattle.folio_sections.specs.declared.entries.Entry.{Entry}
@@ -16,14 +16,6 @@ use Rattle.act_model.specs.declared.sales.Basis.TheVariants as basis
 use Rattle.act_model.specs.declared.sales.Registration.TheVariants as registration
 use Rattle.act_model.specs.declared.items.Item.TheVariants as item
 use Rattle.folio_sections.specs.declared.entries.What.TheVariants as what
-
--- the item of receipt n
-abbrev pub item_at : List Receipt → ℕ → Option Item
-item_at journal n = option_map (λ r. r.item) (receipt_at journal n)
-
--- the case of a forced sale on the entries below receipt n
-abbrev pub case_below : ℕ → List Entry → List Entry
-case_below n entries = case (filter (λ e. nat_lt e.receipt n) entries)
 
 -- the item is this content's, of the folio
 abbrev pub IsItsItem : ℕ → What → Item → Type 0
@@ -40,11 +32,6 @@ StandsByItem journal folio receipt what.Registered = IsSomeAnd (item_at journal 
 StandsByItem journal folio receipt (what.Bids costs) = IsSomeAnd (item_at journal receipt) (IsItsItem folio (what.Bids costs))
 StandsByItem journal folio receipt (what.Awarded buyer bid) = IsSomeAnd (item_at journal receipt) (IsItsItem folio (what.Awarded buyer bid))
 StandsByItem journal folio receipt other = Unit {0}
-
--- a content registers a claim
-abbrev pub is_registration : What → Bool
-is_registration what.Registered = true
-is_registration other = false
 
 -- the right for which an item registers arrears
 abbrev pub arrears_of : Item → Option RightNo

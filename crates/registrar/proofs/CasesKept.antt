@@ -12,9 +12,9 @@ use Rattle.act_model.specs.declared.items.Filing.{Filing}
 use Rattle.act_model.specs.declared.receipts.Receipt.{Receipt}
 use Rattle.act_model.specs.Touches.{filing_at, keys_of_act, keys_of_acts, keys_of_filing, was_in_division_three}
 use Rattle.act_model.proofs.KeyOrder.{has, has_decides}
-use Rattle.folio_sections.specs.Cases.{is_seizure}
+use Rattle.folio_sections.specs.Cases.{case_below, is_registration, is_seizure}
 use Rattle.folio_sections.specs.Entries.{at, with_entries}
-use Rattle.kept_registers.specs.KeptCases.{CaseInOrder, IsOpenedBefore, LeavesCents, SeizesFromOlder, StandsByItem, case_below, is_registration, register_same_arrears}
+use Rattle.kept_registers.specs.KeptCases.{CaseInOrder, IsOpenedBefore, LeavesCents, SeizesFromOlder, StandsByItem, register_same_arrears}
 use Rattle.folio_sections.specs.Limits.{most_registrations, most_seizures}
 use Rattle.folio_sections.specs.Titles.{is_opening}
 use Rattle.folio_sections.specs.declared.entries.Entry.{Entry}

@@ -1,5 +1,5 @@
 -- What each part keeps beside its entries.
-use Rattle.std.specs.Prelude.{◌≡◌, ℕ, ◌+◌, ◌≤◌, nat_lt, min, ◌||◌, Bool, true, false, List, length, drop, fold, is_none, Option, Some, None}
+use Rattle.std.specs.Prelude.{◌≡◌, ℕ, ◌+◌, ◌≤◌, nat_lt, min, ◌||◌, Bool, true, false, List, length, drop, filter, fold, map, is_none, Option, Some, None}
 use Rattle.std.specs.List.{list_any}
 use Rattle.act_model.specs.declared.land.Inventory.{Inventory}
 use Rattle.folio_sections.specs.Cases.{award, call, case, registrations, seizures}
@@ -9,7 +9,7 @@ use Rattle.folio_sections.specs.declared.case_part.Running.{Running}
 use Rattle.folio_sections.specs.declared.entries.Entry.{Entry}
 use Rattle.folio_sections.specs.declared.entries.What.{What}
 use Rattle.folio_sections.specs.declared.entries.What.TheVariants as what
-use Rattle.folio_sections.specs.declared.right_part.RightState.{RightState}
+use Rattle.folio_sections.specs.declared.right_state.RightState.{RightState}
 use Rattle.folio_sections.specs.inner.Listed.{Listed}
 use Rattle.folio_sections.specs.inner.Naming.{AreNamedAt}
 
@@ -57,15 +57,31 @@ state_by before w = record {
   spent = before.spent || is_exercise w;
 }
 
--- the state is what is read from the entries, and the holder behind each number of them is named at these places
-pub record IsRight (is : RightState) (entries : List Entry) (naming : List ℕ) : Type 0 where
+-- the right of no entries
+abbrev pub never_created : RightState
+never_created = record { live = false; created = None; converted = false; new_holder = None; remaining = None; spent = false }
+
+-- the right of these entries
+abbrev pub state_of : List Entry → RightState
+state_of entries = fold (λ before e. state_by before e.what) never_created entries
+
+-- the state is what is read from the entries
+pub record IsRightState (is : RightState) (entries : List Entry) : Type 0 where
   pub live : is.live ≡ is_live entries
   pub created : is.created ≡ created entries
   pub converted : is.converted ≡ list_any (λ e. is_conversion e.what) entries
   pub new_holder : is.new_holder ≡ fold (λ before e. new_holder_by before e.what) None entries
   pub remaining : is.remaining ≡ fold (λ before e. remaining_by before e.what) None entries
   pub spent : is.spent ≡ is_spent entries
+
+-- and the holder behind each number of them is named at these places
+pub record IsRight (is : RightState) (entries : List Entry) (naming : List ℕ) : Type 0 where
+  pub state : IsRightState is entries
   pub holder : AreNamedAt holder holder_named naming entries
+
+-- the receipts of the entries whose contents pass, in order
+abbrev pub numbers_that : (What → Bool) → List Entry → List ℕ
+numbers_that t entries = map (λ e. e.receipt) (filter (λ e. t e.what) entries)
 
 -- the most that is counted of a case's seizures and registrations
 abbrev pub most_counted : ℕ
