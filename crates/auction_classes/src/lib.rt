@@ -7,6 +7,7 @@ mod case_items;
 mod claim_items;
 mod claims;
 mod covers;
+mod findings;
 mod lowest_bids;
 mod remaining;
 
