@@ -1,6 +1,7 @@
 -- Lemmas.
 pub mod CaseReceipts
 pub mod ClaimedRights
+pub mod ClaimsAdded
 pub mod FoundSoFar
 pub mod LeastCovers
 pub mod NewYears
