@@ -1,5 +1,9 @@
 -- Lemmas.
+pub mod CaseReceipts
 pub mod ClaimedRights
+pub mod ClaimsAdded
+pub mod FoundSoFar
 pub mod LeastCovers
 pub mod NewYears
 pub mod NoClaims
+pub mod StampYears

@@ -1,5 +1,6 @@
 -- The claims in a forced sale, class by class (ZVG §§ 10 to 13, 37, 45, 110).
-use Rattle.std.specs.Prelude.{ℕ, ◌+◌, ◌-◌, Bool, true, false, not, ◌==◌, ◌&&◌, nat_le, nat_lt, if◌then◌else◌, List, [], ◌∷◌, ◌++◌, filter, filter_map, map, sum_by, Option, Some, None}
+use Rattle.std.specs.Prelude.{ℕ, ◌+◌, ◌-◌, Bool, true, false, not, ◌==◌, ◌&&◌, ◌||◌, nat_le, nat_lt, if◌then◌else◌, List, [], ◌∷◌, ◌++◌, filter, filter_map, flat_map, map, sum_by, Option, Some, None}
+use Rattle.std.specs.List.{range_with_len}
 use Rattle.std.specs.Option.{option_map_or}
 use Rattle.gb_base.specs.Calendar.{date_of}
 use Rattle.gb_base.specs.RightNo.{RightNo, same_right}
@@ -8,17 +9,20 @@ use Rattle.act_model.specs.declared.sales.Basis.{Basis}
 use Rattle.act_model.specs.declared.sales.Basis.TheVariants as basis
 use Rattle.act_model.specs.declared.sales.Registration.{Registration}
 use Rattle.act_model.specs.declared.sales.Registration.TheVariants as registration
-use Rattle.folio_sections.specs.Rights.{created, entered_on, holder}
+use Rattle.folio_sections.specs.Rights.{capital, entered_on, holder}
 use Rattle.folio_sections.specs.Titles.{owners}
 use Rattle.folio_sections.specs.declared.entries.Entry.{Entry}
 use Rattle.folio_line.specs.FolioRights.{live_rights}
-use Rattle.folio_line.specs.FolioSlots.{capital_at}
 use Rattle.folio_line.specs.declared.folio_rights.CreatedRight.{CreatedRight}
-use Rattle.auction_classes.specs.Interest.{arrears_in_class, current_interest, new_year, old_arrears, rate_of}
-use Rattle.auction_classes.specs.Sales.{Sale, number_seized, read, registrations_found, sale_day, seizures_found, year_seized}
+use Rattle.auction_classes.specs.Interest.{arrears_in_class, current_interest, old_arrears, rate_of}
+use Rattle.auction_classes.specs.Sales.{Sale, finding_of, number_seized, read, registrations_found, seizures_found, year_seized}
 use Rattle.auction_classes.specs.declared.accruals.Accrual.{Accrual}
 use Rattle.auction_classes.specs.declared.case_items.Registered.{Registered}
+use Rattle.auction_classes.specs.declared.case_items.Seizure.{Seizure}
+use Rattle.auction_classes.specs.declared.claim_items.Claim.{Claim}
 use Rattle.auction_classes.specs.declared.claim_items.ClaimItem.{ClaimItem}
+use Rattle.auction_classes.specs.declared.findings.Finding.{Finding}
+use Rattle.auction_classes.specs.declared.rights_found.RightFound.{RightFound}
 
 -- the entries at a right of the folio
 abbrev pub at_right : Sale → RightNo → List Entry
@@ -29,40 +33,61 @@ abbrev pub are_both : Bool → Bool → Bool
 are_both true late = late
 are_both false late = not late
 
--- the registrations of the case that are timely, or those that are late
-abbrev pub registrations_by : Sale → Bool → List Registered
-registrations_by s late = filter (λ r. are_both late r.late) (registrations_found s)
-
 -- ---- rights
 
 -- Rights whose filing was received before the first seizure's, whenever they were entered, are of class 4, others of class 6
 -- (ZVG § 10(1) nos. 4 and 6).
-abbrev pub class_of_right : Sale → RightNo → ℕ
-class_of_right s id = if nat_lt id.receipt (number_seized s) then 4 else 6
+abbrev pub class_by : ℕ → RightNo → ℕ
+class_by seized id = if nat_lt id.receipt seized then 4 else 6
 
--- by what the interest of a right goes
-abbrev pub accrual_of : Sale → CreatedRight → Accrual
-accrual_of s x = record {
-  capital = capital_at (read s) s.folio x.id;
+abbrev pub class_of_right : Sale → RightNo → ℕ
+class_of_right s id = class_by (number_seized s) id
+
+-- by what the interest of a right with these entries goes
+abbrev pub accrual_by : Finding → CreatedRight → List Entry → Accrual
+accrual_by f x entries = record {
+  capital = option_map_or (λ c. c) (capital entries) 0;
   rate = rate_of x.made.spec.kind;
-  entered = option_map_or (λ day. day) (entered_on (at_right s x.id)) 0;
-  sale = sale_day s;
-  current_from = new_year (year_seized s - 1);
-  arrears_from = new_year (year_seized s - 3);
+  entered = option_map_or (λ day. day) (entered_on entries) 0;
+  sale = f.sale;
+  current_from = f.current_from;
+  arrears_from = f.arrears_from;
 }
 
 -- such a part of the arrears that are registered for a right
-abbrev pub arrears_by : (Accrual → ℕ → ℕ → ℕ) → Sale → CreatedRight → Registration → ℕ
-arrears_by part s x (registration.Arrears right from until) = if same_right right x.id then part (accrual_of s x) from until else 0
-arrears_by part s x other = 0
+abbrev pub arrears_named : (Accrual → ℕ → ℕ → ℕ) → Accrual → RightNo → Registration → ℕ
+arrears_named part x id (registration.Arrears right from until) = if same_right right id then part x from until else 0
+arrears_named part x id other = 0
 
 -- such a part of a right's arrears that are registered in time, or late
-abbrev pub arrears_found : (Accrual → ℕ → ℕ → ℕ) → Sale → Bool → CreatedRight → ℕ
-arrears_found part s late x = sum_by (λ r. arrears_by part s x r.what) (registrations_by s late)
+abbrev pub arrears_found : (Accrual → ℕ → ℕ → ℕ) → Bool → Accrual → RightNo → List Registered → ℕ
+arrears_found part late x id registrations =
+    sum_by (λ r. if are_both late r.late then arrears_named part x id r.what else 0) registrations
 
--- the interest of a right in its class: the current one and the arrears of its class that are timely
+-- A right with what is claimed of it. The interest of its class is the current one and the arrears of its class that are timely.
+abbrev pub right_by : Accrual → ℕ → ℕ → List Registered → CreatedRight → RightFound
+right_by a class holder registrations x = record {
+  right = x;
+  class = class;
+  holder = holder;
+  capital = a.capital;
+  interest = current_interest a + arrears_found arrears_in_class false a x.id registrations;
+  old_arrears = arrears_found old_arrears false a x.id registrations;
+  late_arrears = arrears_found arrears_in_class true a x.id registrations;
+  late_old_arrears = arrears_found old_arrears true a x.id registrations;
+}
+
+-- the same of a right with these entries
+abbrev pub right_with : Finding → List Registered → CreatedRight → List Entry → RightFound
+right_with f registrations x entries =
+    right_by (accrual_by f x entries) (class_by f.seized x.id) (option_map_or (λ p. p) (holder entries) 0) registrations x
+
+abbrev pub right_found : Sale → CreatedRight → RightFound
+right_found s x = right_with (finding_of s) (registrations_found s) x (at_right s x.id)
+
+-- the interest of a right in its class
 abbrev pub interest_of : Sale → CreatedRight → ℕ
-interest_of s x = current_interest (accrual_of s x) + arrears_found arrears_in_class s false x
+interest_of s x = (right_found s x).interest
 
 -- the live rights of the folio, by filing, group and act
 abbrev pub rights_found : Sale → List CreatedRight
@@ -75,109 +100,108 @@ rights_of_class s class = filter (λ x. class_of_right s x.id == class) (rights_
 -- ---- single claims
 
 -- a claim that is of no right
-abbrev pub claim_of_person : ℕ → Bool → ℕ → ℕ → ClaimItem
+abbrev pub claim_of_person : ℕ → Bool → ℕ → ℕ → Claim
 claim_of_person class late person amount =
-    record { class = class; late = late; right = None; person = person; interest = 0; capital = amount; with_previous = false }
-
--- a claim of a right, which its holder has
-abbrev pub claim_of_right : Sale → ℕ → Bool → ℕ → ℕ → CreatedRight → ClaimItem
-claim_of_right s class late interest amount x = record {
-  class = class;
-  late = late;
-  right = Some x.id;
-  person = option_map_or (λ p. p) (holder (at_right s x.id)) 0;
-  interest = interest;
-  capital = amount;
-  with_previous = false;
-}
-
--- an advance is of class 1 (ZVG § 10(1) no. 1)
-abbrev pub advance : Bool → Registration → Option ClaimItem
-advance late (registration.Advance person amount) = Some (claim_of_person 1 late person amount)
-advance late other = None
+    record { class = class; late = late; right = None; group = 0; person = person; interest = 0; capital = amount }
 
 -- A public charge is of class 3 where it fell due on or after 1 January of the third year before the seizure, else of class 7
 -- (ZVG § 10(1) nos. 3 and 7).
-abbrev pub class_of_charge : Sale → ℕ → ℕ
-class_of_charge s due = if nat_le (year_seized s - 3) (date_of due).year then 3 else 7
+abbrev pub class_of_charge : ℕ → ℕ → ℕ
+class_of_charge year due = if nat_le (year - 3) (date_of due).year then 3 else 7
 
-abbrev pub public_charge : Sale → ℕ → Bool → Registration → Option ClaimItem
-public_charge s class late (registration.PublicCharge person amount due) =
-    if class_of_charge s due == class then Some (claim_of_person class late person amount) else None
-public_charge s class late other = None
+-- what a registration claims, in time or late: an advance is of class 1 (ZVG § 10(1) no. 1), arrears are claimed with their right
+abbrev pub claim_registered : ℕ → Bool → Registration → Option Claim
+claim_registered year late (registration.Advance person amount) = Some (claim_of_person 1 late person amount)
+claim_registered year late (registration.PublicCharge person amount due) = Some (claim_of_person (class_of_charge year due) late person amount)
+claim_registered year late (registration.Arrears right from until) = None
 
 -- the claim of a personal creditor (ZVG § 10(1) no. 5)
-abbrev pub personal_claim : Basis → Option ClaimItem
+abbrev pub personal_claim : Basis → Option Claim
 personal_claim (basis.Personal creditor claim) = Some (claim_of_person 5 false creditor claim)
 personal_claim (basis.FromRight right) = None
 
--- ---- by class
+-- a claim of a right, which its holder has
+abbrev pub claim_of_right : RightFound → ℕ → Bool → ℕ → ℕ → Claim
+claim_of_right x class late interest amount = record {
+  class = class;
+  late = late;
+  right = Some x.right.id;
+  group = x.right.made.spec.group;
+  person = x.holder;
+  interest = interest;
+  capital = amount;
+}
 
-abbrev pub advances : Sale → Bool → List ClaimItem
-advances s late = filter_map (λ r. advance late r.what) (registrations_by s late)
+-- All that a right claims: interest and capital in its class (ZVG § 12), timely arrears of class 8, and the late ones of both. Late
+-- arrears of a right's own class are called those of class 4: a right of class 6 has none, since it was created in the year of the
+-- seizure or later.
+abbrev pub claims_of_right : RightFound → List Claim
+claims_of_right x =
+    claim_of_right x x.class false x.interest x.capital ∷ claim_of_right x 8 false 0 x.old_arrears ∷ claim_of_right x 4 true 0 x.late_arrears
+    ∷ claim_of_right x 8 true 0 x.late_old_arrears ∷ []
 
-abbrev pub charges : Sale → ℕ → Bool → List ClaimItem
-charges s class late = filter_map (λ r. public_charge s class late r.what) (registrations_by s late)
+-- ---- all claims
 
--- the rights of class 4 or 6, each with its interest and its capital (ZVG § 12)
-abbrev pub rights_claimed : Sale → ℕ → List ClaimItem
-rights_claimed s class = map (λ x. claim_of_right s class false (interest_of s x) (capital_at (read s) s.folio x.id) x) (rights_of_class s class)
+-- a claim of at least one cent
+abbrev pub is_claim : Claim → Bool
+is_claim c = nat_lt 0 c.interest || nat_lt 0 c.capital
 
-abbrev pub personal_claims : Sale → List ClaimItem
-personal_claims s = filter_map (λ seizure. personal_claim seizure.basis) (seizures_found s)
+-- All claims of at least one cent: those registered in order, those of personal creditors by seizure, those of the rights.
+abbrev pub claims_by : ℕ → List Registered → List Seizure → List RightFound → List Claim
+claims_by year registrations seizures rights =
+    filter is_claim (filter_map (λ r. claim_registered year r.late r.what) registrations)
+    ++ (filter is_claim (filter_map (λ seizure. personal_claim seizure.basis) seizures) ++ filter is_claim (flat_map claims_of_right rights))
 
--- arrears of a part, registered in time or late, as claims of a class; of all live rights
-abbrev pub arrears_claimed : (Accrual → ℕ → ℕ → ℕ) → Sale → ℕ → Bool → List ClaimItem
-arrears_claimed part s class late = map (λ x. claim_of_right s class late 0 (arrears_found part s late x) x) (rights_found s)
+-- those of a class that are timely, or those that are late
+abbrev pub of_class : Bool → List Claim → ℕ → List Claim
+of_class late claims class = filter (λ c. are_both late c.late && c.class == class) claims
 
--- All claims: the timely ones by class, and then the late ones. Late arrears of a right's own class are called those of class 4: a
--- right of class 6 has none, since it was created in the year of the seizure or later.
-abbrev pub all_claims : Sale → List ClaimItem
-all_claims s =
-    advances s false ++ (charges s 3 false ++ (rights_claimed s 4 ++ (personal_claims s ++ (rights_claimed s 6 ++ (charges s 7 false
-    ++ (arrears_claimed old_arrears s 8 false ++ (advances s true ++ (charges s 3 true ++ (arrears_claimed arrears_in_class s 4 true
-    ++ (charges s 7 true ++ arrears_claimed old_arrears s 8 true))))))))))
+-- the timely claims, or the late ones, class by class
+abbrev pub by_class : Bool → List Claim → List Claim
+by_class late claims = flat_map (of_class late claims) (range_with_len 1 8)
+
+-- the timely claims class by class, and then the late ones (ZVG §§ 10, 110)
+abbrev pub in_order : List Claim → List Claim
+in_order claims = by_class false claims ++ by_class true claims
 
 -- ---- the list
 
--- a claim of at least one cent
-abbrev pub is_claim : ClaimItem → Bool
-is_claim c = nat_lt 0 (c.interest + c.capital)
+-- two rights are of one filing
+abbrev pub are_of_one_filing : Option RightNo → Option RightNo → Bool
+are_of_one_filing (Some x) (Some y) = x.receipt == y.receipt
+are_of_one_filing x y = false
 
--- the group of a right in its filing; 0 where it was never entered
-abbrev pub group_at : Sale → RightNo → ℕ
-group_at s id = option_map_or (λ made. made.spec.group) (created (at_right s id)) 0
-
--- two rights are of one group: of one filing, and of one group in it (GBO § 45(1), (3))
-abbrev pub are_of_one_group : Sale → Option RightNo → Option RightNo → Bool
-are_of_one_group s (Some x) (Some y) = x.receipt == y.receipt && group_at s x == group_at s y
-are_of_one_group s x y = false
-
--- the claim ranks equally with the one before it: both are of one class, both timely or both late, and of rights of one group
-abbrev pub ranks_with : Sale → Option ClaimItem → ClaimItem → Bool
-ranks_with s None c = false
-ranks_with s (Some before) c = before.class == c.class && (are_both before.late c.late && are_of_one_group s before.right c.right)
+-- The claim ranks equally with the one before it: both are of one class, both timely or both late, and of rights of one group of one
+-- filing (GBO § 45(1), (3)).
+abbrev pub ranks_with : Option Claim → Claim → Bool
+ranks_with None c = false
+ranks_with (Some before) c =
+    before.class == c.class && (are_both before.late c.late && (are_of_one_filing before.right c.right && before.group == c.group))
 
 -- the claim, with what it has to do with the one before it
-abbrev pub behind_claim : Sale → Option ClaimItem → ClaimItem → ClaimItem
-behind_claim s before c = record {
+abbrev pub behind_claim : Option Claim → Claim → ClaimItem
+behind_claim before c = record {
   class = c.class;
   late = c.late;
   right = c.right;
   person = c.person;
   interest = c.interest;
   capital = c.capital;
-  with_previous = ranks_with s before c;
+  with_previous = ranks_with before c;
 }
 
 -- each claim with what it has to do with the one before it
-abbrev pub in_row : Sale → Option ClaimItem → List ClaimItem → List ClaimItem
-in_row s before [] = []
-in_row s before (c ∷ cs) = behind_claim s before c ∷ in_row s (Some c) cs
+abbrev pub in_row : Option Claim → List Claim → List ClaimItem
+in_row before [] = []
+in_row before (c ∷ cs) = behind_claim before c ∷ in_row (Some c) cs
+
+-- all claims of a sale
+abbrev pub claims_found : Sale → List Claim
+claims_found s = claims_by (year_seized s) (registrations_found s) (seizures_found s) (map (right_found s) (rights_found s))
 
 -- the claims of at least one cent, in the order in which a plan has them
 abbrev pub claims : Sale → List ClaimItem
-claims s = in_row s None (filter is_claim (all_claims s))
+claims s = in_row None (in_order (claims_found s))
 
 -- the former owners, in the order in which they were named
 abbrev pub former_owners : Sale → List ℕ

@@ -1,2 +1,3 @@
 -- What private clauses and proofs alone cite.
+pub mod CaseSales
 pub mod Reckoning

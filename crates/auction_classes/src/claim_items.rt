@@ -40,3 +40,18 @@ pub struct RightClaimed {
     pub interest: u64,
     pub in_division_three: bool,
 }
+
+/// A claim before it stands in its row, in cents.
+#[derive(Clone, Copy)]
+pub(crate) struct Claim {
+    /// From 1 to 8 without 2.
+    pub class: u8,
+    pub late: bool,
+    /// None for advances, public charges and personal creditors.
+    pub right: Option<RightId>,
+    /// The group of the right in its filing (GBO § 45(3)); 0 where it is of none.
+    pub group: u8,
+    pub person: Person,
+    pub interest: u64,
+    pub capital: u64,
+}

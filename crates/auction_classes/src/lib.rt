@@ -6,9 +6,12 @@ mod accruals;
 mod case_items;
 mod claim_items;
 mod claims;
+mod claims_found;
 mod covers;
+mod findings;
 mod lowest_bids;
 mod remaining;
+mod rights_found;
 
 pub use claim_items::{ClaimItem, RightClaimed, SeizedFor};
 pub use claims::Claims;

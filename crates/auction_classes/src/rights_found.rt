@@ -1,0 +1,210 @@
+//! The rights of a folio with what is claimed of them in a forced sale (ZVG §§ 10 to 13).
+ghost use Rattle.std.specs.Prelude.{◌≡◌, ◌*◌, ◌≤◌, IsSome, Some, if◌then◌else◌, length};
+ghost use Rattle.std.specs.Option.{option_map_or};
+ghost use Rattle.folio_sections.specs.Rights.{capital, created, entered_by, entered_on, holder};
+ghost use Rattle.gb_base.specs.Limits.{last_stamp_day, most_rate};
+ghost use Rattle.auction_classes.specs.Claims.{accrual_by, are_both, arrears_found, arrears_named, class_by, right_with};
+ghost use Rattle.auction_classes.specs.Interest.{arrears_in_class, old_arrears, rate_of};
+
+use crate::accruals::{Accrual, rate_of};
+use crate::case_items::Registered;
+use crate::findings::Finding;
+use act_model::Registration;
+use folio_line::CreatedRight;
+use folio_sections::{Entry, RightFront, What};
+use gb_base::{Cents, Day, Person, ReceiptNo, RightId};
+
+/// A live right of the folio with what is claimed of it, in cents.
+#[derive(Clone, Copy)]
+pub(crate) struct RightFound {
+    pub right: CreatedRight,
+    /// 4, or 6 where its filing was received behind the first seizure (ZVG § 10(1)).
+    pub class: u8,
+    pub holder: Person,
+    pub capital: Cents,
+    /// In its class: the current interest, and the arrears that were registered in time (ZVG § 13).
+    pub interest: u64,
+    /// Of class 8, registered in time.
+    pub old_arrears: u64,
+    /// Of its class, registered late.
+    pub late_arrears: u64,
+    /// Of class 8, registered late.
+    pub late_old_arrears: u64,
+}
+
+/// Arrears of a right, in cents.
+#[derive(Clone, Copy)]
+struct Arrears {
+    /// Those that the right's own class has.
+    in_class: u64,
+    /// Those of class 8.
+    old: u64,
+}
+
+/// A right as it is read, with what is claimed of it. Takes no memory.
+pub(crate) fn right_found(
+    finding: &Finding,
+    registrations: &[Registered],
+    right: &CreatedRight,
+    front: &RightFront,
+) -> RightFound
+    requires created { created front.now ≡ Some right.now.made }
+    requires rate { rate_of right.now.made.spec.kind ≤ most_rate }
+    requires sale { finding.now.sale ≤ last_stamp_day }
+    requires few { length registrations.now ≤ 32 }
+    ensures { result ≡ right_with finding.now registrations.now right.now front.now }
+{
+    let accrual = accrual_by(finding, right, front);
+    let timely = arrears_found(&accrual, right.id, false, registrations);
+    let late = arrears_found(&accrual, right.id, true, registrations);
+    RightFound {
+        right: *right,
+        class: class_by(finding.seized, right.id),
+        holder: holder_of(front),
+        capital: accrual.capital,
+        interest: accrual.current_interest() + timely.in_class,
+        old_arrears: timely.old,
+        late_arrears: late.in_class,
+        late_old_arrears: late.old,
+    }
+}
+
+/// The class of a right, where the first seizure has this receipt.
+fn class_by(seized: ReceiptNo, right: RightId) -> u8
+    ensures { result ≡ class_by seized right }
+{
+    if right.receipt() < seized { 4 } else { 6 }
+}
+
+/// The holder of a right that was created.
+fn holder_of(front: &RightFront) -> Person
+    requires { IsSome (created front.now) }
+    ensures { result ≡ option_map_or (λ p. p) (holder front.now) 0 }
+{
+    front.holder().unwrap()
+}
+
+/// By what the interest of a right goes.
+fn accrual_by(finding: &Finding, right: &CreatedRight, front: &RightFront) -> Accrual
+    ensures { result ≡ accrual_by finding.now right.now front.now }
+{
+    Accrual {
+        capital: capital_of(front),
+        rate: rate_of(right.made.spec.kind),
+        entered: entry_day(front),
+        sale: finding.sale,
+        current_from: finding.current_from,
+        arrears_from: finding.arrears_from,
+    }
+}
+
+/// The capital of a right; 0 where it has none.
+fn capital_of(front: &RightFront) -> Cents
+    ensures { result ≡ option_map_or (λ c. c) (capital front.now) 0 }
+{
+    match front.capital() {
+        Some(capital) => capital,
+        None => Cents::new(0).unwrap(),
+    }
+}
+
+/// The day on which a right was entered (BGB § 873); day 0 where it was not.
+fn entry_day(front: &RightFront) -> Day
+    ensures { result ≡ option_map_or (λ day. day) (entered_on front.now) 0 }
+{
+    match entered_on(front.entries()) {
+        Some(day) => day,
+        None => Day::new(0).unwrap(),
+    }
+}
+
+/// The day on which these entries enter a right.
+fn entered_on(entries: &[Entry]) -> Option<Day>
+    ensures { result ≡ entered_on entries.now }
+{
+    entries
+        .iter()
+        .fold(None, |before, entry| entered_by(before, entry))
+}
+
+/// The day on which a right was entered behind an entry.
+fn entered_by(before: Option<Day>, entry: &Entry) -> Option<Day>
+    ensures { result ≡ entered_by entry.now.day before entry.now.what }
+{
+    match &entry.what {
+        What::Created(_) => Some(entry.day),
+        _ => before,
+    }
+}
+
+/// The arrears that are registered for a right in time, or late.
+fn arrears_found(
+    accrual: &Accrual,
+    right: RightId,
+    late: bool,
+    registrations: &[Registered],
+) -> Arrears
+    requires rate { accrual.now.rate ≤ most_rate }
+    requires few { length registrations.now ≤ 32 }
+    ensures in_class { result.in_class ≡ arrears_found arrears_in_class late accrual.now right registrations.now }
+    ensures old { result.old ≡ arrears_found old_arrears late accrual.now right registrations.now }
+    ensures at_most { result.in_class ≤ 32 * 461111111111111 }
+{
+    let mut in_class = 0;
+    let mut old = 0;
+    for registered in registrations {
+        let arrears = arrears_by(accrual, right, late, registered);
+        in_class += arrears.in_class;
+        old += arrears.old;
+    }
+    Arrears { in_class, old }
+}
+
+/// The arrears that one registration names for a right, where it came in time, or late.
+fn arrears_by(accrual: &Accrual, right: RightId, late: bool, registered: &Registered) -> Arrears
+    requires rate { accrual.now.rate ≤ most_rate }
+    ensures in_class { result.in_class ≡ (if are_both late registered.now.late then arrears_named arrears_in_class accrual.now right registered.now.what else 0) }
+    ensures old { result.old ≡ (if are_both late registered.now.late then arrears_named old_arrears accrual.now right registered.now.what else 0) }
+    ensures at_most { result.in_class ≤ 461111111111111 }
+    ensures old_at_most { result.old ≤ 461111111111111 }
+{
+    if are_both(late, registered.late) {
+        arrears_named(accrual, right, &registered.what)
+    } else {
+        Arrears {
+            in_class: 0,
+            old: 0,
+        }
+    }
+}
+
+/// The arrears that a registration names for a right.
+fn arrears_named(accrual: &Accrual, right: RightId, what: &Registration) -> Arrears
+    requires rate { accrual.now.rate ≤ most_rate }
+    ensures in_class { result.in_class ≡ arrears_named arrears_in_class accrual.now right what.now }
+    ensures old { result.old ≡ arrears_named old_arrears accrual.now right what.now }
+    ensures at_most { result.in_class ≤ 461111111111111 }
+    ensures old_at_most { result.old ≤ 461111111111111 }
+{
+    match what {
+        Registration::Arrears {
+            right: named,
+            from,
+            until,
+        } if *named == right => Arrears {
+            in_class: accrual.arrears_in_class(*from, *until),
+            old: accrual.old_arrears(*from, *until),
+        },
+        _ => Arrears {
+            in_class: 0,
+            old: 0,
+        },
+    }
+}
+
+/// Whether both are late, or both are timely.
+pub(crate) fn are_both(a: bool, b: bool) -> bool
+    ensures { result ≡ are_both a b }
+{
+    if a { b } else { !b }
+}
