@@ -2,7 +2,7 @@
 use crate::extract_journals::{charge, opened_by_one, receive};
 use act_model::{Acts, Item};
 use arrayvec::ArrayVec;
-use folio_line::{counted_exchanges, folio_slots, live_rights};
+use folio_line::{FolioReading, folio_slots, held_line};
 use gb_base::NoMemory;
 use registrar::alone;
 use test_items::{consent, day, filing, folio};
@@ -41,11 +41,14 @@ fn the_line_of_256_rights_is_filled(rt: HostRuntime) -> Result<(), NoMemory> {
         receive(&rt, &mut journal, day(3, 4), &filing);
     }
     let register = alone(alloc, &journal)?;
-    let seven = folio(7);
-    let rights = live_rights(alloc, &register, seven)?;
-    assert_eq!(&rt; rights.len(), 256);
-    let exchanges = counted_exchanges(alloc, &register, &journal, seven, &rights)?;
-    let slots = folio_slots(alloc, &register, &journal, seven, &exchanges)?;
+    let reading = FolioReading {
+        parts: &register,
+        folio: folio(7),
+        before: None,
+    };
+    let line = held_line(alloc, &reading)?;
+    assert_eq!(&rt; line.rights().len(), 256);
+    let slots = folio_slots(alloc, &reading, &journal, &line)?;
     assert_eq!(&rt; slots.pieces().len(), 256);
     Ok(())
 }

@@ -5,14 +5,15 @@ ghost use Rattle.std.specs.String.{string_bytes};
 ghost use Rattle.gb_base.specs.declared.keys.Key.TheVariants.{Case, Right, Title};
 ghost use Rattle.folio_sections.specs.Held.{entries_at, is_held};
 ghost use Rattle.folio_sections.specs.Titles.{inventory, owners};
+ghost use Rattle.folio_line.specs.FolioRights.{live_rights};
 ghost use Rattle.folio_extract.specs.Extracts.{extract, extract_text, heading_line, inventory_line, owners_line, right_lines, sale_line, waiting_lines};
 
-use crate::folio_reads::{has_sale_note, inventory_of, is_open, owners_of, title_entries};
+use crate::folio_reads::{has_sale_note, inventory_of, is_open, line_of, owners_of, title_entries};
 use crate::right_lines::add_right_line;
 use crate::waiting::waiting_filings;
 use crate::waiting_lines::{WaitsAt, add_waiting_lines};
 use act_model::{Inventory, Owners};
-use folio_line::{CreatedRight, live_rights};
+use folio_line::CreatedRight;
 use folio_sections::{Parts, RightPart};
 use gb_base::{FolioId, NoMemory, Person};
 use registrar::Register;
@@ -29,24 +30,26 @@ pub fn extract(
     if !is_open(register, folio) {
         return Ok(None);
     }
+    let line = line_of(alloc, register, folio)?;
     let mut text = String::new(alloc);
-    add_extract(alloc, &mut text, register, folio)?;
+    add_extract(alloc, &mut text, register, folio, line.live())?;
     Ok(Some(text.into_bytes()))
 }
 
-/// Adds the extract of an open folio.
+/// Adds the extract of an open folio, with these rights, which are its live ones.
 pub(crate) fn add_extract(
     alloc: Global,
     text: &mut String,
     register: &Register,
     folio: FolioId,
+    rights: &[CreatedRight],
 ) -> Result<(), NoMemory>
+    requires { rights.now ≡ live_rights (entries_at register.now.parts) folio }
     ensures { OnOk result (string_bytes text.new ≡ string_bytes text.old ++ extract_text (entries_at register.now.parts) folio) }
 {
     add_folio(text, register, folio)?;
     add_title_filings(alloc, text, register, folio)?;
-    let rights = live_rights(alloc, register, folio)?;
-    add_rights(alloc, text, register, folio, &rights)
+    add_rights(alloc, text, register, folio, rights)
 }
 
 /// Adds what the extract says of the folio itself.

@@ -1,14 +1,17 @@
 //! What stands in a folio of a register; nothing where the register does not hold the part.
-ghost use Rattle.std.specs.Prelude.{◌≡◌, ◌&&◌, is_none};
+ghost use Rattle.std.specs.Prelude.{◌≡◌, ◌&&◌, IfOk, is_none};
 ghost use Rattle.gb_base.specs.declared.keys.Key.TheVariants.{Case, Title};
 ghost use Rattle.folio_sections.specs.Cases.{award, is_running};
 ghost use Rattle.folio_sections.specs.Held.{entries_at};
+ghost use Rattle.folio_line.specs.FolioLine.{IsLineOf};
 ghost use Rattle.folio_sections.specs.Titles.{inventory, is_open, owners};
 
 use act_model::{Inventory, Owners};
+use folio_line::{FolioLine, FolioReading, held_line};
 use folio_sections::{CasePart, Entry, Parts};
-use gb_base::FolioId;
+use gb_base::{FolioId, NoMemory};
 use registrar::Register;
+use std::alloc::Global;
 
 /// Whether the folio is open (GBO § 3).
 #[tactic(auto, using(folio_line::specs::inner::NotHeld::not_held))]
@@ -71,4 +74,20 @@ pub fn awaits_award(case: &CasePart) -> bool
     ensures { result ≡ is_running case.now.entries && is_none (award case.now.entries) }
 {
     case.running() && case.award().is_none()
+}
+
+/// The line of the folio. NoMemory where no memory is found for its lists.
+pub(crate) fn line_of(
+    alloc: Global,
+    register: &Register,
+    folio: FolioId,
+) -> Result<FolioLine, NoMemory>
+    ensures { IfOk result (λ line. IsLineOf (entries_at register.now.parts) folio line) }
+{
+    let reading = FolioReading {
+        parts: register,
+        folio,
+        before: None,
+    };
+    held_line(alloc, &reading)
 }

@@ -1,24 +1,22 @@
 //! The rank table of a folio: the ranks of its rights, the exchanges and exercised reservations that
 //! count, and the cents after the exchanges.
-ghost use Rattle.std.specs.Prelude.{◌≡◌, ◌++◌, IfOk, None, OnOk, codes, flat_map, option_map};
+ghost use Rattle.std.specs.Prelude.{◌≡◌, ◌++◌, IfOk, None, OnOk, codes, option_map};
 ghost use Rattle.std.specs.Fmt.{decimal};
 ghost use Rattle.std.specs.String.{string_bytes};
 ghost use Rattle.folio_sections.specs.Held.{entries_at};
 ghost use Rattle.kept_registers.specs.Kept.{Kept};
 ghost use Rattle.folio_extract.specs.CentTexts.{line_text};
-ghost use Rattle.folio_line.specs.Exchanges.{counted_exchanges, counted_exercises};
+ghost use Rattle.folio_line.specs.FolioLine.{IsLineOf};
 ghost use Rattle.folio_line.specs.FolioSlots.{folio_filled};
-ghost use Rattle.folio_extract.specs.RankTables.{exercise_line, rank_table, rank_table_text};
+ghost use Rattle.folio_extract.specs.RankTables.{rank_table, rank_table_text};
 ghost use Rattle.folio_extract.specs.inner.RankWalk.{ranked_lines};
 
 use crate::cent_lines::add_cent_lines;
 use crate::exchange_lines::{add_exchange_lines, add_exercise_lines};
-use crate::folio_reads::is_open;
+use crate::folio_reads::{is_open, line_of};
 use crate::rank_lines::add_rank_lines;
 use act_model::Journal;
-use folio_line::{
-    CreatedRight, Exchange, counted_exchanges, counted_exercises, folio_slots, live_rights,
-};
+use folio_line::{CreatedRight, FolioLine, FolioReading, folio_slots};
 use gb_base::{FolioId, NoMemory};
 use registrar::Register;
 use std::alloc::Global;
@@ -36,31 +34,32 @@ pub fn rank_table(
     if !is_open(register, folio) {
         return Ok(None);
     }
+    let line = line_of(alloc, register, folio)?;
     let mut text = String::new(alloc);
-    add_rank_table(alloc, &mut text, register, journal, folio)?;
+    add_rank_table(alloc, &mut text, register, journal, folio, &line)?;
     Ok(Some(text.into_bytes()))
 }
 
-/// Adds the rank table of an open folio.
+/// Adds the rank table of an open folio, whose line this is.
 pub(crate) fn add_rank_table(
     alloc: Global,
     text: &mut String,
     register: &Register,
     journal: &Journal,
     folio: FolioId,
+    line: &FolioLine,
 ) -> Result<(), NoMemory>
-    requires { Kept journal.now.receipts (entries_at register.now.parts) }
+    requires kept { Kept journal.now.receipts (entries_at register.now.parts) }
+    requires line { IsLineOf (entries_at register.now.parts) folio line.now }
     ensures { OnOk result (string_bytes text.new ≡ string_bytes text.old ++ rank_table_text journal.now.receipts (entries_at register.now.parts) folio) }
 {
     // The contract of `len` says that this is a journal.
     let receipts = journal.len() as usize;
     prove!(receipts <= Journal::MAX);
-    let rights = live_rights(alloc, register, folio)?;
-    add_ranks(text, folio, &rights)?;
-    let exchanges = counted_exchanges(alloc, register, journal, folio, &rights)?;
-    add_exchange_lines(text, &exchanges)?;
-    add_exercises(alloc, text, register, folio)?;
-    add_cents(alloc, text, register, journal, folio, &exchanges)
+    add_ranks(text, folio, line.live())?;
+    add_exchange_lines(text, line.exchanges())?;
+    add_exercise_lines(text, line.exercises())?;
+    add_cents(alloc, text, register, journal, folio, line)
 }
 
 /// Adds the ranks of these rights, which stand in order.
@@ -72,20 +71,6 @@ fn add_ranks(text: &mut String, folio: FolioId, rights: &[CreatedRight]) -> Resu
     add_rank_lines(text, rights)
 }
 
-/// Adds the exercised reservations of the folio.
-fn add_exercises(
-    alloc: Global,
-    text: &mut String,
-    register: &Register,
-    folio: FolioId,
-) -> Result<(), NoMemory>
-    ensures { OnOk result (string_bytes text.new ≡ string_bytes text.old
-        ++ flat_map exercise_line (counted_exercises (entries_at register.now.parts) folio)) }
-{
-    let exercises = counted_exercises(alloc, register, folio)?;
-    add_exercise_lines(text, &exercises)
-}
-
 /// Adds the cents of the folio's line after the exchanges that count.
 fn add_cents(
     alloc: Global,
@@ -93,13 +78,18 @@ fn add_cents(
     register: &Register,
     journal: &Journal,
     folio: FolioId,
-    exchanges: &[Exchange],
+    line: &FolioLine,
 ) -> Result<(), NoMemory>
     requires kept { Kept journal.now.receipts (entries_at register.now.parts) }
-    requires counted { exchanges.now ≡ counted_exchanges (entries_at register.now.parts) folio }
+    requires line { IsLineOf (entries_at register.now.parts) folio line.now }
     ensures { OnOk result (string_bytes text.new ≡ string_bytes text.old
         ++ line_text (folio_filled (entries_at register.now.parts) folio)) }
 {
-    let slots = folio_slots(alloc, register, journal, folio, exchanges)?;
+    let reading = FolioReading {
+        parts: register,
+        folio,
+        before: None,
+    };
+    let slots = folio_slots(alloc, &reading, journal, line)?;
     add_cent_lines(text, &slots)
 }

@@ -4,14 +4,17 @@ ghost use Rattle.std.specs.Prelude.{◌≡◌, ◌++◌, IfOk, OnOk, length};
 ghost use Rattle.std.specs.String.{string_bytes};
 ghost use Rattle.folio_sections.specs.Held.{entries_at};
 ghost use Rattle.kept_registers.specs.Kept.{Kept};
+ghost use Rattle.folio_extract.specs.Extracts.{extract_text};
+ghost use Rattle.folio_extract.specs.RankTables.{rank_table_text};
 ghost use Rattle.folio_extract.specs.Reports.{Tells, end_line, folio_texts, report, report_text};
 ghost use Rattle.registrar.specs.Settling.{Settlement};
 
 use crate::extracts::add_extract;
+use crate::folio_reads::line_of;
 use crate::rank_tables::add_rank_table;
 use crate::verdict_lines::add_verdict_lines;
 use act_model::Journal;
-use gb_base::NoMemory;
+use gb_base::{FolioId, NoMemory};
 use registrar::Register;
 use std::alloc::Global;
 
@@ -48,10 +51,26 @@ fn add_folios(
     ensures { OnOk result (string_bytes text.new ≡ string_bytes text.old ++ folio_texts journal.now.receipts (entries_at register.now.parts) register.now.folios) }
 {
     for folio in register.folios() {
-        add_extract(alloc, text, register, *folio)?;
-        add_rank_table(alloc, text, register, journal, *folio)?;
+        add_folio(alloc, text, register, journal, *folio)?;
     }
     Ok(())
+}
+
+/// Adds the extract and the rank table of an open folio, whose line is read once for both.
+fn add_folio(
+    alloc: Global,
+    text: &mut String,
+    register: &Register,
+    journal: &Journal,
+    folio: FolioId,
+) -> Result<(), NoMemory>
+    requires { Kept journal.now.receipts (entries_at register.now.parts) }
+    ensures { OnOk result (string_bytes text.new ≡ string_bytes text.old
+        ++ (extract_text (entries_at register.now.parts) folio ++ rank_table_text journal.now.receipts (entries_at register.now.parts) folio)) }
+{
+    let line = line_of(alloc, register, folio)?;
+    add_extract(alloc, text, register, folio, line.live())?;
+    add_rank_table(alloc, text, register, journal, folio, &line)
 }
 
 /// Adds the line that ends the report.

@@ -12,11 +12,11 @@ use Rattle.folio_extract.proofs.extracts.add_extract.Goals as goal
 pub add_rights-requires : goal.add_rights-requires
 add_rights-requires c =
     subst (λ (rights : List CreatedRight). All (λ x. IsTrue (is_held c.args.register.now.parts (Right c.args.folio x.id))) rights)
-    (sym (c.deref.ensures.value ∙ c.in_ok-rights.ensures)) (live_are_held (is_held c.args.register.now.parts) (entries_at c.args.register.now.parts) c.args.folio (not_held c.args.register.now.parts))
+    (sym c.requires) (live_are_held (is_held c.args.register.now.parts) (entries_at c.args.register.now.parts) c.args.folio (not_held c.args.register.now.parts))
 
 pub returns : goal.returns
 returns c =
     on_ok_weaker c.add_rights.result
     (extract_is (entries_at c.args.register.now.parts) c.args.folio
-    (string_bytes c.args.text.now) (string_bytes c.add_folio.new.text) (string_bytes c.add_title_filings.new.text) (string_bytes c.add_rights.new.text) c.deref.result.now
-    (c.deref.ensures.value ∙ c.in_ok-rights.ensures) c.in_ok-add_folio.ensures c.in_ok-add_title_filings.ensures) c.add_rights.ensures
+    (string_bytes c.args.text.now) (string_bytes c.add_folio.new.text) (string_bytes c.add_title_filings.new.text) (string_bytes c.add_rights.new.text) c.args.rights.now
+    c.requires c.in_ok-add_folio.ensures c.in_ok-add_title_filings.ensures) c.add_rights.ensures
