@@ -5,10 +5,12 @@
 mod accruals;
 mod case_items;
 mod claim_items;
+mod claim_rows;
 mod claims;
 mod claims_found;
 mod covers;
 mod findings;
+mod lists;
 mod lowest_bids;
 mod remaining;
 mod rights_found;
