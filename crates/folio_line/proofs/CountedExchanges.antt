@@ -1,4 +1,4 @@
--- The exchanges of a kept folio that count: both rights are plain, the one that rises is live, and each has its turn.
+-- The exchanges of a kept folio that count: both rights are plain, and the one that rises is live.
 use Rattle.std.proofs.Common.{◌≡◌, ℕ, ◌≤◌, true, false, cond, List, filter_map, flat_map, IfSome, IsSome, Option, Some, None, is_some, option_map, refl, sym, ap, subst, ◌∙◌, arith}
 use Rattle.std.specs.List.{AllByRecursion}
 use Rattle.std.proofs.lemmas.Bool.{false≢true}
@@ -24,7 +24,7 @@ use Rattle.folio_line.specs.FolioRights.{live_rights, is_live_with}
 use Rattle.folio_line.specs.declared.exchanges.Exchange.{Exchange}
 use Rattle.folio_line.proofs.CreatedRights.{numbered}
 use Rattle.folio_line.proofs.PlacedOrder.{of_placed_rights}
-use Rattle.folio_line.proofs.Turns.{HasTurn, of_turn}
+use Rattle.folio_line.proofs.Turns.{of_turn}
 
 -- ---- each of them
 
@@ -82,19 +82,3 @@ is_found journal at folio y kept there =
 
 pub is_counted : (journal : List Receipt) (at : Key → List Entry) (folio : ℕ) (y : Exchange) → Kept journal at → In y (counted_exchanges at folio) → IsCounted journal at folio y
 is_counted journal at folio y kept there = is_found journal at folio y kept (of_turn (flat_map (counted_at at folio) (live_rights at folio)) y there)
-
--- ---- so each has its turn
-
-pub have_turns : (journal : List Receipt) (at : Key → List Entry) (folio : ℕ) → Kept journal at → IsJournal journal → AllByRecursion HasTurn (flat_map (counted_at at folio) (live_rights at folio))
-have_turns journal at folio kept stands =
-    all_in HasTurn (flat_map (counted_at at folio) (live_rights at folio)) (λ y there. has_turn y (is_found journal at folio y kept there))
-  where
-    has_turn : (y : Exchange) → IsCounted journal at folio y → HasTurn y
-    has_turn y counted =
-        elim (receipt_at journal y.item) as (λ o. receipt_at journal y.item ≡ o → IsSome o → HasTurn y) [
-          | None ↦ λ _ none. absurd (false≢true none)
-          | Some r ↦ λ is _.
-              let number = numbered journal y.item r is in
-              let few = stands.few in
-              record { item_from = number.from; item_to = omega (arith, number.to, few); act_from = counted.act_from; act_to = counted.act_to }
-        ] refl counted.receipt

@@ -40,7 +40,7 @@ pub record IsCreatedHere (journal : List Receipt) (folio : ℕ) (id : RightNo) (
   pub filed : IsSomeAnd (act_of_right journal id) (IsAsFiled folio made)
   pub rank : IsSomeAnd (creating_rank journal id) (λ n. n ≤ most_creations)
 
-enters_here : (journal : List Receipt) (at : Key → List Entry) (folio : ℕ) (id : RightNo) (receipt : ℕ) (w : What) → EntersAsFiled journal at folio id receipt w → OfCreation (IsCreatedHere journal folio id) w
+pub enters_here : (journal : List Receipt) (at : Key → List Entry) (folio : ℕ) (id : RightNo) (receipt : ℕ) (w : What) → EntersAsFiled journal at folio id receipt w → OfCreation (IsCreatedHere journal folio id) w
 enters_here journal at folio id receipt (what.Created made) enters = record { filed = enters.filed; rank = enters.rank }
 enters_here journal at folio id receipt other enters = tt
 

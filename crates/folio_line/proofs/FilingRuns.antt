@@ -17,13 +17,9 @@ use Rattle.folio_sections.proofs.ReceiptNumbers.{numbers_are}
 use Rattle.folio_sections.proofs.Unchanged.{all_both, all_weaker}
 use Rattle.folio_line.specs.FolioRights.{by_group, right_where, rights_of}
 use Rattle.folio_line.specs.declared.folio_rights.CreatedRight.{CreatedRight}
-use Rattle.folio_line.specs.inner.FilingRuns.{is_of_filing}
+use Rattle.folio_line.specs.inner.FilingRuns.{AreOfFilings, is_of_filing}
 
 -- ---- runs
-
--- the rights at each number are of the filing of that number
-abbrev pub AreOfFilings : (ℕ → List CreatedRight) → Type 0
-AreOfFilings f = (m : ℕ) → AllByRecursion (λ x. is_of_filing m x ≡ true) (f m)
 
 pub placed_of_filings : (holds : RightNo → List Entry → Bool) (at : Key → List Entry) (folio : ℕ) → AreOfFilings (rights_of holds at folio)
 placed_of_filings holds at folio m = by (range_with_len 1 8)

@@ -7,11 +7,11 @@ use Rattle.folio_line.specs.FolioRights.{by_group, has_group}
 use Rattle.folio_line.specs.declared.folio_rights.CreatedRight.{CreatedRight}
 
 -- these rights by the groups from one on
-abbrev grouped : List CreatedRight → ℕ → ℕ → List CreatedRight
+abbrev pub grouped : List CreatedRight → ℕ → ℕ → List CreatedRight
 grouped xs from many = flat_map (λ group. filter (has_group group) xs) (range_with_len from many)
 
 -- a right of an earlier group adds nothing
-passed_group : (x : CreatedRight) (xs : List CreatedRight) (from many : ℕ) → x.made.spec.group < from → grouped (x ∷ xs) from many ≡ grouped xs from many
+pub passed_group : (x : CreatedRight) (xs : List CreatedRight) (from many : ℕ) → x.made.spec.group < from → grouped (x ∷ xs) from many ≡ grouped xs from many
 passed_group x xs from zero below = refl
 passed_group x xs from (suc many) below =
     let other : has_group from x ≡ false = grind (arith, nat_tests, below) in

@@ -1,11 +1,15 @@
 -- Lemmas.
+pub mod AllRights
 pub mod CountedExchanges
 pub mod CreatedRights
 pub mod FiledRights
 pub mod FilingRuns
 pub mod FolioFills
+pub mod GroupWrites
 pub mod GroupedRights
 pub mod GroupsWritten
+pub mod LineRead
+pub mod LineRoom
 pub mod LiveAreHeld
 pub mod LiveRights
 pub mod LoneGroups
@@ -15,5 +19,9 @@ pub mod PlacedOrder
 pub mod PlacesBehind
 pub mod PlainAlone
 pub mod PlainRights
+pub mod ReadWhereHeld
 pub mod RightOrder
+pub mod RightWalks
+pub mod SortedLists
+pub mod SortedTurns
 pub mod Turns

@@ -83,7 +83,7 @@ place_is journal folio i id here =
     place_found all id i id (creations_rise journal folio) (slice_get_within all i id here) (subst (λ x. rights.ghosts.cmp x id ≡ Equal) (sym same) (itself id))
 
 -- the creating act is one of the folio
-folio_is : (folio : ℕ) (made : Created) (o : Option Act) → IsSomeAnd o (IsAsFiled folio made) → option_and_then folio_of_creation o ≡ Some folio
+pub folio_is : (folio : ℕ) (made : Created) (o : Option Act) → IsSomeAnd o (IsAsFiled folio made) → option_and_then folio_of_creation o ≡ Some folio
 folio_is folio made None filed = absurd filed
 folio_is folio made (Some act) filed =
     ap (λ o. cond (is_some o) (Some (folio_of act)) None) filed.spec ∙ ap Some filed.there

@@ -1,4 +1,4 @@
--- A stable sort by item and act puts exchanges in turn.
+-- Exchanges in turn: they rise, those of a turn stay, and of lists of which that holds there is one.
 use Rattle.std.proofs.Common.{◌≡◌, ◌⊎◌, ℕ, zero, suc, ◌+◌, ◌<◌, ◌≤◌, Bool, true, false, cond, eqb, nat_lt, not, ◌&&◌, ◌||◌, List, [], ◌∷◌, ◌++◌, get_or, filter, flat_map, refl, sym, ap, ◌∙◌, subst, inl, inr, ⊎_elim, arith, suc-le-suc, zero-le}
 use Rattle.std.specs.List.{AllByRecursion, IsDistinct, range_with_len}
 use Rattle.std.specs.List.Sorted.{IsSortedBy, IsStableBy, ties}
@@ -21,7 +21,7 @@ use Rattle.folio_line.specs.declared.exchanges.Exchange.{Exchange}
 -- ---- the order of turns
 
 -- exchange x is of an earlier receipt than y, or of an earlier act of the same one
-abbrev is_earlier : Exchange → Exchange → Bool
+abbrev pub is_earlier : Exchange → Exchange → Bool
 is_earlier x y = nat_lt x.item y.item || (eqb x.item y.item && nat_lt x.act y.act)
 
 -- two exchanges are of one item and act
@@ -43,7 +43,7 @@ neither false false both = (refl, refl)
 with_both : (s t : Bool) → s ≡ false → t ≡ false → (not s && not t) ≡ true
 with_both s t first second = (λ i. not (first i) && not (second i))
 
-of_one_turn : (x y : Exchange) → same_turn x y ≡ true → (is_earlier x y ≡ false) × (is_earlier y x ≡ false)
+pub of_one_turn : (x y : Exchange) → same_turn x y ≡ true → (is_earlier x y ≡ false) × (is_earlier y x ≡ false)
 of_one_turn x y same = neither (is_earlier x y) (is_earlier y x) same
 
 ties_itself : (x : Exchange) → same_turn x x ≡ true
@@ -62,27 +62,12 @@ left_out p y ys h = cond-false _ _ _ h
 abbrev NoneEarlier : Exchange → List Exchange → Type 0
 NoneEarlier x ys = AllByRecursion (λ y. is_earlier y x ≡ false) ys
 
-abbrev Rises : List Exchange → Type 0
+abbrev pub Rises : List Exchange → Type 0
 Rises [] = Unit {0}
 Rises (x ∷ xs) = NoneEarlier x xs × Rises xs
 
 none_earlier_on : (x y : Exchange) (zs : List Exchange) → is_earlier y x ≡ false → NoneEarlier y zs → NoneEarlier x zs
 none_earlier_on x y zs first all = all_weaker (λ z. is_earlier z y ≡ false) (λ z. is_earlier z x ≡ false) zs (λ z second. not_earlier_on x y z first second) all
-
--- ---- what a sort leaves rises
-
-far : (x y : Exchange) (ys : List Exchange) → is_earlier y x ≡ false → Rises (y ∷ ys) → NoneEarlier x (y ∷ ys)
-far x y ys first rises = (first, none_earlier_on x y ys first rises.0)
-
-sorted_rises : (ys : List Exchange) → IsSortedBy is_earlier ys → Rises ys
-sorted_rises [] sorted = tt
-sorted_rises (y ∷ []) sorted = (tt, tt)
-sorted_rises (y ∷ z ∷ zs) sorted =
-    let rest = sorted_rises (z ∷ zs)
-    (λ k d le lt.
-    let next : suc k + 1 ≡ suc (k + 1) = omega arith in
-    subst (λ n. is_earlier (get_or (y ∷ z ∷ zs) n d) (get_or (z ∷ zs) k d) ≡ false) next (sorted (suc k) d zero-le (omega (arith, lt)))) in
-    (far y z zs (sorted zero y zero-le (suc-le-suc (suc-le-suc zero-le))) rest, rest)
 
 -- ---- one order alone
 
@@ -95,7 +80,7 @@ found_later first z (y ∷ ys) w ws all is =
       | inr apart ↦ found_later first z ys w ws all.1 (sym (left_out (same_turn z) y ys apart) ∙ is)
     ]
 
-one_order : (ys zs : List Exchange) → Rises ys → Rises zs → ((x : Exchange) → filter (same_turn x) ys ≡ filter (same_turn x) zs) → ys ≡ zs
+pub one_order : (ys zs : List Exchange) → Rises ys → Rises zs → ((x : Exchange) → filter (same_turn x) ys ≡ filter (same_turn x) zs) → ys ≡ zs
 one_order [] [] left right same = refl
 one_order [] (z ∷ zs) left right same =
     let clash = same z ∙ kept (same_turn z) z zs (ties_itself z) in absurd (grind arith)
@@ -158,7 +143,7 @@ unfolding IsDistinct
 rises_of [] up = tt
 rises_of (x ∷ xs) up = (up.0, rises_of xs up.1)
 
-in_turn_rises : (xs : List Exchange) → Rises (in_turn xs)
+pub in_turn_rises : (xs : List Exchange) → Rises (in_turn xs)
 in_turn_rises xs =
     rises_of (in_turn xs) (distinct_over_numbers (λ x y. is_earlier y x) (of_receipt xs) (acts_rise xs)
     (λ m n x y less here there. by_receipts m n x y (item_of xs m x here) (item_of xs n y there) less))
@@ -213,7 +198,7 @@ other_turn n a z x apart same =
     grind (arith, nat_tests, apart, turn.0, turn.1)
 
 -- a further test that what passes the first passes leaves it, and one that it fails leaves nothing
-both_tests : (p q : Exchange → Bool) (xs : List Exchange) → ((x : Exchange) → p x ≡ true → q x ≡ true) → filter p (filter q xs) ≡ filter p xs
+pub both_tests : (p q : Exchange → Bool) (xs : List Exchange) → ((x : Exchange) → p x ≡ true → q x ≡ true) → filter p (filter q xs) ≡ filter p xs
 both_tests p q [] on = refl
 both_tests p q (x ∷ xs) on =
     ⊎_elim
@@ -291,15 +276,11 @@ none_in_turn z xs none =
     apart x there =
         ⊎_elim (λ same. absurd (subst (In x) none (in_filter (same_turn z) xs x there same))) (λ f. f) (cases_Bool (same_turn z x))
 
-in_turn_stays : (z : Exchange) (xs : List Exchange) → AllByRecursion HasTurn xs → filter (same_turn z) (in_turn xs) ≡ filter (same_turn z) xs
+pub in_turn_stays : (z : Exchange) (xs : List Exchange) → AllByRecursion HasTurn xs → filter (same_turn z) (in_turn xs) ≡ filter (same_turn z) xs
 in_turn_stays z xs all =
     ⊎_elim (λ none. none_in_turn z xs none ∙ sym none) (λ turn. turn_stays z xs turn) (none_of_turn z xs all)
 
--- ---- together
-
--- the sort's order of item and act
-abbrev by_turn : Exchange → Exchange → Bool
-by_turn x y = is_lt (ordering_then (nat_cmp x.item y.item) (nat_cmp x.act y.act))
+-- ---- the order of a sort
 
 lesser : (a b : ℕ) → is_lt (nat_cmp a b) ≡ nat_lt a b
 lesser a b =
@@ -308,17 +289,9 @@ lesser a b =
       | false ↦ elim (eqb a b) as (λ t. is_lt (cond t Equal Greater) ≡ false) [ true ↦ refl | false ↦ refl ]
     ]
 
-earlier : (i j a b : ℕ) → is_lt (ordering_then (nat_cmp i j) (nat_cmp a b)) ≡ (nat_lt i j || (eqb i j && nat_lt a b))
+pub earlier : (i j a b : ℕ) → is_lt (ordering_then (nat_cmp i j) (nat_cmp a b)) ≡ (nat_lt i j || (eqb i j && nat_lt a b))
 earlier i j a b =
     elim (nat_lt i j) as (λ t. is_lt (ordering_then (cond t Less (cond (eqb i j) Equal Greater)) (nat_cmp a b)) ≡ (t || (eqb i j && nat_lt a b))) [
       | true ↦ refl
       | false ↦ elim (eqb i j) as (λ t. is_lt (ordering_then (cond t Equal Greater) (nat_cmp a b)) ≡ (t && nat_lt a b)) [ true ↦ lesser a b | false ↦ refl ]
     ]
-
-one_test : by_turn ≡ is_earlier
-one_test = λ i x y. earlier x.item y.item x.act y.act i
-
-pub sorted_is_in_turn : (xs ys : List Exchange) → AllByRecursion HasTurn xs → IsSortedBy by_turn ys → IsStableBy by_turn xs ys → ys ≡ in_turn xs
-sorted_is_in_turn xs ys turns sorted stable =
-    let same : (x : Exchange) → filter (same_turn x) ys ≡ filter (same_turn x) xs = subst (λ lt. IsStableBy lt xs ys) one_test stable in
-    one_order ys (in_turn xs) (sorted_rises ys (subst (λ lt. IsSortedBy lt ys) one_test sorted)) (in_turn_rises xs) (λ x. same x ∙ sym (in_turn_stays x xs turns))

@@ -3,3 +3,5 @@ pub mod FilingRuns
 pub mod NotHeld
 pub mod PlaceByPlace
 pub mod RightOrder
+pub mod RightWalk
+pub mod Turns

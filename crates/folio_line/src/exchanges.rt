@@ -1,18 +1,18 @@
 //! The exchanges of rank of a folio that count (BGB § 880).
-ghost use Rattle.std.specs.Prelude.{◌≡◌, ◌++◌, IfOk, OnOk, flat_map};
+ghost use Rattle.std.specs.Prelude.{◌≡◌, ◌++◌, ◌≤◌, IfOk, filter, flat_map, length, vec_capacity};
 ghost use Rattle.std.specs.List.{list_any};
 ghost use Rattle.gb_base.specs.declared.keys.Key.TheVariants.{Right};
-ghost use Rattle.kept_registers.specs.Kept.{Kept};
-ghost use Rattle.folio_line.specs.FolioRights.{live_rights};
-ghost use Rattle.folio_line.specs.Exchanges.{counted_at, counted_exchanges, is_cancellation_by_consent, keeps_cents, rise_by};
+ghost use Rattle.folio_line.specs.Exchanges.{counted_at, is_cancellation_by_consent, keeps_cents, rise_by};
+ghost use Rattle.folio_line.specs.FolioLine.{all_rises, rises_of};
+ghost use Rattle.folio_line.specs.FolioReading.{CanBeRead, reads};
+ghost use Rattle.folio_line.specs.inner.Turns.{has_turn};
 
-use crate::HeldRights;
+use crate::FolioReading;
 use crate::folio_reads::{is_live, right_entries, was_created};
 use crate::folio_rights::CreatedRight;
-use act_model::Journal;
-use folio_sections::{Entry, What};
-use gb_base::{FolioId, NoMemory, ReceiptNo, RightId};
-use std::alloc::Global;
+use folio_sections::{Entry, Parts, What};
+use gb_base::{NoMemory, ReceiptNo, RightId};
+use std::alloc::AllocError;
 
 /// An exchange of rank that is entered in a folio.
 #[derive(Clone, Copy, Debug)]
@@ -27,64 +27,64 @@ pub struct Exchange {
     pub rise: RightId,
 }
 
-/// The exchanges of a folio that count, by item and act: the right that rises is live, and the cents
-/// of the one that recedes stay. An exchange stands at both of its rights, and is read at the one
-/// that rises, among the live rights of the folio. NoMemory where no memory is found for the list.
-///
-/// By act 1 of receipt 5 right 2.1 recedes behind 4.1: `{ item: 5, act: 1, recede: 2.1, rise: 4.1 }`.
-/// It counts on where 2.1 is cancelled by consent, and no longer once 4.1 is.
-pub fn counted_exchanges<P: HeldRights>(
-    alloc: Global,
-    parts: &P,
-    journal: &Journal,
-    folio: FolioId,
+/// Writes the exchanges that count into a list that has room, by the right that rises: one of these,
+/// which are live. An exchange stands at both of its rights, and is read at the one that rises. It
+/// counts where the cents of the one that recedes stay.
+pub(crate) fn write_counted<P: Parts>(
+    list: &mut Vec<Exchange>,
+    reading: &FolioReading<P>,
     live: &[CreatedRight],
-) -> Result<Vec<Exchange>, NoMemory>
-    requires kept { Kept journal.now.receipts (P.at parts.now) }
-    requires live { live.now ≡ live_rights (P.at parts.now) folio }
-    ensures { IfOk result (λ exchanges. exchanges.items ≡ counted_exchanges (P.at parts.now) folio) }
+)
+    requires read { CanBeRead P.holds P.at reading.now }
+    requires room { length (filter has_turn (flat_map (counted_at (reads P.holds P.at reading.now) reading.now.folio) live.now)) ≤ vec_capacity list.old }
+    ensures items { list.new.items ≡ filter has_turn (flat_map (counted_at (reads P.holds P.at reading.now) reading.now.folio) live.now) }
+    ensures capacity { vec_capacity list.new ≡ vec_capacity list.old }
 {
-    // The contract of `len` says that this is a journal.
-    let receipts = journal.len() as usize;
-    prove!(receipts <= Journal::MAX);
-    let mut exchanges = counted_by_right(alloc, parts, folio, live)?;
-    exchanges.sort_by_key(|exchange: &Exchange| (exchange.item, exchange.act))?;
-    Ok(exchanges)
-}
-
-/// The same by the right that rises.
-fn counted_by_right<P: HeldRights>(
-    alloc: Global,
-    parts: &P,
-    folio: FolioId,
-    live: &[CreatedRight],
-) -> Result<Vec<Exchange>, NoMemory>
-    ensures { IfOk result (λ exchanges. exchanges.items ≡ flat_map (counted_at (P.at parts.now) folio) live.now) }
-{
-    let mut exchanges = Vec::new(alloc);
+    list.clear();
     for right in live {
-        add_counted(&mut exchanges, parts, folio, right)?;
+        add_counted(list, reading, right);
     }
-    Ok(exchanges)
 }
 
 /// Adds the exchanges by which a live right rises, and that count.
-fn add_counted<P: HeldRights>(
-    exchanges: &mut Vec<Exchange>,
-    parts: &P,
-    folio: FolioId,
-    right: &CreatedRight,
-) -> Result<(), NoMemory>
-    ensures { OnOk result (exchanges.new.items ≡ exchanges.old.items ++ counted_at (P.at parts.now) folio right.now) }
+fn add_counted<P: Parts>(list: &mut Vec<Exchange>, reading: &FolioReading<P>, right: &CreatedRight)
+    requires read { CanBeRead P.holds P.at reading.now }
+    requires room { length (list.old.items ++ filter has_turn (counted_at (reads P.holds P.at reading.now) reading.now.folio right.now)) ≤ vec_capacity list.old }
+    ensures items { list.new.items ≡ list.old.items ++ filter has_turn (counted_at (reads P.holds P.at reading.now) reading.now.folio right.now) }
+    ensures capacity { vec_capacity list.new ≡ vec_capacity list.old }
 {
-    for entry in right_entries(parts, folio, right.id) {
+    for entry in right_entries(reading, right.id) {
         if let Some(exchange) = rise_by(right.id, entry) {
-            if keeps_cents(parts, folio, exchange.recede) {
-                exchanges.push(exchange)?;
+            if keeps_cents(reading, exchange.recede) && has_turn(&exchange) {
+                list.push_reserved(exchange);
             }
         }
     }
-    Ok(())
+}
+
+/// How many exchanges there are by which one of these rights rises, whether they count or not: as
+/// many a line of the folio wants room for. NoMemory where they are more than can be counted, for
+/// which no memory could be found. Takes none.
+pub fn count_rises<P: Parts>(reading: &FolioReading<P>, ids: &[RightId]) -> Result<usize, NoMemory>
+    requires read { CanBeRead P.holds P.at reading.now }
+    ensures value { IfOk result (λ n. n ≡ length (all_rises (reads P.holds P.at reading.now) reading.now.folio ids.now)) }
+{
+    let mut count: usize = 0;
+    for id in ids {
+        count = count.checked_add(rises_of(reading, *id)).ok_or(AllocError)?;
+    }
+    Ok(count)
+}
+
+/// How many exchanges there are by which the right rises.
+fn rises_of<P: Parts>(reading: &FolioReading<P>, id: RightId) -> usize
+    requires { CanBeRead P.holds P.at reading.now }
+    ensures { result ≡ length (rises_of (reads P.holds P.at reading.now) reading.now.folio id) }
+{
+    right_entries(reading, id)
+        .iter()
+        .filter_map(|entry| rise_by(id, entry))
+        .count()
 }
 
 /// The exchange that an entry is, where the right rises by it.
@@ -102,14 +102,24 @@ fn rise_by(right: RightId, entry: &Entry) -> Option<Exchange>
     }
 }
 
+/// Whether the exchange has its turn among the others: it is one of the acts that a filing has.
+fn has_turn(exchange: &Exchange) -> bool
+    ensures { result ≡ has_turn exchange.now }
+{
+    // The type says that it is a receipt of the numbers that there may be.
+    let receipt = exchange.item.get();
+    prove!(1 <= receipt);
+    1 <= exchange.act && exchange.act <= 8
+}
+
 /// Whether the cents of a right stay for those that rose into its rank: it is live, or it was
 /// created and cancelled without a proof that it expired (BGB § 880(4)).
-fn keeps_cents<P: HeldRights>(parts: &P, folio: FolioId, id: RightId) -> bool
-    ensures { result ≡ keeps_cents (P.at parts.now (Right folio id)) }
+fn keeps_cents<P: Parts>(reading: &FolioReading<P>, id: RightId) -> bool
+    requires { CanBeRead P.holds P.at reading.now }
+    ensures { result ≡ keeps_cents (reads P.holds P.at reading.now (Right reading.now.folio id)) }
 {
-    is_live(parts, folio, id)
-        || (was_created(parts, folio, id)
-            && was_cancelled_by_consent(right_entries(parts, folio, id)))
+    is_live(reading, id)
+        || (was_created(reading, id) && was_cancelled_by_consent(right_entries(reading, id)))
 }
 
 /// Whether an entry cancels the right by consent.

@@ -1,68 +1,57 @@
 //! The exercised reservations of a folio that count (BGB § 881).
-ghost use Rattle.std.specs.Prelude.{◌≡◌, IfOk, filter_map};
+ghost use Rattle.std.specs.Prelude.{◌≡◌, ◌≤◌, filter_map, length, vec_capacity};
 ghost use Rattle.std.specs.List.{list_any};
-ghost use Rattle.folio_line.specs.Exchanges.{counted_exercises, exercise_behind, exercise_of, is_spent_on};
+ghost use Rattle.folio_line.specs.Exchanges.{exercise_behind, exercise_of, is_spent_on};
+ghost use Rattle.folio_line.specs.FolioReading.{CanBeRead, reads};
 
-use crate::HeldRights;
+use crate::FolioReading;
 use crate::folio_reads::{is_live, right_entries};
-use crate::folio_rights::{CreatedRight, on_line_by_act};
-use folio_sections::{Entry, What};
-use gb_base::{FolioId, NoMemory, RightId};
+use crate::folio_rights::CreatedRight;
+use folio_sections::{Entry, Parts, What};
+use gb_base::RightId;
 use rank_slots::Knot;
-use std::alloc::Global;
 
-/// The exercised reservations of a folio that count, by the exercised right: both rights are live.
-/// NoMemory where no memory is found for the list.
-///
-/// Right 2.1 reserved an amount, and receipt 4 exercises it with 4.1: `{ reserved: 2.1, exercised: 4.1 }`.
-pub fn counted_exercises<P: HeldRights>(
-    alloc: Global,
-    parts: &P,
-    folio: FolioId,
-) -> Result<Vec<Knot>, NoMemory>
-    ensures { IfOk result (λ exercises. exercises.items ≡ counted_exercises (P.at parts.now) folio) }
-{
-    let live = on_line_by_act(alloc, parts, folio, &[])?;
-    exercises_of(alloc, parts, folio, &live)
-}
-
-/// The exercises of these rights that count.
-fn exercises_of<P: HeldRights>(
-    alloc: Global,
-    parts: &P,
-    folio: FolioId,
+/// Writes the exercises of these rights that count into a list that has room: those by which a right
+/// has spent the reservation of another, where that is live.
+pub(crate) fn write_exercises<P: Parts>(
+    list: &mut Vec<Knot>,
+    reading: &FolioReading<P>,
     rights: &[CreatedRight],
-) -> Result<Vec<Knot>, NoMemory>
-    ensures { IfOk result (λ exercises. exercises.items ≡ filter_map (exercise_of (P.at parts.now) folio) rights.now) }
+)
+    requires read { CanBeRead P.holds P.at reading.now }
+    requires room { length rights.now ≤ vec_capacity list.old }
+    ensures items { list.new.items ≡ filter_map (exercise_of (reads P.holds P.at reading.now) reading.now.folio) rights.now }
+    ensures capacity { vec_capacity list.new ≡ vec_capacity list.old }
 {
-    rights
-        .iter()
-        .filter_map(|right| exercise_of(parts, folio, right))
-        .collect(alloc)
+    list.clear();
+    for right in rights {
+        if let Some(exercise) = exercise_of(reading, right) {
+            list.push_reserved(exercise);
+        }
+    }
 }
 
 /// The exercise by which a right was entered, where it counts.
-fn exercise_of<P: HeldRights>(parts: &P, folio: FolioId, right: &CreatedRight) -> Option<Knot>
-    ensures { result ≡ exercise_of (P.at parts.now) folio right.now }
+fn exercise_of<P: Parts>(reading: &FolioReading<P>, right: &CreatedRight) -> Option<Knot>
+    requires { CanBeRead P.holds P.at reading.now }
+    ensures { result ≡ exercise_of (reads P.holds P.at reading.now) reading.now.folio right.now }
 {
     match right.made.ahead_of {
-        Some(reserved) => exercise_behind(parts, folio, right, reserved),
+        Some(reserved) => exercise_behind(reading, right, reserved),
         None => None,
     }
 }
 
 /// The exercise by which a right has spent the reservation of another, where that is live.
-fn exercise_behind<P: HeldRights>(
-    parts: &P,
-    folio: FolioId,
+fn exercise_behind<P: Parts>(
+    reading: &FolioReading<P>,
     right: &CreatedRight,
     reserved: RightId,
 ) -> Option<Knot>
-    ensures { result ≡ exercise_behind (P.at parts.now) folio right.now reserved }
+    requires { CanBeRead P.holds P.at reading.now }
+    ensures { result ≡ exercise_behind (reads P.holds P.at reading.now) reading.now.folio right.now reserved }
 {
-    if is_live(parts, folio, reserved)
-        && has_spent(right.id, right_entries(parts, folio, reserved))
-    {
+    if is_live(reading, reserved) && has_spent(right.id, right_entries(reading, reserved)) {
         Some(Knot {
             reserved,
             exercised: right.id,

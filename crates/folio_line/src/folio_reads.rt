@@ -1,54 +1,80 @@
-//! What stands at a right of a folio; nothing where the parts do not hold it.
-ghost use Rattle.std.specs.Prelude.{◌≡◌, ◌≤◌, is_some};
+//! What is read at a right of a folio; nothing where the parts do not hold it.
+ghost use Rattle.std.specs.Prelude.{◌≡◌, ◌≤◌, is_some, IfSome};
 ghost use Rattle.gb_base.specs.Limits.{most_cents};
 ghost use Rattle.gb_base.specs.declared.keys.Key.TheVariants.{Right};
 ghost use Rattle.folio_sections.specs.Rights.{created, is_live};
+ghost use Rattle.folio_line.specs.FolioReading.{CanBeRead, reads};
 ghost use Rattle.folio_line.specs.FolioSlots.{capital_at};
 
-use crate::HeldRights;
-use folio_sections::Entry;
-use gb_base::{FolioId, RightId};
+use crate::FolioReading;
+use folio_sections::{Created, Entry, Parts, RightFront};
+use gb_base::RightId;
+
+/// The right as it is read; None where the parts do not hold it.
+fn right_front<'a, P: Parts>(reading: &FolioReading<'a, P>, id: RightId) -> Option<RightFront<'a>>
+    requires { CanBeRead P.holds P.at reading.now }
+    ensures some { is_some result ≡ P.holds reading.now.parts.now (Right reading.now.folio id) }
+    ensures value { IfSome result (λ front. front ≡ reads P.holds P.at reading.now (Right reading.now.folio id)) }
+{
+    let part = reading.parts.right(reading.folio, id)?;
+    match reading.before {
+        Some(receipt) => Some(part.below(receipt)),
+        None => Some(part.whole()),
+    }
+}
 
 /// The entries at a right of the folio.
-pub(crate) fn right_entries<P: HeldRights>(parts: &P, folio: FolioId, id: RightId) -> &[Entry]
-    ensures { result.now ≡ P.at parts.now (Right folio id) }
+pub(crate) fn right_entries<'a, P: Parts>(reading: &FolioReading<'a, P>, id: RightId) -> &'a [Entry]
+    requires { CanBeRead P.holds P.at reading.now }
+    ensures { result.now ≡ reads P.holds P.at reading.now (Right reading.now.folio id) }
 {
-    match parts.right(folio, id) {
-        Some(part) => part.entries(),
+    match right_front(reading, id) {
+        Some(front) => front.entries(),
         None => &[],
     }
 }
 
-/// Whether a right of the folio was ever created.
-pub(crate) fn was_created<P: HeldRights>(parts: &P, folio: FolioId, id: RightId) -> bool
-    ensures { result ≡ is_some (created (P.at parts.now (Right folio id))) }
+/// A right of the folio as it was created; None where it never was.
+pub(crate) fn created_right<P: Parts>(reading: &FolioReading<P>, id: RightId) -> Option<Created>
+    requires { CanBeRead P.holds P.at reading.now }
+    ensures { result ≡ created (reads P.holds P.at reading.now (Right reading.now.folio id)) }
 {
-    match parts.right(folio, id) {
-        Some(part) => part.created().is_some(),
-        None => false,
+    match right_front(reading, id) {
+        Some(front) => front.created(),
+        None => None,
     }
 }
 
 /// Whether a right of the folio is live.
-pub(crate) fn is_live<P: HeldRights>(parts: &P, folio: FolioId, id: RightId) -> bool
-    ensures { result ≡ is_live (P.at parts.now (Right folio id)) }
+pub(crate) fn is_live<P: Parts>(reading: &FolioReading<P>, id: RightId) -> bool
+    requires { CanBeRead P.holds P.at reading.now }
+    ensures { result ≡ is_live (reads P.holds P.at reading.now (Right reading.now.folio id)) }
 {
-    match parts.right(folio, id) {
-        Some(part) => part.live(),
+    match right_front(reading, id) {
+        Some(front) => front.live(),
         None => false,
     }
 }
 
 /// The capital of a right of the folio, in cents; 0 where it has none.
-pub(crate) fn capital_of<P: HeldRights>(parts: &P, folio: FolioId, id: RightId) -> u64
-    ensures value { result ≡ capital_at (P.at parts.now) folio id }
+pub(crate) fn capital_of<P: Parts>(reading: &FolioReading<P>, id: RightId) -> u64
+    requires { CanBeRead P.holds P.at reading.now }
+    ensures value { result ≡ capital_at (reads P.holds P.at reading.now) reading.now.folio id }
     ensures bound { result ≤ most_cents }
 {
-    match parts.right(folio, id) {
-        Some(part) => match part.capital() {
+    match right_front(reading, id) {
+        Some(front) => match front.capital() {
             Some(capital) => capital.get(),
             None => 0,
         },
         None => 0,
     }
+}
+
+/// Whether a right of the folio was ever created.
+pub(crate) fn was_created<P: Parts>(reading: &FolioReading<P>, id: RightId) -> bool
+    requires { CanBeRead P.holds P.at reading.now }
+    ensures { result ≡ is_some (created (reads P.holds P.at reading.now (Right reading.now.folio id))) }
+{
+    created_right(reading, id).is_some()
 }

@@ -1,17 +1,22 @@
 //! The rights of a folio in order: those that are live, and those that recede in exchanges.
-ghost use Rattle.std.specs.Prelude.{◌≡◌, ◌++◌, ◌≤◌, if◌then◌else◌, IfOk, None, OnOk, filter, filter_map, flat_map, length};
+ghost use Rattle.std.specs.Prelude.{◌≡◌, ◌++◌, ◌+◌, ◌≤◌, ℕ, true, List, None, filter, filter_map, flat_map, if◌then◌else◌, length, vec_capacity};
 ghost use Rattle.std.specs.List.{prefix_len};
+ghost use Rattle.gb_base.specs.declared.keys.Key.TheVariants.{Right};
 ghost use Rattle.folio_sections.specs.HeldRights.{receipt_numbers};
 ghost use Rattle.folio_sections.specs.Rights.{created};
+ghost use Rattle.folio_sections.specs.inner.RightsInKeys.{is_right_number};
+ghost use Rattle.folio_line.specs.FolioReading.{CanBeRead, reads};
 ghost use Rattle.folio_line.specs.FolioSlots.{recedes, stands_on_line};
-ghost use Rattle.folio_line.specs.FolioRights.{by_group, has_group, has_same_place, live_rights, right_where, rights_of, rights_where};
-ghost use Rattle.folio_line.specs.inner.FilingRuns.{is_of_filing};
+ghost use Rattle.folio_line.specs.FolioRights.{by_group, has_group, has_same_place};
+ghost use Rattle.folio_line.specs.inner.FilingRuns.{AreOfFilings, is_of_filing};
+ghost use Rattle.folio_line.specs.inner.RightWalk.{right_found};
+ghost use Rattle.folio_line.specs.declared.folio_rights.CreatedRight.{CreatedRight};
 
-use crate::HeldRights;
+use crate::FolioReading;
 use crate::exchanges::Exchange;
-use folio_sections::{Created, RightPart};
-use gb_base::{FolioId, NoMemory, ReceiptNo, RightId};
-use std::alloc::Global;
+use crate::folio_reads::{created_right, is_live};
+use folio_sections::{Created, Parts};
+use gb_base::{ReceiptNo, RightId};
 
 /// A right of a folio.
 #[derive(Clone, Copy, Debug)]
@@ -21,90 +26,61 @@ pub struct CreatedRight {
     pub made: Created,
 }
 
-/// The rights that are live in a folio, in order of filing, group and act. NoMemory where no memory
-/// is found for the list.
-///
-/// Receipt 2 creates 2.1 in its group 2 and 2.2 in its group 1, receipt 3 creates 3.1: the list is
-/// 2.2, 2.1, 3.1.
-pub fn live_rights<P: HeldRights>(
-    alloc: Global,
-    parts: &P,
-    folio: FolioId,
-) -> Result<Vec<CreatedRight>, NoMemory>
-    ensures { IfOk result (λ rights. rights.items ≡ live_rights (P.at parts.now) folio) }
-{
-    rights_on_line(alloc, parts, folio, &[])
-}
-
-/// The rights that are live in a folio, and those that recede in these exchanges, in order of
-/// filing, group and act.
-pub fn rights_on_line<P: HeldRights>(
-    alloc: Global,
-    parts: &P,
-    folio: FolioId,
-    exchanges: &[Exchange],
-) -> Result<Vec<CreatedRight>, NoMemory>
-    ensures { IfOk result (λ rights. rights.items ≡ rights_where (stands_on_line exchanges.now) (P.at parts.now) folio) }
-{
-    let placed = on_line_by_act(alloc, parts, folio, exchanges)?;
-    let mut rights = Vec::new(alloc);
-    let mut rest = placed.as_slice();
-    while let Some(first) = rest.first() {
-        let (of_filing, behind) = rest.split_at(count_of_filing(first.id.receipt(), rest));
-        add_by_group(&mut rights, of_filing)?;
-        rest = behind;
-    }
-    Ok(rights)
-}
-
-/// The rights that are live in a folio, and those that recede in these exchanges, by filing and
-/// act.
-pub fn on_line_by_act<P: HeldRights>(
-    alloc: Global,
-    parts: &P,
-    folio: FolioId,
-    exchanges: &[Exchange],
-) -> Result<Vec<CreatedRight>, NoMemory>
-    ensures { IfOk result (λ rights. rights.items ≡ flat_map (rights_of (stands_on_line exchanges.now) (P.at parts.now) folio) receipt_numbers) }
-{
-    let held = parts.rights_in(alloc, folio)?;
-    on_line_among(alloc, parts, folio, exchanges, &held)
-}
-
-/// Those of these rights that are live in the folio or recede in one of these exchanges.
-fn on_line_among<P: HeldRights>(
-    alloc: Global,
-    parts: &P,
-    folio: FolioId,
+/// Writes those of these rights that are live in the folio, and those that recede in these
+/// exchanges, into a list that has room.
+pub(crate) fn write_on_line<P: Parts>(
+    list: &mut Vec<CreatedRight>,
+    reading: &FolioReading<P>,
     exchanges: &[Exchange],
     ids: &[RightId],
-) -> Result<Vec<CreatedRight>, NoMemory>
-    ensures { IfOk result (λ rights. rights.items ≡ filter_map (right_where (stands_on_line exchanges.now) (P.at parts.now) folio) ids.now) }
+)
+    requires read { CanBeRead P.holds P.at reading.now }
+    requires room { length ids.now ≤ vec_capacity list.old }
+    ensures items { list.new.items ≡ filter_map (right_found (stands_on_line exchanges.now) (reads P.holds P.at reading.now) reading.now.folio) ids.now }
+    ensures capacity { vec_capacity list.new ≡ vec_capacity list.old }
 {
-    ids.iter()
-        .filter_map(|id| right_on_line(parts, folio, exchanges, *id))
-        .collect(alloc)
+    list.clear();
+    for id in ids {
+        if let Some(right) = right_on_line(reading, exchanges, *id) {
+            list.push_reserved(right);
+        }
+    }
 }
 
 /// The right of this number, where it is live in the folio or recedes in one of these exchanges.
-fn right_on_line<P: HeldRights>(
-    parts: &P,
-    folio: FolioId,
+fn right_on_line<P: Parts>(
+    reading: &FolioReading<P>,
     exchanges: &[Exchange],
     id: RightId,
 ) -> Option<CreatedRight>
-    ensures { result ≡ right_where (stands_on_line exchanges.now) (P.at parts.now) folio id }
+    requires { CanBeRead P.holds P.at reading.now }
+    ensures { result ≡ right_found (stands_on_line exchanges.now) (reads P.holds P.at reading.now) reading.now.folio id }
 {
-    let made = created_on_line(exchanges, id, parts.right(folio, id)?)?;
+    has_number(id);
+    let made = created_on_line(reading, exchanges, id)?;
     Some(CreatedRight { id, made })
 }
 
-/// The right of this part as it was created, where it is live or recedes.
-fn created_on_line(exchanges: &[Exchange], id: RightId, part: &RightPart) -> Option<Created>
-    ensures { result ≡ (if stands_on_line exchanges.now id part.now.entries then created part.now.entries else None) }
+/// Called for its clause: each right has a number that there may be.
+fn has_number(id: RightId)
+    ensures { is_right_number id ≡ true }
 {
-    if part.live() || recedes(exchanges, id) {
-        part.created()
+    let receipt = id.receipt().get();
+    let act = id.act();
+    prove!(1 <= receipt && 1 <= act && act <= 8);
+}
+
+/// The right of this number as it was created, where it is live or recedes.
+fn created_on_line<P: Parts>(
+    reading: &FolioReading<P>,
+    exchanges: &[Exchange],
+    id: RightId,
+) -> Option<Created>
+    requires { CanBeRead P.holds P.at reading.now }
+    ensures { result ≡ (if stands_on_line exchanges.now id (reads P.holds P.at reading.now (Right reading.now.folio id)) then created (reads P.holds P.at reading.now (Right reading.now.folio id)) else None) }
+{
+    if is_live(reading, id) || recedes(exchanges, id) {
+        created_right(reading, id)
     } else {
         None
     }
@@ -115,6 +91,22 @@ fn recedes(exchanges: &[Exchange], id: RightId) -> bool
     ensures { result ≡ recedes exchanges.now id }
 {
     exchanges.iter().any(|exchange| exchange.recede == id)
+}
+
+/// Writes rights, which stand by filing and act, by filing, group and act into a list that has room.
+pub(crate) fn write_by_group(list: &mut Vec<CreatedRight>, by_act: &[CreatedRight])
+    requires room { length by_act.now ≤ vec_capacity list.old }
+    ensures items { (rights : ℕ → List CreatedRight) → AreOfFilings rights → by_act.now ≡ flat_map rights receipt_numbers
+        → list.new.items ≡ flat_map (λ m. by_group (rights m)) receipt_numbers }
+    ensures capacity { vec_capacity list.new ≡ vec_capacity list.old }
+{
+    list.clear();
+    let mut rest = by_act;
+    while let Some(first) = rest.first() {
+        let (of_filing, behind) = rest.split_at(count_of_filing(first.id.receipt(), rest));
+        add_by_group(list, of_filing);
+        rest = behind;
+    }
 }
 
 /// How many rights at the front are of this filing.
@@ -129,29 +121,27 @@ fn count_of_filing(filing: ReceiptNo, rights: &[CreatedRight]) -> usize
 }
 
 /// Adds these rights by group.
-fn add_by_group(rights: &mut Vec<CreatedRight>, of_filing: &[CreatedRight]) -> Result<(), NoMemory>
-    ensures { OnOk result (rights.new.items ≡ rights.old.items ++ by_group of_filing.now) }
+fn add_by_group(list: &mut Vec<CreatedRight>, of_filing: &[CreatedRight])
+    requires { length list.old.items + length of_filing.now ≤ vec_capacity list.old }
+    ensures items { list.new.items ≡ list.old.items ++ by_group of_filing.now }
+    ensures capacity { vec_capacity list.new ≡ vec_capacity list.old }
 {
     for group in 1..=8 {
-        add_group(rights, of_filing, group)?;
+        add_group(list, of_filing, group);
     }
-    Ok(())
 }
 
 /// Adds those of these rights that are of this group.
-fn add_group(
-    rights: &mut Vec<CreatedRight>,
-    of_filing: &[CreatedRight],
-    group: u8,
-) -> Result<(), NoMemory>
-    ensures { OnOk result (rights.new.items ≡ rights.old.items ++ filter (has_group group) of_filing.now) }
+fn add_group(list: &mut Vec<CreatedRight>, of_filing: &[CreatedRight], group: u8)
+    requires { length (list.old.items ++ filter (has_group group) of_filing.now) ≤ vec_capacity list.old }
+    ensures items { list.new.items ≡ list.old.items ++ filter (has_group group) of_filing.now }
+    ensures capacity { vec_capacity list.new ≡ vec_capacity list.old }
 {
     for right in of_filing {
         if right.made.spec.group == group {
-            rights.push(*right)?;
+            list.push_reserved(*right);
         }
     }
-    Ok(())
 }
 
 /// Whether two rights of a folio have one place: they are of one filing and group (GBO § 45(1), (3)).

@@ -2,16 +2,18 @@
 ghost use Rattle.std.specs.Prelude.{◌≡◌, ◌≤◌, All, IfOk, None, map};
 ghost use Rattle.gb_base.specs.Limits.{most_cents};
 ghost use Rattle.kept_registers.specs.Kept.{Kept};
-ghost use Rattle.folio_line.specs.Exchanges.{counted_exchanges};
+ghost use Rattle.folio_line.specs.FolioLine.{IsLineOf};
+ghost use Rattle.folio_line.specs.FolioReading.{CanBeRead, read_at, reads};
 ghost use Rattle.folio_line.specs.FolioSlots.{capital_at, folio_filled, is_gone, swap_of};
 ghost use Rattle.folio_line.specs.inner.PlaceByPlace.{joins_place, place_behind, places_behind};
 
-use crate::HeldRights;
 use crate::exchanges::Exchange;
 use crate::folio_reads::{capital_of, is_live};
-use crate::folio_rights::{CreatedRight, has_same_place, rights_on_line};
+use crate::folio_rights::{CreatedRight, has_same_place};
+use crate::{FolioLine, FolioReading, HeldRights};
 use act_model::Journal;
-use gb_base::{FolioId, NoMemory};
+use folio_sections::Parts;
+use gb_base::NoMemory;
 use rank_slots::{Place, Slots, Swap};
 use std::alloc::Global;
 
@@ -22,21 +24,20 @@ use std::alloc::Global;
 /// cents 1 to 8000, 2.1 those to 10000, 3.1 those to 15000, and 2.1 the rest.
 pub fn folio_slots<P: HeldRights>(
     alloc: Global,
-    parts: &P,
+    reading: &FolioReading<P>,
     journal: &Journal,
-    folio: FolioId,
-    exchanges: &[Exchange],
+    line: &FolioLine,
 ) -> Result<Slots, NoMemory>
-    requires kept { Kept journal.now.receipts (P.at parts.now) }
-    requires counted { exchanges.now ≡ counted_exchanges (P.at parts.now) folio }
-    ensures { IfOk result (λ slots. slots.filled ≡ folio_filled (P.at parts.now) folio) }
+    requires read { CanBeRead P.holds P.at reading.now }
+    requires kept { Kept journal.now.receipts (read_at reading.now.before (P.at reading.now.parts.now)) }
+    requires line { IsLineOf (read_at reading.now.before (P.at reading.now.parts.now)) reading.now.folio line.now }
+    ensures { IfOk result (λ slots. slots.filled ≡ folio_filled (read_at reading.now.before (P.at reading.now.parts.now)) reading.now.folio) }
 {
     // The contract of `len` says that this is a journal.
     let receipts = journal.len() as usize;
     prove!(receipts <= Journal::MAX);
-    let rights = rights_on_line(alloc, parts, folio, exchanges)?;
-    let places = places_of(alloc, parts, folio, &rights)?;
-    let swaps = swaps_of(alloc, exchanges)?;
+    let places = places_of(alloc, reading, line.rights())?;
+    let swaps = swaps_of(alloc, line.exchanges())?;
     let mut slots = Slots::with_room(alloc, places.len(), swaps.len())?;
     // An exercise moves no cents.
     slots.fill(&places, &swaps, &[]);
@@ -46,37 +47,37 @@ pub fn folio_slots<P: HeldRights>(
 /// The places of these rights, which stand in order.
 fn places_of<P: HeldRights>(
     alloc: Global,
-    parts: &P,
-    folio: FolioId,
+    reading: &FolioReading<P>,
     rights: &[CreatedRight],
 ) -> Result<Vec<Place>, NoMemory>
-    ensures value { IfOk result (λ places. places.items ≡ places_behind (capital_at (P.at parts.now) folio) (is_gone (P.at parts.now) folio) None rights.now) }
+    requires { CanBeRead P.holds P.at reading.now }
+    ensures value { IfOk result (λ places. places.items ≡ places_behind (capital_at (reads P.holds P.at reading.now) reading.now.folio) (is_gone (reads P.holds P.at reading.now) reading.now.folio) None rights.now) }
     ensures bound { IfOk result (λ places. All (λ p. p.claim ≤ most_cents) places.items) }
 {
     let mut places = Vec::new(alloc);
     let mut before = None;
     for right in rights {
-        places.push(place_behind(parts, folio, before, right))?;
+        places.push(place_behind(reading, before, right))?;
         before = Some(*right);
     }
     Ok(places)
 }
 
 /// The place of a right behind another.
-fn place_behind<P: HeldRights>(
-    parts: &P,
-    folio: FolioId,
+fn place_behind<P: Parts>(
+    reading: &FolioReading<P>,
     before: Option<CreatedRight>,
     right: &CreatedRight,
 ) -> Place
-    ensures value { result ≡ place_behind (capital_at (P.at parts.now) folio) (is_gone (P.at parts.now) folio) before right.now }
+    requires { CanBeRead P.holds P.at reading.now }
+    ensures value { result ≡ place_behind (capital_at (reads P.holds P.at reading.now) reading.now.folio) (is_gone (reads P.holds P.at reading.now) reading.now.folio) before right.now }
     ensures bound { result.claim ≤ most_cents }
 {
     Place {
         right: right.id,
-        claim: capital_of(parts, folio, right.id),
+        claim: capital_of(reading, right.id),
         with_previous: joins_place(before, right),
-        dropped: !is_live(parts, folio, right.id),
+        dropped: !is_live(reading, right.id),
     }
 }
 

@@ -34,10 +34,10 @@ use Rattle.folio_sections.proofs.ReceiptNumbers.{distinct_over_numbers, in_recei
 -- ---- the rights that there may be
 
 -- right y is x, or stands before it
-abbrev is_up_to : RightNo → RightNo → Bool
+abbrev pub is_up_to : RightNo → RightNo → Bool
 is_up_to x y = nat_lt y.receipt x.receipt || (y.receipt == x.receipt && nat_le y.act x.act)
 
-one_way : (x y : RightNo) → is_up_to x y ≡ false → is_up_to y x ≡ false → ⊥
+pub one_way : (x y : RightNo) → is_up_to x y ≡ false → is_up_to y x ≡ false → ⊥
 one_way x y first second = grind (arith, nat_tests, first, second)
 
 later_act : (m k l : ℕ) → k < l → is_up_to (new_right m k) (new_right m l) ≡ false
@@ -50,7 +50,7 @@ of_filing : (m : ℕ) (x : RightNo) → In x (rights_of_filing m) → (a : ℕ) 
 of_filing m x there = of_map (new_right m) (range_with_len 1 most_acts) x there
 
 -- they ascend
-numbers_rise : IsDistinct is_up_to right_numbers
+pub numbers_rise : IsDistinct is_up_to right_numbers
 numbers_rise =
     distinct_over_numbers is_up_to rights_of_filing (λ m. distinct_mapped is_up_to (new_right m) (later_act m) 1 most_acts)
     (λ k l x y less here there. later_receipt x y k l (sym (ap (λ (r : RightNo). r.receipt) (of_filing k x here).2)) (sym (ap (λ (r : RightNo). r.receipt) (of_filing l y there).2)) less)
@@ -62,7 +62,7 @@ pub record IsNumbered (id : RightNo) : Type 0 where
   pub act_from : 1 ≤ id.act
   pub act_to : id.act ≤ most_acts
 
-is_numbered : (id : RightNo) → is_right_number id ≡ true → IsNumbered id
+pub is_numbered : (id : RightNo) → is_right_number id ≡ true → IsNumbered id
 is_numbered id is = record {
   receipt_from = grind (arith, nat_tests, is);
   receipt_to = grind (arith, nat_tests, is);
@@ -70,7 +70,7 @@ is_numbered id is = record {
   act_to = grind (arith, nat_tests, is);
 }
 
-has_number : (id : RightNo) → IsNumbered id → is_right_number id ≡ true
+pub has_number : (id : RightNo) → IsNumbered id → is_right_number id ≡ true
 has_number id is =
     let a = is.receipt_from in
     let b = is.receipt_to in
@@ -78,12 +78,12 @@ has_number id is =
     let d = is.act_to in
     grind (arith, nat_tests, a, b, c, d)
 
-in_right_numbers : (id : RightNo) → IsNumbered id → In id right_numbers
+pub in_right_numbers : (id : RightNo) → IsNumbered id → In id right_numbers
 in_right_numbers id is =
     in_flat_map rights_of_filing receipt_numbers id.receipt id (in_receipt_numbers id.receipt is.receipt_from is.receipt_to)
     (in_map (new_right id.receipt) (range_with_len 1 most_acts) id.act (in_range 1 most_acts id.act is.act_from (omega (arith, is.act_to))))
 
-of_right_numbers : (id : RightNo) → In id right_numbers → IsNumbered id
+pub of_right_numbers : (id : RightNo) → In id right_numbers → IsNumbered id
 of_right_numbers id there =
     let from = of_flat_map rights_of_filing receipt_numbers id there in
     let act = of_filing from.0 id from.2 in

@@ -37,7 +37,7 @@ impl<'a> RightFront<'a> {
     }
 
     /// The entries, in order.
-    pub fn entries(&self) -> &[Entry]
+    pub fn entries(&self) -> &'a [Entry]
         ensures { result.now ≡ self.now }
     {
         &self.part.entries()[..self.len]
