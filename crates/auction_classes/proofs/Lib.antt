@@ -2,8 +2,10 @@
 pub mod CaseReceipts
 pub mod ClaimedRights
 pub mod ClaimsAdded
+pub mod ClaimsInRow
 pub mod FoundSoFar
 pub mod LeastCovers
 pub mod NewYears
 pub mod NoClaims
+pub mod OrderedClaims
 pub mod StampYears

@@ -1,7 +1,6 @@
 -- The years of stamp days.
 use Rattle.std.proofs.Common.{ℕ, ◌≤◌, inl, inr, pos, refl, arith}
 use Rattle.std.proofs.lemmas.Bool.{cases_lt}
-use Rattle.jiff_core.specs.Calendar.{day_count}
 use Rattle.jiff_core.proofs.CalendarLemmas.{day_count-lt_year, days_from_civil-day_count}
 use Rattle.jiff_core.proofs.MarchLemmas.{day_count-early}
 use Rattle.jiff_core.proofs.SignedLemmas.{signed_arith}

@@ -1,27 +1,29 @@
 -- All that a forced sale is reckoned from, put together (ZVG §§ 10 to 13, 43 to 47).
-use Rattle.std.specs.Prelude.{ℕ, ◌+◌, Bool, true, ◌&&◌, ◌==◌, nat_le, if◌then◌else◌, List, [], map}
+use Rattle.std.specs.Prelude.{ℕ, ◌+◌, Bool, true, ◌&&◌, ◌==◌, nat_le, if◌then◌else◌, List, [], filter, map}
+use Rattle.gb_base.specs.RightNo.{RightNo}
 use Rattle.act_model.specs.Acts.{is_in_division_three}
 use Rattle.act_model.specs.declared.sales.Basis.{Basis}
 use Rattle.act_model.specs.declared.sales.Basis.TheVariants as basis
 use Rattle.folio_sections.specs.Rights.{is_full, is_live}
-use Rattle.folio_line.specs.declared.folio_rights.CreatedRight.{CreatedRight}
+use Rattle.folio_sections.specs.declared.entries.Entry.{Entry}
 use Rattle.rank_slots.specs.Filled.{Filled, empty}
-use Rattle.auction_classes.specs.Claims.{at_right, claims, former_owners, interest_of, rights_of_class}
+use Rattle.auction_classes.specs.Claims.{at_right, claims, former_owners, right_found, rights_found}
 use Rattle.auction_classes.specs.ClassLines.{line_of_class}
 use Rattle.auction_classes.specs.Sales.{Sale, costs_found, sale_day, seizures_found}
 use Rattle.auction_classes.specs.declared.case_items.Seizure.{Seizure}
 use Rattle.auction_classes.specs.declared.claim_items.ClaimItem.{ClaimItem}
 use Rattle.auction_classes.specs.declared.claim_items.RightClaimed.{RightClaimed}
 use Rattle.auction_classes.specs.declared.claim_items.SeizedFor.{SeizedFor}
+use Rattle.auction_classes.specs.declared.rights_found.RightFound.{RightFound}
 
 -- a seizure from a right is served only where that right is live and no mere priority notice
-abbrev pub is_basis_standing : Sale → Basis → Bool
-is_basis_standing s (basis.Personal creditor claim) = true
-is_basis_standing s (basis.FromRight right) = is_live (at_right s right) && is_full (at_right s right)
+abbrev pub is_basis_standing : (RightNo → List Entry) → Basis → Bool
+is_basis_standing read (basis.Personal creditor claim) = true
+is_basis_standing read (basis.FromRight right) = is_live (read right) && is_full (read right)
 
--- a seizure is served in time: at least 28 days before the sale (ZVG §§ 43(2), 44(2))
-abbrev pub is_served : Sale → Seizure → Bool
-is_served s seizure = nat_le (seizure.served + 28) (sale_day s) && is_basis_standing s seizure.basis
+-- a seizure is served in time: at least 28 days before the day of the sale (ZVG §§ 43(2), 44(2))
+abbrev pub is_served : ℕ → (RightNo → List Entry) → Seizure → Bool
+is_served sale read seizure = nat_le (seizure.served + 28) sale && is_basis_standing read seizure.basis
 
 -- The claims in the order of a plan, the costs, the former owners, the seizures in order, the live rights of class 4, and the lines
 -- of classes 4 and 6.
@@ -48,11 +50,19 @@ pub record ClaimsState : Type 0 where
   pub exchange_room : ℕ
   pub claimed : SaleClaims
 
-abbrev pub seized_for : Sale → Seizure → SeizedFor
-seized_for s seizure = record { basis = seizure.basis; served = is_served s seizure }
+-- a seizure, where the sale is on this day, and this is read at each right
+abbrev pub seized_with : ℕ → (RightNo → List Entry) → Seizure → SeizedFor
+seized_with sale read seizure = record { basis = seizure.basis; served = is_served sale read seizure }
 
-abbrev pub right_claimed : Sale → CreatedRight → RightClaimed
-right_claimed s x = record { right = x.id; interest = interest_of s x; in_division_three = is_in_division_three x.made.spec.kind }
+abbrev pub seized_for : Sale → Seizure → SeizedFor
+seized_for s seizure = seized_with (sale_day s) (at_right s) seizure
+
+abbrev pub right_claimed : RightFound → RightClaimed
+right_claimed x = record { right = x.right.id; interest = x.interest; in_division_three = is_in_division_three x.right.made.spec.kind }
+
+-- those of these rights that are of class 4
+abbrev pub of_class_four : List RightFound → List RightClaimed
+of_class_four rights = map right_claimed (filter (λ x. x.class == 4) rights)
 
 -- what is claimed in a sale
 abbrev pub claimed_in : Sale → SaleClaims
@@ -61,7 +71,7 @@ claimed_in s = record {
   costs = costs_found s;
   owners = former_owners s;
   seizures = map (seized_for s) (seizures_found s);
-  rights = map (right_claimed s) (rights_of_class s 4);
+  rights = of_class_four (map (right_found s) (rights_found s));
   line_four = line_of_class s 4;
   line_six = line_of_class s 6;
 }

@@ -1,3 +1,4 @@
 -- What private clauses and proofs alone cite.
 pub mod CaseSales
+pub mod Readings
 pub mod Reckoning

@@ -4,6 +4,7 @@ ghost use Rattle.auction_classes.specs.Claims.{claim_of_person, claim_of_right, 
 
 use crate::case_items::{Registered, Seizure};
 use crate::claim_items::Claim;
+use crate::lists::push_copy;
 use crate::rights_found::RightFound;
 use act_model::{Basis, Registration};
 use gb_base::{Cents, Day, Person};
@@ -147,16 +148,6 @@ fn add(claims: &mut Vec<Claim>, claim: &Claim)
     if claim.interest > 0 || claim.capital > 0 {
         push_copy(claims, claim);
     }
-}
-
-/// Puts a copy of a value behind the others.
-fn push_copy<T: Copy>(list: &mut Vec<T>, value: &T)
-    requires { vec_len list.old < vec_capacity list.old }
-    ensures items { list.new.items ≡ list.old.items ++ value.now ∷ [] }
-    ensures len { vec_len list.new ≡ vec_len list.old + 1 }
-    ensures capacity { vec_capacity list.new ≡ vec_capacity list.old }
-{
-    list.push_reserved(*value);
 }
 
 /// A claim of a person, of no right.

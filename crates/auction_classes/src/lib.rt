@@ -5,13 +5,18 @@
 mod accruals;
 mod case_items;
 mod claim_items;
+mod claim_rows;
 mod claims;
 mod claims_found;
 mod covers;
 mod findings;
+mod lists;
 mod lowest_bids;
+mod owners_found;
 mod remaining;
+mod right_claims;
 mod rights_found;
+mod seizures_found;
 
 pub use claim_items::{ClaimItem, RightClaimed, SeizedFor};
 pub use claims::Claims;

@@ -1,17 +1,20 @@
 //! The rights of a folio with what is claimed of them in a forced sale (ZVG §§ 10 to 13).
-ghost use Rattle.std.specs.Prelude.{◌≡◌, ◌*◌, ◌≤◌, IsSome, Some, if◌then◌else◌, length};
+ghost use Rattle.std.specs.Prelude.{◌≡◌, ◌*◌, ◌≤◌, All, IsSome, Some, if◌then◌else◌, length, map, vec_capacity};
 ghost use Rattle.std.specs.Option.{option_map_or};
 ghost use Rattle.folio_sections.specs.Rights.{capital, created, entered_by, entered_on, holder};
+ghost use Rattle.folio_line.specs.FolioReading.{CanBeRead};
 ghost use Rattle.gb_base.specs.Limits.{last_stamp_day, most_rate};
 ghost use Rattle.auction_classes.specs.Claims.{accrual_by, are_both, arrears_found, arrears_named, class_by, right_with};
 ghost use Rattle.auction_classes.specs.Interest.{arrears_in_class, old_arrears, rate_of};
+ghost use Rattle.auction_classes.specs.inner.Readings.{IsReadAs, rights_read};
 
 use crate::accruals::{Accrual, rate_of};
 use crate::case_items::Registered;
 use crate::findings::Finding;
+use crate::lists::push_copy;
 use act_model::Registration;
-use folio_line::CreatedRight;
-use folio_sections::{Entry, RightFront, What};
+use folio_line::{CreatedRight, FolioReading, right_front};
+use folio_sections::{Entry, Parts, RightFront, What};
 use gb_base::{Cents, Day, Person, ReceiptNo, RightId};
 
 /// A live right of the folio with what is claimed of it, in cents.
@@ -41,8 +44,47 @@ struct Arrears {
     old: u64,
 }
 
-/// A right as it is read, with what is claimed of it. Takes no memory.
-pub(crate) fn right_found(
+/// Writes the live rights of a folio with what is claimed of them anew. Takes no memory.
+pub(crate) fn write_rights<P: Parts>(
+    found: &mut Vec<RightFound>,
+    reading: &FolioReading<P>,
+    finding: &Finding,
+    registrations: &[Registered],
+    rights: &[CreatedRight],
+)
+    requires read { CanBeRead P.holds P.at reading.now }
+    requires rights { All (IsReadAs (rights_read P.holds P.at reading.now)) rights.now }
+    requires sale { finding.now.sale ≤ last_stamp_day }
+    requires few { length registrations.now ≤ 32 }
+    requires room { length rights.now ≤ vec_capacity found.old }
+    ensures items { found.new.items ≡ map (λ x. right_with finding.now registrations.now x (rights_read P.holds P.at reading.now x.id)) rights.now }
+    ensures capacity { vec_capacity found.new ≡ vec_capacity found.old }
+{
+    found.clear();
+    for right in rights {
+        push_copy(found, &right_read(reading, finding, registrations, right));
+    }
+}
+
+/// A right of a folio with what is claimed of it.
+fn right_read<P: Parts>(
+    reading: &FolioReading<P>,
+    finding: &Finding,
+    registrations: &[Registered],
+    right: &CreatedRight,
+) -> RightFound
+    requires read { CanBeRead P.holds P.at reading.now }
+    requires right { IsReadAs (rights_read P.holds P.at reading.now) right.now }
+    requires sale { finding.now.sale ≤ last_stamp_day }
+    requires few { length registrations.now ≤ 32 }
+    ensures { result ≡ right_with finding.now registrations.now right.now (rights_read P.holds P.at reading.now right.now.id) }
+{
+    let front = right_front(reading, right.id).unwrap();
+    right_found(finding, registrations, right, &front)
+}
+
+/// A right as it is read, with what is claimed of it.
+fn right_found(
     finding: &Finding,
     registrations: &[Registered],
     right: &CreatedRight,

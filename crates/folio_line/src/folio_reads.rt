@@ -11,7 +11,10 @@ use folio_sections::{Created, Entry, Parts, RightFront};
 use gb_base::RightId;
 
 /// The right as it is read; None where the parts do not hold it.
-fn right_front<'a, P: Parts>(reading: &FolioReading<'a, P>, id: RightId) -> Option<RightFront<'a>>
+pub fn right_front<'a, P: Parts>(
+    reading: &FolioReading<'a, P>,
+    id: RightId,
+) -> Option<RightFront<'a>>
     requires { CanBeRead P.holds P.at reading.now }
     ensures some { is_some result ≡ P.holds reading.now.parts.now (Right reading.now.folio id) }
     ensures value { IfSome result (λ front. front ≡ reads P.holds P.at reading.now (Right reading.now.folio id)) }

@@ -16,6 +16,7 @@ mod readings;
 mod slots;
 
 pub use exchanges::{Exchange, count_rises};
+pub use folio_reads::right_front;
 pub use folio_rights::{CreatedRight, has_same_place};
 pub use held_lines::held_line;
 pub use held_rights::HeldRights;

@@ -1,5 +1,5 @@
 -- One more is added.
-use Rattle.std.proofs.Common.{[], ◌∷◌, ◌++◌, filter, filter_map, flat_map, take, sym, ap, ◌∙◌}
+use Rattle.std.proofs.Common.{[], ◌∷◌, ◌++◌, filter, flat_map, take, sym, ap, ◌∙◌}
 use Rattle.std.proofs.lemmas.List.{take_more}
 use Rattle.auction_classes.specs.Claims.{claims_of_right, is_claim}
 use Rattle.auction_classes.proofs.ClaimsAdded.{of_rights_go_on, one_more_claims}

@@ -1,5 +1,5 @@
 -- What is claimed so far.
-use Rattle.std.proofs.Common.{filter, filter_map, flat_map, vec_capacity, vec_len}
+use Rattle.std.proofs.Common.{filter, filter_map, vec_capacity, vec_len}
 use Rattle.auction_classes.specs.Claims.{claim_registered, is_claim}
 use Rattle.auction_classes.proofs.ClaimsAdded.{AreAdded}
 use Rattle.auction_classes.proofs.claims_found.add_registered.Given as goal

@@ -1,0 +1,22 @@
+//! The former owners, who get what is left (ZVG §§ 109, 112).
+ghost use Rattle.std.specs.Prelude.{◌≡◌, ◌≤◌, [], vec_capacity};
+ghost use Rattle.std.specs.Option.{option_map_or};
+ghost use Rattle.act_model.specs.Limits.{most_owners};
+ghost use Rattle.folio_sections.specs.Titles.{owners};
+
+use crate::lists::copy_into;
+use folio_sections::TitleFront;
+use gb_base::Person;
+
+/// Writes the owners whom a title names, anew and in their order; none where it names nobody. Takes
+/// no memory.
+pub(crate) fn write_owners(list: &mut Vec<Person>, title: &TitleFront)
+    requires room { most_owners ≤ vec_capacity list.old }
+    ensures items { list.new.items ≡ option_map_or (λ people. people) (owners title.now) [] }
+    ensures capacity { vec_capacity list.new ≡ vec_capacity list.old }
+{
+    match title.owners() {
+        Some(owners) => copy_into(list, owners.list()),
+        None => list.clear(),
+    }
+}

@@ -1,0 +1,42 @@
+//! The rights of class 4, as what remains of them has them (ZVG § 52).
+ghost use Rattle.std.specs.Prelude.{◌≡◌, ◌+◌, ◌<◌, ◌≤◌, ◌++◌, ◌∷◌, ◌==◌, [], filter, length, map, vec_capacity, vec_len};
+ghost use Rattle.auction_classes.specs.SaleClaims.{of_class_four, right_claimed};
+
+use crate::RightClaimed;
+use crate::lists::push_copy;
+use crate::rights_found::RightFound;
+
+/// Writes those of these rights anew that are of class 4. Takes no memory.
+pub(crate) fn write_right_claims(list: &mut Vec<RightClaimed>, rights: &[RightFound])
+    requires room { length rights.now ≤ vec_capacity list.old }
+    ensures items { list.new.items ≡ of_class_four rights.now }
+    ensures capacity { vec_capacity list.new ≡ vec_capacity list.old }
+{
+    list.clear();
+    for right in rights {
+        add_right_claimed(list, right);
+    }
+}
+
+/// Adds a right, where it is of class 4.
+fn add_right_claimed(list: &mut Vec<RightClaimed>, right: &RightFound)
+    requires room { vec_len list.old < vec_capacity list.old }
+    ensures items { list.new.items ≡ list.old.items ++ of_class_four (right.now ∷ []) }
+    ensures few { vec_len list.new ≤ vec_len list.old + 1 }
+    ensures capacity { vec_capacity list.new ≡ vec_capacity list.old }
+{
+    if right.class == 4 {
+        push_copy(list, &right_claimed(right));
+    }
+}
+
+/// A right, as what remains of it has it.
+fn right_claimed(right: &RightFound) -> RightClaimed
+    ensures { result ≡ right_claimed right.now }
+{
+    RightClaimed {
+        right: right.right.id,
+        interest: right.interest,
+        in_division_three: right.right.made.spec.kind.is_in_division_three(),
+    }
+}
