@@ -13,6 +13,7 @@ use gb_base::RightId;
 pub(crate) fn write_in_order(ordered: &mut Vec<Claim>, claims: &[Claim])
     requires room { length claims.now ≤ vec_capacity ordered.old }
     ensures claims { ordered.new.items ≡ in_order claims.now }
+    ensures few { vec_len ordered.new ≤ length claims.now }
     ensures capacity { vec_capacity ordered.new ≡ vec_capacity ordered.old }
 {
     ordered.clear();

@@ -40,6 +40,7 @@ pub(crate) fn find_sale(journal: &Journal, case: &CaseFront, item: ReceiptNo) ->
     requires { CanFind (sale_of_case journal.now.receipts case.now item) }
     ensures value { result ≡ finding_of (sale_of_case journal.now.receipts case.now item) }
     ensures sale { result.sale ≤ last_stamp_day }
+    ensures year { 3 ≤ result.year }
 {
     let called = number_called(journal, case, item);
     let seized = first_seizure(case);

@@ -5,6 +5,7 @@
 mod accruals;
 mod case_items;
 mod claim_items;
+mod claim_lists;
 mod claim_rows;
 mod claims;
 mod claims_found;

@@ -12,3 +12,8 @@ pub add_by_class-requires-2 : goal.add_by_class-requires-2
 add_by_class-requires-2 c =
     let few = by_class_few c.args.claims.now in
     record { room = omega (arith, few, c.clear.ensures.len, c.clear.ensures.capacity, c.add_by_class.ensures.len, c.add_by_class.ensures.capacity, c.requires.room) }
+
+pub returns-clause-few : goal.returns-clause-few
+returns-clause-few c =
+    let few = by_class_few c.args.claims.now in
+    omega (arith, few, c.clear.ensures.len, c.add_by_class.ensures.len, c.add_by_class-2.ensures.len)
