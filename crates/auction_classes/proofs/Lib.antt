@@ -4,6 +4,7 @@ pub mod ClaimedRights
 pub mod ClaimsAdded
 pub mod ClaimsInRow
 pub mod FoundSoFar
+pub mod KeptSales
 pub mod LeastCovers
 pub mod NewYears
 pub mod NoClaims

@@ -54,12 +54,13 @@ is_created_here journal at folio id made kept is =
 
 -- ---- what it says is in its ranges
 
--- The number of the right is one of the journal, and its group and capital are in their ranges.
+-- The number of the right is one of the journal, and its rate, group and capital are in their ranges.
 pub record IsInRanges (journal : List Receipt) (id : RightNo) (made : Created) : Type 0 where
   pub receipt_from : 1 ≤ id.receipt
   pub receipt_to : id.receipt ≤ length journal
   pub act_from : 1 ≤ id.act
   pub act_to : id.act ≤ most_acts
+  pub kind : is_right_kind made.spec.kind ≡ true
   pub group_from : 1 ≤ made.spec.group
   pub group_to : made.spec.group ≤ most_groups
   pub capital : 1 ≤ made.spec.capital
@@ -108,7 +109,8 @@ in_ranges : (journal : List Receipt) (folio : ℕ) (id : RightNo) (made : Create
 in_ranges journal folio id made r f act receipt number well filed =
     let spec = spec_well act made.spec (all_at_number is_act f.acts (id.act - 1) act (acts_well f well).1 number.there) filed.spec in
     let group = and_parts (is_right_kind made.spec.kind && is_amount made.spec.capital) (is_between 1 most_groups made.spec.group) spec in
-    let capital = (and_parts (is_right_kind made.spec.kind) (is_amount made.spec.capital) group.0).1 in
+    let amounts = and_parts (is_right_kind made.spec.kind) (is_amount made.spec.capital) group.0 in
+    let capital = amounts.1 in
     let few = few_acts f well in
     let last = number.to in
     record {
@@ -116,6 +118,7 @@ in_ranges journal folio id made r f act receipt number well filed =
       receipt_to = receipt.to;
       act_from = number.from;
       act_to = omega (arith, few, last);
+      kind = amounts.0;
       group_from = grind (arith, nat_tests, group.1);
       group_to = grind (arith, nat_tests, group.1);
       capital = grind (arith, nat_tests, capital);
