@@ -9,4 +9,5 @@ pub mod LeastCovers
 pub mod NewYears
 pub mod NoClaims
 pub mod OrderedClaims
+pub mod SalesAsRead
 pub mod StampYears

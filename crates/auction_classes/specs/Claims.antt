@@ -203,6 +203,10 @@ claims_found s = claims_by (year_seized s) (registrations_found s) (seizures_fou
 abbrev pub claims : Sale → List ClaimItem
 claims s = in_row None (in_order (claims_found s))
 
--- the former owners, in the order in which they were named
+-- the owners whom a title with these entries names, in the order in which they were named
+abbrev pub owners_named : List Entry → List ℕ
+owners_named entries = option_map_or (λ people. people) (owners entries) []
+
+-- the former owners
 abbrev pub former_owners : Sale → List ℕ
-former_owners s = option_map_or (λ people. people) (owners (read s (Title s.folio))) []
+former_owners s = owners_named (read s (Title s.folio))

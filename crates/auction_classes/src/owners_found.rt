@@ -1,8 +1,7 @@
 //! The former owners, who get what is left (ZVG §§ 109, 112).
-ghost use Rattle.std.specs.Prelude.{◌≡◌, ◌≤◌, [], vec_capacity};
-ghost use Rattle.std.specs.Option.{option_map_or};
+ghost use Rattle.std.specs.Prelude.{◌≡◌, ◌≤◌, vec_capacity};
 ghost use Rattle.act_model.specs.Limits.{most_owners};
-ghost use Rattle.folio_sections.specs.Titles.{owners};
+ghost use Rattle.auction_classes.specs.Claims.{owners_named};
 
 use crate::lists::copy_into;
 use folio_sections::TitleFront;
@@ -12,7 +11,7 @@ use gb_base::Person;
 /// no memory.
 pub(crate) fn write_owners(list: &mut Vec<Person>, title: &TitleFront)
     requires room { most_owners ≤ vec_capacity list.old }
-    ensures items { list.new.items ≡ option_map_or (λ people. people) (owners title.now) [] }
+    ensures items { list.new.items ≡ owners_named title.now }
     ensures capacity { vec_capacity list.new ≡ vec_capacity list.old }
 {
     match title.owners() {

@@ -1,12 +1,10 @@
 -- The lists of what is claimed, and what is claimed in a sale as its case and the folio's rights are read.
-use Rattle.std.specs.Prelude.{◌≡◌, ℕ, ◌+◌, ◌*◌, ◌≤◌, List, [], map, None, vec_capacity}
-use Rattle.std.specs.Option.{option_map_or}
+use Rattle.std.specs.Prelude.{◌≡◌, ℕ, ◌+◌, ◌*◌, ◌≤◌, List, map, None, vec_capacity}
 use Rattle.gb_base.specs.RightNo.{RightNo}
-use Rattle.folio_sections.specs.Titles.{owners}
 use Rattle.folio_sections.specs.declared.entries.Entry.{Entry}
 use Rattle.folio_line.specs.declared.folio_rights.CreatedRight.{CreatedRight}
-use Rattle.auction_classes.specs.Claims.{claims_by, in_order, in_row, right_with}
-use Rattle.auction_classes.specs.SaleClaims.{of_class_four, seized_with}
+use Rattle.auction_classes.specs.Claims.{claims, claims_by, former_owners, in_order, in_row, owners_named, right_found, right_with, rights_found}
+use Rattle.auction_classes.specs.SaleClaims.{of_class_four, seized_for, seized_with}
 use Rattle.auction_classes.specs.Sales.{Sale, finding_of, registrations_found, sale_day, seizures_found, year_seized}
 use Rattle.auction_classes.specs.declared.claim_items.ClaimItem.{ClaimItem}
 use Rattle.auction_classes.specs.declared.claim_lists.ClaimLists.{ClaimLists}
@@ -44,7 +42,15 @@ items_with s read live =
 -- The lists have what is claimed in a sale, where these are its live rights, and this is read at each right and at the title.
 pub record AreClaimedIn (s : Sale) (read : RightNo → List Entry) (title : List Entry) (live : List CreatedRight) (lists : ClaimLists) : Type 0 where
   pub items : lists.items.items ≡ items_with s read live
-  pub owners : lists.owners.items ≡ option_map_or (λ people. people) (owners title) []
+  pub owners : lists.owners.items ≡ owners_named title
   pub seizures : lists.seizures.items ≡ map (seized_with (sale_day s) read) (seizures_found s)
   pub rights : lists.rights.items ≡ of_class_four (rights_with s read live)
   pub found : lists.found.items ≡ rights_with s read live
+
+-- The lists have what is claimed in a sale.
+pub record AreClaimsOf (s : Sale) (lists : ClaimLists) : Type 0 where
+  pub items : lists.items.items ≡ claims s
+  pub owned : lists.owners.items ≡ former_owners s
+  pub seizures : lists.seizures.items ≡ map (seized_for s) (seizures_found s)
+  pub rights : lists.rights.items ≡ of_class_four (map (right_found s) (rights_found s))
+  pub found : lists.found.items ≡ map (right_found s) (rights_found s)
