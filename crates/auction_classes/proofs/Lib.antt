@@ -1,4 +1,5 @@
 -- Lemmas.
+pub mod BoundedClaims
 pub mod CaseReceipts
 pub mod ClaimedRights
 pub mod ClaimsAdded

@@ -1,5 +1,5 @@
 -- What is claimed in a sale as it is read is what is claimed in the sale.
-use Rattle.std.proofs.Common.{◌≡◌, ℕ, List, map, sym, ap, ◌∙◌}
+use Rattle.std.proofs.Common.{◌≡◌, ℕ, List, map, sym, ◌∙◌}
 use Rattle.gb_base.specs.RightNo.{RightNo}
 use Rattle.gb_base.specs.declared.keys.Key.{Key}
 use Rattle.gb_base.specs.declared.keys.Key.TheVariants.{Case, Title}
@@ -13,7 +13,6 @@ use Rattle.auction_classes.specs.Sales.{finding_of, read, sale_at, sale_day, sei
 use Rattle.auction_classes.specs.inner.CaseSales.{sale_of_case}
 use Rattle.auction_classes.specs.inner.ClaimLists.{AreClaimedIn, AreClaimsOf, items_with, rights_with}
 use Rattle.auction_classes.specs.declared.claim_lists.ClaimLists.{ClaimLists}
-use Rattle.auction_classes.specs.declared.findings.Finding.{Finding}
 
 -- These entries stand at the case, this is read at each right and at the title, and these are the live rights.
 pub record IsReadFrom (journal : List Receipt) (at : Key → List Entry) (folio a : ℕ) (entries : List Entry) (reads : RightNo → List Entry) (title : List Entry) (live : List CreatedRight) : Type 0 where

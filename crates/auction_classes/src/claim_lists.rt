@@ -1,5 +1,5 @@
 //! What is claimed in a forced sale, in lists that keep their room (ZVG §§ 10 to 13).
-ghost use Rattle.std.specs.Prelude.{◌≡◌, ◌+◌, ◌*◌, All, IfOk, IfSome, length};
+ghost use Rattle.std.specs.Prelude.{◌≡◌, ◌+◌, ◌*◌, ◌≤◌, All, IfOk, IfSome, length};
 ghost use Rattle.folio_line.specs.FolioReading.{CanBeRead};
 ghost use Rattle.auction_classes.specs.Sales.{finding_of};
 ghost use Rattle.auction_classes.specs.inner.CaseSales.{CanFind, sale_of_case};
@@ -71,6 +71,7 @@ impl ClaimLists {
         requires room { HaveRoomFor (length live.now) self.old }
         ensures finding { result ≡ finding_of (sale_of_case journal.now.receipts case.now item) }
         ensures claimed { AreClaimedIn (sale_of_case journal.now.receipts case.now item) (rights_read P.holds P.at reading.now) title.now live.now self.new }
+        ensures few { length self.new.items.items ≤ 4 * length live.now + 40 }
         ensures room { KeepRoom self.old self.new }
     {
         let finding = find_sale(journal, case, item);
