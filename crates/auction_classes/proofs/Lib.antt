@@ -10,5 +10,6 @@ pub mod LeastCovers
 pub mod NewYears
 pub mod NoClaims
 pub mod OrderedClaims
+pub mod ReadAlike
 pub mod SalesAsRead
 pub mod StampYears
