@@ -144,7 +144,7 @@ rate_within (kind.LandCharge rate) well = grind (arith, nat_tests, well)
 rate_within other well = omega arith
 
 -- a right that stood before a receipt is as it was filed
-created_here : (journal : List Receipt) (at : Key → List Entry) (folio n a : ℕ) (id : RightNo) (made : Created) → Kept journal at
+pub created_here : (journal : List Receipt) (at : Key → List Entry) (folio n a : ℕ) (id : RightNo) (made : Created) → Kept journal at
     → created (below n (below a (at (Right folio id)))) ≡ Some made → IsCreatedHere journal folio id made
 created_here journal at folio n a id made kept is =
     let entries = below n (below a (at (Right folio id))) in

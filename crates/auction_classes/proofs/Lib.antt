@@ -10,6 +10,7 @@ pub mod LeastCovers
 pub mod NewYears
 pub mod NoClaims
 pub mod OrderedClaims
+pub mod PartsRead
 pub mod ReadAlike
 pub mod SalesAsRead
 pub mod StampYears
