@@ -1,5 +1,6 @@
 -- Lemmas.
 pub mod BoundedClaims
+pub mod BoundedLists
 pub mod CaseReceipts
 pub mod ClaimedRights
 pub mod ClaimsAdded

@@ -1,5 +1,5 @@
 -- Parts that stand for a kept register read the rights of a sale as the register has them.
-use Rattle.std.proofs.Common.{◌≡◌, ℕ, ◌≤◌, inl, inr, Bool, true, false, cond, List, [], IsTrue, IsSome, Option, Some, None, is_some, refl, sym, ap, subst, ◌∙◌, arith}
+use Rattle.std.proofs.Common.{◌≡◌, ℕ, ◌≤◌, inl, inr, Bool, true, false, cond, List, [], IsTrue, IsSome, Some, None, is_some, refl, sym, ap, ◌∙◌, arith}
 use Rattle.std.proofs.lemmas.Bool.{false≢true}
 use Rattle.gb_base.proofs.Members.{In}
 use Rattle.gb_base.specs.RightNo.{RightNo}
@@ -53,9 +53,10 @@ parts_read_alike journal register holds at folio n a kept stands within parts he
     elim (holds k) as (λ b. holds k ≡ b → AreAlike entries (below n (cond b (at k) []))) [
       | true ↦ λ here. inl (below_twice n a (register k) within ∙ ap (below n) (sym (parts k here)))
       | false ↦ λ apart. inr (
-          elim (created entries) as (λ o. created entries ≡ o → o ≡ None) [
-            | None ↦ λ _. refl
-            | Some made ↦ λ is. absurd (false≢true (sym apart ∙ held id (among_filed journal register folio n a id made kept stands within is)))
-          ] refl,
-          refl)
+        elim (created entries) as (λ o. created entries ≡ o → o ≡ None) [
+          | None ↦ λ _. refl
+          | Some made ↦ λ is. absurd (false≢true (sym apart ∙ held id (among_filed journal register folio n a id made kept stands within is)))
+        ] refl,
+        refl,
+      )
     ] refl

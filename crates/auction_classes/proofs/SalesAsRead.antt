@@ -50,7 +50,7 @@ same_rights s reads alike =
     let live = live_rights reads s.folio in
     let g : CreatedRight → RightFound = λ x. right_with (finding_of s) (registrations_found s) x (reads (Right s.folio x.id)) in
     let each : (x : CreatedRight) → In x live → g x ≡ right_found s x = λ x there.
-        ap (right_with (finding_of s) (registrations_found s) x) (sym (same_at_live s reads alike x there)) in
+    ap (right_with (finding_of s) (registrations_found s) x) (sym (same_at_live s reads alike x there)) in
     map_alike g (right_found s) live (all_in (λ (x : CreatedRight). g x ≡ right_found s x) live each)
     ∙ ap (map (right_found s)) (sym (same_live (read s) reads s.folio alike))
 
@@ -60,7 +60,7 @@ same_seizures : (s : Sale) (reads : Key → List Entry) → ReadAlike s.folio (r
 same_seizures s reads alike =
     let g : Seizure → SeizedFor = seized_with (sale_day s) (λ id. reads (Right s.folio id)) in
     let each : (z : Seizure) → In z (seizures_found s) → g z ≡ seized_for s z = λ z there.
-        λ i. record { basis = z.basis; served = nat_le (z.served + 28) (sale_day s) && sym (same_standing (read s) reads s.folio alike z.basis) i } in
+    λ i. record { basis = z.basis; served = nat_le (z.served + 28) (sale_day s) && sym (same_standing (read s) reads s.folio alike z.basis) i } in
     map_alike g (seized_for s) (seizures_found s) (all_in (λ (z : Seizure). g z ≡ seized_for s z) (seizures_found s) each)
 
 -- the lists have what is claimed in it
@@ -89,9 +89,9 @@ live_as_read journal at folio a entries reads title live from kept stands =
     let s = sale_at journal at folio a in
     let found = recursion_from_All (IsReadAs (at_right s)) (rights_found s) (read_as journal at folio a kept stands) in
     let each : (x : CreatedRight) → In x (live_rights reads folio) → IsReadAs (λ id. reads (Right folio id)) x = λ x there.
-        record {
-          made = (of_placed_rights is_live_with reads folio x there).made;
-          rate = (in_all (IsReadAs (at_right s)) (rights_found s) x found (subst (In x) (sym (same_live (read s) reads folio from.rights)) there)).rate;
-        } in
+    record {
+      made = (of_placed_rights is_live_with reads folio x there).made;
+      rate = (in_all (IsReadAs (at_right s)) (rights_found s) x found (subst (In x) (sym (same_live (read s) reads folio from.rights)) there)).rate;
+    } in
     subst (All (IsReadAs (λ id. reads (Right folio id)))) (sym from.living)
     (All-from_recursion (IsReadAs (λ id. reads (Right folio id))) (live_rights reads folio) (all_in (IsReadAs (λ id. reads (Right folio id))) (live_rights reads folio) each))
