@@ -48,8 +48,9 @@ pub(crate) fn created_right<P: Parts>(reading: &FolioReading<P>, id: RightId) ->
     }
 }
 
-/// Whether a right of the folio is live.
-pub(crate) fn is_live<P: Parts>(reading: &FolioReading<P>, id: RightId) -> bool
+/// Whether a right of the folio is live (BGB § 875, ZVG § 91); false where the parts do not hold it.
+/// Takes no memory.
+pub fn is_live<P: Parts>(reading: &FolioReading<P>, id: RightId) -> bool
     requires { CanBeRead P.holds P.at reading.now }
     ensures { result ≡ is_live (reads P.holds P.at reading.now (Right reading.now.folio id)) }
 {
@@ -59,8 +60,9 @@ pub(crate) fn is_live<P: Parts>(reading: &FolioReading<P>, id: RightId) -> bool
     }
 }
 
-/// The capital of a right of the folio, in cents; 0 where it has none.
-pub(crate) fn capital_of<P: Parts>(reading: &FolioReading<P>, id: RightId) -> u64
+/// The capital of a right of the folio, in cents: the one that the last award left, else the one with
+/// which it was created (ZVG § 52); 0 where it has none, or the parts do not hold it. Takes no memory.
+pub fn capital_of<P: Parts>(reading: &FolioReading<P>, id: RightId) -> u64
     requires { CanBeRead P.holds P.at reading.now }
     ensures value { result ≡ capital_at (reads P.holds P.at reading.now) reading.now.folio id }
     ensures bound { result ≤ most_cents }

@@ -16,11 +16,11 @@ mod readings;
 mod slots;
 
 pub use exchanges::{Exchange, count_rises};
-pub use folio_reads::right_front;
+pub use folio_reads::{capital_of, is_live, right_front};
 pub use folio_rights::{CreatedRight, has_same_place};
 pub use held_lines::held_line;
 pub use held_rights::HeldRights;
 pub use journal_rights::rights_filed;
 pub use line::FolioLine;
 pub use readings::FolioReading;
-pub use slots::folio_slots;
+pub use slots::{folio_slots, joins_place};

@@ -81,8 +81,11 @@ fn place_behind<P: Parts>(
     }
 }
 
-/// Whether the right joins the place of the one before it.
-fn joins_place(before: Option<CreatedRight>, right: &CreatedRight) -> bool
+/// Whether the right joins the place of the one before it, if there is one: both are of one filing
+/// and group (GBO § 45(1), (3)). Takes no memory.
+///
+/// 2.2 of group 1 joins 2.1 of group 1; 3.1 does not, whatever its group is.
+pub fn joins_place(before: Option<CreatedRight>, right: &CreatedRight) -> bool
     ensures { result ≡ joins_place before right.now }
 {
     match before {
