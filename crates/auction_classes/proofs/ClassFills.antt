@@ -1,8 +1,8 @@
 -- The line of a class of a sale in a kept register is one that slots can be filled with.
-use Rattle.std.proofs.Common.{◌≡◌, ℕ, ◌+◌, ◌≤◌, Bool, true, ◌==◌, ◌&&◌, ◌||◌, List, Some, None, find, length, refl, sym, subst, arith}
+use Rattle.std.proofs.Common.{◌≡◌, ℕ, ◌+◌, ◌≤◌, Bool, true, ◌==◌, ◌&&◌, ◌||◌, List, All, Some, None, find, length, refl, sym, subst, arith}
 use Rattle.std.specs.Option.{option_map_or}
 use Rattle.std.proofs.lemmas.Bool.{and_from, and_parts, or_left, or_right}
-use Rattle.std.proofs.lemmas.List.Elements.{All-from_recursion}
+use Rattle.std.proofs.lemmas.List.Elements.{All-from_recursion, recursion_from_All}
 use Rattle.std.proofs.lemmas.List.Sums.{sum_by-le}
 use Rattle.gb_base.specs.Limits.{most_cents}
 use Rattle.gb_base.specs.RightNo.{RightNo, same_right}
@@ -19,6 +19,7 @@ use Rattle.folio_sections.specs.declared.entries.Entry.{Entry}
 use Rattle.folio_sections.proofs.DistinctLists.{distinct_filter}
 use Rattle.folio_sections.proofs.FilteredLists.{any_in, of_filter}
 use Rattle.rank_slots.specs.CanFill.{CanFill}
+use Rattle.rank_slots.specs.Filled.{Filled}
 use Rattle.rank_slots.specs.Limits.{most_places}
 use Rattle.rank_slots.specs.declared.places.Knot.{Knot}
 use Rattle.rank_slots.specs.declared.places.Place.{Place}
@@ -32,7 +33,7 @@ use Rattle.folio_line.proofs.CountedExercises.{exercises_distinct, is_tied, shar
 use Rattle.folio_line.proofs.FolioFills.{claims_from, gone_recedes}
 use Rattle.folio_line.proofs.LineFills.{IsLine, few_places, filling_is, its_places, line_can_fill}
 use Rattle.folio_line.proofs.PlacedOrder.{of_placed_rights}
-use Rattle.folio_line.proofs.PlacesBehind.{all_places}
+use Rattle.folio_line.proofs.PlacesBehind.{all_places, of_places}
 use Rattle.folio_line.proofs.RightsInOrder.{RightsInOrder, below_in_order, kept_in_order}
 use Rattle.auction_classes.specs.Claims.{class_of_right, interest_of, rights_found, rights_of_class}
 use Rattle.auction_classes.specs.ClassLines.{claim_in_class, exchanges_of_class, exercises_of_class, line_of_class, stands_in_class}
@@ -108,10 +109,20 @@ class_line_is journal s class order =
 
 -- ---- what is claimed on it
 
--- The capital of each right on the line is an amount. A kept register does not say so of what an award left of a right; the types of
--- what is held do.
+-- The capital of the right of each place on the line is an amount. A kept register does not say so of what an award left of a right;
+-- the types of what is held do.
 abbrev pub HaveAmounts : Sale → ℕ → Type 0
-HaveAmounts s class = (x : CreatedRight) → In x (rights_in_class s class) → capital_at (read s) s.folio x.id ≤ most_cents
+HaveAmounts s class = All (λ p. capital_at (read s) s.folio p.right ≤ most_cents) (line_of_class s class).places
+
+amount_of : (s : Sale) (class : ℕ) (x : CreatedRight) → HaveAmounts s class → In x (rights_in_class s class) → capital_at (read s) s.folio x.id ≤ most_cents
+amount_of s class x amounts there =
+    let claims = claim_in_class s class in
+    let holds = stands_in_class s class in
+    let of_rights = its_places claims holds (read s) s.folio in
+    let places = filling_is claims (read s) s.folio holds (exchanges_of_class s class) (exercises_of_class s class) in
+    let P : Place → Type 0 = λ p. capital_at (read s) s.folio p.right ≤ most_cents in
+    let all : All P of_rights = subst (λ (f : Filled). All P f.places) (sym places) amounts in
+    of_places (λ id. capital_at (read s) s.folio id ≤ most_cents) claims (is_gone (read s) s.folio) None (rights_in_class s class) x there (recursion_from_All P of_rights all)
 
 claim_at_most : (journal : List Receipt) (at : Key → List Entry) (folio a class : ℕ) (id : RightNo) → Kept journal at → IsJournal journal → capital_at (read (sale_at journal at folio a)) folio id ≤ most_cents
     → claim_in_class (sale_at journal at folio a) class id ≤ 700000000000000
@@ -141,7 +152,7 @@ class_can_fill journal at folio a class kept stands amounts =
     let places = its_places claims holds (read s) folio in
     let few : length places ≤ most_places = few_places claims journal (read s) folio holds order stands in
     let each = all_places (λ (p : Place). p.claim ≤ 700000000000000) claims (is_gone (read s) folio) None (rights_in_class s class)
-    (λ b x there. claim_at_most journal at folio a class x.id kept stands (amounts x there)) in
+    (λ b x there. claim_at_most journal at folio a class x.id kept stands (amount_of s class x amounts there)) in
     let sum = sum_by-le (λ (p : Place). p.claim) 700000000000000 places (All-from_recursion (λ (p : Place). p.claim ≤ 700000000000000) places each) in
     let some : (x : CreatedRight) → In x (rights_in_class s class) → 1 ≤ claims x.id = λ x there.
     let capital = claims_from journal (read s) folio x order stands (of_placed_rights holds (read s) folio x there).made in
