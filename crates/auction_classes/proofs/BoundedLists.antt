@@ -17,7 +17,7 @@ use Rattle.auction_classes.specs.inner.ClaimLists.{AreClaimedIn}
 use Rattle.auction_classes.specs.declared.claim_lists.ClaimLists.{ClaimLists}
 use Rattle.auction_classes.proofs.BoundedClaims.{ahead_within, amounts_within, personal_within, seized_within}
 
-few_found : {X Y : Type 0} (f : X → Option Y) (xs : List X) → length (filter_map f xs) ≤ length xs
+pub few_found : {X Y : Type 0} (f : X → Option Y) (xs : List X) → length (filter_map f xs) ≤ length xs
 few_found f [] = omega arith
 few_found f (x ∷ xs) =
     let few = few_found f xs in

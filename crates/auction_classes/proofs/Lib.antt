@@ -1,10 +1,13 @@
 -- Lemmas.
 pub mod BoundedClaims
+pub mod BoundedInterest
 pub mod BoundedLists
 pub mod CaseReceipts
 pub mod ClaimedRights
 pub mod ClaimsAdded
 pub mod ClaimsInRow
+pub mod ClassFills
+pub mod CommercialDays
 pub mod FoundSoFar
 pub mod KeptSales
 pub mod LeastCovers
@@ -13,5 +16,6 @@ pub mod NoClaims
 pub mod OrderedClaims
 pub mod PartsRead
 pub mod ReadAlike
+pub mod RightsOnLine
 pub mod SalesAsRead
 pub mod StampYears

@@ -1,15 +1,13 @@
 -- A right that was created in a kept register: its creating act in the journal, and the ranges of what that says.
-use Rattle.std.proofs.Common.{◌≡◌, ℕ, ◌-◌, ◌≤◌, zero, suc, eqb, Bool, true, false, cond, ◌&&◌, List, [], ◌∷◌, IfSome, IsSomeAnd, Some, None, is_some, length, slice_get, refl, sym, ap, subst, ◌∙◌, arith}
+use Rattle.std.proofs.Common.{◌≡◌, ℕ, ◌-◌, ◌≤◌, zero, suc, eqb, Bool, true, false, cond, ◌&&◌, List, [], ◌∷◌, IsSomeAnd, Some, None, is_some, length, slice_get, refl, sym, ap, ◌∙◌, arith}
 use Rattle.std.specs.List.{list_all}
 use Rattle.std.specs.Option.{option_map_or}
 use Rattle.std.proofs.lemmas.Bool.{and_parts, false≢true}
 use Rattle.std.proofs.lemmas.Bool.Decides.{nat_tests}
-use Rattle.std.proofs.lemmas.List.Elements.{recursion_from_All}
 use Rattle.std.proofs.lemmas.Option.{option_and_then_some, slice_get_within}
 use Rattle.gb_base.specs.Limits.{is_between, most_acts}
 use Rattle.gb_base.specs.RightNo.{RightNo}
 use Rattle.gb_base.specs.declared.keys.Key.{Key}
-use Rattle.gb_base.specs.declared.keys.Key.TheVariants.{Right}
 use Rattle.act_model.specs.Acts.{is_in_division_three, right_created}
 use Rattle.act_model.specs.Creations.{creating_rank}
 use Rattle.act_model.specs.Limits.{most_groups}
@@ -21,16 +19,13 @@ use Rattle.act_model.specs.declared.filing_acts.Act.TheVariants.{Create, Exercis
 use Rattle.act_model.specs.declared.items.Filing.{Filing}
 use Rattle.act_model.specs.declared.receipts.Receipt.{Receipt}
 use Rattle.act_model.specs.declared.rights.RightSpec.{RightSpec}
-use Rattle.kept_registers.specs.Kept.{Kept}
 use Rattle.kept_registers.specs.KeptRights.{EntersAsFiled, IsAsFiled}
 use Rattle.act_model.specs.Limits.{most_creations}
-use Rattle.folio_sections.specs.Rights.{created}
 use Rattle.folio_sections.specs.declared.entries.Created.{Created}
 use Rattle.folio_sections.specs.declared.entries.Entry.{Entry}
 use Rattle.folio_sections.specs.declared.entries.What.{What}
 use Rattle.folio_sections.specs.declared.entries.What.TheVariants as what
-use Rattle.folio_sections.proofs.Unchanged.{all_weaker}
-use Rattle.kept_registers.proofs.KeptOrder.{OfCreation, created_has}
+use Rattle.kept_registers.proofs.KeptOrder.{OfCreation}
 use Rattle.kept_registers.proofs.WellFiled.{well_filed}
 
 -- ---- its act
@@ -43,14 +38,6 @@ pub record IsCreatedHere (journal : List Receipt) (folio : ℕ) (id : RightNo) (
 pub enters_here : (journal : List Receipt) (at : Key → List Entry) (folio : ℕ) (id : RightNo) (receipt : ℕ) (w : What) → EntersAsFiled journal at folio id receipt w → OfCreation (IsCreatedHere journal folio id) w
 enters_here journal at folio id receipt (what.Created made) enters = record { filed = enters.filed; rank = enters.rank }
 enters_here journal at folio id receipt other enters = tt
-
-pub is_created_here : (journal : List Receipt) (at : Key → List Entry) (folio : ℕ) (id : RightNo) (made : Created) → Kept journal at → created (at (Right folio id)) ≡ Some made → IsCreatedHere journal folio id made
-is_created_here journal at folio id made kept is =
-    let entries = at (Right folio id) in
-    let all = recursion_from_All (λ (e : Entry). EntersAsFiled journal at folio id e.receipt e.what) entries (kept.created_as_filed.filed folio id) in
-    let creates = all_weaker (λ (e : Entry). EntersAsFiled journal at folio id e.receipt e.what) (λ e. OfCreation (IsCreatedHere journal folio id) e.what) entries
-    (λ e enters. enters_here journal at folio id e.receipt e.what enters) all in
-    subst (λ o. IfSome o (IsCreatedHere journal folio id)) is (created_has (IsCreatedHere journal folio id) entries creates)
 
 -- ---- what it says is in its ranges
 
@@ -81,7 +68,7 @@ numbered xs n x is =
           record { from = first; to = omega (arith, first, within); there = there }
     ] refl is
 
-all_at_number : {X : Type 0} (p : X → Bool) (xs : List X) (k : ℕ) (x : X) → list_all p xs ≡ true → slice_get xs k ≡ Some x → p x ≡ true
+pub all_at_number : {X : Type 0} (p : X → Bool) (xs : List X) (k : ℕ) (x : X) → list_all p xs ≡ true → slice_get xs k ≡ Some x → p x ≡ true
 all_at_number p [] k x all is = absurd (false≢true (ap is_some is))
 all_at_number p (y ∷ xs) zero x all is = ap (λ o. option_map_or p o true) (sym is) ∙ (and_parts (p y) (list_all p xs) all).0
 all_at_number p (y ∷ xs) (suc k) x all is = all_at_number p xs k x (and_parts (p y) (list_all p xs) all).1 is

@@ -18,15 +18,15 @@ use Rattle.act_model.specs.declared.items.Item.{Item}
 use Rattle.act_model.specs.declared.items.Item.TheVariants as item
 use Rattle.act_model.specs.declared.receipts.Receipt.{Receipt}
 use Rattle.folio_sections.specs.HeldRights.{receipt_numbers, rights_of_filing}
-use Rattle.kept_registers.specs.Kept.{Kept}
 use Rattle.kept_registers.specs.KeptRights.{IsAsFiled}
 use Rattle.folio_sections.specs.declared.entries.Created.{Created}
 use Rattle.folio_sections.specs.declared.entries.Entry.{Entry}
 use Rattle.folio_sections.proofs.ReceiptNumbers.{numbers_up_to}
 use Rattle.folio_line.specs.FolioRights.{right_where, rights_of}
 use Rattle.folio_line.specs.declared.folio_rights.CreatedRight.{CreatedRight}
-use Rattle.folio_line.proofs.CreatedRights.{few_acts, is_created_here, numbered}
+use Rattle.folio_line.proofs.CreatedRights.{few_acts, numbered}
 use Rattle.folio_line.proofs.PlacedOrder.{placed_at_made}
+use Rattle.folio_line.proofs.RightsInOrder.{RightsInOrder, is_created_here}
 
 -- ---- a placed right has its act
 
@@ -38,7 +38,7 @@ creates_here : (folio : ℕ) (made : Created) (o : Option Act) → IsSomeAnd o (
 creates_here folio made None filed = absurd filed
 creates_here folio made (Some act) filed = λ i. is_some (filed.spec i) && eq-eqb (folio_of act) folio filed.there i
 
-placed_here : (holds : RightNo → List Entry → Bool) (journal : List Receipt) (at : Key → List Entry) (folio : ℕ) (id : RightNo) → Kept journal at → is_some (right_where holds at folio id) ≡ true → CreatesHere folio (act_of_right journal id)
+placed_here : (holds : RightNo → List Entry → Bool) (journal : List Receipt) (at : Key → List Entry) (folio : ℕ) (id : RightNo) → RightsInOrder journal at → is_some (right_where holds at folio id) ≡ true → CreatesHere folio (act_of_right journal id)
 placed_here holds journal at folio id kept some =
     elim (right_where holds at folio id) as (λ o. right_where holds at folio id ≡ o → is_some o ≡ true → CreatesHere folio (act_of_right journal id)) [
       | None ↦ λ _ none. absurd (false≢true none)
@@ -135,7 +135,7 @@ beyond journal m a above =
         (λ r received filing. let within = (numbered journal m r received).to in omega (arith, above, within)))
 
 -- so nothing is placed there
-none_beyond : (holds : RightNo → List Entry → Bool) (journal : List Receipt) (at : Key → List Entry) (folio : ℕ) → Kept journal at → (m : ℕ) → length journal < m → rights_of holds at folio m ≡ []
+none_beyond : (holds : RightNo → List Entry → Bool) (journal : List Receipt) (at : Key → List Entry) (folio : ℕ) → RightsInOrder journal at → (m : ℕ) → length journal < m → rights_of holds at folio m ≡ []
 none_beyond holds journal at folio kept m above = by (range_with_len 1 most_acts)
   where
     by : (acts : List ℕ) → filter_map (right_where holds at folio) (map (new_right m) acts) ≡ []
@@ -145,7 +145,7 @@ none_beyond holds journal at folio kept m above = by (range_with_len 1 most_acts
         (none_of (right_where holds at folio (new_right m a)) (λ some. subst (CreatesHere folio) (beyond journal m a above) (placed_here holds journal at folio (new_right m a) kept some)))
         ∙ by acts
 
-pub placed_creations : (holds : RightNo → List Entry → Bool) (journal : List Receipt) (at : Key → List Entry) (folio : ℕ) → Kept journal at → IsJournal journal
+pub placed_creations : (holds : RightNo → List Entry → Bool) (journal : List Receipt) (at : Key → List Entry) (folio : ℕ) → RightsInOrder journal at → IsJournal journal
     → filter_map (right_where holds at folio) (creations_in journal folio) ≡ flat_map (rights_of holds at folio) receipt_numbers
 placed_creations holds journal at folio kept is =
     let few = is.few in

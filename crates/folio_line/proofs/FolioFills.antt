@@ -3,14 +3,13 @@ use Rattle.std.proofs.Common.{◌≡◌, ℕ, ◌≤◌, Bool, true, false, not,
 use Rattle.std.specs.List.{AllByRecursion, IsDistinct}
 use Rattle.std.specs.Option.{option_map_or, option_or}
 use Rattle.std.proofs.lemmas.Bool.{false≢true, or_left, or_right}
-use Rattle.std.proofs.lemmas.List.Elements.{All-from_recursion, All-map, All-nil, recursion_from_All}
 use Rattle.std.proofs.lemmas.List.Sums.{sum_by-le}
 use Rattle.gb_base.specs.Limits.{most_cents}
 use Rattle.gb_base.specs.RightNo.{RightNo, same_right}
 use Rattle.gb_base.specs.declared.keys.Key.{Key}
 use Rattle.gb_base.specs.declared.keys.Key.TheVariants.{Right}
 use Rattle.gb_base.proofs.Members.{In}
-use Rattle.gb_base.proofs.SameRights.{right_is, right_self}
+use Rattle.gb_base.proofs.SameRights.{right_self}
 use Rattle.act_model.specs.Receiving.{IsJournal}
 use Rattle.act_model.specs.declared.receipts.Receipt.{Receipt}
 use Rattle.kept_registers.specs.Kept.{Kept}
@@ -20,8 +19,8 @@ use Rattle.folio_sections.specs.declared.entries.Created.{Created}
 use Rattle.folio_sections.specs.declared.entries.Entry.{Entry}
 use Rattle.folio_sections.specs.declared.entries.What.{What}
 use Rattle.folio_sections.specs.declared.entries.What.TheVariants as what
-use Rattle.folio_sections.proofs.FilteredLists.{all_in, any_in, of_any}
-use Rattle.rank_slots.specs.CanFill.{ArePlaces, CanFill, CanSwap, StandsAlone}
+use Rattle.folio_sections.proofs.FilteredLists.{any_in}
+use Rattle.rank_slots.specs.CanFill.{CanFill}
 use Rattle.rank_slots.specs.Limits.{most_places}
 use Rattle.rank_slots.specs.declared.places.Place.{Place}
 use Rattle.rank_slots.specs.declared.places.Swap.{Swap}
@@ -32,13 +31,13 @@ use Rattle.folio_line.specs.FolioRights.{rights_where}
 use Rattle.folio_line.specs.declared.exchanges.Exchange.{Exchange}
 use Rattle.folio_line.specs.declared.folio_rights.CreatedRight.{CreatedRight}
 use Rattle.folio_line.proofs.CountedExchanges.{is_counted}
-use Rattle.folio_line.proofs.CreatedRights.{is_created_here, is_in_ranges}
+use Rattle.folio_line.proofs.CountedExercises.{share_a_right}
+use Rattle.folio_line.proofs.CreatedRights.{is_in_ranges}
 use Rattle.folio_line.proofs.GroupsWritten.{line_written}
-use Rattle.folio_line.proofs.PlacedDistinct.{placed_distinct}
-use Rattle.folio_line.proofs.PlacedFew.{placed_few}
+use Rattle.folio_line.proofs.LineFills.{IsLine, few_places, line_can_fill}
 use Rattle.folio_line.proofs.PlacedOrder.{of_placed_rights}
-use Rattle.folio_line.proofs.PlacesBehind.{all_places, first_joins_none, places_distinct, places_many}
-use Rattle.folio_line.proofs.PlainAlone.{line_places, plain_alone}
+use Rattle.folio_line.proofs.PlainAlone.{line_places}
+use Rattle.folio_line.proofs.RightsInOrder.{RightsInOrder, is_created_here, kept_in_order}
 
 -- ---- each claim is from one cent
 
@@ -56,18 +55,19 @@ from_one : (o : Option ℕ) (k : ℕ) → IfSome o (λ c. 1 ≤ c) → 1 ≤ k �
 from_one None k had least = least
 from_one (Some c) k had least = had
 
-claims_from : (journal : List Receipt) (at : Key → List Entry) (folio : ℕ) (x : CreatedRight) → Kept journal at → IsJournal journal → created (at (Right folio x.id)) ≡ Some x.made → 1 ≤ capital_at at folio x.id
-claims_from journal at folio x kept stands is =
+-- the capital of a right that is created
+pub claims_from : (journal : List Receipt) (at : Key → List Entry) (folio : ℕ) (x : CreatedRight) → RightsInOrder journal at → IsJournal journal → created (at (Right folio x.id)) ≡ Some x.made → 1 ≤ capital_at at folio x.id
+claims_from journal at folio x order stands is =
     let entries = at (Right folio x.id) in
-    let ranges = is_in_ranges journal folio x.id x.made stands (is_created_here journal at folio x.id x.made kept is) in
+    let ranges = is_in_ranges journal folio x.id x.made stands (is_created_here journal at folio x.id x.made order is) in
     let remains = fold (λ b (e : Entry). remaining_by b e.what) None entries in
-    let left = remains_from None entries tt (recursion_from_All (λ (e : Entry). LeavesCents e.what) entries (kept.case_in_order.remains folio x.id)) in
+    let left = remains_from None entries tt (order.remains folio x.id) in
     subst (λ o. 1 ≤ option_map_or (λ c. c) (option_or remains (option_map (λ (made : Created). made.spec.capital) o)) 0) (sym is) (from_one remains x.made.spec.capital left ranges.capital)
 
 -- ---- together
 
 -- a dropped place is of a right that recedes
-gone_recedes : (live gives : Bool) → (live || gives) ≡ true → not live ≡ true → gives ≡ true
+pub gone_recedes : (live gives : Bool) → (live || gives) ≡ true → not live ≡ true → gives ≡ true
 gone_recedes true gives stands gone = absurd (false≢true gone)
 gone_recedes false gives stands gone = stands
 
@@ -79,50 +79,24 @@ counted_places claims at folio = line_places claims (is_gone at folio) (counted_
 abbrev pub counted_rights : (Key → List Entry) → ℕ → List CreatedRight
 counted_rights at folio = rights_where (stands_on_line (counted_exchanges at folio)) at folio
 
--- both rights of an exchange that counts stand alone
-swap_alone : (claims : RightNo → ℕ) (journal : List Receipt) (at : Key → List Entry) (folio : ℕ) (y : Exchange) → Kept journal at → IsJournal journal → In y (counted_exchanges at folio) → CanSwap (counted_places claims at folio) (swap_of y)
-swap_alone claims journal at folio y kept stands there =
-    let exchanges = counted_exchanges at folio in
-    let gone = is_gone at folio in
-    let counted = is_counted journal at folio y kept there in
-    let gives = any_in (λ (x : Exchange). same_right x.recede y.recede) exchanges y there (right_self y.recede) in (
-      plain_alone claims gone exchanges journal at folio y.recede kept stands counted.recede (or_right (is_live (at (Right folio y.recede))) (recedes exchanges y.recede) gives),
-      plain_alone claims gone exchanges journal at folio y.rise kept stands counted.rise (or_left (is_live (at (Right folio y.rise))) (recedes exchanges y.rise) counted.live),
-    )
-
--- and so does the right of a dropped place
-dropped_alone : (claims : RightNo → ℕ) (journal : List Receipt) (at : Key → List Entry) (folio : ℕ) (x : CreatedRight) → Kept journal at → IsJournal journal → In x (counted_rights at folio) → is_gone at folio x.id ≡ true
-    → StandsAlone (counted_places claims at folio) x.id
-dropped_alone claims journal at folio x kept stands there gone =
-    let exchanges = counted_exchanges at folio in
-    let placed = of_placed_rights (stands_on_line exchanges) at folio x there in
-    let gives = gone_recedes (is_live (at (Right folio x.id))) (recedes exchanges x.id) placed.stands gone in
-    let from = of_any (λ (y : Exchange). same_right y.recede x.id) exchanges gives in
-    subst (StandsAlone (counted_places claims at folio)) (right_is from.0.recede x.id from.2) (swap_alone claims journal at folio from.0 kept stands from.1).0
-
--- the places of the line are places
-are_places : (claims : RightNo → ℕ) (journal : List Receipt) (at : Key → List Entry) (folio : ℕ) → Kept journal at → IsJournal journal → ((x : CreatedRight) → In x (counted_rights at folio) → 1 ≤ claims x.id)
-    → All (λ (p : Place). p.claim ≤ most_cents) (counted_places claims at folio) → ArePlaces (counted_places claims at folio)
-are_places claims journal at folio kept stands some bound =
-    let gone = is_gone at folio in
-    let exchanges = counted_exchanges at folio in
-    let rights = counted_rights at folio in
-    let places = counted_places claims at folio in
-    let few : length places ≤ most_places = subst (λ n. n ≤ most_places) (sym (places_many claims gone None rights)) (placed_few (stands_on_line exchanges) journal at folio kept stands) in
-    let sum = sum_by-le (λ (p : Place). p.claim) most_cents places bound in
-    record {
-      few = few;
-      distinct = places_distinct claims gone None rights (placed_distinct (stands_on_line exchanges) at folio);
-      first = first_joins_none claims gone rights;
-      dropped = All-from_recursion (λ p. p.dropped ≡ true → StandsAlone places p.right) places
-          (all_places (λ p. p.dropped ≡ true → StandsAlone places p.right) claims gone None rights (λ b x there. dropped_alone claims journal at folio x kept stands there));
-      claims = All-from_recursion (λ p. 1 ≤ p.claim) places (all_places (λ p. 1 ≤ p.claim) claims gone None rights (λ b x there. some x there));
-      sum = omega (arith, few, sum);
-    }
-
-no_knots : IsDistinct same_right []
+no_knots : IsDistinct share_a_right []
 unfolding IsDistinct
 no_knots = tt
+
+-- the line of a folio is made of the rights that stand on it and of all exchanges that count
+folio_line_is : (journal : List Receipt) (at : Key → List Entry) (folio : ℕ) → RightsInOrder journal at → IsLine at folio (stands_on_line (counted_exchanges at folio)) (counted_exchanges at folio) []
+folio_line_is journal at folio order =
+    let exchanges = counted_exchanges at folio in
+    record {
+      counted = λ y there. there;
+      recede = λ y there. or_right (is_live (at (Right folio y.recede))) (recedes exchanges y.recede) (any_in (λ (x : Exchange). same_right x.recede y.recede) exchanges y there (right_self y.recede));
+      rise = λ y there. or_left (is_live (at (Right folio y.rise))) (recedes exchanges y.rise) (is_counted journal at folio y order there).live;
+      gone = λ x there gone. gone_recedes (is_live (at (Right folio x.id))) (recedes exchanges x.id) (of_placed_rights (stands_on_line exchanges) at folio x there).stands gone;
+      exercised = λ k never. absurd never;
+      reserved = λ k never. absurd never;
+      entered = λ k never. absurd never;
+      once = no_knots;
+    }
 
 -- these places and exchanges, without knots
 abbrev pub filled_of : List Place → List Swap → Filled
@@ -136,23 +110,19 @@ pub can_fill : (claims : RightNo → ℕ) (journal : List Receipt) (at : Key →
 can_fill claims journal at folio exchanges places swaps kept stands some counted placed swapped bound =
     let all = counted_exchanges at folio in
     let line = counted_places claims at folio in
+    let holds = stands_on_line all in
+    let order = kept_in_order journal at kept in
     let of_folio : places ≡ line = placed ∙ ap (λ xs. line_places claims (is_gone at folio) xs at folio) counted in
-    let can_swap = All-map (CanSwap line) swap_of all
-    (All-from_recursion (λ y. CanSwap line (swap_of y)) all
-    (all_in (λ y. CanSwap line (swap_of y)) all (λ y there. swap_alone claims journal at folio y kept stands there))) in
-    subst (λ xs. CanFill (record { places = xs; swaps = swaps; knots = [] })) (sym of_folio)
-    (subst (λ ss. CanFill (record { places = line; swaps = ss; knots = [] })) (sym (swapped ∙ ap (map swap_of) counted))
-    (record {
-      places = are_places claims journal at folio kept stands some (subst (All (λ (p : Place). p.claim ≤ most_cents)) of_folio bound);
-      swaps = can_swap;
-      knots = All-nil _;
-      once = no_knots;
-    }))
+    let of_exchanges : swaps ≡ map swap_of all = swapped ∙ ap (map swap_of) counted in
+    let few : length line ≤ most_places = few_places claims journal at folio holds order stands in
+    let sum = sum_by-le (λ (p : Place). p.claim) most_cents line (subst (All (λ (p : Place). p.claim ≤ most_cents)) of_folio bound) in
+    subst CanFill (λ i. filled_of (sym of_folio i) (sym of_exchanges i))
+    (line_can_fill claims journal at folio holds all [] (record { order = order; journal_is = stands; line = folio_line_is journal at folio order }) some (omega (arith, few, sum)))
 
 -- the capitals are amounts
 pub capitals_from : (journal : List Receipt) (at : Key → List Entry) (folio : ℕ) → Kept journal at → IsJournal journal → (x : CreatedRight) → In x (counted_rights at folio) → 1 ≤ capital_at at folio x.id
 capitals_from journal at folio kept stands x there =
-    claims_from journal at folio x kept stands (of_placed_rights (stands_on_line (counted_exchanges at folio)) at folio x there).made
+    claims_from journal at folio x (kept_in_order journal at kept) stands (of_placed_rights (stands_on_line (counted_exchanges at folio)) at folio x there).made
 
 -- and these are what the line of the folio is filled with
 pub line_is : (at : Key → List Entry) (folio : ℕ) (exchanges : List Exchange) (places : List Place) (swaps : List Swap)

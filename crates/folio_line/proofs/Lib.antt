@@ -1,6 +1,7 @@
 -- Lemmas.
 pub mod AllRights
 pub mod CountedExchanges
+pub mod CountedExercises
 pub mod CreatedRights
 pub mod FiledRights
 pub mod FilingRuns
@@ -8,11 +9,14 @@ pub mod FolioFills
 pub mod GroupWrites
 pub mod GroupedRights
 pub mod GroupsWritten
+pub mod LineFills
 pub mod LineRead
 pub mod LineRoom
+pub mod ListedAhead
 pub mod LiveAreHeld
 pub mod LiveRights
 pub mod LoneGroups
+pub mod OwnGroups
 pub mod PlacedDistinct
 pub mod PlacedFew
 pub mod PlacedOrder
@@ -22,6 +26,7 @@ pub mod PlainRights
 pub mod ReadWhereHeld
 pub mod RightOrder
 pub mod RightWalks
+pub mod RightsInOrder
 pub mod SortedLists
 pub mod SortedTurns
 pub mod Turns

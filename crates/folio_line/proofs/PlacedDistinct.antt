@@ -1,5 +1,5 @@
 -- The rights that are placed in a folio are of different numbers.
-use Rattle.std.proofs.Common.{◌≡◌, ℕ, ◌<◌, Bool, true, false, List, filter, Some, sym, ap, ◌∙◌, ⊎_elim, arith}
+use Rattle.std.proofs.Common.{◌≡◌, ℕ, ◌<◌, Bool, true, false, List, filter, flat_map, Some, sym, ap, ◌∙◌, ⊎_elim, arith}
 use Rattle.std.specs.List.{IsDistinct}
 use Rattle.std.proofs.lemmas.Bool.{cases_Bool}
 use Rattle.std.proofs.lemmas.Bool.Decides.{nat_tests}
@@ -11,6 +11,7 @@ use Rattle.gb_base.specs.declared.keys.Key.TheVariants.{Right}
 use Rattle.gb_base.proofs.SameRights.{right_is}
 use Rattle.act_model.specs.Limits.{most_groups}
 use Rattle.act_model.specs.Touches.{new_right}
+use Rattle.folio_sections.specs.HeldRights.{receipt_numbers}
 use Rattle.folio_sections.specs.Rights.{created}
 use Rattle.folio_sections.specs.declared.entries.Created.{Created}
 use Rattle.folio_sections.specs.declared.entries.Entry.{Entry}
@@ -75,3 +76,9 @@ placed_distinct holds at folio =
     distinct_over_numbers has_same_number (λ m. by_group (rights_of holds at folio m)) (groups_distinct holds at folio)
     (λ m n x y less here there.
     apart_filings x y m n (of_filing_by_group holds at folio m x here).filing (of_filing_by_group holds at folio n y there).filing less)
+
+-- so are those by filing and act
+pub by_act_distinct : (holds : RightNo → List Entry → Bool) (at : Key → List Entry) (folio : ℕ) → IsDistinct has_same_number (flat_map (rights_of holds at folio) receipt_numbers)
+by_act_distinct holds at folio =
+    distinct_over_numbers has_same_number (rights_of holds at folio) (acts_distinct holds at folio)
+    (λ m n x y less here there. apart_filings x y m n (of_filing holds at folio m x here).filing (of_filing holds at folio n y there).filing less)

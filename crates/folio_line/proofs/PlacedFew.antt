@@ -20,7 +20,6 @@ use Rattle.act_model.specs.declared.filing_acts.Act.{Act}
 use Rattle.act_model.specs.declared.receipts.Receipt.{Receipt}
 use Rattle.act_model.proofs.CreationOrder.{creations_rise, place_found}
 use Rattle.folio_sections.specs.HeldRights.{receipt_numbers, rights_of_filing}
-use Rattle.kept_registers.specs.Kept.{Kept}
 use Rattle.kept_registers.specs.KeptRights.{IsAsFiled}
 use Rattle.act_model.specs.Limits.{most_creations}
 use Rattle.folio_sections.specs.Rights.{created}
@@ -30,10 +29,11 @@ use Rattle.folio_sections.proofs.FilteredLists.{in_filter, in_filter_map}
 use Rattle.folio_sections.proofs.ReceiptNumbers.{in_receipt_numbers}
 use Rattle.rank_slots.specs.Limits.{most_places}
 use Rattle.folio_line.specs.FolioRights.{by_group, has_group, right_where, rights_of, rights_where}
-use Rattle.folio_line.proofs.CreatedRights.{IsCreatedHere, IsInRanges, is_created_here}
+use Rattle.folio_line.proofs.CreatedRights.{IsCreatedHere, IsInRanges}
 use Rattle.folio_line.proofs.FiledRights.{placed_creations}
 use Rattle.folio_line.proofs.GroupedRights.{all_by_group_few}
 use Rattle.folio_line.proofs.PlacedOrder.{placed_at_made, the_right}
+use Rattle.folio_line.proofs.RightsInOrder.{RightsInOrder, is_created_here}
 
 -- ---- all of them
 
@@ -97,7 +97,7 @@ below_most journal folio i id made here filed =
     let less : i + 1 ≤ most_creations = subst (λ o. IsSomeAnd (option_map (λ k. k + 1) o) (λ n. n ≤ most_creations)) (place_is journal folio i id here) rank in
     omega (arith, less)
 
-pub placed_few : (holds : RightNo → List Entry → Bool) (journal : List Receipt) (at : Key → List Entry) (folio : ℕ) → Kept journal at → IsJournal journal → length (rights_where holds at folio) ≤ most_places
+pub placed_few : (holds : RightNo → List Entry → Bool) (journal : List Receipt) (at : Key → List Entry) (folio : ℕ) → RightsInOrder journal at → IsJournal journal → length (rights_where holds at folio) ≤ most_places
 placed_few holds journal at folio kept stands =
     let grouped = all_by_group_few (rights_of holds at folio) receipt_numbers in
     let filed = ap length (placed_creations holds journal at folio kept stands) in

@@ -1,5 +1,5 @@
 -- The places of rights in order: what holds of each right holds of its place.
-use Rattle.std.proofs.Common.{◌≡◌, ℕ, suc, Bool, true, false, ◌&&◌, ◌||◌, List, [], ◌∷◌, length, Option, Some, None, inl, inr, refl, ap, ⊎_elim, ◌∙◌}
+use Rattle.std.proofs.Common.{◌≡◌, ℕ, suc, Bool, true, false, ◌&&◌, ◌||◌, List, [], ◌∷◌, length, Option, Some, None, inl, inr, refl, ap, subst, ⊎_elim, ◌∙◌}
 use Rattle.std.specs.List.{AllByRecursion, IsDistinct}
 use Rattle.std.proofs.lemmas.Bool.{false≢true, or_left, or_right}
 use Rattle.gb_base.specs.RightNo.{RightNo, same_right}
@@ -18,6 +18,12 @@ pub all_places : (P : Place → Type 0) (claims : RightNo → ℕ) (gone : Right
     → AllByRecursion P (places_behind claims gone before xs)
 all_places P claims gone before [] each = tt
 all_places P claims gone before (x ∷ xs) each = (each before x (inl refl), all_places P claims gone (Some x) xs (λ b y there. each b y (inr there)))
+
+-- and what holds of the right of each place holds of each right
+pub of_places : (P : RightNo → Type 0) (claims : RightNo → ℕ) (gone : RightNo → Bool) (before : Option CreatedRight) (xs : List CreatedRight) (x : CreatedRight) → In x xs → AllByRecursion (λ p. P p.right) (places_behind claims gone before xs)
+    → P x.id
+of_places P claims gone before [] x there all = absurd there
+of_places P claims gone before (y ∷ xs) x there all = ⊎_elim (λ same. subst (λ (z : CreatedRight). P z.id) same all.0) (λ more. of_places P claims gone (Some y) xs x more all.1) there
 
 -- as many as the rights
 pub places_many : (claims : RightNo → ℕ) (gone : RightNo → Bool) (before : Option CreatedRight) (xs : List CreatedRight) → length (places_behind claims gone before xs) ≡ length xs
