@@ -1,4 +1,5 @@
 -- Lemmas.
+pub mod AmountsRead
 pub mod BoundedClaims
 pub mod BoundedInterest
 pub mod BoundedLists
@@ -6,16 +7,25 @@ pub mod CaseReceipts
 pub mod ClaimedRights
 pub mod ClaimsAdded
 pub mod ClaimsInRow
+pub mod ClaimsOnLine
 pub mod ClassFills
 pub mod CommercialDays
+pub mod ExchangesAlike
 pub mod FoundSoFar
 pub mod KeptSales
 pub mod LeastCovers
+pub mod LineFits
+pub mod LinesAsRead
+pub mod NarrowedRights
 pub mod NewYears
 pub mod NoClaims
 pub mod OrderedClaims
 pub mod PartsRead
+pub mod PlacesRead
 pub mod ReadAlike
 pub mod RightsOnLine
+pub mod RoomKept
 pub mod SalesAsRead
+pub mod SalesFilled
+pub mod SalesHeld
 pub mod StampYears

@@ -12,7 +12,7 @@ use Rattle.folio_sections.specs.Rights.{created, is_full, is_full_form, is_live}
 use Rattle.folio_sections.specs.declared.entries.Created.{Created}
 use Rattle.folio_sections.specs.declared.entries.Entry.{Entry}
 use Rattle.folio_sections.specs.declared.entries.RightForm.{RightForm}
-use Rattle.folio_line.specs.FolioRights.{by_group, is_live_with, live_rights, right_where}
+use Rattle.folio_line.specs.FolioRights.{by_group, is_live_with, live_rights, right_where, rights_where}
 use Rattle.folio_line.specs.declared.folio_rights.CreatedRight.{CreatedRight}
 use Rattle.auction_classes.specs.SaleClaims.{is_basis_standing}
 
@@ -31,16 +31,20 @@ one_or_none : {X : Type 0} (b : Bool) (o : Option X) → o ≡ None → cond b o
 one_or_none true o none = none
 one_or_none false o none = refl
 
-same_where : (at other : Key → List Entry) (folio : ℕ) → ReadAlike folio at other → (id : RightNo) → right_where is_live_with at folio id ≡ right_where is_live_with other folio id
-same_where at other folio alike id =
+pub same_where : (holds : RightNo → List Entry → Bool) (at other : Key → List Entry) (folio : ℕ) → ReadAlike folio at other → (id : RightNo) → right_where holds at folio id ≡ right_where holds other folio id
+same_where holds at other folio alike id =
     let k = Right folio id in
     let the : Option Created → Option CreatedRight = λ o. option_map (λ made. record { id = id; made = made }) o in
-    ⊎_elim (λ same. ap (λ es. the (cond (is_live es) (created es) None)) same)
-    (λ none. ap the (one_or_none (is_live (at k)) (created (at k)) none.0 ∙ sym (one_or_none (is_live (other k)) (created (other k)) none.1))) (alike id)
+    ⊎_elim (λ same. ap (λ es. the (cond (holds id es) (created es) None)) same)
+    (λ none. ap the (one_or_none (holds id (at k)) (created (at k)) none.0 ∙ sym (one_or_none (holds id (other k)) (created (other k)) none.1))) (alike id)
+
+-- the rights of which a test holds are the same
+pub same_rights_where : (holds : RightNo → List Entry → Bool) (at other : Key → List Entry) (folio : ℕ) → ReadAlike folio at other → rights_where holds at folio ≡ rights_where holds other folio
+same_rights_where holds at other folio alike = λ i. flat_map (λ m. by_group (filter_map (λ id. same_where holds at other folio alike id i) (rights_of_filing m))) receipt_numbers
 
 -- the live rights are the same
 pub same_live : (at other : Key → List Entry) (folio : ℕ) → ReadAlike folio at other → live_rights at folio ≡ live_rights other folio
-same_live at other folio alike = λ i. flat_map (λ m. by_group (filter_map (λ id. same_where at other folio alike id i) (rights_of_filing m))) receipt_numbers
+same_live at other folio alike = same_rights_where is_live_with at other folio alike
 
 form_of_none : (f : Created → RightForm) (o : Option Created) → o ≡ None → is_full_form (option_map f o) ≡ false
 form_of_none f None none = refl

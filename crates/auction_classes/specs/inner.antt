@@ -1,5 +1,7 @@
 -- What private clauses and proofs alone cite.
 pub mod CaseSales
 pub mod ClaimLists
+pub mod ClaimsRoom
+pub mod LinesRead
 pub mod Readings
 pub mod Reckoning

@@ -4,6 +4,8 @@ ghost use Rattle.folio_line.specs.FolioReading.{CanBeRead};
 ghost use Rattle.auction_classes.specs.Sales.{finding_of};
 ghost use Rattle.auction_classes.specs.inner.CaseSales.{CanFind, sale_of_case};
 ghost use Rattle.auction_classes.specs.inner.ClaimLists.{AreClaimedIn, HaveRoomFor, KeepRoom};
+ghost use Rattle.auction_classes.specs.inner.ClaimsRoom.{AreEmpty};
+ghost use Rattle.auction_classes.specs.inner.LinesRead.{HasLowInterest};
 ghost use Rattle.auction_classes.specs.inner.Readings.{IsReadAs, rights_read};
 
 use crate::claim_items::Claim;
@@ -40,7 +42,8 @@ pub(crate) struct ClaimLists {
 impl ClaimLists {
     /// Empty lists, with room for the claims of so many rights. Wants memory.
     pub fn with_room(alloc: Global, rights: usize) -> Result<ClaimLists, NoMemory>
-        ensures { IfOk result (HaveRoomFor rights) }
+        ensures room { IfOk result (HaveRoomFor rights) }
+        ensures empty { IfOk result AreEmpty }
     {
         let claims = room_for(rights).ok_or(AllocError)?;
         Ok(ClaimLists {
@@ -71,6 +74,7 @@ impl ClaimLists {
         requires room { HaveRoomFor (length live.now) self.old }
         ensures finding { result ≡ finding_of (sale_of_case journal.now.receipts case.now item) }
         ensures claimed { AreClaimedIn (sale_of_case journal.now.receipts case.now item) (rights_read P.holds P.at reading.now) title.now live.now self.new }
+        ensures interest { All HasLowInterest self.new.found.items }
         ensures few { length self.new.items.items ≤ 4 * length live.now + 40 }
         ensures room { KeepRoom self.old self.new }
     {

@@ -1,12 +1,25 @@
 //! The claims in a forced sale, in lists that keep their room.
-ghost use Rattle.std.specs.Prelude.{◌≡◌, ◌≤◌, IfOk, length};
-ghost use Rattle.rank_slots.specs.Filled.{empty};
-ghost use Rattle.auction_classes.specs.SaleClaims.{line_of, no_claims};
-ghost use Rattle.auction_classes.specs.inner.Reckoning.{filled_of};
+ghost use Rattle.std.specs.Prelude.{◌≡◌, ◌≤◌, List, Contains, IfOk, IsTrue, length};
+ghost use Rattle.gb_base.specs.declared.keys.Key.{Key};
+ghost use Rattle.act_model.specs.SaleKeys.{earlier_rights, keys_of_sale};
+ghost use Rattle.folio_sections.specs.declared.entries.Entry.{Entry};
+ghost use Rattle.kept_registers.specs.Kept.{Kept};
+ghost use Rattle.kept_registers.specs.Standing.{StandsFor, StandsForKept};
+ghost use Rattle.folio_line.specs.FolioLine.{all_rises};
+ghost use Rattle.auction_classes.specs.SaleClaims.{claimed_in, line_of, no_claims};
+ghost use Rattle.auction_classes.specs.Sales.{IsFound, sale_at};
 
-use crate::{ClaimItem, RightClaimed, SeizedFor};
-use gb_base::{NoMemory, Person};
-use rank_slots::{Knot, Place, Slots, Swap};
+use crate::ClaimItem;
+use crate::claim_lists::ClaimLists;
+use crate::class_lines::ClassLine;
+use crate::findings::read_before;
+use crate::right_classes::RightClass;
+use crate::sale_readings::{case_below, title_below};
+use act_model::Journal;
+use folio_line::{FolioLine, FolioReading, rights_filed};
+use folio_sections::Parts;
+use gb_base::{FolioId, NoMemory, Person, ReceiptNo};
+use rank_slots::Slots;
 use std::alloc::Global;
 use std::marker::Model;
 
@@ -17,26 +30,18 @@ use std::marker::Model;
 pub struct Claims {
     right_room: usize,
     exchange_room: usize,
-    pub(crate) items: Vec<ClaimItem>,
     /// The costs of the proceedings, in cents (ZVG § 109).
     pub(crate) costs: u64,
-    pub(crate) owners: Vec<Person>,
-    pub(crate) seizures: Vec<SeizedFor>,
-    pub(crate) rights: Vec<RightClaimed>,
+    pub(crate) lists: ClaimLists,
     pub(crate) line_four: ClassLine,
     pub(crate) line_six: ClassLine,
-}
-
-/// What the line of a class is filled with.
-#[derive(Drop)]
-pub(crate) struct ClassLine {
-    pub places: Vec<Place>,
-    pub swaps: Vec<Swap>,
-    pub knots: Vec<Knot>,
+    /// The line of the folio, of which those of the classes are made.
+    line: FolioLine,
 }
 
 impl Model for Claims {
     ghost use Rattle.auction_classes.specs.SaleClaims.{ClaimsState};
+    ghost use Rattle.auction_classes.specs.inner.ClaimsRoom.{HaveRoom};
     ghost use Rattle.auction_classes.specs.inner.Reckoning.{IsReckonable, filled_of};
 
     ghost Value = { ClaimsState };
@@ -45,22 +50,22 @@ impl Model for Claims {
       right_room = a.right_room;
       exchange_room = a.exchange_room;
       claimed = record {
-        items = a.items.items;
+        items = a.lists.items.items;
         costs = a.costs;
-        owners = a.owners.items;
-        seizures = a.seizures.items;
-        rights = a.rights.items;
+        owners = a.lists.owners.items;
+        seizures = a.lists.seizures.items;
+        rights = a.lists.rights.items;
         line_four = filled_of a.line_four;
         line_six = filled_of a.line_six;
       };
     } };
 
-    ghost invariant = { λ a. IsReckonable (record {
-      items = a.items.items;
+    ghost invariant = { λ a. HaveRoom a.right_room a.exchange_room a.lists a.line a.line_four a.line_six × IsReckonable (record {
+      items = a.lists.items.items;
       costs = a.costs;
-      owners = a.owners.items;
-      seizures = a.seizures.items;
-      rights = a.rights.items;
+      owners = a.lists.owners.items;
+      seizures = a.lists.seizures.items;
+      rights = a.lists.rights.items;
       line_four = filled_of a.line_four;
       line_six = filled_of a.line_six;
     }) };
@@ -77,14 +82,55 @@ impl Claims {
         Ok(Claims {
             right_room: rights,
             exchange_room: exchanges,
-            items: Vec::new(alloc),
             costs: 0,
-            owners: Vec::new(alloc),
-            seizures: Vec::new(alloc),
-            rights: Vec::new(alloc),
-            line_four: line_with_room(alloc, rights, exchanges)?,
-            line_six: line_with_room(alloc, rights, exchanges)?,
+            lists: ClaimLists::with_room(alloc, rights)?,
+            line_four: ClassLine::with_room(alloc, rights, exchanges)?,
+            line_six: ClassLine::with_room(alloc, rights, exchanges)?,
+            line: FolioLine::with_room(alloc, rights, exchanges)?,
         })
+    }
+
+    /// Fills the claims anew with what is claimed in the forced sale of a folio, as an item of it, or
+    /// the end of the journal, finds it: by the entries of items below that number. Takes no memory.
+    ///
+    /// Receipt 7 calls to bid, receipt 9 awards, and receipt 10 cancels a right. As of receipt 8 the
+    /// rights are read as they stand; as of receipt 11 as they stood before the award, so that the
+    /// right is still among them.
+    pub fn fill<P: Parts>(&mut self, parts: &P, journal: &Journal, folio: FolioId, as_of: ReceiptNo)
+        requires held { (k : Key) → Contains (keys_of_sale journal.now.receipts as_of folio) k → IsTrue (P.holds parts.now k) }
+        requires kept { StandsForKept journal.now.receipts (P.holds parts.now) (P.at parts.now) }
+        requires found { IsFound (sale_at journal.now.receipts (P.at parts.now) folio as_of) }
+        requires rights { length (earlier_rights journal.now.receipts as_of folio) ≤ self.old.right_room }
+        requires exchanges { length (all_rises (P.at parts.now) folio (earlier_rights journal.now.receipts as_of folio)) ≤ self.old.exchange_room }
+        ensures claimed { (register : Key → List Entry) → StandsFor (P.holds parts.now) (P.at parts.now) register → Kept journal.now.receipts register
+            → self.new.claimed ≡ claimed_in (sale_at journal.now.receipts register folio as_of) }
+        ensures right_room { self.new.right_room ≡ self.old.right_room }
+        ensures exchange_room { self.new.exchange_room ≡ self.old.exchange_room }
+    {
+        // The contract of `len` says that this is a journal.
+        let receipts = journal.len() as usize;
+        prove!(receipts <= Journal::MAX);
+        let case = case_below(parts, folio, as_of);
+        let before = read_before(&case, as_of);
+        let title = title_below(parts, folio, before);
+        let reading = FolioReading {
+            parts,
+            folio,
+            before: Some(before),
+        };
+        let rights = rights_filed(journal, folio, Some(before));
+        self.line.read(&reading, rights);
+        let live = self.line.live();
+        let finding = self
+            .lists
+            .fill(journal, &case, &title, &reading, live, as_of);
+        self.costs = finding.costs.get();
+        let seized = finding.seized;
+        let four = RightClass { seized, number: 4 };
+        let six = RightClass { seized, number: 6 };
+        let found = &self.lists.found;
+        self.line_four.fill(&reading, &four, &self.line, found);
+        self.line_six.fill(&reading, &six, &self.line, found);
     }
 
     /// The claims of at least one cent, in the order in which a plan prints them: the timely ones
@@ -92,7 +138,7 @@ impl Claims {
     pub fn items(&self) -> &[ClaimItem]
         ensures { result.now ≡ self.now.claimed.items }
     {
-        &self.items
+        &self.lists.items
     }
 
     /// The costs of the proceedings, in cents (ZVG § 109). Takes no memory.
@@ -107,7 +153,7 @@ impl Claims {
     pub fn owners(&self) -> &[Person]
         ensures { result.now ≡ self.now.claimed.owners }
     {
-        &self.owners
+        &self.lists.owners
     }
 
     /// Fills the line of class 4 or 6: its rights in order with their claims, and the exchanges and
@@ -127,15 +173,4 @@ impl Claims {
         };
         slots.fill(&line.places, &line.swaps, &line.knots);
     }
-}
-
-/// An empty line, with room for so many rights and so many exchanges.
-fn line_with_room(alloc: Global, rights: usize, exchanges: usize) -> Result<ClassLine, NoMemory>
-    ensures empty { IfOk result (λ line. filled_of line ≡ empty) }
-{
-    Ok(ClassLine {
-        places: Vec::with_capacity(alloc, rights)?,
-        swaps: Vec::with_capacity(alloc, exchanges)?,
-        knots: Vec::with_capacity(alloc, rights)?,
-    })
 }

@@ -173,8 +173,8 @@ fn first_seizure(case: &CaseFront) -> ReceiptNo
 }
 
 /// Rights and owners are read as they stood before this receipt: the award, where there is one,
-/// else the item (ZVG § 81).
-fn read_before(case: &CaseFront, item: ReceiptNo) -> ReceiptNo
+/// else the item (ZVG § 81). Takes no memory.
+pub(crate) fn read_before(case: &CaseFront, item: ReceiptNo) -> ReceiptNo
     ensures { result ≡ option_map_or (λ n. n) (award case.now) item }
 {
     match case.award() {

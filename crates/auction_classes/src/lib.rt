@@ -9,6 +9,8 @@ mod claim_lists;
 mod claim_rows;
 mod claims;
 mod claims_found;
+mod class_lines;
+mod class_places;
 mod covers;
 mod findings;
 mod lists;
@@ -16,7 +18,9 @@ mod lowest_bids;
 mod owners_found;
 mod remaining;
 mod right_claims;
+mod right_classes;
 mod rights_found;
+mod sale_readings;
 mod seizures_found;
 
 pub use claim_items::{ClaimItem, RightClaimed, SeizedFor};

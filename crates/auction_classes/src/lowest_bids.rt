@@ -37,7 +37,7 @@ impl Claims {
         ensures memory { slots.new.capacity ≡ slots.old.capacity }
     {
         self.fill_line(slots, 4);
-        match cover_of_base(slots, &self.seizures) {
+        match cover_of_base(slots, &self.lists.seizures) {
             Some(cover) => Ok(self.bid_by(slots, cover)),
             None => Err(NoServedCreditor),
         }
@@ -50,8 +50,8 @@ impl Claims {
         ensures { result ≡ bid_by self.now.claimed cover }
     {
         let on_line = cover.min(slots.length());
-        let total = self.costs + (ahead_of_rights(&self.items) + cover);
-        let remaining = remaining_in_all(slots, on_line, &self.rights);
+        let total = self.costs + (ahead_of_rights(&self.lists.items) + cover);
+        let remaining = remaining_in_all(slots, on_line, &self.lists.rights);
         Lowest {
             total,
             cash: u128::from(total).saturating_sub(remaining) as u64,

@@ -21,7 +21,7 @@ impl Claims {
         requires filled { slots.now.filled ≡ self.now.claimed.line_four }
         ensures { result ≡ remaining self.now.claimed cover right }
     {
-        remaining_among(slots, cover, &self.rights, right)
+        remaining_among(slots, cover, &self.lists.rights, right)
     }
 }
 

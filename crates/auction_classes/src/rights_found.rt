@@ -4,18 +4,20 @@ ghost use Rattle.std.specs.Option.{option_map_or};
 ghost use Rattle.folio_sections.specs.Rights.{capital, created, entered_by, entered_on, holder};
 ghost use Rattle.folio_line.specs.FolioReading.{CanBeRead};
 ghost use Rattle.gb_base.specs.Limits.{last_stamp_day, most_rate};
-ghost use Rattle.auction_classes.specs.Claims.{accrual_by, are_both, arrears_found, arrears_named, class_by, right_with};
+ghost use Rattle.auction_classes.specs.Claims.{accrual_by, are_both, arrears_found, arrears_named, right_with};
 ghost use Rattle.auction_classes.specs.Interest.{arrears_in_class, old_arrears, rate_of};
+ghost use Rattle.auction_classes.specs.inner.LinesRead.{HasLowInterest};
 ghost use Rattle.auction_classes.specs.inner.Readings.{IsReadAs, rights_read};
 
 use crate::accruals::{Accrual, rate_of};
 use crate::case_items::Registered;
 use crate::findings::Finding;
 use crate::lists::push_copy;
+use crate::right_classes::class_by;
 use act_model::Registration;
 use folio_line::{CreatedRight, FolioReading, right_front};
 use folio_sections::{Entry, Parts, RightFront, What};
-use gb_base::{Cents, Day, Person, ReceiptNo, RightId};
+use gb_base::{Cents, Day, Person, RightId};
 
 /// A live right of the folio with what is claimed of it, in cents.
 #[derive(Clone, Copy)]
@@ -58,6 +60,7 @@ pub(crate) fn write_rights<P: Parts>(
     requires few { length registrations.now ≤ 32 }
     requires room { length rights.now ≤ vec_capacity found.old }
     ensures items { found.new.items ≡ map (λ x. right_with finding.now registrations.now x (rights_read P.holds P.at reading.now x.id)) rights.now }
+    ensures interest { All HasLowInterest found.new.items }
     ensures capacity { vec_capacity found.new ≡ vec_capacity found.old }
 {
     found.clear();
@@ -77,7 +80,8 @@ fn right_read<P: Parts>(
     requires right { IsReadAs (rights_read P.holds P.at reading.now) right.now }
     requires sale { finding.now.sale ≤ last_stamp_day }
     requires few { length registrations.now ≤ 32 }
-    ensures { result ≡ right_with finding.now registrations.now right.now (rights_read P.holds P.at reading.now right.now.id) }
+    ensures value { result ≡ right_with finding.now registrations.now right.now (rights_read P.holds P.at reading.now right.now.id) }
+    ensures interest { HasLowInterest result }
 {
     let front = right_front(reading, right.id).unwrap();
     right_found(finding, registrations, right, &front)
@@ -94,7 +98,8 @@ fn right_found(
     requires rate { rate_of right.now.made.spec.kind ≤ most_rate }
     requires sale { finding.now.sale ≤ last_stamp_day }
     requires few { length registrations.now ≤ 32 }
-    ensures { result ≡ right_with finding.now registrations.now right.now front.now }
+    ensures value { result ≡ right_with finding.now registrations.now right.now front.now }
+    ensures interest { HasLowInterest result }
 {
     let accrual = accrual_by(finding, right, front);
     let timely = arrears_found(&accrual, right.id, false, registrations);
@@ -109,13 +114,6 @@ fn right_found(
         late_arrears: late.in_class,
         late_old_arrears: late.old,
     }
-}
-
-/// The class of a right, where the first seizure has this receipt.
-fn class_by(seized: ReceiptNo, right: RightId) -> u8
-    ensures { result ≡ class_by seized right }
-{
-    if right.receipt() < seized { 4 } else { 6 }
 }
 
 /// The holder of a right that was created.

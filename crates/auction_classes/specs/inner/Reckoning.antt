@@ -10,7 +10,7 @@ use Rattle.auction_classes.specs.LowestBid.{cents_ahead, personal_amount}
 use Rattle.auction_classes.specs.SaleClaims.{SaleClaims}
 use Rattle.auction_classes.specs.declared.claim_items.RightClaimed.{RightClaimed}
 use Rattle.auction_classes.specs.declared.claim_items.SeizedFor.{SeizedFor}
-use Rattle.auction_classes.specs.declared.claims.ClassLine.{ClassLine}
+use Rattle.auction_classes.specs.declared.class_lines.ClassLine.{ClassLine}
 
 -- what a class's lists fill a line with
 abbrev pub filled_of : ClassLine → Filled

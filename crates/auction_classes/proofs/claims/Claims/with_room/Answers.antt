@@ -1,4 +1,4 @@
--- Nothing is claimed in empty lists.
+-- Nothing is claimed in empty lists, and they have the room that was asked for.
 use Rattle.std.proofs.Common.{subst, sym}
 use Rattle.auction_classes.specs.inner.Reckoning.{IsReckonable}
 use Rattle.auction_classes.proofs.NoClaims.{nothing_reckonable}
@@ -6,10 +6,19 @@ use Rattle.auction_classes.proofs.claims.Claims.with_room.Goals as goal
 
 pub invariant_of-result : goal.invariant_of-result
 invariant_of-result c =
-    let items = sym c.new.ensures.items in
-    let owners = sym c.new-2.ensures.items in
-    let seizures = sym c.new-3.ensures.items in
-    let rights = sym c.new-4.ensures.items in
-    let four = sym c.in_ok-line_with_room.ensures.empty in
-    let six = sym c.in_ok-line_with_room-2.ensures.empty in
-    subst IsReckonable (λ i. record { items = items i; costs = 0; owners = owners i; seizures = seizures i; rights = rights i; line_four = four i; line_six = six i }) nothing_reckonable
+    let lists = c.in_ok-with_room.ensures.empty in
+    let items = sym lists.items in
+    let owners = sym lists.owners in
+    let seizures = sym lists.seizures in
+    let rights = sym lists.rights in
+    let four = sym c.in_ok-with_room-2.ensures.empty in
+    let six = sym c.in_ok-with_room-3.ensures.empty in (
+      record {
+        for_claims = c.in_ok-with_room.ensures.room;
+        for_rights = c.in_ok-with_room-4.ensures.rights;
+        for_exchanges = c.in_ok-with_room-4.ensures.exchanges;
+        in_four = c.in_ok-with_room-2.ensures.room;
+        in_six = c.in_ok-with_room-3.ensures.room;
+      },
+      subst IsReckonable (λ i. record { items = items i; costs = 0; owners = owners i; seizures = seizures i; rights = rights i; line_four = four i; line_six = six i }) nothing_reckonable,
+    )

@@ -1,0 +1,35 @@
+-- Lists that have as much room as before have room for as much, and for less.
+use Rattle.std.proofs.Common.{ℕ, ◌≤◌, arith}
+use Rattle.auction_classes.specs.inner.ClaimLists.{HaveRoomFor, KeepRoom}
+use Rattle.auction_classes.specs.inner.LinesRead.{HasLineRoom, KeepsLineRoom}
+use Rattle.auction_classes.specs.declared.claim_lists.ClaimLists.{ClaimLists}
+use Rattle.auction_classes.specs.declared.class_lines.ClassLine.{ClassLine}
+
+pub room_for_fewer : (many few : ℕ) (lists : ClaimLists) → HaveRoomFor many lists → few ≤ many → HaveRoomFor few lists
+room_for_fewer many few lists room less = record {
+  items = omega (arith, room.items, less);
+  owners = room.owners;
+  seizures = room.seizures;
+  rights = omega (arith, room.rights, less);
+  found = omega (arith, room.found, less);
+  claims = omega (arith, room.claims, less);
+  ordered = omega (arith, room.ordered, less);
+}
+
+pub room_kept : (many : ℕ) (before now : ClaimLists) → HaveRoomFor many before → KeepRoom before now → HaveRoomFor many now
+room_kept many before now room same = record {
+  items = omega (arith, room.items, same.items);
+  owners = omega (arith, room.owners, same.owners);
+  seizures = omega (arith, room.seizures, same.seizures);
+  rights = omega (arith, room.rights, same.rights);
+  found = omega (arith, room.found, same.found);
+  claims = omega (arith, room.claims, same.claims);
+  ordered = omega (arith, room.ordered, same.ordered);
+}
+
+pub line_room_kept : (rights exchanges : ℕ) (before now : ClassLine) → HasLineRoom rights exchanges before → KeepsLineRoom before now → HasLineRoom rights exchanges now
+line_room_kept rights exchanges before now room same = record {
+  places = omega (arith, room.places, same.places);
+  swaps = omega (arith, room.swaps, same.swaps);
+  knots = omega (arith, room.knots, same.knots);
+}

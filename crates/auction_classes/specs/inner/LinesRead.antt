@@ -1,0 +1,127 @@
+-- The line of a class, as it is written of the folio's line and of what is found of the live rights.
+use Rattle.std.specs.Prelude.{◌≡◌, ℕ, ◌+◌, ◌*◌, ◌≤◌, Bool, ◌&&◌, ◌||◌, ◌==◌, if◌then◌else◌, List, [], ◌∷◌, filter, length, map, Option, Some, None, vec_capacity}
+use Rattle.std.specs.List.{list_any}
+use Rattle.gb_base.specs.Limits.{most_cents}
+use Rattle.gb_base.specs.RightNo.{RightNo, same_right}
+use Rattle.gb_base.specs.declared.keys.Key.{Key}
+use Rattle.gb_base.specs.declared.keys.Key.TheVariants.{Right}
+use Rattle.folio_sections.specs.Rights.{is_live}
+use Rattle.folio_sections.specs.declared.entries.Entry.{Entry}
+use Rattle.folio_line.specs.FolioLine.{LineState}
+use Rattle.folio_line.specs.FolioSlots.{capital_at, is_gone, swap_of}
+use Rattle.folio_line.specs.declared.exchanges.Exchange.{Exchange}
+use Rattle.folio_line.specs.declared.folio_rights.CreatedRight.{CreatedRight}
+use Rattle.folio_line.specs.inner.PlaceByPlace.{joins_place}
+use Rattle.rank_slots.specs.Filled.{Filled}
+use Rattle.rank_slots.specs.declared.places.Knot.{Knot}
+use Rattle.rank_slots.specs.declared.places.Place.{Place}
+use Rattle.rank_slots.specs.declared.places.Swap.{Swap}
+use Rattle.auction_classes.specs.Claims.{class_by}
+use Rattle.auction_classes.specs.declared.class_lines.ClassLine.{ClassLine}
+use Rattle.auction_classes.specs.declared.right_classes.RightClass.{RightClass}
+use Rattle.auction_classes.specs.declared.rights_found.RightFound.{RightFound}
+
+-- ---- room
+
+-- the line has room for so many rights and exchanges
+pub record HasLineRoom (rights exchanges : ℕ) (own : ClassLine) : Type 0 where
+  pub places : rights ≤ vec_capacity own.places
+  pub swaps : exchanges ≤ vec_capacity own.swaps
+  pub knots : rights ≤ vec_capacity own.knots
+
+-- the line has room for all that stands on the folio's line
+pub record HasRoomForAll (line : LineState) (own : ClassLine) : Type 0 where
+  pub places : length line.rights ≤ vec_capacity own.places
+  pub swaps : length line.exchanges ≤ vec_capacity own.swaps
+  pub knots : length line.exercises ≤ vec_capacity own.knots
+
+-- it has as much room as before
+pub record KeepsLineRoom (before now : ClassLine) : Type 0 where
+  pub places : vec_capacity now.places ≡ vec_capacity before.places
+  pub swaps : vec_capacity now.swaps ≡ vec_capacity before.swaps
+  pub knots : vec_capacity now.knots ≡ vec_capacity before.knots
+
+-- ---- what is of the class
+
+-- the right is of the class
+abbrev pub is_of_class : RightClass → RightNo → Bool
+is_of_class class id = class_by class.seized id == class.number
+
+-- those of these exchanges, and of these exercises, both of whose rights are of the class
+abbrev pub exchanges_within : RightClass → List Exchange → List Exchange
+exchanges_within class exchanges = filter (λ x. is_of_class class x.recede && is_of_class class x.rise) exchanges
+
+abbrev pub exercises_within : RightClass → List Knot → List Knot
+exercises_within class exercises = filter (λ k. is_of_class class k.reserved && is_of_class class k.exercised) exercises
+
+-- ---- places
+
+-- the right recedes in one of these exchanges
+abbrev pub recedes_by : List Swap → RightNo → Bool
+recedes_by swaps id = list_any (λ w. same_right w.recede id) swaps
+
+-- the right stands on the line of the class
+abbrev pub stands_by : RightClass → List Swap → (Key → List Entry) → ℕ → RightNo → Bool
+stands_by class swaps at folio id = is_of_class class id && (is_live (at (Right folio id)) || recedes_by swaps id)
+
+-- the interest of the first that is found
+abbrev pub first_interest : List RightFound → ℕ
+first_interest [] = 0
+first_interest (x ∷ xs) = x.interest
+
+-- those behind it
+abbrev pub behind_first : List RightFound → List RightFound
+behind_first [] = []
+behind_first (x ∷ xs) = xs
+
+-- The live rights are found in their order: the next that is found is of this right, where that is live, and its interest is that one's.
+abbrev pub interest_read : (Key → List Entry) → ℕ → List RightFound → RightNo → ℕ
+interest_read at folio found id = if is_live (at (Right folio id)) then first_interest found else 0
+
+abbrev pub found_behind : (Key → List Entry) → ℕ → List RightFound → RightNo → List RightFound
+found_behind at folio found id = if is_live (at (Right folio id)) then behind_first found else found
+
+-- the place of a right behind another
+abbrev pub place_read : (Key → List Entry) → ℕ → Option CreatedRight → List RightFound → CreatedRight → Place
+place_read at folio before found x = record {
+  right = x.id;
+  claim = interest_read at folio found x.id + capital_at at folio x.id;
+  with_previous = joins_place before x;
+  dropped = is_gone at folio x.id;
+}
+
+-- the places of those of these rights that stand on the line, behind another right, with what is found of the live ones
+abbrev pub places_read : RightClass → List Swap → (Key → List Entry) → ℕ → Option CreatedRight → List RightFound → List CreatedRight → List Place
+places_read class swaps at folio before found [] = []
+places_read class swaps at folio before found (x ∷ xs) =
+    if stands_by class swaps at folio x.id
+    then place_read at folio before found x ∷ places_read class swaps at folio (Some x) (found_behind at folio found x.id) xs
+    else places_read class swaps at folio before (found_behind at folio found x.id) xs
+
+-- ---- the line
+
+abbrev pub swaps_read : RightClass → List Exchange → List Swap
+swaps_read class exchanges = map swap_of (exchanges_within class exchanges)
+
+-- the line of a class, of the folio's line and of what is found of the live rights
+abbrev pub line_read : RightClass → (Key → List Entry) → ℕ → List RightFound → LineState → Filled
+line_read class at folio found line = record {
+  places = places_read class (swaps_read class line.exchanges) at folio None found line.rights;
+  swaps = swaps_read class line.exchanges;
+  knots = exercises_within class line.exercises;
+}
+
+-- ---- the range of interest
+
+-- the interest of a right is at most that of 33 terms: the current one, and those of the registrations of a case
+abbrev pub most_interest : ℕ
+most_interest = 33 * 461111111111111
+
+abbrev pub HasLowInterest : RightFound → Type 0
+HasLowInterest x = x.interest ≤ most_interest
+
+-- ---- the range of capital
+
+-- the capital of the right is an amount
+abbrev pub HasAmount : (Key → List Entry) → ℕ → Place → Type 0
+HasAmount at folio p = capital_at at folio p.right ≤ most_cents
