@@ -10,6 +10,7 @@ pub mod ClaimsInRow
 pub mod ClaimsOnLine
 pub mod ClassFills
 pub mod CommercialDays
+pub mod EarlierRights
 pub mod ExchangesAlike
 pub mod FoundSoFar
 pub mod KeptSales

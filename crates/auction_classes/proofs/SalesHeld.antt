@@ -1,18 +1,13 @@
 -- What parts read of a forced sale whose keys they hold, where they stand for a kept register.
-use Rattle.std.proofs.Common.{◌≡◌, ℕ, zero, suc, ◌≤◌, nat_lt, Bool, true, false, cond, List, [], ◌∷◌, All, Contains, filter, filter_map, flat_map, length, map, slice_get, take, IfSome, IsSome, IsTrue, Option, Some, None, refl, sym, ap, subst, ◌∙◌, arith}
-use Rattle.std.specs.List.{cons_option}
+use Rattle.std.proofs.Common.{◌≡◌, ℕ, ◌≤◌, Bool, true, false, cond, List, [], All, Contains, length, map, slice_get, IfSome, IsSome, IsTrue, Option, Some, None, refl, sym, ap, subst, ◌∙◌, arith}
 use Rattle.std.specs.Option.{option_map_or}
 use Rattle.std.proofs.lemmas.Bool.{false≢true}
-use Rattle.std.proofs.lemmas.Bool.Decides.{nat_tests}
-use Rattle.std.proofs.lemmas.List.{length-append}
 use Rattle.std.proofs.lemmas.List.Elements.{All-contains_itself, recursion_from_All}
 use Rattle.gb_base.specs.RightNo.{RightNo, same_right}
 use Rattle.gb_base.specs.declared.keys.Key.{Key}
 use Rattle.gb_base.specs.declared.keys.Key.TheVariants.{Case, Right, Title}
 use Rattle.gb_base.proofs.Members.{in_map}
 use Rattle.gb_base.proofs.SameRights.{right_is}
-use Rattle.act_model.specs.Creations.{creations_in}
-use Rattle.act_model.specs.Limits.{most_creations}
 use Rattle.act_model.specs.Receiving.{IsJournal}
 use Rattle.act_model.specs.SaleKeys.{earlier_rights, keys_of_sale}
 use Rattle.act_model.specs.declared.receipts.Receipt.{Receipt}
@@ -21,21 +16,22 @@ use Rattle.folio_sections.specs.Fronts.{NeverFall, below}
 use Rattle.folio_sections.specs.HeldRights.{right_numbers}
 use Rattle.folio_sections.specs.Rights.{created}
 use Rattle.folio_sections.specs.declared.entries.Entry.{Entry}
-use Rattle.folio_sections.proofs.FilteredLists.{any_in, in_all, in_filter, of_any, of_filter}
+use Rattle.folio_sections.proofs.FilteredLists.{in_all, of_any}
 use Rattle.folio_sections.proofs.Unchanged.{all_weaker}
 use Rattle.kept_registers.specs.Kept.{Kept}
-use Rattle.kept_registers.specs.Standing.{StandsFor}
+use Rattle.kept_registers.specs.Standing.{StandsFor, StandsForKept}
 use Rattle.folio_line.specs.AllRights.{AreAllRights, is_among, rights_filed}
-use Rattle.folio_line.specs.Exchanges.{rise_by}
-use Rattle.folio_line.specs.FolioLine.{IsLineOf, LineState, all_rises, rises_of}
+use Rattle.folio_line.specs.FolioLine.{IsLineOf, LineState, all_rises}
 use Rattle.folio_line.specs.FolioReading.{read_at, where_held}
-use Rattle.folio_line.specs.declared.exchanges.Exchange.{Exchange}
 use Rattle.folio_line.proofs.AllRights.{filed_are_all}
-use Rattle.folio_line.proofs.LineRoom.{filter_few}
-use Rattle.auction_classes.specs.Sales.{read, read_before, sale_at}
+use Rattle.auction_classes.specs.Sales.{Sale, read, read_before, sale_at}
 use Rattle.auction_classes.specs.inner.CaseSales.{CanFind, sale_of_case}
+use Rattle.auction_classes.specs.inner.LinesRead.{HasLineRoom, HasRoomForAll}
 use Rattle.auction_classes.specs.inner.Readings.{IsReadAs}
+use Rattle.auction_classes.specs.declared.class_lines.ClassLine.{ClassLine}
+use Rattle.auction_classes.proofs.EarlierRights.{filed_earlier, filed_few, rises_fit}
 use Rattle.auction_classes.proofs.KeptSales.{below_twice, can_find, read_within}
+use Rattle.auction_classes.proofs.LineFits.{line_fits, live_few}
 use Rattle.auction_classes.proofs.PartsRead.{parts_read_alike}
 use Rattle.auction_classes.proofs.ReadAlike.{ReadAlike}
 use Rattle.auction_classes.proofs.SalesAsRead.{IsReadFrom, live_as_read}
@@ -61,94 +57,6 @@ holds_sale journal holds folio a held =
           subst (λ k. holds (Right folio k) ≡ true) (sym (right_is id from.0 from.2))
           (in_all (λ k. IsTrue (holds k)) (map (Right folio) rights) (Right folio from.0) all.1.1 (in_map (Right folio) rights from.0 from.1));
     }
-
--- ---- the rights filed before an earlier receipt
-
--- a number below another is below what that is not above
-less_on : (n a : ℕ) → n ≤ a → (id : RightNo) → nat_lt id.receipt n ≡ true → nat_lt id.receipt a ≡ true
-less_on n a within id less = grind (arith, nat_tests, within, less)
-
--- a right that was filed before the one receipt was filed before the other
-filed_earlier : (journal : List Receipt) (folio n a : ℕ) → n ≤ a → (id : RightNo) → is_among (rights_filed (Some n) journal folio) id ≡ true → is_among (earlier_rights journal a folio) id ≡ true
-filed_earlier journal folio n a within id among =
-    let first = take most_creations (creations_in journal folio) in
-    let from = of_any (same_right id) (rights_filed (Some n) journal folio) among in
-    let own = of_filter (λ (k : RightNo). nat_lt k.receipt n) first from.0 from.1 in
-    any_in (same_right id) (earlier_rights journal a folio) from.0
-    (in_filter (λ (k : RightNo). nat_lt k.receipt a) first from.0 own.0 (less_on n a within from.0 own.1)) from.2
-
--- what is made of those that pass a narrower test is no more than what is made of those that pass the wider one
-less_made : {X Y Z : Type 0} (p q : X → Bool) (g : X → List Y) (h : X → List Z) (xs : List X) → ((x : X) → p x ≡ true → q x ≡ true) → ((x : X) → length (g x) ≤ length (h x))
-    → length (flat_map g (filter p xs)) ≤ length (flat_map h (filter q xs))
-less_made p q g h [] less few = omega arith
-less_made {X} {Y} {Z} p q g h (x ∷ xs) less few =
-    let rest = less_made p q g h xs less few in
-    let here = few x in
-    let left = length-append (g x) (flat_map g (filter p xs)) in
-    let right = length-append (h x) (flat_map h (filter q xs)) in
-    elim (p x) as (λ b. p x ≡ b → length (flat_map g (cond b (x ∷ filter p xs) (filter p xs))) ≤ length (flat_map h (cond (q x) (x ∷ filter q xs) (filter q xs)))) [
-      | true ↦ λ is. subst (λ c. length (flat_map g (x ∷ filter p xs)) ≤ length (flat_map h (cond c (x ∷ filter q xs) (filter q xs)))) (sym (less x is)) (omega (arith, rest, here, left, right))
-      | false ↦ λ _.
-          elim (q x) as (λ c. length (flat_map g (filter p xs)) ≤ length (flat_map h (cond c (x ∷ filter q xs) (filter q xs)))) [
-            | true ↦ omega (arith, rest, right)
-            | false ↦ rest
-          ]
-    ] refl
-
--- there are no more of them
-filter_less : {X : Type 0} (p q : X → Bool) (xs : List X) → ((x : X) → p x ≡ true → q x ≡ true) → length (filter p xs) ≤ length (filter q xs)
-filter_less p q [] less = omega arith
-filter_less p q (x ∷ xs) less =
-    let rest = filter_less p q xs less in
-    elim (p x) as (λ b. p x ≡ b → length (cond b (x ∷ filter p xs) (filter p xs)) ≤ length (cond (q x) (x ∷ filter q xs) (filter q xs))) [
-      | true ↦ λ is. subst (λ c. length (x ∷ filter p xs) ≤ length (cond c (x ∷ filter q xs) (filter q xs))) (sym (less x is)) (omega (arith, rest))
-      | false ↦ λ _.
-          elim (q x) as (λ c. length (filter p xs) ≤ length (cond c (x ∷ filter q xs) (filter q xs))) [ true ↦ omega (arith, rest) | false ↦ rest ]
-    ] refl
-
-pub filed_few : (journal : List Receipt) (folio n a : ℕ) → n ≤ a → length (rights_filed (Some n) journal folio) ≤ length (earlier_rights journal a folio)
-filed_few journal folio n a within = filter_less (λ (k : RightNo). nat_lt k.receipt n) (λ (k : RightNo). nat_lt k.receipt a) (take most_creations (creations_in journal folio)) (less_on n a within)
-
-taken_few : {X : Type 0} (n : ℕ) (xs : List X) → length (take n xs) ≤ n
-taken_few zero xs = omega arith
-taken_few (suc n) [] = omega arith
-taken_few (suc n) (x ∷ xs) =
-    let few = taken_few n xs in
-    omega (arith, few)
-
--- and at most as many as a folio has
-pub filed_at_most : (journal : List Receipt) (folio n : ℕ) → length (rights_filed (Some n) journal folio) ≤ most_creations
-filed_at_most journal folio n =
-    let first = take most_creations (creations_in journal folio) in
-    let fewer = filter_few (λ (k : RightNo). nat_lt k.receipt n) first in
-    let few = taken_few most_creations (creations_in journal folio) in
-    omega (arith, fewer, few)
-
--- what is given of those that pass a test is no more than what is given of all
-given_less : {X Y : Type 0} (f : X → Option Y) (p : X → Bool) (xs : List X) → length (filter_map f (filter p xs)) ≤ length (filter_map f xs)
-given_less f p [] = omega arith
-given_less f p (x ∷ xs) =
-    let rest = given_less f p xs in
-    elim (p x) as (λ b. length (filter_map f (cond b (x ∷ filter p xs) (filter p xs))) ≤ length (cons_option (f x) (filter_map f xs))) [
-      | true ↦ elim (f x) as (λ o. length (cons_option o (filter_map f (filter p xs))) ≤ length (cons_option o (filter_map f xs))) [ None ↦ rest | Some y ↦ omega (arith, rest) ]
-      | false ↦ elim (f x) as (λ o. length (filter_map f (filter p xs)) ≤ length (cons_option o (filter_map f xs))) [ None ↦ rest | Some y ↦ omega (arith, rest) ]
-    ]
-
-rises_few : (holds : Key → Bool) (at : Key → List Entry) (folio n : ℕ) (id : RightNo) → length (rises_of (read_at (Some n) (where_held holds at)) folio id) ≤ length (rises_of at folio id)
-rises_few holds at folio n id =
-    let k = Right folio id in
-    let f : Entry → Option Exchange = λ e. rise_by id e.receipt e.what in
-    elim (holds k) as (λ b. length (filter_map f (below n (cond b (at k) []))) ≤ length (filter_map f (at k))) [
-      | true ↦ given_less f (λ (e : Entry). nat_lt e.receipt n) (at k)
-      | false ↦ omega arith
-    ]
-
--- so room for the exchanges of the ones is enough for those of the others
-pub rises_fit : (journal : List Receipt) (holds : Key → Bool) (at : Key → List Entry) (folio n a : ℕ) → n ≤ a
-    → length (all_rises (read_at (Some n) (where_held holds at)) folio (rights_filed (Some n) journal folio)) ≤ length (all_rises at folio (earlier_rights journal a folio))
-rises_fit journal holds at folio n a within =
-    less_made (λ (k : RightNo). nat_lt k.receipt n) (λ (k : RightNo). nat_lt k.receipt a) (rises_of (read_at (Some n) (where_held holds at)) folio) (rises_of at folio)
-    (take most_creations (creations_in journal folio)) (less_on n a within) (rises_few holds at folio n)
 
 -- ---- what is read
 
@@ -181,68 +89,122 @@ filed_are_read journal register holds at folio n kept stands =
 
 -- ---- the sale
 
--- Of a kept register for which parts stand that hold the keys of a sale: what is read of its case as item a finds it, as of which receipt
--- its folio is read, and what is then read of its title.
-pub record IsSaleRead (journal : List Receipt) (register : Key → List Entry) (holds : Key → Bool) (at : Key → List Entry) (folio a : ℕ) (entries : List Entry) (n : ℕ) (title : List Entry) : Type 0 where
-  pub kept : Kept journal register
-  pub stands : StandsFor holds at register
-  pub received : IsJournal journal
-  pub held : HoldsSale journal holds folio a
-  pub case : entries ≡ below a (at (Case folio))
-  pub before : n ≡ option_map_or (λ m. m) (award entries) a
-  pub owned : title ≡ below n (at (Title folio))
+-- A forced sale as parts read it: the journal, which keys they hold and what stands there, the folio, and the item that finds the sale; what
+-- is read of its case, as of which receipt its folio is read, and what is then read of its title.
+pub record SaleReading : Type 0 where
+  pub journal : List Receipt
+  pub holds : Key → Bool
+  pub at : Key → List Entry
+  pub folio : ℕ
+  pub item : ℕ
+  pub entries : List Entry
+  pub before : ℕ
+  pub title : List Entry
 
-pub case_is : (journal : List Receipt) (register : Key → List Entry) (holds : Key → Bool) (at : Key → List Entry) (folio a : ℕ) (entries : List Entry) (n : ℕ) (title : List Entry) → IsSaleRead journal register holds at folio a entries n title
-    → below a (register (Case folio)) ≡ entries
-case_is journal register holds at folio a entries n title is = sym (is.case ∙ ap (below a) (is.stands (Case folio) is.held.case))
+abbrev pub reading_of : List Receipt → (Key → Bool) → (Key → List Entry) → ℕ → ℕ → List Entry → ℕ → List Entry → SaleReading
+reading_of journal holds at folio item entries before title =
+    record { journal = journal; holds = holds; at = at; folio = folio; item = item; entries = entries; before = before; title = title }
 
-before_is : (journal : List Receipt) (register : Key → List Entry) (holds : Key → Bool) (at : Key → List Entry) (folio a : ℕ) (entries : List Entry) (n : ℕ) (title : List Entry) → IsSaleRead journal register holds at folio a entries n title
-    → n ≡ read_before (sale_at journal register folio a)
-before_is journal register holds at folio a entries n title is =
-    is.before ∙ ap (λ es. option_map_or (λ m. m) (award es) a) (sym (case_is journal register holds at folio a entries n title is))
+-- what is read at the rights of its folio
+abbrev pub reads_in : SaleReading → Key → List Entry
+reads_in r = read_at (Some r.before) (where_held r.holds r.at)
 
--- the folio is read as of no later than the item
-pub before_within : (journal : List Receipt) (register : Key → List Entry) (holds : Key → Bool) (at : Key → List Entry) (folio a : ℕ) (entries : List Entry) (n : ℕ) (title : List Entry) → IsSaleRead journal register holds at folio a entries n title
-    → n ≤ a
-before_within journal register holds at folio a entries n title is =
-    subst (λ m. m ≤ a) (sym (before_is journal register holds at folio a entries n title is)) (read_within journal register folio a)
+-- the sale of the register
+abbrev pub sale_in : SaleReading → (Key → List Entry) → Sale
+sale_in r register = sale_at r.journal register r.folio r.item
+
+-- The parts stand for a kept register, and hold the keys of the sale.
+pub record IsSaleRead (r : SaleReading) (register : Key → List Entry) : Type 0 where
+  pub kept : Kept r.journal register
+  pub stands : StandsFor r.holds r.at register
+  pub received : IsJournal r.journal
+  pub held : HoldsSale r.journal r.holds r.folio r.item
+  pub case : r.entries ≡ below r.item (r.at (Case r.folio))
+  pub award : r.before ≡ option_map_or (λ m. m) (award r.entries) r.item
+  pub owned : r.title ≡ below r.before (r.at (Title r.folio))
+
+pub sale_is_read : (r : SaleReading) (kept : StandsForKept r.journal r.holds r.at) → IsJournal r.journal → ((k : Key) → Contains (keys_of_sale r.journal r.item r.folio) k → IsTrue (r.holds k))
+    → r.entries ≡ below r.item (r.at (Case r.folio)) → r.before ≡ option_map_or (λ m. m) (award r.entries) r.item → r.title ≡ below r.before (r.at (Title r.folio)) → IsSaleRead r kept.register
+sale_is_read r kept received held case awarded owned = record {
+  kept = kept.kept;
+  stands = kept.stands;
+  received = received;
+  held = holds_sale r.journal r.holds r.folio r.item held;
+  case = case;
+  award = awarded;
+  owned = owned;
+}
+
+-- in the register the same stands at the case
+pub case_is : (r : SaleReading) (register : Key → List Entry) → IsSaleRead r register → below r.item (register (Case r.folio)) ≡ r.entries
+case_is r register is = sym (is.case ∙ ap (below r.item) (is.stands (Case r.folio) is.held.case))
+
+-- so its folio is read as of the same receipt
+before_is : (r : SaleReading) (register : Key → List Entry) → IsSaleRead r register → r.before ≡ read_before (sale_in r register)
+before_is r register is = is.award ∙ ap (λ es. option_map_or (λ m. m) (award es) r.item) (sym (case_is r register is))
+
+-- which is no later than the item
+pub before_within : (r : SaleReading) (register : Key → List Entry) → IsSaleRead r register → r.before ≤ r.item
+before_within r register is = subst (λ m. m ≤ r.item) (sym (before_is r register is)) (read_within r.journal register r.folio r.item)
 
 -- the sale can be found
-pub can_find_case : (journal : List Receipt) (register : Key → List Entry) (holds : Key → Bool) (at : Key → List Entry) (folio a : ℕ) (entries : List Entry) (n : ℕ) (title : List Entry) → IsSaleRead journal register holds at folio a entries n title
-    → IsSome (slice_get (seizure_numbers entries) 0) → CanFind (sale_of_case journal entries a)
-can_find_case journal register holds at folio a entries n title is runs =
-    let case = case_is journal register holds at folio a entries n title is in
-    let can = can_find journal register folio a is.kept (subst (λ es. IsSome (slice_get (seizure_numbers es) 0)) (sym case) runs) in
-    of_case (below a (register (Case folio))) case (record { seized = can.seized; seizures = can.seizures; registrations = can.registrations })
-  where
-    of_case : (es : List Entry) → es ≡ entries → CanFind (sale_of_case journal es a) → CanFind (sale_of_case journal entries a)
-    of_case es same can = subst (λ ds. CanFind (sale_of_case journal ds a)) same can
+pub can_find_case : (r : SaleReading) (register : Key → List Entry) → IsSaleRead r register → IsSome (slice_get (seizure_numbers r.entries) 0) → CanFind (sale_of_case r.journal r.entries r.item)
+can_find_case r register is runs =
+    let case = case_is r register is in
+    let can = can_find r.journal register r.folio r.item is.kept (subst (λ es. IsSome (slice_get (seizure_numbers es) 0)) (sym case) runs) in
+    subst (λ es. CanFind (sale_of_case r.journal es r.item)) case (record { seized = can.seized; seizures = can.seizures; registrations = can.registrations })
 
 -- its rights are read alike
-pub sale_read_alike : (journal : List Receipt) (register : Key → List Entry) (holds : Key → Bool) (at : Key → List Entry) (folio a : ℕ) (entries : List Entry) (n : ℕ) (title : List Entry) → IsSaleRead journal register holds at folio a entries n title
-    → ReadAlike folio (read (sale_at journal register folio a)) (read_at (Some n) (where_held holds at))
-sale_read_alike journal register holds at folio a entries n title is =
-    let within = before_within journal register holds at folio a entries n title is in
-    subst (λ m. ReadAlike folio (λ k. below m (below a (register k))) (read_at (Some n) (where_held holds at))) (before_is journal register holds at folio a entries n title is)
-    (parts_read_alike journal register holds at folio n a is.kept is.received within is.stands (λ id among. is.held.rights id (filed_earlier journal folio n a within id among)))
+pub sale_read_alike : (r : SaleReading) (register : Key → List Entry) → IsSaleRead r register → ReadAlike r.folio (read (sale_in r register)) (reads_in r)
+sale_read_alike r register is =
+    let within = before_within r register is in
+    subst (λ m. ReadAlike r.folio (λ k. below m (below r.item (register k))) (reads_in r)) (before_is r register is)
+    (parts_read_alike r.journal register r.holds r.at r.folio r.before r.item is.kept is.received within is.stands
+    (λ id among. is.held.rights id (filed_earlier r.journal r.folio r.before r.item within id among)))
 
-pub sale_read_from : (journal : List Receipt) (register : Key → List Entry) (holds : Key → Bool) (at : Key → List Entry) (folio a : ℕ) (entries : List Entry) (n : ℕ) (title : List Entry) (line : LineState)
-    → IsSaleRead journal register holds at folio a entries n title → IsLineOf (read_at (Some n) (where_held holds at)) folio line
-    → IsReadFrom journal register folio a entries (read_at (Some n) (where_held holds at)) title line.live
-sale_read_from journal register holds at folio a entries n title line is of_line =
-    let k = Title folio in
-    let same = before_is journal register holds at folio a entries n title is in
+pub sale_read_from : (r : SaleReading) (register : Key → List Entry) (line : LineState) → IsSaleRead r register → IsLineOf (reads_in r) r.folio line
+    → IsReadFrom r.journal register r.folio r.item r.entries (reads_in r) r.title line.live
+sale_read_from r register line is of_line =
+    let k = Title r.folio in
     record {
-      case = case_is journal register holds at folio a entries n title is;
-      rights = sale_read_alike journal register holds at folio a entries n title is;
-      owned = ap (λ m. below m (below a (register k))) (sym same)
-          ∙ below_twice n a (register k) (before_within journal register holds at folio a entries n title is) ∙ ap (below n) (sym (is.stands k is.held.title)) ∙ sym is.owned;
+      case = case_is r register is;
+      rights = sale_read_alike r register is;
+      owned = ap (λ m. below m (below r.item (register k))) (sym (before_is r register is))
+          ∙ below_twice r.before r.item (register k) (before_within r register is) ∙ ap (below r.before) (sym (is.stands k is.held.title)) ∙ sym is.owned;
       living = of_line.live;
     }
 
--- its rights are found as they are read
-pub sale_live_as_read : (journal : List Receipt) (register : Key → List Entry) (holds : Key → Bool) (at : Key → List Entry) (folio a : ℕ) (entries : List Entry) (n : ℕ) (title : List Entry) (line : LineState)
-    → IsSaleRead journal register holds at folio a entries n title → IsLineOf (read_at (Some n) (where_held holds at)) folio line
-    → All (IsReadAs (λ id. read_at (Some n) (where_held holds at) (Right folio id))) line.live
-sale_live_as_read journal register holds at folio a entries n title line is of_line =
-    live_as_read journal register folio a entries (read_at (Some n) (where_held holds at)) title line.live (sale_read_from journal register holds at folio a entries n title line is of_line) is.kept is.received
+-- and are as they were filed
+pub sale_live_as_read : (r : SaleReading) (register : Key → List Entry) (line : LineState) → IsSaleRead r register → IsLineOf (reads_in r) r.folio line → All (IsReadAs (λ id. reads_in r (Right r.folio id))) line.live
+sale_live_as_read r register line is of_line =
+    live_as_read r.journal register r.folio r.item r.entries (reads_in r) r.title line.live (sale_read_from r register line is of_line) is.kept is.received
+
+-- ---- room
+
+-- the rights among which its line is read
+abbrev pub ids_in : SaleReading → List RightNo
+ids_in r = rights_filed (Some r.before) r.journal r.folio
+
+pub ids_are_all : (r : SaleReading) (register : Key → List Entry) → IsSaleRead r register → AreAllRights (ids_in r) (reads_in r) r.folio
+ids_are_all r register is = filed_are_read r.journal register r.holds r.at r.folio r.before is.kept is.stands
+
+-- they are no more than those that filings before the item create, and at most as many as a folio has
+pub ids_few : (r : SaleReading) (register : Key → List Entry) → IsSaleRead r register → length (ids_in r) ≤ length (earlier_rights r.journal r.item r.folio)
+ids_few r register is = filed_few r.journal r.folio r.before r.item (before_within r register is)
+
+-- nor are their exchanges more than those that stand there
+pub ids_rise : (r : SaleReading) (register : Key → List Entry) → IsSaleRead r register
+    → length (all_rises (reads_in r) r.folio (ids_in r)) ≤ length (all_rises r.at r.folio (earlier_rights r.journal r.item r.folio))
+ids_rise r register is = rises_fit r.journal r.holds r.at r.folio r.before r.item (before_within r register is)
+
+pub sale_live_few : (r : SaleReading) (register : Key → List Entry) (line : LineState) → IsSaleRead r register → IsLineOf (reads_in r) r.folio line → length line.live ≤ length (ids_in r)
+sale_live_few r register line is of_line = live_few (reads_in r) r.folio (ids_in r) line (ids_are_all r register is) of_line
+
+-- a class's line that has room for these rights and exchanges has room for the whole line of the folio
+pub sale_line_fits : (r : SaleReading) (register : Key → List Entry) (line : LineState) (rights exchanges : ℕ) (own : ClassLine) → IsSaleRead r register → IsLineOf (reads_in r) r.folio line
+    → length (earlier_rights r.journal r.item r.folio) ≤ rights → length (all_rises r.at r.folio (earlier_rights r.journal r.item r.folio)) ≤ exchanges → HasLineRoom rights exchanges own
+    → HasRoomForAll line own
+sale_line_fits r register line rights exchanges own is of_line few rises room =
+    let less = ids_few r register is in
+    let fit = ids_rise r register is in
+    line_fits (reads_in r) r.folio (ids_in r) line rights exchanges own (ids_are_all r register is) of_line (omega (arith, less, few)) (omega (arith, fit, rises)) room

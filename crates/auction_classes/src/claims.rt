@@ -93,9 +93,9 @@ impl Claims {
     /// Fills the claims anew with what is claimed in the forced sale of a folio, as an item of it, or
     /// the end of the journal, finds it: by the entries of items below that number. Takes no memory.
     ///
-    /// Receipt 7 calls to bid, receipt 9 awards, and receipt 10 cancels a right. As of receipt 8 the
-    /// rights are read as they stand; as of receipt 11 as they stood before the award, so that the
-    /// right is still among them.
+    /// Receipt 7 calls to bid, receipt 9 awards, and receipt 10 cancels a right. As of receipt 9 the
+    /// rights are those that stand before it. So they are as of receipt 11, since the folio is read as
+    /// it stood before the award: the right that was cancelled is among them.
     pub fn fill<P: Parts>(&mut self, parts: &P, journal: &Journal, folio: FolioId, as_of: ReceiptNo)
         requires held { (k : Key) → Contains (keys_of_sale journal.now.receipts as_of folio) k → IsTrue (P.holds parts.now k) }
         requires kept { StandsForKept journal.now.receipts (P.holds parts.now) (P.at parts.now) }
