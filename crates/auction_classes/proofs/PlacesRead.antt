@@ -9,10 +9,10 @@ use Rattle.folio_sections.specs.Rights.{capital, is_live}
 use Rattle.folio_sections.specs.declared.entries.Entry.{Entry}
 use Rattle.rank_slots.specs.declared.places.Place.{Place}
 use Rattle.rank_slots.specs.declared.places.Swap.{Swap}
-use Rattle.folio_line.specs.FolioRights.{is_live_with}
+use Rattle.folio_line.specs.FolioRights.{is_live_with, joins_place}
 use Rattle.folio_line.specs.FolioSlots.{capital_at, is_gone}
 use Rattle.folio_line.specs.declared.folio_rights.CreatedRight.{CreatedRight}
-use Rattle.folio_line.specs.inner.PlaceByPlace.{joins_place, places_behind}
+use Rattle.folio_line.specs.inner.PlaceByPlace.{places_behind}
 use Rattle.auction_classes.specs.inner.LinesRead.{behind_first, first_interest, is_of_class, place_read, places_read, recedes_by, stands_by}
 use Rattle.auction_classes.specs.declared.right_classes.RightClass.{RightClass}
 use Rattle.auction_classes.specs.declared.rights_found.RightFound.{RightFound}

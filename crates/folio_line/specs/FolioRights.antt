@@ -1,6 +1,6 @@
 -- The rights of a folio in order of filing, group and act.
 -- Why so: docs/DECISIONS.md, "The rights of a line stand by filing and group".
-use Rattle.std.specs.Prelude.{ℕ, Bool, ◌==◌, ◌&&◌, if◌then◌else◌, List, filter, filter_map, flat_map, map, Option, None, option_map}
+use Rattle.std.specs.Prelude.{ℕ, Bool, false, ◌==◌, ◌&&◌, if◌then◌else◌, List, filter, filter_map, flat_map, map, Option, Some, None, option_map}
 use Rattle.std.specs.List.{range_with_len}
 use Rattle.gb_base.specs.RightNo.{RightNo}
 use Rattle.gb_base.specs.declared.keys.Key.{Key}
@@ -56,3 +56,8 @@ live_by_act at folio = flat_map (rights_of is_live_with at folio) receipt_number
 -- rights of one filing and group have one place (GBO § 45(1), (3))
 abbrev pub has_same_place : CreatedRight → CreatedRight → Bool
 has_same_place x y = x.id.receipt == y.id.receipt && x.made.spec.group == y.made.spec.group
+
+-- whether a right joins the place of the one before it, if there is one
+abbrev pub joins_place : Option CreatedRight → CreatedRight → Bool
+joins_place None x = false
+joins_place (Some before) x = has_same_place before x

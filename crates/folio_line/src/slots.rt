@@ -4,8 +4,9 @@ ghost use Rattle.gb_base.specs.Limits.{most_cents};
 ghost use Rattle.kept_registers.specs.Kept.{Kept};
 ghost use Rattle.folio_line.specs.FolioLine.{IsLineOf};
 ghost use Rattle.folio_line.specs.FolioReading.{CanBeRead, read_at, reads};
+ghost use Rattle.folio_line.specs.FolioRights.{joins_place};
 ghost use Rattle.folio_line.specs.FolioSlots.{capital_at, folio_filled, is_gone, swap_of};
-ghost use Rattle.folio_line.specs.inner.PlaceByPlace.{joins_place, place_behind, places_behind};
+ghost use Rattle.folio_line.specs.inner.PlaceByPlace.{place_behind, places_behind};
 
 use crate::exchanges::Exchange;
 use crate::folio_reads::{capital_of, is_live};

@@ -8,10 +8,10 @@ use Rattle.gb_base.specs.declared.keys.Key.TheVariants.{Right}
 use Rattle.folio_sections.specs.Rights.{is_live}
 use Rattle.folio_sections.specs.declared.entries.Entry.{Entry}
 use Rattle.folio_line.specs.FolioLine.{LineState}
+use Rattle.folio_line.specs.FolioRights.{joins_place}
 use Rattle.folio_line.specs.FolioSlots.{capital_at, is_gone, swap_of}
 use Rattle.folio_line.specs.declared.exchanges.Exchange.{Exchange}
 use Rattle.folio_line.specs.declared.folio_rights.CreatedRight.{CreatedRight}
-use Rattle.folio_line.specs.inner.PlaceByPlace.{joins_place}
 use Rattle.rank_slots.specs.Filled.{Filled}
 use Rattle.rank_slots.specs.declared.places.Knot.{Knot}
 use Rattle.rank_slots.specs.declared.places.Place.{Place}
