@@ -15,6 +15,7 @@ pub mod NewYears
 pub mod NoClaims
 pub mod OrderedClaims
 pub mod PartsRead
+pub mod PaysWithin
 pub mod ReadAlike
 pub mod RightsOnLine
 pub mod SalesAsRead
