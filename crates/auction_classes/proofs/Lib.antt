@@ -17,6 +17,7 @@ pub mod OrderedClaims
 pub mod PartsRead
 pub mod PaysWithin
 pub mod ReadAlike
+pub mod RemainsWithin
 pub mod RightsOnLine
 pub mod SalesAsRead
 pub mod StampYears
