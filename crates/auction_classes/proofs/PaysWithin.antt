@@ -25,7 +25,7 @@ use Rattle.rank_slots.proofs.PlaceLines.{AreDifferent, claim_least, different_be
 
 -- ---- a share
 
--- where the money does not reach the sum of the claims, the whole cents of a claim's part are fewer than the claim, which is a cent at least
+-- money short of the sum gives a claim of a cent or more fewer whole cents than it claims
 part_below : (money total claim : ℕ) → money < total → 1 ≤ claim → money * claim / total < claim
 part_below money total claim short some =
     let part : ℕ = money * claim / total in
@@ -37,7 +37,7 @@ part_below money total claim short some =
     absurd (omega (arith, low, high, more)))
     (cases_lt part claim)
 
--- so with a cent more they are no more than the claim
+-- so with one cent more they are at most the claim
 share_within : (money : ℕ) (claims : List ℕ) (i : ℕ) → 1 ≤ claim_at claims i → share money claims i ≤ claim_at claims i
 share_within money claims i some =
     let claim = claim_at claims i in
