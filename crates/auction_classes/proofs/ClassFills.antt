@@ -1,8 +1,8 @@
 -- The line of a class of a sale in a kept register is one that slots can be filled with.
-use Rattle.std.proofs.Common.{◌≡◌, ℕ, ◌+◌, ◌≤◌, Bool, true, ◌==◌, ◌&&◌, ◌||◌, List, All, Some, None, find, length, refl, sym, subst, arith}
+use Rattle.std.proofs.Common.{◌≡◌, ℕ, ◌+◌, ◌≤◌, Bool, true, ◌==◌, ◌&&◌, ◌||◌, List, Some, None, find, length, refl, sym, subst, arith}
 use Rattle.std.specs.Option.{option_map_or}
 use Rattle.std.proofs.lemmas.Bool.{and_from, and_parts, or_left, or_right}
-use Rattle.std.proofs.lemmas.List.Elements.{All-from_recursion, recursion_from_All}
+use Rattle.std.proofs.lemmas.List.Elements.{All-from_recursion}
 use Rattle.std.proofs.lemmas.List.Sums.{sum_by-le}
 use Rattle.gb_base.specs.Limits.{most_cents}
 use Rattle.gb_base.specs.RightNo.{RightNo, same_right}
@@ -19,7 +19,6 @@ use Rattle.folio_sections.specs.declared.entries.Entry.{Entry}
 use Rattle.folio_sections.proofs.DistinctLists.{distinct_filter}
 use Rattle.folio_sections.proofs.FilteredLists.{any_in, of_filter}
 use Rattle.rank_slots.specs.CanFill.{CanFill}
-use Rattle.rank_slots.specs.Filled.{Filled}
 use Rattle.rank_slots.specs.Limits.{most_places}
 use Rattle.rank_slots.specs.declared.places.Knot.{Knot}
 use Rattle.rank_slots.specs.declared.places.Place.{Place}
@@ -30,10 +29,10 @@ use Rattle.folio_line.specs.declared.exchanges.Exchange.{Exchange}
 use Rattle.folio_line.specs.declared.folio_rights.CreatedRight.{CreatedRight}
 use Rattle.folio_line.proofs.CountedExchanges.{is_counted}
 use Rattle.folio_line.proofs.CountedExercises.{exercises_distinct, is_tied, share_a_right}
-use Rattle.folio_line.proofs.FolioFills.{claims_from, gone_recedes}
+use Rattle.folio_line.proofs.FolioFills.{IsAmount, gone_recedes, is_amount}
 use Rattle.folio_line.proofs.LineFills.{IsLine, few_places, filling_is, its_places, line_can_fill}
 use Rattle.folio_line.proofs.PlacedOrder.{of_placed_rights}
-use Rattle.folio_line.proofs.PlacesBehind.{all_places, of_places}
+use Rattle.folio_line.proofs.PlacesBehind.{all_places}
 use Rattle.folio_line.proofs.RightsInOrder.{RightsInOrder, below_in_order, kept_in_order}
 use Rattle.auction_classes.specs.Claims.{class_of_right, interest_of, rights_found, rights_of_class}
 use Rattle.auction_classes.specs.ClassLines.{claim_in_class, exchanges_of_class, exercises_of_class, line_of_class, stands_in_class}
@@ -109,21 +108,6 @@ class_line_is journal s class order =
 
 -- ---- what is claimed on it
 
--- The capital of the right of each place on the line is an amount. A kept register does not say so of what an award left of a right;
--- the types of what is held do.
-abbrev pub HaveAmounts : Sale → ℕ → Type 0
-HaveAmounts s class = All (λ p. capital_at (read s) s.folio p.right ≤ most_cents) (line_of_class s class).places
-
-amount_of : (s : Sale) (class : ℕ) (x : CreatedRight) → HaveAmounts s class → In x (rights_in_class s class) → capital_at (read s) s.folio x.id ≤ most_cents
-amount_of s class x amounts there =
-    let claims = claim_in_class s class in
-    let holds = stands_in_class s class in
-    let of_rights = its_places claims holds (read s) s.folio in
-    let places = filling_is claims (read s) s.folio holds (exchanges_of_class s class) (exercises_of_class s class) in
-    let P : Place → Type 0 = λ p. capital_at (read s) s.folio p.right ≤ most_cents in
-    let all : All P of_rights = subst (λ (f : Filled). All P f.places) (sym places) amounts in
-    of_places (λ id. capital_at (read s) s.folio id ≤ most_cents) claims (is_gone (read s) s.folio) None (rights_in_class s class) x there (recursion_from_All P of_rights all)
-
 claim_at_most : (journal : List Receipt) (at : Key → List Entry) (folio a class : ℕ) (id : RightNo) → Kept journal at → IsJournal journal → capital_at (read (sale_at journal at folio a)) folio id ≤ most_cents
     → claim_in_class (sale_at journal at folio a) class id ≤ 700000000000000
 claim_at_most journal at folio a class id kept stands amount =
@@ -140,9 +124,8 @@ claim_at_most journal at folio a class id kept stands amount =
           omega (arith, amount, interest)
     ] refl
 
-pub class_can_fill : (journal : List Receipt) (at : Key → List Entry) (folio a class : ℕ) → Kept journal at → IsJournal journal → HaveAmounts (sale_at journal at folio a) class
-    → CanFill (line_of_class (sale_at journal at folio a) class)
-class_can_fill journal at folio a class kept stands amounts =
+pub class_can_fill : (journal : List Receipt) (at : Key → List Entry) (folio a class : ℕ) → Kept journal at → IsJournal journal → CanFill (line_of_class (sale_at journal at folio a) class)
+class_can_fill journal at folio a class kept stands =
     let s = sale_at journal at folio a in
     let order = read_in_order journal at folio a kept in
     let claims = claim_in_class s class in
@@ -150,12 +133,12 @@ class_can_fill journal at folio a class kept stands amounts =
     let exchanges = exchanges_of_class s class in
     let knots = exercises_of_class s class in
     let places = its_places claims holds (read s) folio in
+    let amount : (x : CreatedRight) → In x (rights_in_class s class) → IsAmount (capital_at (read s) folio x.id) = λ x there.
+    is_amount journal (read s) folio x order stands (of_placed_rights holds (read s) folio x there).made in
     let few : length places ≤ most_places = few_places claims journal (read s) folio holds order stands in
     let each = all_places (λ (p : Place). p.claim ≤ 700000000000000) claims (is_gone (read s) folio) None (rights_in_class s class)
-    (λ b x there. claim_at_most journal at folio a class x.id kept stands (amount_of s class x amounts there)) in
+    (λ b x there. claim_at_most journal at folio a class x.id kept stands (amount x there).1) in
     let sum = sum_by-le (λ (p : Place). p.claim) 700000000000000 places (All-from_recursion (λ (p : Place). p.claim ≤ 700000000000000) places each) in
-    let some : (x : CreatedRight) → In x (rights_in_class s class) → 1 ≤ claims x.id = λ x there.
-    let capital = claims_from journal (read s) folio x order stands (of_placed_rights holds (read s) folio x there).made in
-    omega (arith, capital) in
+    let some : (x : CreatedRight) → In x (rights_in_class s class) → 1 ≤ claims x.id = λ x there. (let capital = (amount x there).0 in omega (arith, capital)) in
     subst CanFill (filling_is claims (read s) folio holds exchanges knots)
     (line_can_fill claims journal (read s) folio holds exchanges knots (record { order = order; journal_is = stands; line = class_line_is journal s class order }) some (omega (arith, few, sum)))

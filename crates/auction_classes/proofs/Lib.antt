@@ -22,8 +22,10 @@ pub mod NewYears
 pub mod NoClaims
 pub mod OrderedClaims
 pub mod PartsRead
+pub mod PaysWithin
 pub mod PlacesRead
 pub mod ReadAlike
+pub mod RemainsWithin
 pub mod RightsOnLine
 pub mod RoomKept
 pub mod SalesAsRead

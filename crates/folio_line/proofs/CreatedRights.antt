@@ -5,7 +5,7 @@ use Rattle.std.specs.Option.{option_map_or}
 use Rattle.std.proofs.lemmas.Bool.{and_parts, false≢true}
 use Rattle.std.proofs.lemmas.Bool.Decides.{nat_tests}
 use Rattle.std.proofs.lemmas.Option.{option_and_then_some, slice_get_within}
-use Rattle.gb_base.specs.Limits.{is_between, most_acts}
+use Rattle.gb_base.specs.Limits.{is_between, most_acts, most_cents}
 use Rattle.gb_base.specs.RightNo.{RightNo}
 use Rattle.gb_base.specs.declared.keys.Key.{Key}
 use Rattle.act_model.specs.Acts.{is_in_division_three, right_created}
@@ -51,6 +51,7 @@ pub record IsInRanges (journal : List Receipt) (id : RightNo) (made : Created) :
   pub group_from : 1 ≤ made.spec.group
   pub group_to : made.spec.group ≤ most_groups
   pub capital : 1 ≤ made.spec.capital
+  pub capital_to : made.spec.capital ≤ most_cents
 
 -- an element by its number from 1
 pub record IsNumbered {X : Type 0} (xs : List X) (n : ℕ) (x : X) : Type 0 where
@@ -109,6 +110,7 @@ in_ranges journal folio id made r f act receipt number well filed =
       group_from = grind (arith, nat_tests, group.1);
       group_to = grind (arith, nat_tests, group.1);
       capital = grind (arith, nat_tests, capital);
+      capital_to = grind (arith, nat_tests, capital);
     }
 
 pub is_in_ranges : (journal : List Receipt) (folio : ℕ) (id : RightNo) (made : Created) → IsJournal journal → IsCreatedHere journal folio id made → IsInRanges journal id made

@@ -39,30 +39,34 @@ use Rattle.folio_line.proofs.PlacedOrder.{of_placed_rights}
 use Rattle.folio_line.proofs.PlainAlone.{line_places}
 use Rattle.folio_line.proofs.RightsInOrder.{RightsInOrder, is_created_here, kept_in_order}
 
--- ---- each claim is from one cent
+-- ---- each capital is an amount
 
--- what remains behind these entries is from one cent
-remains_from : (before : Option ℕ) (es : List Entry) → IfSome before (λ c. 1 ≤ c) → AllByRecursion (λ e. LeavesCents e.what) es → IfSome (fold (λ b e. remaining_by b e.what) before es) (λ c. 1 ≤ c)
+-- an amount, from one cent
+abbrev pub IsAmount : ℕ → Type 0
+IsAmount c = (1 ≤ c) × (c ≤ most_cents)
+
+-- what remains behind these entries is one
+remains_from : (before : Option ℕ) (es : List Entry) → IfSome before IsAmount → AllByRecursion (λ e. LeavesCents e.what) es → IfSome (fold (λ b e. remaining_by b e.what) before es) IsAmount
 remains_from before [] old all = old
 remains_from before (e ∷ es) old all = remains_from (remaining_by before e.what) es (next before e.what old all.0) all.1
   where
-    next : (o : Option ℕ) (w : What) → IfSome o (λ c. 1 ≤ c) → LeavesCents w → IfSome (remaining_by o w) (λ c. 1 ≤ c)
+    next : (o : Option ℕ) (w : What) → IfSome o IsAmount → LeavesCents w → IfSome (remaining_by o w) IsAmount
     next o (what.Remains capital) had leaves = leaves
     next o other had leaves = had
 
 -- what remains where something does, and else the capital that the act names
-from_one : (o : Option ℕ) (k : ℕ) → IfSome o (λ c. 1 ≤ c) → 1 ≤ k → 1 ≤ option_map_or (λ c. c) (option_or o (Some k)) 0
-from_one None k had least = least
-from_one (Some c) k had least = had
+amount_left : (o : Option ℕ) (k : ℕ) → IfSome o IsAmount → IsAmount k → IsAmount (option_map_or (λ c. c) (option_or o (Some k)) 0)
+amount_left None k had own = own
+amount_left (Some c) k had own = had
 
 -- the capital of a right that is created
-pub claims_from : (journal : List Receipt) (at : Key → List Entry) (folio : ℕ) (x : CreatedRight) → RightsInOrder journal at → IsJournal journal → created (at (Right folio x.id)) ≡ Some x.made → 1 ≤ capital_at at folio x.id
-claims_from journal at folio x order stands is =
+pub is_amount : (journal : List Receipt) (at : Key → List Entry) (folio : ℕ) (x : CreatedRight) → RightsInOrder journal at → IsJournal journal → created (at (Right folio x.id)) ≡ Some x.made → IsAmount (capital_at at folio x.id)
+is_amount journal at folio x order stands is =
     let entries = at (Right folio x.id) in
     let ranges = is_in_ranges journal folio x.id x.made stands (is_created_here journal at folio x.id x.made order is) in
     let remains = fold (λ b (e : Entry). remaining_by b e.what) None entries in
     let left = remains_from None entries tt (order.remains folio x.id) in
-    subst (λ o. 1 ≤ option_map_or (λ c. c) (option_or remains (option_map (λ (made : Created). made.spec.capital) o)) 0) (sym is) (from_one remains x.made.spec.capital left ranges.capital)
+    subst (λ o. IsAmount (option_map_or (λ c. c) (option_or remains (option_map (λ (made : Created). made.spec.capital) o)) 0)) (sym is) (amount_left remains x.made.spec.capital left (ranges.capital, ranges.capital_to))
 
 -- ---- together
 
@@ -122,7 +126,7 @@ can_fill claims journal at folio exchanges places swaps kept stands some counted
 -- the capitals are amounts
 pub capitals_from : (journal : List Receipt) (at : Key → List Entry) (folio : ℕ) → Kept journal at → IsJournal journal → (x : CreatedRight) → In x (counted_rights at folio) → 1 ≤ capital_at at folio x.id
 capitals_from journal at folio kept stands x there =
-    claims_from journal at folio x (kept_in_order journal at kept) stands (of_placed_rights (stands_on_line (counted_exchanges at folio)) at folio x there).made
+    (is_amount journal at folio x (kept_in_order journal at kept) stands (of_placed_rights (stands_on_line (counted_exchanges at folio)) at folio x there).made).0
 
 -- and these are what the line of the folio is filled with
 pub line_is : (at : Key → List Entry) (folio : ℕ) (exchanges : List Exchange) (places : List Place) (swaps : List Swap)

@@ -1,6 +1,7 @@
 -- What holds of the forced sales of a register that comes about (ZVG).
 use Rattle.std.specs.Prelude.{◌≡◌, ℕ, ◌<◌, ◌≤◌, Bool, false, ◌&&◌, List, All, Any, AllPairs, count_by, slice_get, IfSome, IsTrue, IsSomeAnd, Option, Some, None, option_and_then}
 use Rattle.std.specs.Option.{option_map_or}
+use Rattle.gb_base.specs.Limits.{most_cents}
 use Rattle.gb_base.specs.RightNo.{RightNo, same_right}
 use Rattle.gb_base.specs.declared.keys.Key.{Key}
 use Rattle.gb_base.specs.declared.keys.Key.TheVariants.{Title, Right, Case}
@@ -70,9 +71,9 @@ abbrev pub SeizesFromOlder : List Receipt → ℕ → Entry → Type 0
 SeizesFromOlder journal n e =
     IsTrue (is_seizure e.what) → IfSome (option_and_then seized_right (item_at journal e.receipt)) (λ right. right.receipt < n)
 
--- a content leaves a right at least one cent
+-- a content leaves a right an amount
 abbrev pub LeavesCents : What → Type 0
-LeavesCents (what.Remains capital) = 1 ≤ capital
+LeavesCents (what.Remains capital) = (1 ≤ capital) × (capital ≤ most_cents)
 LeavesCents other = Unit {0}
 
 -- the folio was opened before this receipt
@@ -80,7 +81,7 @@ abbrev pub IsOpenedBefore : ℕ → List Entry → Type 0
 IsOpenedBefore n entries = Any (λ o. IsTrue (is_opening o.what) × (o.receipt < n)) entries
 
 -- A case, as it stood below any receipt, begins with a seizure of an open folio, its entries are of their items, and its
--- numbers keep their limits. What remains of a right is at least a cent.
+-- numbers keep their limits. What remains of a right is an amount.
 pub record CaseInOrder (journal : List Receipt) (at : Key → List Entry) : Type 0 where
   pub remains : (folio : ℕ) (right : RightNo) → All (λ e. LeavesCents e.what) (at (Right folio right))
   pub opened : (folio : ℕ) → All (λ e. IsTrue (is_seizure e.what) → IsOpenedBefore e.receipt (at (Title folio))) (at (Case folio))
