@@ -1,0 +1,4 @@
+-- Lemmas.
+pub mod Brought
+pub mod CaseCounts
+pub mod FoundAsKept
