@@ -1,7 +1,9 @@
 -- What an item brings that is refused, or let in.
-use Rattle.std.proofs.Common.{◌≡◌, ℕ, List, [], ◌∷◌, Option, Some, None, subst}
+use Rattle.std.proofs.Common.{◌≡◌, ℕ, ◌≤◌, true, false, cond, List, [], ◌∷◌, length, Option, Some, None, refl, sym, subst, ◌∙◌, arith}
+use Rattle.gb_base.specs.Keys.{same_key}
 use Rattle.gb_base.specs.declared.keys.Key.{Key}
-use Rattle.folio_sections.specs.Adding.{AddsList}
+use Rattle.act_model.proofs.KeyOrder.{same_is}
+use Rattle.folio_sections.specs.Adding.{AddsList, HasRoom}
 use Rattle.folio_sections.specs.declared.entries.Entry.{Entry}
 use Rattle.folio_sections.proofs.Additions.{adds_none}
 use Rattle.sale_rules.specs.SaleEntries.{unless_refused}
@@ -21,3 +23,11 @@ pub brings_one : {R : Type 0} (at0 at1 : Key → List Entry) (room0 room1 : Key 
     → AddsList at0 at1 room0 room1 (made ∷ []) → AddsList at0 at1 room0 room1 (unless_refused o (entry ∷ []))
 brings_one at0 at1 room0 room1 o made entry is same added =
     brings_all at0 at1 room0 room1 o (entry ∷ []) is (subst (λ e. AddsList at0 at1 room0 room1 (e ∷ [])) same added)
+
+-- a key that has room for one entry has room for this one
+pub one_fits : (room : Key → ℕ) (e : Entry) (key : Key) → e.key ≡ key → 1 ≤ room key → HasRoom room (e ∷ [])
+one_fits room e key own roomy k =
+    elim (same_key e.key k) as (λ b. same_key e.key k ≡ b → length (cond b (e ∷ []) []) ≤ room k) [
+      | true ↦ λ same. subst (λ j. 1 ≤ room j) (sym own ∙ same_is e.key k same) roomy
+      | false ↦ λ _. omega arith
+    ] refl
