@@ -1,0 +1,12 @@
+-- Lemmas.
+pub mod AwardEntered
+pub mod AwardGiven
+pub mod AwardedRights
+pub mod Brought
+pub mod CallsAsKept
+pub mod CaseCounts
+pub mod FoundAsKept
+pub mod LeftWithin
+pub mod PayWithin
+pub mod RightsInTurn
+pub mod SalesFound

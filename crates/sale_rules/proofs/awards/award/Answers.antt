@@ -1,0 +1,50 @@
+use Rattle.std.proofs.Common.{◌≡◌, ◌∷◌, [], map, Some, sym, ap, subst, ◌∙◌}
+use Rattle.std.specs.Option.{option_map_or}
+use Rattle.act_model.specs.SaleKeys.{earlier_rights}
+use Rattle.folio_sections.specs.Adding.{AddsList}
+use Rattle.rank_slots.specs.CanFill.{CanFill}
+use Rattle.auction_classes.specs.Sales.{sale_at}
+use Rattle.sale_rules.specs.SaleEntries.{award_entries, unless_refused}
+use Rattle.sale_rules.specs.SaleGrounds.{lowest, refusal_of_award}
+use Rattle.sale_rules.proofs.AwardGiven.{award_given}
+use Rattle.sale_rules.proofs.AwardedRights.{can_be_left, earlier_ascend, rights_left_are}
+use Rattle.sale_rules.proofs.Brought.{brings_all, brings_none}
+use Rattle.sale_rules.proofs.CallsAsKept.{none_awarded}
+use Rattle.sale_rules.proofs.awards.award.Goals.{in-Ok, in-Err}
+use Rattle.sale_rules.proofs.awards.award.Goals as goal
+
+pub enter_award-requires-clause-ascend : goal.enter_award-requires-clause-ascend
+enter_award-requires-clause-ascend g c =
+    earlier_ascend c.args.journal.now.receipts c.requires.parts.kept.register c.args.folio c.args.item c.requires.parts.kept.kept
+
+pub enter_award-requires-clause-left : goal.enter_award-requires-clause-left
+enter_award-requires-clause-left g c =
+    let journal = c.args.journal.now.receipts in
+    let k = c.requires.parts.kept in
+    can_be_left journal (g.P.Parts.holds c.args.parts.now) (g.P.Parts.at c.args.parts.now) k.register (g.P.Parts.room c.args.parts.now) c.args.folio c.args.item
+    c.lowest_for_award-found.new.claims.claimed c.in-Ok.lowest.cover
+    (record { received = c.is_journal.ensures; stands = k.stands; kept = k.kept; held = c.requires.parts.held; earlier = c.requires.parts.earlier })
+    c.requires.parts.has_room (c.in-Ok.ensures.claimed k.register k.stands k.kept) (subst CanFill c.in-Ok.ensures.filled c.can_fill.ensures)
+    (none_awarded journal k.register c.args.folio c.args.item c.args.bid (c.in-Ok.ensures.answer k.register k.stands k.kept))
+
+pub returns-clause-added : goal.returns-clause-added
+returns-clause-added g c register stands kept =
+    let journal = c.args.journal.now.receipts in
+    let s = sale_at journal register c.args.folio c.args.item in
+    let at0 = g.P.Parts.at c.args.parts.now in
+    let room0 = g.P.Parts.room c.args.parts.now in
+    let brought = option_map_or (award_entries s c.args.buyer c.args.bid) (lowest s) [] in
+    elim c.match-found.branch [
+      | in-Ok w ↦
+          let claims = c.lowest_for_award-found.new.claims.claimed in
+          let left = rights_left_are journal (g.P.Parts.holds c.args.parts.now) at0 register c.args.folio c.args.item claims w.in-Ok.lowest.cover
+          (record { received = c.is_journal.ensures; stands = stands; kept = kept; held = c.requires.parts.held; earlier = c.requires.parts.earlier })
+          (w.in-Ok.ensures.claimed register stands kept) in
+          let entered = award_given journal c.args.item c.args.folio c.args.buyer c.args.bid w.in-Ok.lowest claims register (lowest s) (earlier_rights journal c.args.item c.args.folio)
+          at0 (g.P.Parts.at w.enter_award.new.parts) room0 (g.P.Parts.room w.enter_award.new.parts) (w.in-Ok.ensures.lowest register stands kept) left w.enter_award.ensures.added in
+          subst (λ p. AddsList at0 (g.P.Parts.at p) room0 (g.P.Parts.room p) (unless_refused (refusal_of_award s c.args.bid) brought)) (sym w.parts-is)
+          (brings_all at0 (g.P.Parts.at w.enter_award.new.parts) room0 (g.P.Parts.room w.enter_award.new.parts) (refusal_of_award s c.args.bid) brought (w.in-Ok.ensures.answer register stands kept) entered)
+      | in-Err w ↦
+          subst (λ p. AddsList at0 (g.P.Parts.at p) room0 (g.P.Parts.room p) (unless_refused (refusal_of_award s c.args.bid) brought)) (sym w.parts-is)
+          (brings_none at0 room0 (refusal_of_award s c.args.bid) w.in-Err.refusal brought (w.in-Err.ensures.answer register stands kept))
+    ]

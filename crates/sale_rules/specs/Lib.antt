@@ -1,0 +1,6 @@
+-- What contracts cite.
+pub mod SaleEntries
+pub mod SaleGrounds
+pub mod SaleParts
+pub mod ScratchRoom
+pub mod inner

@@ -1,0 +1,4 @@
+-- What private clauses and proofs cite.
+pub mod Arrears
+pub mod RightsLeft
+pub mod SalesRead

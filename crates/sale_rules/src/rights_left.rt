@@ -1,0 +1,104 @@
+//! What an award leaves of the rights that are live (ZVG §§ 52, 91).
+ghost use Rattle.std.specs.Prelude.{◌≡◌, ◌≤◌, true, flat_map, length};
+ghost use Rattle.std.specs.List.{AllByRecursion};
+ghost use Rattle.gb_base.specs.declared.keys.Key.TheVariants.{Right};
+ghost use Rattle.folio_line.specs.AllRights.{AscendByNumber};
+ghost use Rattle.folio_line.specs.FolioSlots.{capital_at};
+ghost use Rattle.folio_sections.specs.Adding.{AddsList};
+ghost use Rattle.folio_sections.specs.Rights.{is_live};
+ghost use Rattle.gb_base.specs.Limits.{most_cents};
+ghost use Rattle.auction_classes.specs.LowestBid.{remaining};
+ghost use Rattle.sale_rules.specs.SaleEntries.{left_with};
+ghost use Rattle.sale_rules.specs.inner.RightsLeft.{CanBeLeft, left_at};
+
+use act_model::Journal;
+use auction_classes::Claims;
+use folio_sections::{Parts, What, add, entry_by};
+use gb_base::{Cents, FolioId, Key, ReceiptNo, RightId};
+use rank_slots::Slots;
+
+/// Enters at each of these rights that is live what is left of it, where the base's cover has so
+/// much on the line of class 4.
+pub(crate) fn enter_rights_left<P: Parts>(
+    parts: &mut P,
+    claims: &Claims,
+    slots: &Slots,
+    cover: u64,
+    journal: &Journal,
+    item: ReceiptNo,
+    folio: FolioId,
+    ids: &[RightId],
+)
+    requires received { item ≤ length journal.now.receipts }
+    requires filled { slots.now.filled ≡ claims.now.claimed.line_four }
+    requires ascend { AscendByNumber ids.now }
+    requires left { AllByRecursion (CanBeLeft claims.now.claimed cover folio (P.holds parts.old) (P.at parts.old) (P.room parts.old)) ids.now }
+    ensures added { AddsList (P.at parts.old) (P.at parts.new) (P.room parts.old) (P.room parts.new)
+        (flat_map (left_at journal.now.receipts item folio claims.now.claimed cover (P.at parts.old)) ids.now) }
+    ensures held { P.holds parts.new ≡ P.holds parts.old }
+{
+    for id in ids {
+        enter_right_left(parts, claims, slots, cover, journal, item, folio, *id);
+    }
+}
+
+/// Enters what is left of a right, where it is live.
+fn enter_right_left<P: Parts>(
+    parts: &mut P,
+    claims: &Claims,
+    slots: &Slots,
+    cover: u64,
+    journal: &Journal,
+    item: ReceiptNo,
+    folio: FolioId,
+    id: RightId,
+)
+    requires received { item ≤ length journal.now.receipts }
+    requires filled { slots.now.filled ≡ claims.now.claimed.line_four }
+    requires left { CanBeLeft claims.now.claimed cover folio (P.holds parts.old) (P.at parts.old) (P.room parts.old) id }
+    ensures added { AddsList (P.at parts.old) (P.at parts.new) (P.room parts.old) (P.room parts.new)
+        (left_at journal.now.receipts item folio claims.now.claimed cover (P.at parts.old) id) }
+    ensures held { P.holds parts.new ≡ P.holds parts.old }
+{
+    if is_live(parts, folio, id) {
+        let capital = capital_of(parts, folio, id);
+        let left = claims.remaining(slots, cover, id);
+        prove!(left <= capital);
+        let what = left_with(left);
+        add(parts, entry_by(journal, item, Key::Right(folio, id), what));
+    }
+}
+
+/// Whether a right is live.
+fn is_live<P: Parts>(parts: &P, folio: FolioId, id: RightId) -> bool
+    requires { P.holds parts.now (Right folio id) ≡ true }
+    ensures { result ≡ is_live (P.at parts.now (Right folio id)) }
+{
+    parts.right(folio, id).unwrap().live()
+}
+
+/// The capital of a right, in cents; 0 where it has none.
+fn capital_of<P: Parts>(parts: &P, folio: FolioId, id: RightId) -> u64
+    requires { P.holds parts.now (Right folio id) ≡ true }
+    ensures value { result ≡ capital_at (P.at parts.now) folio id }
+    ensures bound { result ≤ most_cents }
+{
+    match parts.right(folio, id).unwrap().capital() {
+        Some(capital) => capital.get(),
+        None => 0,
+    }
+}
+
+/// What is entered at a right of which so much is left (ZVG §§ 52, 91).
+fn left_with(cents: u64) -> What
+    requires { cents ≤ most_cents }
+    ensures { result ≡ left_with cents }
+{
+    if cents == 0 {
+        What::Expired
+    } else {
+        What::Remains {
+            capital: Cents::new(cents).unwrap(),
+        }
+    }
+}

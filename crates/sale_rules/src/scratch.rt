@@ -1,0 +1,41 @@
+//! What a sale is reckoned in.
+ghost use Rattle.std.specs.Prelude.{◌≡◌, ◌≤◌, IfOk, OnErr, OnOk};
+
+use auction_classes::Claims;
+use gb_base::NoMemory;
+use rank_slots::Slots;
+use std::alloc::Global;
+use std::marker::Model;
+
+/// What the lowest bid of a sale is reckoned in, so that settling takes no memory: the claims, and
+/// the line of a class. In contracts it is how much it is for.
+#[derive(Drop)]
+pub struct Scratch {
+    pub(crate) claims: Claims,
+    pub(crate) slots: Slots,
+}
+
+impl Model for Scratch {
+    ghost use Rattle.std.specs.Prelude.{◌≤◌};
+    ghost use Rattle.sale_rules.specs.ScratchRoom.{ScratchRoom};
+
+    ghost Value = { ScratchRoom };
+
+    ghost view = { λ a. record { rights = a.claims.right_room; exchanges = a.claims.exchange_room } };
+
+    ghost invariant = { λ a. (a.claims.right_room ≤ a.slots.place_room) × (a.claims.exchange_room ≤ a.slots.swap_room) };
+}
+
+impl Scratch {
+    /// A scratch for so many rights of a folio, and for so many exchanges of ranks among them.
+    /// Wants memory (NoMemory).
+    pub fn with_room(alloc: Global, rights: usize, exchanges: usize) -> Result<Scratch, NoMemory>
+        ensures rights { IfOk result (λ scratch. rights ≤ scratch.rights) }
+        ensures exchanges { IfOk result (λ scratch. exchanges ≤ scratch.exchanges) }
+    {
+        Ok(Scratch {
+            claims: Claims::with_room(alloc, rights, exchanges)?,
+            slots: Slots::with_room(alloc, rights, exchanges)?,
+        })
+    }
+}

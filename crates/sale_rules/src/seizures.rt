@@ -1,0 +1,191 @@
+//! Seizures of land.
+//! The grounds are read from the folio as the item finds it.
+ghost use Rattle.std.specs.Prelude.{◌≡◌, ◌≤◌, List, false, length, nat_le, nat_lt, not, slice_get};
+ghost use Rattle.std.specs.Option.{option_map_or};
+ghost use Rattle.std.specs.Result.{result_err};
+ghost use Rattle.gb_base.specs.declared.keys.Key.TheVariants.{Case, Right, Title};
+ghost use Rattle.act_model.specs.Acts.{is_in_division_three};
+ghost use Rattle.act_model.specs.SaleKeys.{keys_of_sale};
+ghost use Rattle.act_model.specs.declared.receipts.Receipt.{Receipt};
+ghost use Rattle.folio_sections.specs.Adding.{AddsList};
+ghost use Rattle.folio_sections.specs.Cases.{seizure_numbers, seizures};
+ghost use Rattle.folio_sections.specs.Limits.{most_seizures};
+ghost use Rattle.folio_sections.specs.Rights.{created};
+ghost use Rattle.folio_sections.specs.Titles.{is_open};
+ghost use Rattle.auction_classes.specs.Sales.{sale_at};
+ghost use Rattle.sale_rules.specs.SaleEntries.{seizure_brought};
+ghost use Rattle.sale_rules.specs.SaleGrounds.{is_filed_behind, is_seizable, lacks_right, refusal_of_seizure};
+ghost use Rattle.sale_rules.specs.SaleParts.{CanSettle, OfEachKept};
+ghost use Rattle.sale_rules.specs.inner.SalesRead.{CanBeFound, found_at, sale_read};
+
+use crate::found::{case_found, is_journal, right_found, title_found};
+use crate::grounds::is_awarded;
+use act_model::{Basis, Journal};
+use folio_sections::{CaseFront, Parts, RightFront, What, add, entry_by};
+use gb_base::{FolioId, Key, ReceiptNo, RightId, Section};
+
+/// Settles a seizure (ZVG § 20): it stands at the case, or is refused under a section: GBO § 3
+/// where the folio is not open, ZVG § 81 where the land was awarded in the case, Limit where the
+/// case has 8 seizures, BGB § 873 where the right from which is seized is not live, not entered
+/// itself or of division II, ZVG § 23 where that right was filed behind the first seizure. Takes no
+/// memory.
+pub fn seize<P: Parts>(
+    parts: &mut P,
+    journal: &Journal,
+    item: ReceiptNo,
+    folio: FolioId,
+    basis: &Basis,
+) -> Result<(), Section>
+    requires received { item ≤ length journal.now.receipts }
+    requires parts { CanSettle journal.now.receipts item (keys_of_sale journal.now.receipts item folio) (P.holds parts.old) (P.at parts.old) (P.room parts.old) }
+    ensures answer { OfEachKept journal.now.receipts (P.holds parts.old) (P.at parts.old)
+        (λ register. result_err result ≡ refusal_of_seizure (sale_at journal.now.receipts register folio item) basis.now) }
+    ensures added { OfEachKept journal.now.receipts (P.holds parts.old) (P.at parts.old)
+        (λ register. AddsList (P.at parts.old) (P.at parts.new) (P.room parts.old) (P.room parts.new)
+        (seizure_brought (sale_at journal.now.receipts register folio item) basis.now)) }
+    ensures held { P.holds parts.new ≡ P.holds parts.old }
+{
+    is_journal(journal);
+    match refusal(parts, folio, item, basis) {
+        Some(section) => Err(section),
+        None => {
+            add(
+                parts,
+                entry_by(journal, item, Key::Case(folio), What::Seized),
+            );
+            Ok(())
+        }
+    }
+}
+
+/// Why a seizure is refused; None where it is let in.
+fn refusal<P: Parts>(
+    parts: &P,
+    folio: FolioId,
+    item: ReceiptNo,
+    basis: &Basis,
+) -> Option<Section>
+    requires { CanBeFound (P.holds parts.now) (P.at parts.now) }
+    ensures { (journal : List Receipt) → result ≡ refusal_of_seizure (sale_read journal (P.holds parts.now) (P.at parts.now) folio item) basis.now }
+{
+    if lacks_folio(parts, folio, item) {
+        Some(Section::Gbo3)
+    } else if is_awarded(parts, folio, item) {
+        Some(Section::Zvg81)
+    } else if has_all_seizures(parts, folio, item) {
+        Some(Section::Limit)
+    } else if lacks_right(parts, folio, item, basis) {
+        Some(Section::Bgb873)
+    } else if is_filed_behind(parts, folio, item, basis) {
+        Some(Section::Zvg23)
+    } else {
+        None
+    }
+}
+
+/// Whether the folio is not open (GBO § 3).
+fn lacks_folio<P: Parts>(parts: &P, folio: FolioId, item: ReceiptNo) -> bool
+    requires { CanBeFound (P.holds parts.now) (P.at parts.now) }
+    ensures { result ≡ not (is_open (found_at (P.holds parts.now) (P.at parts.now) item (Title folio))) }
+{
+    match title_found(parts, folio, item) {
+        Some(title) => !title.is_open(),
+        None => true,
+    }
+}
+
+/// Whether the case has as many seizures as it may.
+fn has_all_seizures<P: Parts>(parts: &P, folio: FolioId, item: ReceiptNo) -> bool
+    requires { CanBeFound (P.holds parts.now) (P.at parts.now) }
+    ensures { result ≡ nat_le most_seizures (seizures (found_at (P.holds parts.now) (P.at parts.now) item (Case folio))) }
+{
+    match case_found(parts, folio, item) {
+        Some(case) => has_eight(&case),
+        None => false,
+    }
+}
+
+/// Whether a case has eight seizures.
+fn has_eight(case: &CaseFront) -> bool
+    ensures { result ≡ nat_le most_seizures (seizures case.now) }
+{
+    case.seized().len() >= 8
+}
+
+/// Whether the right from which is seized is none to seize from (BGB § 873).
+fn lacks_right<P: Parts>(parts: &P, folio: FolioId, item: ReceiptNo, basis: &Basis) -> bool
+    requires { CanBeFound (P.holds parts.now) (P.at parts.now) }
+    ensures { (journal : List Receipt) → result ≡ lacks_right (sale_read journal (P.holds parts.now) (P.at parts.now) folio item) basis.now }
+{
+    match basis {
+        Basis::Personal { .. } => false,
+        Basis::FromRight { right } => !is_seizable_in(parts, folio, item, *right),
+    }
+}
+
+/// Whether a right of the folio is one to seize from.
+fn is_seizable_in<P: Parts>(parts: &P, folio: FolioId, item: ReceiptNo, right: RightId) -> bool
+    requires { CanBeFound (P.holds parts.now) (P.at parts.now) }
+    ensures { result ≡ is_seizable (found_at (P.holds parts.now) (P.at parts.now) item (Right folio right)) }
+{
+    match right_found(parts, folio, item, right) {
+        Some(front) => is_seizable(&front),
+        None => false,
+    }
+}
+
+/// Whether a right is live, entered itself, and a mortgage or land charge.
+fn is_seizable(right: &RightFront) -> bool
+    ensures { result ≡ is_seizable right.now }
+{
+    right.full() && right.live() && is_in_division_three(right)
+}
+
+/// Whether a right was created as a mortgage or land charge.
+fn is_in_division_three(right: &RightFront) -> bool
+    ensures { result ≡ option_map_or (λ made. is_in_division_three made.spec.kind) (created right.now) false }
+{
+    match right.created() {
+        Some(made) => made.spec.kind.is_in_division_three(),
+        None => false,
+    }
+}
+
+/// Whether the right from which is seized was filed behind the case's first seizure (ZVG § 23).
+fn is_filed_behind<P: Parts>(parts: &P, folio: FolioId, item: ReceiptNo, basis: &Basis) -> bool
+    requires { CanBeFound (P.holds parts.now) (P.at parts.now) }
+    ensures { (journal : List Receipt) → result ≡ is_filed_behind (sale_read journal (P.holds parts.now) (P.at parts.now) folio item) basis.now }
+{
+    match basis {
+        Basis::Personal { .. } => false,
+        Basis::FromRight { right } => comes_behind(first_seizure(parts, folio, item), *right),
+    }
+}
+
+/// The receipt of the case's first seizure; None where it has none.
+fn first_seizure<P: Parts>(parts: &P, folio: FolioId, item: ReceiptNo) -> Option<ReceiptNo>
+    requires { CanBeFound (P.holds parts.now) (P.at parts.now) }
+    ensures { result ≡ slice_get (seizure_numbers (found_at (P.holds parts.now) (P.at parts.now) item (Case folio))) 0 }
+{
+    match case_found(parts, folio, item) {
+        Some(case) => first_of(&case),
+        None => None,
+    }
+}
+
+/// The receipt of the first seizure of a case.
+fn first_of(case: &CaseFront) -> Option<ReceiptNo>
+    ensures { result ≡ slice_get (seizure_numbers case.now) 0 }
+{
+    case.seized().first().copied()
+}
+
+/// Whether the right was filed behind the first seizure, if there is one.
+fn comes_behind(first: Option<ReceiptNo>, right: RightId) -> bool
+    ensures { result ≡ option_map_or (λ n. nat_lt n right.receipt) first false }
+{
+    match first {
+        Some(seizure) => seizure < right.receipt(),
+        None => false,
+    }
+}
