@@ -1,5 +1,4 @@
 -- Lemmas.
-pub mod AmountsRead
 pub mod BoundedClaims
 pub mod BoundedInterest
 pub mod BoundedLists

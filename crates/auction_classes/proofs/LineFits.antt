@@ -21,7 +21,7 @@ use Rattle.folio_line.proofs.GroupedRights.{all_by_group_few}
 use Rattle.folio_line.proofs.LineRead.{in_turn_filtered}
 use Rattle.folio_line.proofs.LineRoom.{exchanges_fit, given_few}
 use Rattle.folio_line.proofs.RightWalks.{walk_is}
-use Rattle.auction_classes.specs.inner.LinesRead.{HasLineRoom, HasRoomForAll}
+use Rattle.auction_classes.specs.inner.LinesRead.{HasLineRoom, HasRoomForAll, IsLineWithin}
 use Rattle.auction_classes.specs.declared.class_lines.ClassLine.{ClassLine}
 
 -- ---- rights
@@ -126,21 +126,29 @@ exchanges_few at folio ids all =
 
 -- ---- together
 
--- a class's line that has room for the rights among which the folio's line is read, and for their exchanges, has room for all of it
-pub line_fits : (at : Key → List Entry) (folio : ℕ) (ids : List RightNo) (line : LineState) (rights exchanges : ℕ) (own : ClassLine) → AreAllRights ids at folio → IsLineOf at folio line
-    → length ids ≤ rights → length (all_rises at folio ids) ≤ exchanges → HasLineRoom rights exchanges own → HasRoomForAll line own
-line_fits at folio ids line rights exchanges own all is few rises room =
+-- the folio's line has no more than the rights among which it is read, and than their exchanges
+pub line_within : (at : Key → List Entry) (folio : ℕ) (ids : List RightNo) (line : LineState) (rights exchanges : ℕ) → AreAllRights ids at folio → IsLineOf at folio line
+    → length ids ≤ rights → length (all_rises at folio ids) ≤ exchanges → IsLineWithin rights exchanges line
+line_within at folio ids line rights exchanges all is few rises =
     let on_line = rights_few (stands_on_line (counted_exchanges at folio)) at folio ids all in
-    let swapped = exchanges_few at folio ids all in
+    let exchanged = exchanges_few at folio ids all in
     let exercised = exercises_few at folio ids all in
     let right_count = ap length is.rights in
     let swap_count = ap length is.exchanges in
     let exercise_count = ap length is.exercises in
     record {
-      places = omega (arith, on_line, right_count, few, room.places);
-      swaps = omega (arith, swapped, swap_count, rises, room.swaps);
-      knots = omega (arith, exercised, exercise_count, few, room.knots);
+      placed = omega (arith, on_line, right_count, few);
+      swapped = omega (arith, exchanged, swap_count, rises);
+      tied = omega (arith, exercised, exercise_count, few);
     }
+
+-- so a class's line that has room for these has room for all of it
+pub line_fits : (line : LineState) (rights exchanges : ℕ) (own : ClassLine) → IsLineWithin rights exchanges line → HasLineRoom rights exchanges own → HasRoomForAll line own
+line_fits line rights exchanges own within room = record {
+  places = omega (arith, within.placed, room.places);
+  swaps = omega (arith, within.swapped, room.swaps);
+  knots = omega (arith, within.tied, room.knots);
+}
 
 -- and the live rights are as few
 pub live_few : (at : Key → List Entry) (folio : ℕ) (ids : List RightNo) (line : LineState) → AreAllRights ids at folio → IsLineOf at folio line → length line.live ≤ length ids

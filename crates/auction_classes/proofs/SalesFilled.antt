@@ -1,23 +1,21 @@
 -- What is written of a sale is what is claimed in it, and can be reckoned with.
-use Rattle.std.proofs.Common.{◌≡◌, ℕ, ◌<◌, List, All, sym, ap, subst, ◌∙◌}
+use Rattle.std.proofs.Common.{◌≡◌, ℕ, ◌<◌, List, sym, ap, subst, ◌∙◌}
 use Rattle.gb_base.specs.Limits.{most_sum}
 use Rattle.gb_base.specs.declared.keys.Key.{Key}
 use Rattle.gb_base.specs.declared.keys.Key.TheVariants.{Right}
 use Rattle.folio_sections.specs.declared.entries.Entry.{Entry}
 use Rattle.folio_line.specs.FolioLine.{IsLineOf, LineState}
 use Rattle.rank_slots.specs.CanFill.{CanFill}
-use Rattle.rank_slots.specs.Filled.{Filled}
 use Rattle.auction_classes.specs.ClassLines.{line_of_class}
 use Rattle.auction_classes.specs.SaleClaims.{SaleClaims, claimed_in}
 use Rattle.auction_classes.specs.Sales.{finding_of}
 use Rattle.auction_classes.specs.inner.CaseSales.{sale_of_case}
 use Rattle.auction_classes.specs.inner.ClaimLists.{AreClaimedIn, AreClaimsOf}
-use Rattle.auction_classes.specs.inner.LinesRead.{HasAmount, line_read}
+use Rattle.auction_classes.specs.inner.LinesRead.{line_read}
 use Rattle.auction_classes.specs.inner.Reckoning.{AreOnLine, CanCoverServed, IsReckonable, filled_of}
 use Rattle.auction_classes.specs.declared.claim_lists.ClaimLists.{ClaimLists}
 use Rattle.auction_classes.specs.declared.class_lines.ClassLine.{ClassLine}
 use Rattle.auction_classes.specs.declared.findings.Finding.{Finding}
-use Rattle.auction_classes.proofs.AmountsRead.{amounts_as_read}
 use Rattle.auction_classes.proofs.BoundedLists.{KeepWithin}
 use Rattle.auction_classes.proofs.ClassFills.{class_can_fill}
 use Rattle.auction_classes.proofs.LinesAsRead.{line_as_read}
@@ -84,22 +82,15 @@ written_is r register line finding costs lists four six is are =
 
 -- ---- it can be reckoned with
 
--- the line of a class can be filled, where the capitals on it are amounts
-can_fill_class : (r : SaleReading) (register : Key → List Entry) (own : ClassLine) (class : ℕ) → IsSaleRead r register → filled_of own ≡ line_of_class (sale_in r register) class
-    → All (HasAmount (reads_in r) r.folio) own.places.items → CanFill (line_of_class (sale_in r register) class)
-can_fill_class r register own class is same amounts =
-    class_can_fill r.journal register r.folio r.item class is.kept is.received
-    (amounts_as_read (sale_in r register) (reads_in r) class (sale_read_alike r register is) (subst (λ (f : Filled). All (HasAmount (reads_in r) r.folio) f.places) same amounts))
-
 pub written_reckonable : (r : SaleReading) (register : Key → List Entry) (line : LineState) (finding : Finding) (costs : ℕ) (lists : ClaimLists) (four six : ClassLine) → IsSaleRead r register → AreWritten r line finding costs lists four six
-    → costs < most_sum → KeepWithin lists → All (HasAmount (reads_in r) r.folio) four.places.items → All (HasAmount (reads_in r) r.folio) six.places.items → IsReckonable (written costs lists four six)
-written_reckonable r register line finding costs lists four six is are few within amounts_four amounts_six =
+    → costs < most_sum → KeepWithin lists → IsReckonable (written costs lists four six)
+written_reckonable r register line finding costs lists four six is are few within =
     let same = sym (written_is r register line finding costs lists four six is are) in
     let of_four = line_is r register line finding costs lists four six four 4 is are are.in_four in
     let of_six = line_is r register line finding costs lists four six six 6 is are are.in_six in
     record {
-      four = subst CanFill (sym of_four) (can_fill_class r register four 4 is of_four amounts_four);
-      six = subst CanFill (sym of_six) (can_fill_class r register six 6 is of_six amounts_six);
+      four = subst CanFill (sym of_four) (class_can_fill r.journal register r.folio r.item 4 is.kept is.received);
+      six = subst CanFill (sym of_six) (class_can_fill r.journal register r.folio r.item 6 is.kept is.received);
       costs = few;
       ahead = within.ahead;
       personal = within.personal;

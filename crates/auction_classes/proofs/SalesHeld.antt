@@ -26,12 +26,11 @@ use Rattle.folio_line.specs.FolioReading.{read_at, where_held}
 use Rattle.folio_line.proofs.AllRights.{filed_are_all}
 use Rattle.auction_classes.specs.Sales.{Sale, read, read_before, sale_at}
 use Rattle.auction_classes.specs.inner.CaseSales.{CanFind, sale_of_case}
-use Rattle.auction_classes.specs.inner.LinesRead.{HasLineRoom, HasRoomForAll}
+use Rattle.auction_classes.specs.inner.LinesRead.{IsLineWithin}
 use Rattle.auction_classes.specs.inner.Readings.{IsReadAs}
-use Rattle.auction_classes.specs.declared.class_lines.ClassLine.{ClassLine}
 use Rattle.auction_classes.proofs.EarlierRights.{filed_earlier, filed_few, rises_fit}
 use Rattle.auction_classes.proofs.KeptSales.{below_twice, can_find, read_within}
-use Rattle.auction_classes.proofs.LineFits.{line_fits, live_few}
+use Rattle.auction_classes.proofs.LineFits.{line_within, live_few}
 use Rattle.auction_classes.proofs.PartsRead.{parts_read_alike}
 use Rattle.auction_classes.proofs.ReadAlike.{ReadAlike}
 use Rattle.auction_classes.proofs.SalesAsRead.{IsReadFrom, live_as_read}
@@ -200,11 +199,10 @@ ids_rise r register is = rises_fit r.journal r.holds r.at r.folio r.before r.ite
 pub sale_live_few : (r : SaleReading) (register : Key → List Entry) (line : LineState) → IsSaleRead r register → IsLineOf (reads_in r) r.folio line → length line.live ≤ length (ids_in r)
 sale_live_few r register line is of_line = live_few (reads_in r) r.folio (ids_in r) line (ids_are_all r register is) of_line
 
--- a class's line that has room for these rights and exchanges has room for the whole line of the folio
-pub sale_line_fits : (r : SaleReading) (register : Key → List Entry) (line : LineState) (rights exchanges : ℕ) (own : ClassLine) → IsSaleRead r register → IsLineOf (reads_in r) r.folio line
-    → length (earlier_rights r.journal r.item r.folio) ≤ rights → length (all_rises r.at r.folio (earlier_rights r.journal r.item r.folio)) ≤ exchanges → HasLineRoom rights exchanges own
-    → HasRoomForAll line own
-sale_line_fits r register line rights exchanges own is of_line few rises room =
+-- the folio's line has no more than so many rights and exchanges
+pub sale_line_within : (r : SaleReading) (register : Key → List Entry) (line : LineState) (rights exchanges : ℕ) → IsSaleRead r register → IsLineOf (reads_in r) r.folio line
+    → length (earlier_rights r.journal r.item r.folio) ≤ rights → length (all_rises r.at r.folio (earlier_rights r.journal r.item r.folio)) ≤ exchanges → IsLineWithin rights exchanges line
+sale_line_within r register line rights exchanges is of_line few rises =
     let less = ids_few r register is in
     let fit = ids_rise r register is in
-    line_fits (reads_in r) r.folio (ids_in r) line rights exchanges own (ids_are_all r register is) of_line (omega (arith, less, few)) (omega (arith, fit, rises)) room
+    line_within (reads_in r) r.folio (ids_in r) line rights exchanges (ids_are_all r register is) of_line (omega (arith, less, few)) (omega (arith, fit, rises))

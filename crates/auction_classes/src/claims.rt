@@ -75,8 +75,8 @@ impl Claims {
     /// No claims, with room for those of so many rights of a folio and so many exchanges among
     /// them. Wants memory, and is the only call that does.
     pub fn with_room(alloc: Global, rights: usize, exchanges: usize) -> Result<Claims, NoMemory>
-        ensures rights { IfOk result (λ claims. rights ≤ claims.right_room) }
-        ensures exchanges { IfOk result (λ claims. exchanges ≤ claims.exchange_room) }
+        ensures rights { IfOk result (λ claims. claims.right_room ≡ rights) }
+        ensures exchanges { IfOk result (λ claims. claims.exchange_room ≡ exchanges) }
         ensures claimed { IfOk result (λ claims. claims.claimed ≡ no_claims) }
     {
         Ok(Claims {
@@ -88,6 +88,20 @@ impl Claims {
             line_six: ClassLine::with_room(alloc, rights, exchanges)?,
             line: FolioLine::with_room(alloc, rights, exchanges)?,
         })
+    }
+
+    /// For how many rights of a folio the lists have room. Takes no memory.
+    pub fn right_room(&self) -> usize
+        ensures { result ≡ self.now.right_room }
+    {
+        self.right_room
+    }
+
+    /// For how many exchanges of ranks among them the lists have room. Takes no memory.
+    pub fn exchange_room(&self) -> usize
+        ensures { result ≡ self.now.exchange_room }
+    {
+        self.exchange_room
     }
 
     /// Fills the claims anew with what is claimed in the forced sale of a folio, as an item of it, or
@@ -106,6 +120,10 @@ impl Claims {
             → self.new.claimed ≡ claimed_in (sale_at journal.now.receipts register folio as_of) }
         ensures right_room { self.new.right_room ≡ self.old.right_room }
         ensures exchange_room { self.new.exchange_room ≡ self.old.exchange_room }
+        ensures places_four { length self.new.claimed.line_four.places ≤ self.new.right_room }
+        ensures swaps_four { length self.new.claimed.line_four.swaps ≤ self.new.exchange_room }
+        ensures places_six { length self.new.claimed.line_six.places ≤ self.new.right_room }
+        ensures swaps_six { length self.new.claimed.line_six.swaps ≤ self.new.exchange_room }
     {
         // The contract of `len` says that this is a journal.
         let receipts = journal.len() as usize;

@@ -2,7 +2,7 @@
 ghost use Rattle.std.specs.Prelude.{◌≡◌, ◌≤◌, All, IfOk, length, vec_capacity};
 ghost use Rattle.folio_line.specs.FolioReading.{CanBeRead, reads};
 ghost use Rattle.rank_slots.specs.Filled.{empty};
-ghost use Rattle.auction_classes.specs.inner.LinesRead.{HasAmount, HasLineRoom, HasLowInterest, HasRoomForAll, KeepsLineRoom, exercises_within, line_read, swaps_read};
+ghost use Rattle.auction_classes.specs.inner.LinesRead.{HasLineRoom, HasLowInterest, HasRoomForAll, KeepsLineRoom, exercises_within, line_read, swaps_read};
 ghost use Rattle.auction_classes.specs.inner.Reckoning.{filled_of};
 
 use crate::class_places::write_places;
@@ -48,7 +48,8 @@ impl ClassLine {
         requires interest { All HasLowInterest found.now }
         requires room { HasRoomForAll line.now self.old }
         ensures filled { filled_of self.new ≡ line_read class.now (reads P.holds P.at reading.now) reading.now.folio found.now line.now }
-        ensures amounts { All (HasAmount (reads P.holds P.at reading.now) reading.now.folio) self.new.places.items }
+        ensures places { length self.new.places.items ≤ length line.now.rights }
+        ensures swaps { length self.new.swaps.items ≤ length line.now.exchanges }
         ensures room { KeepsLineRoom self.old self.new }
     {
         write_swaps(&mut self.swaps, class, line.exchanges());
@@ -68,6 +69,7 @@ impl ClassLine {
 fn write_swaps(swaps: &mut Vec<Swap>, class: &RightClass, exchanges: &[Exchange])
     requires room { length exchanges.now ≤ vec_capacity swaps.old }
     ensures items { swaps.new.items ≡ swaps_read class.now exchanges.now }
+    ensures few { length swaps.new.items ≤ length exchanges.now }
     ensures capacity { vec_capacity swaps.new ≡ vec_capacity swaps.old }
 {
     swaps.clear();

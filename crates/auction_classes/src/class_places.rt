@@ -1,7 +1,7 @@
 //! The places on the line of a class, each with what its right claims (ZVG §§ 11, 12).
 ghost use Rattle.std.specs.Prelude.{◌≡◌, ◌≤◌, All, None, length, vec_capacity};
 ghost use Rattle.folio_line.specs.FolioReading.{CanBeRead, reads};
-ghost use Rattle.auction_classes.specs.inner.LinesRead.{HasAmount, HasLowInterest, behind_first, first_interest, found_behind, interest_read, most_interest, place_read, places_read, recedes_by, stands_by};
+ghost use Rattle.auction_classes.specs.inner.LinesRead.{HasLowInterest, behind_first, first_interest, found_behind, interest_read, most_interest, place_read, places_read, recedes_by, stands_by};
 
 use crate::right_classes::RightClass;
 use crate::rights_found::RightFound;
@@ -24,7 +24,7 @@ pub(crate) fn write_places<P: Parts>(
     requires interest { All HasLowInterest found.now }
     requires room { length rights.now ≤ vec_capacity places.old }
     ensures items { places.new.items ≡ places_read class.now swaps.now (reads P.holds P.at reading.now) reading.now.folio None found.now rights.now }
-    ensures amounts { All (HasAmount (reads P.holds P.at reading.now) reading.now.folio) places.new.items }
+    ensures few { length places.new.items ≤ length rights.now }
     ensures capacity { vec_capacity places.new ≡ vec_capacity places.old }
 {
     places.clear();
@@ -70,7 +70,6 @@ fn place_read<P: Parts>(
     requires read { CanBeRead P.holds P.at reading.now }
     requires interest { All HasLowInterest found.now }
     ensures value { result ≡ place_read (reads P.holds P.at reading.now) reading.now.folio before found.now right.now }
-    ensures amount { HasAmount (reads P.holds P.at reading.now) reading.now.folio result }
 {
     Place {
         right: right.id,

@@ -1,7 +1,6 @@
 -- The line of a class, as it is written of the folio's line and of what is found of the live rights.
 use Rattle.std.specs.Prelude.{◌≡◌, ℕ, ◌+◌, ◌*◌, ◌≤◌, Bool, ◌&&◌, ◌||◌, ◌==◌, if◌then◌else◌, List, [], ◌∷◌, filter, length, map, Option, Some, None, vec_capacity}
 use Rattle.std.specs.List.{list_any}
-use Rattle.gb_base.specs.Limits.{most_cents}
 use Rattle.gb_base.specs.RightNo.{RightNo, same_right}
 use Rattle.gb_base.specs.declared.keys.Key.{Key}
 use Rattle.gb_base.specs.declared.keys.Key.TheVariants.{Right}
@@ -34,6 +33,12 @@ pub record HasRoomForAll (line : LineState) (own : ClassLine) : Type 0 where
   pub places : length line.rights ≤ vec_capacity own.places
   pub swaps : length line.exchanges ≤ vec_capacity own.swaps
   pub knots : length line.exercises ≤ vec_capacity own.knots
+
+-- what stands on the folio's line is no more than so many rights and exchanges
+pub record IsLineWithin (rights exchanges : ℕ) (line : LineState) : Type 0 where
+  pub placed : length line.rights ≤ rights
+  pub swapped : length line.exchanges ≤ exchanges
+  pub tied : length line.exercises ≤ rights
 
 -- it has as much room as before
 pub record KeepsLineRoom (before now : ClassLine) : Type 0 where
@@ -119,9 +124,3 @@ most_interest = 33 * 461111111111111
 
 abbrev pub HasLowInterest : RightFound → Type 0
 HasLowInterest x = x.interest ≤ most_interest
-
--- ---- the range of capital
-
--- the capital of the right is an amount
-abbrev pub HasAmount : (Key → List Entry) → ℕ → Place → Type 0
-HasAmount at folio p = capital_at at folio p.right ≤ most_cents

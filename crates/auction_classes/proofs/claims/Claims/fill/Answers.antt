@@ -12,13 +12,14 @@ use Rattle.folio_line.specs.declared.folio_rights.CreatedRight.{CreatedRight}
 use Rattle.auction_classes.specs.SaleClaims.{ClaimsState}
 use Rattle.auction_classes.specs.inner.CaseSales.{sale_of_case}
 use Rattle.auction_classes.specs.inner.ClaimLists.{AreClaimedIn}
-use Rattle.auction_classes.specs.inner.LinesRead.{line_read}
+use Rattle.auction_classes.specs.inner.LinesRead.{IsLineWithin, line_read}
 use Rattle.auction_classes.specs.inner.Readings.{IsReadAs}
 use Rattle.auction_classes.proofs.BoundedLists.{lists_within}
 use Rattle.auction_classes.proofs.EarlierRights.{filed_at_most}
+use Rattle.auction_classes.proofs.LineFits.{line_fits}
 use Rattle.auction_classes.proofs.RoomKept.{line_room_kept, room_for_fewer, room_kept}
 use Rattle.auction_classes.proofs.SalesFilled.{AreWritten, written_is, written_reckonable}
-use Rattle.auction_classes.proofs.SalesHeld.{IsSaleRead, SaleReading, can_be_read, can_find_case, held_rise, holds_sale, ids_are_all, ids_few, ids_in, ids_rise, reading_of, reads_in, sale_is_read, sale_line_fits, sale_live_as_read, sale_live_few}
+use Rattle.auction_classes.proofs.SalesHeld.{IsSaleRead, SaleReading, can_be_read, can_find_case, held_rise, holds_sale, ids_are_all, ids_few, ids_in, ids_rise, reading_of, reads_in, sale_is_read, sale_line_within, sale_live_as_read, sale_live_few}
 use Rattle.auction_classes.proofs.claims.Claims.fill.Goals as goal
 
 pub title_below-title-requires : goal.title_below-title-requires
@@ -82,8 +83,9 @@ fill-requires-clause-room g c =
     let is = sale_is_read r c.requires.kept c.len-receipts.ensures.journal c.requires.held c.case_below-case.ensures c.read_before-before.ensures c.title_below-title.ensures in
     let right_room = ap (λ (s : ClaimsState). s.right_room) c.self.view_is in
     let exchange_room = ap (λ (s : ClaimsState). s.exchange_room) c.self.view_is in
-    sale_line_fits r c.requires.kept.register c.read.new.self c.self.inside.right_room c.self.inside.exchange_room c.self.inside.line_four is c.read.ensures.line (omega (arith, right_room, c.requires.rights))
-    (omega (arith, exchange_room, c.requires.exchanges)) c.self.invariant.0.in_four
+    let within = sale_line_within r c.requires.kept.register c.read.new.self c.self.inside.right_room c.self.inside.exchange_room is c.read.ensures.line (omega (arith, right_room, c.requires.rights))
+    (omega (arith, exchange_room, c.requires.exchanges)) in
+    line_fits c.read.new.self c.self.inside.right_room c.self.inside.exchange_room c.self.inside.line_four within c.self.invariant.0.in_four
 
 pub fill-requires-2-clause-read : goal.fill-requires-2-clause-read
 fill-requires-2-clause-read g c =
@@ -95,8 +97,9 @@ fill-requires-2-clause-room g c =
     let is = sale_is_read r c.requires.kept c.len-receipts.ensures.journal c.requires.held c.case_below-case.ensures c.read_before-before.ensures c.title_below-title.ensures in
     let right_room = ap (λ (s : ClaimsState). s.right_room) c.self.view_is in
     let exchange_room = ap (λ (s : ClaimsState). s.exchange_room) c.self.view_is in
-    sale_line_fits r c.requires.kept.register c.read.new.self c.self.inside.right_room c.self.inside.exchange_room c.self.inside.line_six is c.read.ensures.line (omega (arith, right_room, c.requires.rights))
-    (omega (arith, exchange_room, c.requires.exchanges)) c.self.invariant.0.in_six
+    let within = sale_line_within r c.requires.kept.register c.read.new.self c.self.inside.right_room c.self.inside.exchange_room is c.read.ensures.line (omega (arith, right_room, c.requires.rights))
+    (omega (arith, exchange_room, c.requires.exchanges)) in
+    line_fits c.read.new.self c.self.inside.right_room c.self.inside.exchange_room c.self.inside.line_six within c.self.invariant.0.in_six
 
 -- ---- what is claimed
 
@@ -128,6 +131,28 @@ pub returns-clause-claimed : goal.returns-clause-claimed
 returns-clause-claimed g c register stands kept =
     written_is (read_so g c) register c.read.new.self c.fill-finding.result c.get-self-inside.result c.fill-finding.new.self c.fill.new.self c.fill-2.new.self (is_read g c register stands kept) (are_written g c)
 
+-- ---- the lines are no more than there is room for
+
+-- as the folio's line is
+line_is_within : (g : _) (c : goal.After-fill-2 g) → IsLineWithin c.self.inside.right_room c.self.inside.exchange_room c.read.new.self
+line_is_within g c =
+    let right_room = ap (λ (s : ClaimsState). s.right_room) c.self.view_is in
+    let exchange_room = ap (λ (s : ClaimsState). s.exchange_room) c.self.view_is in
+    sale_line_within (read_so g c) c.requires.kept.register c.read.new.self c.self.inside.right_room c.self.inside.exchange_room (is_read g c c.requires.kept.register c.requires.kept.stands c.requires.kept.kept) c.read.ensures.line
+    (omega (arith, right_room, c.requires.rights)) (omega (arith, exchange_room, c.requires.exchanges))
+
+pub returns-clause-places_four : goal.returns-clause-places_four
+returns-clause-places_four g c = omega (arith, c.fill.ensures.places, (line_is_within g c).placed)
+
+pub returns-clause-swaps_four : goal.returns-clause-swaps_four
+returns-clause-swaps_four g c = omega (arith, c.fill.ensures.swaps, (line_is_within g c).swapped)
+
+pub returns-clause-places_six : goal.returns-clause-places_six
+returns-clause-places_six g c = omega (arith, c.fill-2.ensures.places, (line_is_within g c).placed)
+
+pub returns-clause-swaps_six : goal.returns-clause-swaps_six
+returns-clause-swaps_six g c = omega (arith, c.fill-2.ensures.swaps, (line_is_within g c).swapped)
+
 -- ---- and there is as much room as before
 
 pub invariant_of-self : goal.invariant_of-self
@@ -153,6 +178,5 @@ invariant_of-self g c =
         in_four = line_room_kept c.self.inside.right_room c.self.inside.exchange_room c.self.inside.line_four c.fill.new.self c.self.invariant.0.in_four c.fill.ensures.room;
         in_six = line_room_kept c.self.inside.right_room c.self.inside.exchange_room c.self.inside.line_six c.fill-2.new.self c.self.invariant.0.in_six c.fill-2.ensures.room;
       },
-      written_reckonable r register line c.fill-finding.result c.get-self-inside.result lists c.fill.new.self c.fill-2.new.self is are (omega (arith, c.get-self-inside.ensures.in_range)) within c.fill.ensures.amounts
-          c.fill-2.ensures.amounts,
+      written_reckonable r register line c.fill-finding.result c.get-self-inside.result lists c.fill.new.self c.fill-2.new.self is are (omega (arith, c.get-self-inside.ensures.in_range)) within,
     )
