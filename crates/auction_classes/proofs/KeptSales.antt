@@ -43,7 +43,7 @@ use Rattle.auction_classes.specs.inner.Readings.{IsReadAs}
 -- ---- the case
 
 -- what each entry has, each of the case has
-all_of_case : (P : Entry → Type 0) (entries : List Entry) → All P entries → All P (case entries)
+pub all_of_case : (P : Entry → Type 0) (entries : List Entry) → All P entries → All P (case entries)
 all_of_case P entries all = All-drop P _ entries all
 
 -- a content that seizes has its receipt in the journal
@@ -106,7 +106,7 @@ award_below : (a : ℕ) (before : Option ℕ) (entries : List Entry) → IsBelow
 award_below a before [] is all = is
 award_below a before (e ∷ es) is all = award_below a (award_by e.receipt before e.what) es (award_step a e.receipt before e.what all.0 is) all.1
 
-all_below : (a : ℕ) (entries : List Entry) → AllByRecursion (λ (e : Entry). e.receipt < a) (below a entries)
+pub all_below : (a : ℕ) (entries : List Entry) → AllByRecursion (λ (e : Entry). e.receipt < a) (below a entries)
 all_below a [] = tt
 all_below a (e ∷ es) = elim (nat_lt e.receipt a) as (λ b. nat_lt e.receipt a ≡ b → AllByRecursion (λ (d : Entry). d.receipt < a) (cond b (e ∷ below a es) (below a es))) [
   | true ↦ λ is. (grind (arith, nat_tests, is), all_below a es)

@@ -5,6 +5,7 @@ pub mod BoundedLists
 pub mod CaseReceipts
 pub mod ClaimedRights
 pub mod ClaimsAdded
+pub mod ClaimsAlike
 pub mod ClaimsInRow
 pub mod ClaimsOnLine
 pub mod ClassFills

@@ -34,7 +34,7 @@ numbered journal folio id made stands here =
     })
 
 -- a right that stood before receipt n is among those filed before it
-among_filed : (journal : List Receipt) (register : Key → List Entry) (folio n a : ℕ) (id : RightNo) (made : Created) → Kept journal register → IsJournal journal → n ≤ a
+pub among_filed : (journal : List Receipt) (register : Key → List Entry) (folio n a : ℕ) (id : RightNo) (made : Created) → Kept journal register → IsJournal journal → n ≤ a
     → created (below n (below a (register (Right folio id)))) ≡ Some made → is_among (rights_filed (Some n) journal folio) id ≡ true
 among_filed journal register folio n a id made kept stands within is =
     let there = numbered journal folio id made stands (created_here journal register folio n a id made kept is) in

@@ -50,7 +50,7 @@ form_of_none : (f : Created → RightForm) (o : Option Created) → o ≡ None �
 form_of_none f None none = refl
 form_of_none f (Some made) none = absurd (false≢true (sym (ap is_some none)))
 
-never_full : (es : List Entry) → created es ≡ None → is_full es ≡ false
+pub never_full : (es : List Entry) → created es ≡ None → is_full es ≡ false
 never_full es none = form_of_none _ (created es) none
 
 and_false : (a b : Bool) → b ≡ false → (a && b) ≡ false

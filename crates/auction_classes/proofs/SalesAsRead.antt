@@ -44,7 +44,7 @@ same_at_live : (s : Sale) (reads : Key → List Entry) → ReadAlike s.folio (re
 same_at_live s reads alike x there = same_right_read _ _ x.made (alike x.id) (of_placed_rights is_live_with reads s.folio x there).made
 
 -- so it is found the same
-same_rights : (s : Sale) (reads : Key → List Entry) → ReadAlike s.folio (read s) reads
+pub same_rights : (s : Sale) (reads : Key → List Entry) → ReadAlike s.folio (read s) reads
     → rights_with s (λ id. reads (Right s.folio id)) (live_rights reads s.folio) ≡ map (right_found s) (live_rights (read s) s.folio)
 same_rights s reads alike =
     let live = live_rights reads s.folio in
@@ -55,7 +55,7 @@ same_rights s reads alike =
     ∙ ap (map (right_found s)) (sym (same_live (read s) reads s.folio alike))
 
 -- and a seizure is served in both or in neither
-same_seizures : (s : Sale) (reads : Key → List Entry) → ReadAlike s.folio (read s) reads
+pub same_seizures : (s : Sale) (reads : Key → List Entry) → ReadAlike s.folio (read s) reads
     → map (seized_with (sale_day s) (λ id. reads (Right s.folio id))) (seizures_found s) ≡ map (seized_for s) (seizures_found s)
 same_seizures s reads alike =
     let g : Seizure → SeizedFor = seized_with (sale_day s) (λ id. reads (Right s.folio id)) in
