@@ -8,14 +8,12 @@ use Rattle.std.proofs.lemmas.List.Elements.{recursion_from_All}
 use Rattle.gb_base.specs.RightNo.{RightNo}
 use Rattle.gb_base.specs.declared.keys.Key.{Key}
 use Rattle.gb_base.specs.declared.keys.Key.TheVariants.{Case, Right}
-use Rattle.gb_base.proofs.Members.{In}
 use Rattle.act_model.specs.Receiving.{IsJournal}
 use Rattle.act_model.specs.SaleKeys.{earlier_rights, keys_of_sale}
 use Rattle.act_model.specs.declared.receipts.Receipt.{Receipt}
 use Rattle.folio_sections.specs.Cases.{award}
 use Rattle.folio_sections.specs.Entries.{entry_by}
 use Rattle.folio_sections.specs.Fronts.{below}
-use Rattle.folio_sections.specs.HeldRights.{receipt_numbers}
 use Rattle.folio_sections.specs.Rights.{created, created_by, is_live, live_by}
 use Rattle.folio_sections.specs.declared.entries.Created.{Created}
 use Rattle.folio_sections.specs.declared.entries.Entry.{Entry}
@@ -39,7 +37,7 @@ use Rattle.folio_line.proofs.RightWalks.{walk_is}
 use Rattle.rank_slots.specs.CanFill.{CanFill}
 use Rattle.auction_classes.specs.LowestBid.{remaining}
 use Rattle.auction_classes.specs.SaleClaims.{SaleClaims, claimed_in}
-use Rattle.auction_classes.specs.Sales.{read, read_before, sale_at}
+use Rattle.auction_classes.specs.Sales.{read, sale_at}
 use Rattle.auction_classes.proofs.KeptSales.{below_twice, created_here}
 use Rattle.sale_rules.specs.SaleEntries.{left_of, left_with}
 use Rattle.sale_rules.specs.inner.RightsLeft.{CanBeLeft, left_at}

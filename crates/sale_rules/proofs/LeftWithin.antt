@@ -1,14 +1,12 @@
 -- No more is left of a right than its capital.
-use Rattle.std.proofs.Common.{◌≡◌, ℕ, ◌+◌, ◌-◌, ◌≤◌, Bool, true, false, cond, if◌then◌else◌, ◌&&◌, ◌||◌, ◌==◌, All, List, [], ◌∷◌, ◌++◌, filter, find, flat_map, map, Option, Some, None, option_map, is_some, refl, sym, ap, subst, ◌∙◌, ⊎_elim, arith}
+use Rattle.std.proofs.Common.{◌≡◌, ℕ, ◌+◌, ◌-◌, ◌≤◌, Bool, true, false, cond, if◌then◌else◌, ◌&&◌, ◌==◌, List, [], ◌∷◌, filter, find, flat_map, map, Some, None, option_map, refl, sym, ap, subst, ◌∙◌, arith}
 use Rattle.std.specs.List.{AllByRecursion}
 use Rattle.std.specs.Option.{option_map_or}
-use Rattle.std.proofs.lemmas.Bool.{false≢true}
 use Rattle.std.proofs.lemmas.List.Elements.{All-from_recursion}
 use Rattle.gb_base.specs.RightNo.{RightNo, same_right}
 use Rattle.gb_base.proofs.Members.{find_sound}
 use Rattle.gb_base.proofs.SameRights.{right_is}
 use Rattle.folio_sections.proofs.Unchanged.{all_both}
-use Rattle.folio_line.specs.FolioRights.{is_live_with}
 use Rattle.folio_line.specs.FolioSlots.{capital_at, group_places, is_gone, place_on_line}
 use Rattle.folio_line.specs.declared.folio_rights.CreatedRight.{CreatedRight}
 use Rattle.rank_slots.specs.CanFill.{CanFill}

@@ -1,22 +1,20 @@
 -- A right gets no more than its claim.
-use Rattle.std.proofs.Common.{◌≡◌, ℕ, suc, ◌+◌, ◌-◌, ◌*◌, ◌/◌, ◌<◌, ◌≤◌, Bool, true, false, cond, if◌then◌else◌, not, ◌&&◌, ◌||◌, ◌==◌, nat_le, nat_lt, All, List, [], ◌∷◌, count_by, filter, find, length, map, sum, take, Option, Some, None, refl, sym, ap, subst, ◌∙◌, ⊎_elim, arith}
+use Rattle.std.proofs.Common.{◌≡◌, ℕ, suc, ◌+◌, ◌-◌, ◌*◌, ◌/◌, ◌<◌, ◌≤◌, Bool, true, false, cond, if◌then◌else◌, not, ◌&&◌, ◌||◌, ◌==◌, nat_le, nat_lt, All, List, [], ◌∷◌, count_by, filter, find, length, map, sum, take, Some, None, refl, sym, ap, subst, ◌∙◌, ⊎_elim, arith}
 use Rattle.std.specs.List.{AllByRecursion, list_any, position_or_len}
 use Rattle.std.specs.Option.{option_map_or}
 use Rattle.std.proofs.Math.Nat.{mul-div-le, mul-le-mul_left}
-use Rattle.std.proofs.lemmas.Bool.{both_ways, cases_Bool, cases_lt, eqb-true, false≢true, true≢false}
+use Rattle.std.proofs.lemmas.Bool.{both_ways, cases_lt, eqb-true, false≢true, true≢false}
 use Rattle.std.proofs.lemmas.Bool.Decides.{nat_tests}
 use Rattle.std.proofs.lemmas.List.Elements.{All-from_recursion, recursion_from_All}
 use Rattle.gb_base.specs.RightNo.{RightNo, same_right}
 use Rattle.gb_base.specs.Shares.{claim_at, left_over, share, whole_part}
-use Rattle.gb_base.proofs.Members.{In, find_sound}
+use Rattle.gb_base.proofs.Members.{find_sound}
 use Rattle.gb_base.proofs.SameRights.{right_is}
-use Rattle.folio_sections.proofs.Unchanged.{all_weaker}
-use Rattle.rank_slots.specs.CanFill.{ArePlaces, CanFill, CanKnot}
+use Rattle.rank_slots.specs.CanFill.{CanFill, CanKnot}
 use Rattle.rank_slots.specs.CentLine.{cent_line, exchange_all, is_dropped, written}
 use Rattle.rank_slots.specs.Filled.{Filled, line}
 use Rattle.rank_slots.specs.Groups.{group_of, groups, is_of, keeps_place}
-use Rattle.rank_slots.specs.Payments.{claim_of, is_of_group, knot_of, pay, pay_by, pay_exercised, pay_reserved, plain_pay, share_in_group}
-use Rattle.rank_slots.specs.declared.places.Knot.{Knot}
+use Rattle.rank_slots.specs.Payments.{claim_of, is_of_group, knot_of, pay, plain_pay, share_in_group}
 use Rattle.rank_slots.specs.declared.places.Place.{Place}
 use Rattle.rank_slots.proofs.GroupMembers.{alone_group, group_all, group_holds}
 use Rattle.rank_slots.proofs.KnotPay.{found_all, found_exercised, found_reserved, found_ties, unfound}
@@ -170,7 +168,7 @@ shared_within filled claims r t fits have there more =
     let listed = group_holds filled.places r there in
     let is = claim_in claims r group (recursion_from_All (λ (p : Place). p.claim ≡ claims p.right) group (group_all (λ (p : Place). p.claim ≡ claims p.right) filled.places r have)) listed in
     let least : 1 ≤ claims r = some_claim claims r group (recursion_from_All (λ (p : Place). p.claim ≡ claims p.right) group (group_all (λ (p : Place). p.claim ≡ claims p.right) filled.places r have))
-        (recursion_from_All (λ (p : Place). 1 ≤ p.claim) group (group_all (λ (p : Place). 1 ≤ p.claim) filled.places r fits.places.claims)) listed in
+    (recursion_from_All (λ (p : Place). 1 ≤ p.claim) group (group_all (λ (p : Place). 1 ≤ p.claim) filled.places r fits.places.claims)) listed in
     let part = share_within cents sums place (omega (arith, is, least)) in
     let gets : plain_pay filled r t ≡ share cents sums place = λ i. if more i then cents else share cents sums place in
     omega (arith, gets, part, is)

@@ -23,8 +23,8 @@ ghost use Rattle.sale_rules.specs.SaleParts.{CanSettle, OfEachKept};
 ghost use Rattle.sale_rules.specs.inner.RightsLeft.{CanBeLeft, left_at};
 
 use crate::Scratch;
-use crate::grounds::{is_awarded, lacks_call, lacks_case};
 use crate::found::is_journal;
+use crate::grounds::{is_awarded, lacks_call, lacks_case};
 use crate::lowest_found::lowest_found;
 use crate::rights_left::enter_rights_left;
 use act_model::Journal;
@@ -192,7 +192,12 @@ fn enter_award<P: Parts>(
 {
     add(
         parts,
-        entry_by(journal, item, Key::Case(folio), What::Awarded { buyer, bid }),
+        entry_by(
+            journal,
+            item,
+            Key::Case(folio),
+            What::Awarded { buyer, bid },
+        ),
     );
     add(
         parts,

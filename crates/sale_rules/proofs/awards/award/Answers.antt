@@ -1,4 +1,4 @@
-use Rattle.std.proofs.Common.{◌≡◌, ◌∷◌, [], map, Some, sym, ap, subst, ◌∙◌}
+use Rattle.std.proofs.Common.{[], sym, subst}
 use Rattle.std.specs.Option.{option_map_or}
 use Rattle.act_model.specs.SaleKeys.{earlier_rights}
 use Rattle.folio_sections.specs.Adding.{AddsList}
