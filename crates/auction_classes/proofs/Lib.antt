@@ -8,6 +8,7 @@ pub mod ClaimsAdded
 pub mod ClaimsAlike
 pub mod ClaimsInRow
 pub mod ClaimsOnLine
+pub mod ClaimsStay
 pub mod ClassFills
 pub mod CommercialDays
 pub mod EarlierRights

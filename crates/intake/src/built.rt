@@ -4,12 +4,12 @@ ghost use Rattle.intake.specs.Built.{is_built};
 
 use act_model::Item;
 
-/// Whether the office takes the item today: a filing, a cure or a lapse.
+/// Whether the office takes the item today: every one but a distribution.
 pub fn is_built(item: &Item) -> bool
     ensures { result ≡ is_built item.now }
 {
     match item {
-        Item::Filing(_) | Item::Cure { .. } | Item::Lapse { .. } => true,
-        _ => false,
+        Item::Distribute { .. } => false,
+        _ => true,
     }
 }

@@ -23,6 +23,7 @@ use Rattle.interim_orders.specs.declared.states.FilingState.TheVariants.{NotPend
 use Rattle.registrar.proofs.EntersAsBefore.{enters_as_before}
 use Rattle.registrar.proofs.JudgedAsBefore.{judged_as_before}
 use Rattle.registrar.proofs.LaterReceipts.{day_stays, entry_stays, filing_stays, keys_stay}
+use Rattle.registrar.proofs.SalesAsBefore.{award_as_before, call_as_before, registration_as_before, seizure_as_before}
 use Rattle.registrar.specs.Brings.{Brought, brings, brought_by_cure, brought_by_filing, brought_by_item, brought_in_state, nothing_pending, verdict_on_lapse}
 use Rattle.registrar.specs.NamesUpTo.{AllNameUpTo}
 use Rattle.registrar.specs.declared.verdicts.Verdict.TheVariants as verdict
@@ -140,10 +141,10 @@ module _ (journal more : List Receipt) (stands : Key → List Entry) (named : Al
       let entries = lapse_as_before i within in
       let answered = lapsed_as_before i within in
       λ j. record { entries = entries j; verdict = verdict_on_lapse (answered j) }
-  item_as_before i (item.Seize folio basis served) within = refl
-  item_as_before i (item.Register folio registered) within = refl
-  item_as_before i (item.OpenBids folio costs) within = refl
-  item_as_before i (item.Award folio buyer bid) within = refl
+  item_as_before i (item.Seize folio basis served) within = seizure_as_before journal more stands folio i within basis
+  item_as_before i (item.Register folio registered) within = registration_as_before journal more stands folio i within registered
+  item_as_before i (item.OpenBids folio costs) within = call_as_before journal more stands folio i within costs
+  item_as_before i (item.Award folio buyer bid) within = award_as_before journal more stands folio i within buyer bid
   item_as_before i (item.Distribute folio) within = refl
 
 pub brings_as_before : (journal more : List Receipt) (i : ℕ) (stands : Key → List Entry) → i ≤ length journal → AllNameUpTo (length journal) stands → brings (journal ++ more) i stands ≡ brings journal i stands

@@ -77,7 +77,7 @@ case_stays journal m i before es all folio =
 -- ---- so what holds of forced sales stays
 
 -- a case stands on an opening, which stays
-opened_stays : (journal : List Receipt) (folio : ℕ) (before : Key → List Entry) (es case : List Entry)
+pub opened_stays : (journal : List Receipt) (folio : ℕ) (before : Key → List Entry) (es case : List Entry)
     → All (λ e. IsTrue (is_seizure e.what) → IsOpenedBefore e.receipt (before (Title folio))) case
     → All (λ e. IsTrue (is_seizure e.what) → IsOpenedBefore e.receipt (with_entries before es (Title folio))) case
 opened_stays journal folio before es case opened =

@@ -82,7 +82,7 @@ cure_as_judged journal m f i at Enter deals earlier is = cure_leaves journal m f
 cure_as_judged journal m f i at (Reject section) deals earlier is = end_leaves journal m f i at deals
 cure_as_judged journal m f i at (Interim defects) deals earlier is = none_leave journal i at deals.kept
 
-cure_in_state : (journal : List Receipt) (m i : ℕ) (at : Key → List Entry) (state : FilingState) → IsSome (receipt_at journal i) → IsJournal journal → Kept journal at → AreEarlier i at (keys_of_named journal i m) → state_of journal m i at ≡ state → Leaves journal i at (brought_in_state journal m i at state).entries
+pub cure_in_state : (journal : List Receipt) (m i : ℕ) (at : Key → List Entry) (state : FilingState) → IsSome (receipt_at journal i) → IsJournal journal → Kept journal at → AreEarlier i at (keys_of_named journal i m) → state_of journal m i at ≡ state → Leaves journal i at (brought_in_state journal m i at state).entries
 cure_in_state journal m i at (Pending until) received stands kept before is =
     let it = found journal m i at until received stands kept before is in
     let judgement : judged journal m i at ≡ Some (judged_filing journal m it.filing i at) = ap (option_map (λ f. judged_filing journal m f i at)) it.deals.filing in
@@ -101,7 +101,7 @@ lapse_in_state journal m i at (Pending until) received stands kept before is =
     ]
 lapse_in_state journal m i at NotPending received stands kept before is = none_leave journal i at kept
 
-lapse_leaves : (journal : List Receipt) (i m : ℕ) (at : Key → List Entry) → IsJournal journal → Kept journal at → AreEarlier i at (keys_of_named journal i m) → option_map (λ r. r.item) (receipt_at journal i) ≡ Some (item.Lapse m)
+pub lapse_leaves : (journal : List Receipt) (i m : ℕ) (at : Key → List Entry) → IsJournal journal → Kept journal at → AreEarlier i at (keys_of_named journal i m) → option_map (λ r. r.item) (receipt_at journal i) ≡ Some (item.Lapse m)
     → Leaves journal i at (lapse_brought journal i at)
 lapse_leaves journal i m at stands kept before is =
     let received = there_is (receipt_at journal i) (item.Lapse m) is in
@@ -112,21 +112,9 @@ lapse_leaves journal i m at stands kept before is =
       | None ↦ λ none. none_leave journal i at kept
     ] refl
 
--- ---- an item
+-- ---- a filing
 
-filing_deals : (journal : List Receipt) (i : ℕ) (f : Filing) (at : Key → List Entry) → IsJournal journal → Kept journal at → AreEarlier i at (keys_of_filing journal i) → option_map (λ r. r.item) (receipt_at journal i) ≡ Some (item.Filing f) → Deals journal i f i at
+pub filing_deals : (journal : List Receipt) (i : ℕ) (f : Filing) (at : Key → List Entry) → IsJournal journal → Kept journal at → AreEarlier i at (keys_of_filing journal i) → option_map (λ r. r.item) (receipt_at journal i) ≡ Some (item.Filing f) → Deals journal i f i at
 filing_deals journal i f at stands kept before is =
     let filing : filing_at journal i ≡ Some f = read_of_item filing_in (receipt_at journal i) (item.Filing f) is in
     record { received = there_is (receipt_at journal i) (item.Filing f) is; kept = kept; filing = filing; well = well_filed journal i f stands filing; earlier = before; turn = is_it refl }
-
-pub item_leaves : (journal : List Receipt) (i : ℕ) (at : Key → List Entry) (w : Item) → IsJournal journal → Kept journal at → option_map (λ r. r.item) (receipt_at journal i) ≡ Some w → AreEarlier i at (keys_by_item journal i w)
-    → Leaves journal i at (brought_by_item journal i at w).entries
-item_leaves journal i at (item.Filing f) stands kept is before =
-    filing_leaves journal i f at (judged_filing journal i f i at) (filing_deals journal i f at stands kept before is) refl
-item_leaves journal i at (item.Cure m docs) stands kept is before = cure_in_state journal m i at (state_of journal m i at) (there_is (receipt_at journal i) (item.Cure m docs) is) stands kept before refl
-item_leaves journal i at (item.Lapse m) stands kept is before = lapse_leaves journal i m at stands kept before is
-item_leaves journal i at (item.Seize folio basis served) stands kept is before = none_leave journal i at kept
-item_leaves journal i at (item.Register folio registered) stands kept is before = none_leave journal i at kept
-item_leaves journal i at (item.OpenBids folio costs) stands kept is before = none_leave journal i at kept
-item_leaves journal i at (item.Award folio buyer bid) stands kept is before = none_leave journal i at kept
-item_leaves journal i at (item.Distribute folio) stands kept is before = none_leave journal i at kept

@@ -36,7 +36,7 @@ all_of_item journal m i es k all =
     All-from_recursion (λ e. e.receipt ≡ i) (at es k)
     (all_here (λ j e. e.receipt ≡ i) es k (all_weaker (IsBrought journal m i) (λ e. e.receipt ≡ i) es (λ e brought. brought.by_item) all))
 
-never_fall_here : (i : ℕ) (before added : List Entry) → AllPairs (λ e later. e.receipt ≤ later.receipt) before → All (λ e. e.receipt < i) before
+pub never_fall_here : (i : ℕ) (before added : List Entry) → AllPairs (λ e later. e.receipt ≤ later.receipt) before → All (λ e. e.receipt < i) before
     → All (λ e. e.receipt ≡ i) added → AllPairs (λ e later. e.receipt ≤ later.receipt) (before ++ added)
 never_fall_here i before added rise earlier now =
     pairs_append (λ e later. e.receipt ≤ later.receipt) before added rise
@@ -64,7 +64,7 @@ day_there : (o : Option Receipt) → IsSome o → option_map (λ r. r.stamp.day)
 day_there (Some r) there = refl
 day_there None there = absurd (false≢true there)
 
-stamped : (journal : List Receipt) (i : ℕ) (e : Entry) → IsSome (receipt_at journal i) → e.receipt ≡ i → e.day ≡ day_of journal i → IsStamped journal e
+pub stamped : (journal : List Receipt) (i : ℕ) (e : Entry) → IsSome (receipt_at journal i) → e.receipt ≡ i → e.day ≡ day_of journal i → IsStamped journal e
 stamped journal i e there by_item on_day =
     ap (λ n. option_map (λ r. r.stamp.day) (receipt_at journal n)) by_item ∙ day_there (receipt_at journal i) there ∙ ap Some (sym on_day)
 

@@ -20,6 +20,7 @@ use Rattle.interim_orders.specs.declared.states.FilingState.{FilingState}
 use Rattle.interim_orders.specs.declared.states.FilingState.TheVariants.{NotPending, Pending}
 use Rattle.registrar.proofs.Rooms.{cure_fits, entry_fits, marks_fit_too}
 use Rattle.registrar.proofs.WaitingStates.{found_waiting}
+use Rattle.registrar.proofs.FiledItems.{IsFiled}
 use Rattle.registrar.specs.Brings.{brought_by_cure, brought_by_filing, brought_by_item, brought_in_state, nothing_pending}
 use Rattle.conflict_queue.specs.ItemKeys.{keys_by_item, keys_of_named}
 use Rattle.registrar.specs.Rooms.{room_by_item, room_to_enter}
@@ -62,16 +63,17 @@ lapse_names journal i m n is names =
     let same : Some m ≡ Some n = sym (read_of_item lapse_in (receipt_at journal i) (item.Lapse m) is) ∙ names in
     ap (λ o. option_map_or (λ x. x) o 0) same
 
-pub item_fits : (journal : List Receipt) (i : ℕ) (at : Key → List Entry) (room : Key → ℕ) (what : Item) → IsJournal journal → option_map (λ r. r.item) (receipt_at journal i) ≡ Some what
+-- of an item that is about a filing
+pub item_fits : (journal : List Receipt) (i : ℕ) (at : Key → List Entry) (room : Key → ℕ) (what : Item) → IsFiled what → IsJournal journal → option_map (λ r. r.item) (receipt_at journal i) ≡ Some what
     → ((k : Key) → Contains (keys_by_item journal i what) k → room_by_item i what (at k) ≤ room k) → HasRoom room (brought_by_item journal i at what).entries
-item_fits journal i at room (item.Filing f) stands is roomy = filing_fits journal i at room (judged_filing journal i f i at) stands roomy
-item_fits journal i at room (item.Cure m docs) stands is roomy = cure_in_state_fits journal m i at room (state_of journal m i at) refl stands roomy
-item_fits journal i at room (item.Lapse m) stands is roomy =
+item_fits journal i at room (item.Filing f) filed stands is roomy = filing_fits journal i at room (judged_filing journal i f i at) stands roomy
+item_fits journal i at room (item.Cure m docs) filed stands is roomy = cure_in_state_fits journal m i at room (state_of journal m i at) refl stands roomy
+item_fits journal i at room (item.Lapse m) filed stands is roomy =
     lapse_fits journal i at room (λ n names earlier k there.
     let same = lapse_names journal i m n is names in
     roomy k (subst (λ x. Contains (keys_of_named journal i x) k) (sym same) (named journal i n k earlier there)))
-item_fits journal i at room (item.Seize folio basis served) stands is roomy = no_entry room
-item_fits journal i at room (item.Register folio registered) stands is roomy = no_entry room
-item_fits journal i at room (item.OpenBids folio costs) stands is roomy = no_entry room
-item_fits journal i at room (item.Award folio buyer bid) stands is roomy = no_entry room
-item_fits journal i at room (item.Distribute folio) stands is roomy = no_entry room
+item_fits journal i at room (item.Seize folio basis served) filed stands is roomy = absurd filed
+item_fits journal i at room (item.Register folio registered) filed stands is roomy = absurd filed
+item_fits journal i at room (item.OpenBids folio costs) filed stands is roomy = absurd filed
+item_fits journal i at room (item.Award folio buyer bid) filed stands is roomy = absurd filed
+item_fits journal i at room (item.Distribute folio) filed stands is roomy = no_entry room

@@ -7,10 +7,12 @@ pub mod AnsweredOnce
 pub mod BringsAsBefore
 pub mod ByItem
 pub mod CasesKept
+pub mod CasesPushed
 pub mod ContainedParts
 pub mod CreatedKept
 pub mod CuresKeep
 pub mod Dealing
+pub mod EachItemKeeps
 pub mod Elsewhere
 pub mod EnteredTitles
 pub mod EntersAsBefore
@@ -19,6 +21,7 @@ pub mod EntriesKept
 pub mod ExchangedKept
 pub mod ExchangesStand
 pub mod ExercisedOnce
+pub mod FiledItems
 pub mod FitFilings
 pub mod GoingOn
 pub mod InPlaceKept
@@ -51,6 +54,13 @@ pub mod RightReads
 pub mod RisingNumbers
 pub mod RoomSoFar
 pub mod Rooms
+pub mod SaleBrings
+pub mod SaleCases
+pub mod SaleEntriesKept
+pub mod SaleGroundsFail
+pub mod SalesAsBefore
+pub mod SalesKeep
+pub mod SalesLocally
 pub mod SettledAsBefore
 pub mod StandingParts
 pub mod StepLemmas

@@ -4,7 +4,7 @@ use Rattle.std.specs.List.{slice_get}
 use Rattle.std.specs.Option.{option_map_or}
 use Rattle.gb_base.specs.declared.keys.Key.{Key}
 use Rattle.act_model.proofs.KeyOrder.{in_key_order_members}
-use Rattle.act_model.specs.Receiving.{day_of, receipt_at}
+use Rattle.act_model.specs.Receiving.{IsJournal, day_of, item_at, receipt_at}
 use Rattle.act_model.specs.Touches.{filing_at, filing_in, keys_in_order, keys_of_filing}
 use Rattle.act_model.specs.declared.items.Item.{Item}
 use Rattle.act_model.specs.declared.items.Item.TheVariants as item
@@ -23,9 +23,11 @@ use Rattle.interim_orders.specs.declared.states.FilingState.TheVariants.{NotPend
 use Rattle.registrar.proofs.Agreeing.{AgreesAt}
 use Rattle.registrar.proofs.CuresKeep.{AreEarlier}
 use Rattle.registrar.proofs.EntersLocally.{enters_locally}
+use Rattle.registrar.proofs.FiledItems.{IsFiled}
 use Rattle.registrar.proofs.ItemRooms.{lapse_names, named, read_of_item}
 use Rattle.registrar.proofs.JudgedLocally.{judged_locally}
 use Rattle.registrar.proofs.KnownExchanges.{known_when_filed, known_while_waiting}
+use Rattle.registrar.proofs.SalesLocally.{award_locally, call_locally, registration_locally, seizure_locally}
 use Rattle.registrar.proofs.WaitingStates.{found_waiting}
 use Rattle.registrar.specs.Brings.{Brought, brings, brought_by_cure, brought_by_filing, brought_by_item, brought_in_state, nothing_pending, verdict_on_lapse}
 use Rattle.registrar.specs.declared.verdicts.Verdict.TheVariants as verdict
@@ -96,28 +98,42 @@ lapse_locally journal i m at0 at1 is agrees =
 
 -- ---- an item
 
-item_locally : (journal : List Receipt) (i : ℕ) (at0 at1 : Key → List Entry) (w : Item) → Kept journal at0 → option_map (λ r. r.item) (receipt_at journal i) ≡ Some w → AreEarlier i at0 (keys_by_item journal i w) → AgreesAt (keys_by_item journal i w) at0 at1
-    → brought_by_item journal i at1 w ≡ brought_by_item journal i at0 w
-item_locally journal i at0 at1 (item.Filing f) kept is before agrees =
+-- one that is about a filing brings the same to anything that agrees with a kept register at its keys
+pub filed_locally : (journal : List Receipt) (i : ℕ) (at0 at1 : Key → List Entry) (w : Item) → IsFiled w → Kept journal at0 → item_at journal i ≡ Some w → AreEarlier i at0 (keys_by_item journal i w)
+    → AgreesAt (keys_by_item journal i w) at0 at1 → brought_by_item journal i at1 w ≡ brought_by_item journal i at0 w
+filed_locally journal i at0 at1 (item.Filing f) about kept is before agrees =
     let filed : filing_at journal i ≡ Some f = read_of_item filing_in (receipt_at journal i) (item.Filing f) is in
     ap (λ judgement. brought_by_filing journal i at1 judgement) (judged_locally journal i f i at0 at1 filed (known_when_filed journal at0 i kept before) agrees)
     ∙ filing_locally journal i at0 at1 (judged_filing journal i f i at0) agrees
-item_locally journal i at0 at1 (item.Cure m docs) kept is before agrees =
+filed_locally journal i at0 at1 (item.Cure m docs) about kept is before agrees =
     ap (λ state. brought_in_state journal m i at1 state) (state_locally journal m i at0 at1 agrees)
     ∙ cure_in_state journal m i at0 at1 (state_of journal m i at0) kept refl agrees
-item_locally journal i at0 at1 (item.Lapse m) kept is before agrees =
+filed_locally journal i at0 at1 (item.Lapse m) about kept is before agrees =
     ap {B = Brought} (λ lapse. record { entries = option_map_or (λ n. brought_by_lapse (end_brought journal n i) lapse) (lapse_at journal i) []; verdict = verdict_on_lapse lapse })
     (lapse_locally journal i m at0 at1 is agrees)
-item_locally journal i at0 at1 (item.Seize folio basis served) kept is before agrees = refl
-item_locally journal i at0 at1 (item.Register folio registered) kept is before agrees = refl
-item_locally journal i at0 at1 (item.OpenBids folio costs) kept is before agrees = refl
-item_locally journal i at0 at1 (item.Award folio buyer bid) kept is before agrees = refl
-item_locally journal i at0 at1 (item.Distribute folio) kept is before agrees = refl
+filed_locally journal i at0 at1 (item.Seize folio basis served) about kept is before agrees = absurd about
+filed_locally journal i at0 at1 (item.Register folio registered) about kept is before agrees = absurd about
+filed_locally journal i at0 at1 (item.OpenBids folio costs) about kept is before agrees = absurd about
+filed_locally journal i at0 at1 (item.Award folio buyer bid) about kept is before agrees = absurd about
+filed_locally journal i at0 at1 (item.Distribute folio) about kept is before agrees = refl
 
-pub locality : (journal : List Receipt) (i : ℕ) (at0 at1 : Key → List Entry) → Kept journal at0 → AreEarlier i at0 (keys_of_item journal i) → AgreesAt (keys_of_item journal i) at0 at1 → brings journal i at1 ≡ brings journal i at0
-locality journal i at0 at1 kept =
+-- any item brings the same to another kept register
+item_locally : (journal : List Receipt) (i : ℕ) (at0 at1 : Key → List Entry) (w : Item) → IsJournal journal → Kept journal at0 → Kept journal at1 → item_at journal i ≡ Some w → AreEarlier i at0 (keys_by_item journal i w)
+    → AgreesAt (keys_by_item journal i w) at0 at1 → brought_by_item journal i at1 w ≡ brought_by_item journal i at0 w
+item_locally journal i at0 at1 (item.Seize folio basis served) stands kept0 kept1 is before agrees = seizure_locally journal at0 at1 folio i kept0 kept1 stands agrees basis
+item_locally journal i at0 at1 (item.Register folio registered) stands kept0 kept1 is before agrees = registration_locally journal at0 at1 folio i registered agrees
+item_locally journal i at0 at1 (item.OpenBids folio costs) stands kept0 kept1 is before agrees = call_locally journal at0 at1 folio i kept0 kept1 stands agrees costs
+item_locally journal i at0 at1 (item.Award folio buyer bid) stands kept0 kept1 is before agrees = award_locally journal at0 at1 folio i kept0 kept1 stands agrees buyer bid
+item_locally journal i at0 at1 (item.Filing f) stands kept0 kept1 is before agrees = filed_locally journal i at0 at1 (item.Filing f) tt kept0 is before agrees
+item_locally journal i at0 at1 (item.Cure m docs) stands kept0 kept1 is before agrees = filed_locally journal i at0 at1 (item.Cure m docs) tt kept0 is before agrees
+item_locally journal i at0 at1 (item.Lapse m) stands kept0 kept1 is before agrees = filed_locally journal i at0 at1 (item.Lapse m) tt kept0 is before agrees
+item_locally journal i at0 at1 (item.Distribute folio) stands kept0 kept1 is before agrees = refl
+
+pub locality : (journal : List Receipt) (i : ℕ) (at0 at1 : Key → List Entry) → IsJournal journal → Kept journal at0 → Kept journal at1 → AreEarlier i at0 (keys_of_item journal i)
+    → AgreesAt (keys_of_item journal i) at0 at1 → brings journal i at1 ≡ brings journal i at0
+locality journal i at0 at1 stands kept0 kept1 =
     elim (receipt_at journal i) as (λ o. receipt_at journal i ≡ o → AreEarlier i at0 (option_map_or (λ r. keys_by_item journal i r.item) o []) → AgreesAt (option_map_or (λ r. keys_by_item journal i r.item) o []) at0 at1
     → option_map_or (λ r. brought_by_item journal i at1 r.item) o nothing_pending ≡ option_map_or (λ r. brought_by_item journal i at0 r.item) o nothing_pending) [
-      | Some r ↦ λ is before agrees. item_locally journal i at0 at1 r.item kept (ap (option_map (λ x. x.item)) is) before agrees
+      | Some r ↦ λ is before agrees. item_locally journal i at0 at1 r.item stands kept0 kept1 (ap (option_map (λ x. x.item)) is) before agrees
       | None ↦ λ is before agrees. refl
     ] refl

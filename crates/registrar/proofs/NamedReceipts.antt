@@ -1,5 +1,5 @@
 -- What an item brings names receipts up to it alone.
-use Rattle.std.proofs.Common.{◌≡◌, ℕ, ◌+◌, ◌-◌, ◌<◌, ◌≤◌, true, false, ◌&&◌, cond, nat_lt, List, [], ◌∷◌, ◌++◌, Some, None, is_none, refl, arith}
+use Rattle.std.proofs.Common.{◌≡◌, eqb, Option, ℕ, ◌+◌, ◌-◌, ◌<◌, ◌≤◌, true, false, ◌&&◌, cond, nat_lt, List, [], ◌∷◌, ◌++◌, Some, None, is_none, refl, arith}
 use Rattle.std.specs.List.{AllByRecursion, enumerate_from}
 use Rattle.std.specs.Option.{option_map_or}
 use Rattle.std.proofs.lemmas.Bool.Decides.{nat_tests}
@@ -37,6 +37,13 @@ use Rattle.interim_orders.specs.declared.states.FilingState.{FilingState}
 use Rattle.interim_orders.specs.declared.states.FilingState.TheVariants.{NotPending, Pending}
 use Rattle.registrar.proofs.Added.{all_here}
 use Rattle.registrar.proofs.ContainedParts.{all_in_range, all_mapped, all_parts, each_mapped}
+use Rattle.auction_classes.specs.LowestBid.{remaining}
+use Rattle.auction_classes.specs.SaleClaims.{claimed_in}
+use Rattle.auction_classes.specs.Sales.{Sale, sale_at}
+use Rattle.folio_line.specs.FolioRights.{live_by_act}
+use Rattle.folio_line.specs.declared.folio_rights.CreatedRight.{CreatedRight}
+use Rattle.sale_rules.specs.SaleEntries.{award_brought, award_entries, left_of, left_with, unless_refused}
+use Rattle.sale_rules.specs.SaleGrounds.{lowest, refusal_of_award, refusal_of_call, refusal_of_registration, refusal_of_seizure}
 use Rattle.registrar.specs.Brings.{brings, brought_by_cure, brought_by_filing, brought_by_item, brought_in_state, nothing_pending}
 use Rattle.registrar.specs.Enters.{enters}
 use Rattle.registrar.specs.NamesUpTo.{AllNameUpTo, NamesUpTo}
@@ -169,14 +176,42 @@ lapse_named journal i stands =
       | None ↦ tt
     ]
 
+-- ---- forced sales
+
+unless_named : {R : Type 0} (n : ℕ) (refused : Option R) (es : List Entry) → AllByRecursion (Names n) es → AllByRecursion (Names n) (unless_refused refused es)
+unless_named n None es all = all
+unless_named n (Some r) es all = tt
+
+-- what is left of a right names no receipt
+left_named : (n cents : ℕ) (k : Key) → NamesUpTo n (left_with cents) k
+left_named n cents k = elim (eqb cents 0) as (λ b. NamesUpTo n (cond b what.Expired (what.Remains cents)) k) [
+  | true ↦ tt
+  | false ↦ tt
+]
+
+award_named : (n buyer bid : ℕ) (s : Sale) → AllByRecursion (Names n) (award_brought s buyer bid)
+award_named n buyer bid s =
+    unless_named n (refusal_of_award s bid) _
+    (elim (lowest s) as (λ o. AllByRecursion (Names n) (option_map_or (award_entries s buyer bid) o [])) [
+      | None ↦ tt
+      | Some least ↦ (
+          tt,
+          (
+            tt,
+            each_mapped (Names n) (λ (x : CreatedRight). left_of s least.cover x.id) (live_by_act s.at s.folio)
+            (λ x. left_named n (remaining (claimed_in s) least.cover x.id) (Right s.folio x.id)),
+          ),
+        )
+    ])
+
 item_named : (journal : List Receipt) (i : ℕ) (stands : Key → List Entry) (w : Item) → AllByRecursion (Names i) (brought_by_item journal i stands w).entries
 item_named journal i stands (item.Filing f) = filing_named journal i stands (judged_filing journal i f i stands)
 item_named journal i stands (item.Cure m docs) = found_named journal m i stands
 item_named journal i stands (item.Lapse m) = lapse_named journal i stands
-item_named journal i stands (item.Seize folio basis served) = tt
-item_named journal i stands (item.Register folio registered) = tt
-item_named journal i stands (item.OpenBids folio costs) = tt
-item_named journal i stands (item.Award folio buyer bid) = tt
+item_named journal i stands (item.Seize folio basis served) = unless_named i (refusal_of_seizure (sale_at journal stands folio i) basis) _ (tt, tt)
+item_named journal i stands (item.Register folio registered) = unless_named i (refusal_of_registration (sale_at journal stands folio i) registered) _ (tt, tt)
+item_named journal i stands (item.OpenBids folio costs) = unless_named i (refusal_of_call (sale_at journal stands folio i)) _ (tt, tt)
+item_named journal i stands (item.Award folio buyer bid) = award_named i buyer bid (sale_at journal stands folio i)
 item_named journal i stands (item.Distribute folio) = tt
 
 pub brings_named : (journal : List Receipt) (i : ℕ) (stands : Key → List Entry) → AllByRecursion (Names i) (brings journal i stands).entries

@@ -5,7 +5,7 @@ use Rattle.std.specs.Option.{option_map_or}
 use Rattle.std.proofs.lemmas.List.Elements.{All-from_recursion, recursion_from_All}
 use Rattle.gb_base.specs.declared.keys.Key.{Key}
 use Rattle.gb_base.specs.declared.keys.Key.TheVariants.{Right}
-use Rattle.act_model.specs.Receiving.{IsJournal, receipt_at}
+use Rattle.act_model.specs.Receiving.{IsJournal, item_at}
 use Rattle.act_model.specs.Touches.{created_before, filing_at, keys_of_act, keys_of_acts, keys_of_filing}
 use Rattle.act_model.specs.declared.filing_acts.Act.{Act}
 use Rattle.act_model.specs.declared.filing_acts.Act.TheVariants.{Exchange}
@@ -21,10 +21,11 @@ use Rattle.folio_sections.specs.declared.entries.Entry.{Entry}
 use Rattle.registrar.proofs.Agreeing.{AgreesAt, agrees_before, agrees_behind}
 use Rattle.registrar.proofs.CuresKeep.{AreEarlier}
 use Rattle.registrar.proofs.ItemRooms.{named}
-use Rattle.registrar.proofs.Locality.{locality, state_locally}
-use Rattle.registrar.proofs.StepLemmas.{brings_leaves, keys_are, step_knows}
+use Rattle.registrar.proofs.FiledItems.{IsFiled}
+use Rattle.registrar.proofs.Locality.{filed_locally, state_locally}
+use Rattle.registrar.proofs.StepLemmas.{brings_leaves, exchanges_known}
 use Rattle.registrar.proofs.WaitingStates.{found_waiting}
-use Rattle.registrar.specs.Brings.{Brought, brings}
+use Rattle.registrar.specs.Brings.{brings, brought_by_item}
 use Rattle.conflict_queue.specs.ItemKeys.{keys_by_item, keys_of_item}
 use Rattle.kept_registers.specs.Standing.{StandsFor, StandsForKept}
 use Rattle.registrar.specs.inner.Exchanges.{KnowsItsExchanges}
@@ -72,37 +73,34 @@ stand_agree holds stands register keys same held k there = same k (held k there)
 pub stand_earlier : (i : ℕ) (stands register : Key → List Entry) (keys : List Key) → AgreesAt keys register stands → AreEarlier i stands keys → AreEarlier i register keys
 stand_earlier i stands register keys agrees before k there = subst (All (λ e. e.receipt < i)) (agrees k there) (before k there)
 
-pub parts_know : (journal : List Receipt) (i : ℕ) (stands register : Key → List Entry) (r : Receipt) → Kept journal register → receipt_at journal i ≡ Some r → AgreesAt (keys_of_item journal i) register stands
-    → AreEarlier i stands (keys_of_item journal i) → KnowsItsExchanges journal i stands r.item
-parts_know journal i stands register r kept is agrees before =
-    item_agrees journal i register stands r.item (subst (λ ks. AgreesAt ks register stands) (keys_are journal i r is) agrees)
-    (step_knows journal i register r kept is (stand_earlier i stands register (keys_of_item journal i) agrees before))
+pub parts_know : (journal : List Receipt) (i : ℕ) (holds : Key → Bool) (stands register : Key → List Entry) (w : Item) → StandsFor holds stands register → Kept journal register
+    → ((k : Key) → Contains (keys_by_item journal i w) k → IsTrue (holds k)) → AreEarlier i stands (keys_by_item journal i w) → KnowsItsExchanges journal i stands w
+parts_know journal i holds stands register w same kept held before =
+    let agrees = stand_agree holds stands register (keys_by_item journal i w) same held in
+    item_agrees journal i register stands w agrees (exchanges_known journal i register w kept (stand_earlier i stands register (keys_by_item journal i w) agrees before))
 
--- the item brings on the parts what it brings on the register
-pub parts_bring : (journal : List Receipt) (i : ℕ) (holds : Key → Bool) (stands register : Key → List Entry) → StandsFor holds stands register → Kept journal register → ((k : Key) → Contains (keys_of_item journal i) k → IsTrue (holds k))
-    → AreEarlier i stands (keys_of_item journal i) → brings journal i stands ≡ brings journal i register
-parts_bring journal i holds stands register same kept held before =
-    let agrees = stand_agree holds stands register (keys_of_item journal i) same held in
-    locality journal i register stands kept (stand_earlier i stands register (keys_of_item journal i) agrees before) agrees
+-- an item that is about a filing brings on the parts what it brings on the register
+pub parts_bring : (journal : List Receipt) (i : ℕ) (holds : Key → Bool) (stands register : Key → List Entry) (w : Item) → IsFiled w → item_at journal i ≡ Some w → StandsFor holds stands register → Kept journal register
+    → ((k : Key) → Contains (keys_by_item journal i w) k → IsTrue (holds k)) → AreEarlier i stands (keys_by_item journal i w) → brought_by_item journal i stands w ≡ brought_by_item journal i register w
+parts_bring journal i holds stands register w filed is same kept held before =
+    let agrees = stand_agree holds stands register (keys_by_item journal i w) same held in
+    filed_locally journal i register stands w filed kept is (stand_earlier i stands register (keys_by_item journal i w) agrees before) agrees
 
 -- ---- the parts behind an item
 
--- they stand for the register with what the item brings to it
-pub stand_behind : (journal : List Receipt) (i : ℕ) (holds0 holds1 : Key → Bool) (at0 at1 register : Key → List Entry) → StandsFor holds0 at0 register → Kept journal register → ((k : Key) → Contains (keys_of_item journal i) k → IsTrue (holds0 k))
-    → AreEarlier i at0 (keys_of_item journal i) → holds1 ≡ holds0 → AddsAll at0 at1 (brings journal i at0).entries → StandsFor holds1 at1 (with_entries register (brings journal i register).entries)
-stand_behind journal i holds0 holds1 at0 at1 register stands kept held before still added k held_now =
+-- they stand for the register with these entries
+pub stand_behind : (holds0 holds1 : Key → Bool) (at0 at1 register : Key → List Entry) (es : List Entry) → StandsFor holds0 at0 register → holds1 ≡ holds0 → AddsAll at0 at1 es → StandsFor holds1 at1 (with_entries register es)
+stand_behind holds0 holds1 at0 at1 register es stands still added k held_now =
     let held_before : IsTrue (holds0 k) = subst (λ holds. IsTrue (holds k)) still held_now in
-    added k
-    ∙ ap (λ es. es ++ at (brings journal i at0).entries k) (stands k held_before)
-    ∙ ap (λ (b : Brought). with_entries register b.entries k) (parts_bring journal i holds0 at0 register stands kept held before)
+    added k ∙ ap (λ xs. xs ++ at es k) (stands k held_before)
 
 -- and so for a kept one
-pub still_stand : (journal : List Receipt) (i : ℕ) (holds0 holds1 : Key → Bool) (at0 at1 : Key → List Entry) → IsJournal journal → StandsForKept journal holds0 at0 → ((k : Key) → Contains (keys_of_item journal i) k → IsTrue (holds0 k))
-    → AreEarlier i at0 (keys_of_item journal i) → holds1 ≡ holds0 → AddsAll at0 at1 (brings journal i at0).entries → StandsForKept journal holds1 at1
-still_stand journal i holds0 holds1 at0 at1 journaled before held earlier still added =
+pub still_stand : (journal : List Receipt) (i : ℕ) (holds0 holds1 : Key → Bool) (at0 at1 : Key → List Entry) (before : StandsForKept journal holds0 at0) → IsJournal journal → ((k : Key) → Contains (keys_of_item journal i) k → IsTrue (holds0 k))
+    → AreEarlier i at0 (keys_of_item journal i) → holds1 ≡ holds0 → AddsAll at0 at1 (brings journal i before.register).entries → StandsForKept journal holds1 at1
+still_stand journal i holds0 holds1 at0 at1 before journaled held earlier still added =
     let agrees = stand_agree holds0 at0 before.register (keys_of_item journal i) before.stands held in
     record {
       register = with_entries before.register (brings journal i before.register).entries;
-      stands = stand_behind journal i holds0 holds1 at0 at1 before.register before.stands before.kept held earlier still added;
+      stands = stand_behind holds0 holds1 at0 at1 before.register (brings journal i before.register).entries before.stands still added;
       kept = (brings_leaves journal i before.register journaled before.kept (stand_earlier i at0 before.register (keys_of_item journal i) agrees earlier)).kept;
     }

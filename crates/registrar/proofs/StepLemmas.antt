@@ -1,23 +1,26 @@
 -- What a step needs and leaves, by what receipt i says.
-use Rattle.std.proofs.Common.{◌≡◌, ℕ, ◌≤◌, List, [], Contains, Some, None, option_map, is_some, refl, sym, ap, subst}
+use Rattle.std.proofs.Common.{◌≡◌, ℕ, ◌≤◌, Bool, List, [], Contains, IfSome, IsTrue, Some, None, option_map, is_some, refl, sym, ap, subst, arith}
 use Rattle.std.specs.Option.{option_map_or}
 use Rattle.gb_base.specs.declared.keys.Key.{Key}
-use Rattle.act_model.specs.Receiving.{IsJournal, receipt_at}
+use Rattle.act_model.specs.Receiving.{IsJournal, item_at, receipt_at}
 use Rattle.act_model.specs.declared.items.Item.{Item}
 use Rattle.act_model.specs.declared.items.Item.TheVariants as item
 use Rattle.act_model.specs.declared.receipts.Receipt.{Receipt}
-use Rattle.folio_sections.specs.Adding.{AddsAll, HasRoom}
+use Rattle.folio_sections.specs.Adding.{AddsAll}
 use Rattle.folio_sections.specs.Entries.{with_entries}
 use Rattle.kept_registers.specs.Kept.{Kept}
+use Rattle.kept_registers.specs.Standing.{StandsForKept}
 use Rattle.folio_sections.specs.declared.entries.Entry.{Entry}
-use Rattle.registrar.proofs.CuresKeep.{AreEarlier, item_leaves}
-use Rattle.registrar.proofs.ItemRooms.{item_fits}
+use Rattle.registrar.proofs.CuresKeep.{AreEarlier}
+use Rattle.registrar.proofs.EachItemKeeps.{item_leaves}
 use Rattle.registrar.proofs.Keeping.{Leaves, none_leave}
 use Rattle.registrar.proofs.KnownExchanges.{known_when_filed, known_while_waiting}
 use Rattle.registrar.proofs.WaitingStates.{found_waiting}
 use Rattle.registrar.specs.Brings.{brings, brought_by_item, nothing_pending}
 use Rattle.conflict_queue.specs.ItemKeys.{keys_by_item, keys_of_item}
-use Rattle.registrar.specs.Rooms.{HasItsRoom, room_by_item, room_wanted}
+use Rattle.registrar.specs.Rooms.{HasItsRoom, HasItsScratch, IsRoomy, room_by_item, room_wanted}
+use Rattle.sale_rules.specs.SaleParts.{CanSettle}
+use Rattle.sale_rules.specs.ScratchRoom.{ScratchRoom}
 use Rattle.registrar.specs.inner.Exchanges.{KnowsItsExchanges}
 
 pub brings_is : (journal : List Receipt) (i : ℕ) (at : Key → List Entry) (r : Receipt) → receipt_at journal i ≡ Some r → brings journal i at ≡ brought_by_item journal i at r.item
@@ -29,15 +32,40 @@ keys_are journal i r is = ap (λ o. option_map_or (λ x. keys_by_item journal i 
 wants : (journal : List Receipt) (i : ℕ) (r : Receipt) (entries : List Entry) → receipt_at journal i ≡ Some r → room_wanted journal i entries ≡ room_by_item i r.item entries
 wants journal i r entries is = ap (λ o. option_map_or (λ x. room_by_item i x.item entries) o 1) is
 
-pub step_fits : (journal : List Receipt) (i : ℕ) (at : Key → List Entry) (room : Key → ℕ) (r : Receipt) → IsJournal journal → receipt_at journal i ≡ Some r → HasItsRoom journal i at room → HasRoom room (brought_by_item journal i at r.item).entries
-step_fits journal i at room r stands is roomy =
-    item_fits journal i at room r.item stands (ap (option_map (λ x. x.item)) is)
-    (λ k there. subst (λ n. n ≤ room k) (wants journal i r (at k) is) (roomy k (subst (λ ks. Contains ks k) (sym (keys_are journal i r is)) there)))
+pub item_is : (journal : List Receipt) (i : ℕ) (r : Receipt) → receipt_at journal i ≡ Some r → item_at journal i ≡ Some r.item
+item_is journal i r is = ap (option_map (λ x. x.item)) is
 
-earlier_by_item : (journal : List Receipt) (i : ℕ) (at : Key → List Entry) (r : Receipt) → receipt_at journal i ≡ Some r → AreEarlier i at (keys_of_item journal i) → AreEarlier i at (keys_by_item journal i r.item)
-earlier_by_item journal i at r is before = subst (AreEarlier i at) (keys_are journal i r is) before
+-- each kind of item wants room for an entry
+room_from : (i : ℕ) (w : Item) (entries : List Entry) → 1 ≤ room_by_item i w entries
+room_from i (item.Filing f) entries = omega arith
+room_from i (item.Cure m docs) entries = omega arith
+room_from i (item.Lapse m) entries = omega arith
+room_from i (item.Seize folio basis served) entries = omega arith
+room_from i (item.Register folio registered) entries = omega arith
+room_from i (item.OpenBids folio costs) entries = omega arith
+room_from i (item.Award folio buyer bid) entries = omega arith
+room_from i (item.Distribute folio) entries = omega arith
 
-exchanges_known : (journal : List Receipt) (i : ℕ) (at : Key → List Entry) (w : Item) → Kept journal at → AreEarlier i at (keys_by_item journal i w) → KnowsItsExchanges journal i at w
+pub has_room : (journal : List Receipt) (i : ℕ) (at : Key → List Entry) (room : Key → ℕ) (r : Receipt) → receipt_at journal i ≡ Some r → HasItsRoom journal i at room
+    → (k : Key) → Contains (keys_by_item journal i r.item) k → room_by_item i r.item (at k) ≤ room k
+has_room journal i at room r is roomy k there =
+    subst (λ n. n ≤ room k) (wants journal i r (at k) is) (roomy k (subst (λ ks. Contains ks k) (sym (keys_are journal i r is)) there))
+
+pub can_settle : (journal : List Receipt) (i : ℕ) (holds : Key → Bool) (at : Key → List Entry) (room : Key → ℕ) (r : Receipt) → receipt_at journal i ≡ Some r → ((k : Key) → Contains (keys_of_item journal i) k → IsTrue (holds k))
+    → HasItsRoom journal i at room → AreEarlier i at (keys_of_item journal i) → StandsForKept journal holds at → CanSettle journal i (keys_by_item journal i r.item) holds at room
+can_settle journal i holds at room r is held roomy before kept = record {
+  held = λ k there. held k (subst (λ ks. Contains ks k) (sym (keys_are journal i r is)) there);
+  has_room = λ k there. let wanted = has_room journal i at room r is roomy k there in
+      let some = room_from i r.item (at k) in
+      omega (arith, wanted, some);
+  earlier = subst (AreEarlier i at) (keys_are journal i r is) before;
+  kept = kept;
+}
+
+pub is_roomy : (journal : List Receipt) (i : ℕ) (at : Key → List Entry) (scratch : ScratchRoom) (r : Receipt) → receipt_at journal i ≡ Some r → HasItsScratch journal i at scratch → IsRoomy journal i at r.item scratch
+is_roomy journal i at scratch r is roomy = subst (λ o. IfSome o (λ (x : Receipt). IsRoomy journal i at x.item scratch)) is roomy
+
+pub exchanges_known : (journal : List Receipt) (i : ℕ) (at : Key → List Entry) (w : Item) → Kept journal at → AreEarlier i at (keys_by_item journal i w) → KnowsItsExchanges journal i at w
 exchanges_known journal i at (item.Filing f) kept before = known_when_filed journal at i kept before
 exchanges_known journal i at (item.Cure m docs) kept before = λ until is.
     let waits = (found_waiting journal m i at until is).waits in
@@ -48,9 +76,6 @@ exchanges_known journal i at (item.Register folio registered) kept before = tt
 exchanges_known journal i at (item.OpenBids folio costs) kept before = tt
 exchanges_known journal i at (item.Award folio buyer bid) kept before = tt
 exchanges_known journal i at (item.Distribute folio) kept before = tt
-
-pub step_knows : (journal : List Receipt) (i : ℕ) (at : Key → List Entry) (r : Receipt) → Kept journal at → receipt_at journal i ≡ Some r → AreEarlier i at (keys_of_item journal i) → KnowsItsExchanges journal i at r.item
-step_knows journal i at r kept is before = exchanges_known journal i at r.item kept (earlier_by_item journal i at r is before)
 
 -- what receipt i brings leaves a kept register; where there is none, nothing is brought
 pub brings_leaves : (journal : List Receipt) (i : ℕ) (at : Key → List Entry) → IsJournal journal → Kept journal at → AreEarlier i at (keys_of_item journal i) → Leaves journal i at (brings journal i at).entries

@@ -26,7 +26,7 @@ use Rattle.registrar.proofs.WaitingReads.{enters_keep_waiting, pending_kept, pen
 
 -- ---- filings that wait as before
 
-waiting_same : (journal : List Receipt) (before after : Key → List Entry) → ((n : ℕ) (k : Key) → pending n (after k) ≡ pending n (before k))
+pub waiting_same : (journal : List Receipt) (before after : Key → List Entry) → ((n : ℕ) (k : Key) → pending n (after k) ≡ pending n (before k))
     → PendingEverywhere journal before → PendingEverywhere journal after
 waiting_same journal before after same was = record {
   everywhere = λ n k l in_k in_l. same n k ∙ was.everywhere n k l in_k in_l ∙ sym (same n l);

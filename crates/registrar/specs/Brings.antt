@@ -1,12 +1,21 @@
 -- What an item brings about: entries and a verdict (GBO §§ 16 to 18).
--- Why so: docs/DECISIONS.md, "Items of a forced sale bring nothing".
-use Rattle.std.specs.Prelude.{ℕ, List, [], ◌++◌}
+-- Why so: docs/DECISIONS.md, "A distribution brings nothing".
+use Rattle.std.specs.Prelude.{ℕ, List, [], ◌++◌, Option, Some, None}
 use Rattle.std.specs.Option.{option_map_or}
 use Rattle.gb_base.specs.declared.keys.Key.{Key}
 use Rattle.act_model.specs.Receiving.{receipt_at}
 use Rattle.act_model.specs.declared.items.Item.{Item}
 use Rattle.act_model.specs.declared.items.Item.TheVariants as item
 use Rattle.act_model.specs.declared.receipts.Receipt.{Receipt}
+use Rattle.act_model.specs.declared.sales.Basis.{Basis}
+use Rattle.act_model.specs.declared.sales.Registration.{Registration}
+use Rattle.auction_classes.specs.Sales.{Sale, sale_at}
+use Rattle.auction_classes.specs.declared.lowest_bids.Lowest.{Lowest}
+use Rattle.gb_base.specs.declared.sections.Section.{Section}
+use Rattle.sale_rules.specs.SaleEntries.{award_brought, call_brought, registration_brought, seizure_brought}
+use Rattle.sale_rules.specs.SaleGrounds.{lowest, refusal_of_award, refusal_of_call, refusal_of_registration, refusal_of_seizure}
+use Rattle.sale_rules.specs.declared.awards.AwardRefusal.{AwardRefusal}
+use Rattle.sale_rules.specs.declared.awards.AwardRefusal.TheVariants as refusal
 use Rattle.registrar.specs.Enters.{enters}
 use Rattle.consent_rules.specs.Judging.{judged, judged_filing}
 use Rattle.folio_sections.specs.declared.entries.Entry.{Entry}
@@ -26,7 +35,7 @@ pub record Brought : Type 0 where
   pub entries : List Entry
   pub verdict : Verdict
 
--- nothing: the item names no filing that waits, is of a forced sale, or is not there
+-- nothing: the item names no filing that waits, distributes, or is not there
 abbrev pub nothing_pending : Brought
 nothing_pending = record { entries = []; verdict = verdict.NotPending }
 
@@ -59,16 +68,52 @@ verdict_on_lapse lapse.Rejected = verdict.Lapsed
 verdict_on_lapse (lapse.TooEarly until) = verdict.TooEarly until
 verdict_on_lapse lapse.NotPending = verdict.NotPending
 
+-- ---- forced sales
+
+-- what becomes of an item that is refused under a section, or is let in
+abbrev pub verdict_unless : Option Section → Verdict → Verdict
+verdict_unless None let_in = let_in
+verdict_unless (Some section) let_in = verdict.Rejected section
+
+-- a seizure stands at the case, or is refused (ZVG § 20)
+abbrev pub brought_by_seizure : Sale → Basis → Brought
+brought_by_seizure s b = record { entries = seizure_brought s b; verdict = verdict_unless (refusal_of_seizure s b) verdict.Seized }
+
+-- so does a registration (ZVG § 37)
+abbrev pub brought_by_registration : Sale → Registration → Brought
+brought_by_registration s r = record { entries = registration_brought s r; verdict = verdict_unless (refusal_of_registration s r) verdict.Registered }
+
+-- the lowest bid as a verdict; where there is none the call is refused, so that there is nothing to say never comes about
+abbrev pub lowest_said : Option Lowest → Verdict
+lowest_said (Some least) = verdict.Lowest least.total least.cash
+lowest_said None = verdict.NotPending
+
+-- a call to bid says the lowest bid, or is refused (ZVG § 66)
+abbrev pub brought_by_call : Sale → ℕ → Brought
+brought_by_call s costs = record { entries = call_brought s costs; verdict = verdict_unless (refusal_of_call s) (lowest_said (lowest s)) }
+
+-- what becomes of an award at this bid
+abbrev pub verdict_on_award : ℕ → Option AwardRefusal → Verdict
+verdict_on_award bid None = verdict.Awarded
+verdict_on_award bid (Some (refusal.Ground section)) = verdict.Rejected section
+verdict_on_award bid (Some (refusal.BidTooLow cash)) = verdict.BidTooLow bid cash
+
+-- the land is awarded, or the award is refused (ZVG § 81)
+abbrev pub brought_by_award : Sale → ℕ → ℕ → Brought
+brought_by_award s buyer bid = record { entries = award_brought s buyer bid; verdict = verdict_on_award bid (refusal_of_award s bid) }
+
+-- ---- an item
+
 -- what item i brings
 abbrev pub brought_by_item : List Receipt → ℕ → (Key → List Entry) → Item → Brought
 brought_by_item journal i at (item.Filing f) = brought_by_filing journal i at (judged_filing journal i f i at)
 brought_by_item journal i at (item.Cure m docs) = brought_in_state journal m i at (state_of journal m i at)
 brought_by_item journal i at (item.Lapse m) =
     record { entries = lapse_brought journal i at; verdict = verdict_on_lapse (lapsed journal i at) }
-brought_by_item journal i at (item.Seize folio basis served) = nothing_pending
-brought_by_item journal i at (item.Register folio registered) = nothing_pending
-brought_by_item journal i at (item.OpenBids folio costs) = nothing_pending
-brought_by_item journal i at (item.Award folio buyer bid) = nothing_pending
+brought_by_item journal i at (item.Seize folio basis served) = brought_by_seizure (sale_at journal at folio i) basis
+brought_by_item journal i at (item.Register folio registered) = brought_by_registration (sale_at journal at folio i) registered
+brought_by_item journal i at (item.OpenBids folio costs) = brought_by_call (sale_at journal at folio i) costs
+brought_by_item journal i at (item.Award folio buyer bid) = brought_by_award (sale_at journal at folio i) buyer bid
 brought_by_item journal i at (item.Distribute folio) = nothing_pending
 
 -- what receipt i brings; nothing where there is none

@@ -7,6 +7,5 @@ pub mod NamesUpTo
 pub mod OpenFolios
 pub mod RegisterState
 pub mod Rooms
-pub mod ScratchRoom
 pub mod Settling
 pub mod inner

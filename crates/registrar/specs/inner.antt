@@ -3,5 +3,6 @@ pub mod Behind
 pub mod Exchanges
 pub mod Listed
 pub mod OpenFolios
+pub mod Reckoned
 pub mod RoomToEnter
 pub mod SettledTo

@@ -65,10 +65,10 @@ pub fn verdicts_are_numbered()
     ensures numbered { (journal : List Receipt) (n : ℕ) → is_some (verdict_among (registrar journal).verdicts n) ≡ (nat_le 1 n && nat_le n (length journal)) }
 {}
 
-/// An item looks at its own keys alone: it brings the same on registers that agree at them, where
-/// one of these is kept and has entries of earlier items alone there.
+/// An item looks at its own keys alone: it brings the same to kept registers that agree at them,
+/// where all that stands there is by earlier items.
 pub fn locality()
-    ensures same { (journal : List Receipt) (i : ℕ) (register other : Key → List Entry) → Kept journal register
+    ensures same { (journal : List Receipt) (i : ℕ) (register other : Key → List Entry) → IsJournal journal → Kept journal register → Kept journal other
         → ((k : Key) → Contains (keys_of_item journal i) k → All (λ e. e.receipt < i) (register k))
         → ((k : Key) → Contains (keys_of_item journal i) k → other k ≡ register k)
         → brings journal i other ≡ brings journal i register }

@@ -6,7 +6,6 @@ pub mod laws;
 mod making_room;
 mod one_registrar;
 mod register;
-mod scratch;
 mod settled;
 mod settling;
 mod steps;
@@ -14,6 +13,6 @@ mod verdicts;
 
 pub use one_registrar::alone;
 pub use register::Register;
-pub use scratch::Scratch;
+pub use sale_rules::Scratch;
 pub use steps::step;
 pub use verdicts::Verdict;

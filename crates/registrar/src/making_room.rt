@@ -1,12 +1,19 @@
 //! The room that the keys of an item keep for what it brings.
 //! Why so: docs/DECISIONS.md, "Room is kept at each key before an item is settled".
-ghost use Rattle.std.specs.Prelude.{◌≡◌, ◌||◌, ◌+◌, ◌≤◌, length, Contains, OnOk};
+ghost use Rattle.std.specs.Prelude.{◌≡◌, ◌||◌, ◌+◌, ◌≤◌, length, Contains, IsTrue, OnOk, option_and_then};
 ghost use Rattle.gb_base.specs.declared.keys.Key.{Key};
 ghost use Rattle.folio_sections.specs.Held.{entries_at, is_given, is_held, room_at};
-ghost use Rattle.registrar.specs.Rooms.{most_brought};
+ghost use Rattle.act_model.specs.Receiving.{item_at};
+ghost use Rattle.conflict_queue.specs.ItemKeys.{keys_of_item};
+ghost use Rattle.registrar.specs.Rooms.{HasItsScratch, most_brought};
+ghost use Rattle.registrar.specs.inner.Reckoned.{folio_reckoned};
 
+use crate::Scratch;
+use act_model::{Item, Journal};
+use folio_line::{FolioReading, count_rises, rights_filed};
 use folio_sections::MapParts;
-use gb_base::{Key, NoMemory};
+use gb_base::{FolioId, Key, NoMemory, ReceiptNo};
+use std::alloc::Global;
 
 /// The most entries that an item brings at one key, official notices apart.
 const MOST_BROUGHT: usize = 3;
@@ -26,4 +33,42 @@ pub(crate) fn make_room(parts: &mut MapParts, keys: &[Key]) -> Result<(), NoMemo
         parts.reserve(*key, wanted)?;
     }
     Ok(())
+}
+
+/// Keeps the room in a scratch that an item reckons in: for the rights of the folio in which it
+/// calls to bid or awards, and for the exchanges by which they rise. Other items want none.
+pub(crate) fn make_scratch(
+    alloc: Global,
+    scratch: &mut Scratch,
+    parts: &MapParts,
+    journal: &Journal,
+    item: ReceiptNo,
+) -> Result<(), NoMemory>
+    requires held { (k : Key) → Contains (keys_of_item journal.now.receipts item) k → IsTrue (is_held parts.now k) }
+    ensures { OnOk result (HasItsScratch journal.now.receipts item (entries_at parts.now) scratch.new) }
+{
+    match folio_reckoned(journal, item) {
+        Some(folio) => {
+            let reading = FolioReading {
+                parts,
+                folio,
+                before: None,
+            };
+            let rights = rights_filed(journal, folio, Some(item));
+            let exchanges = count_rises(&reading, rights)?;
+            scratch.reserve(alloc, rights.len(), exchanges)
+        }
+        None => Ok(()),
+    }
+}
+
+/// The folio in whose sale an item reckons: it calls to bid there, or awards.
+fn folio_reckoned(journal: &Journal, item: ReceiptNo) -> Option<FolioId>
+    ensures { result ≡ option_and_then folio_reckoned (item_at journal.now.receipts item) }
+{
+    match &journal.get(item)?.item {
+        Item::OpenBids { folio, .. } => Some(*folio),
+        Item::Award { folio, .. } => Some(*folio),
+        _ => None,
+    }
 }

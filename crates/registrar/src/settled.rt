@@ -5,7 +5,7 @@ ghost use Rattle.act_model.specs.declared.receipts.Receipt.{Receipt};
 ghost use Rattle.registrar.specs.inner.Behind.{IsBehind, Remains};
 
 use crate::folios::{closed_folios, list_open, put_in_order};
-use crate::making_room::make_room;
+use crate::making_room::{make_room, make_scratch};
 use crate::steps::step;
 use crate::{Scratch, Verdict};
 use act_model::Journal;
@@ -56,6 +56,7 @@ impl Settled {
         let item = number_behind(journal, self.verdicts.len());
         let keys = touches(self.alloc, journal, item)?;
         make_room(&mut self.parts, keys.as_slice())?;
+        make_scratch(self.alloc, scratch, &self.parts, journal, item)?;
         // A folio opens once: those that are closed now and open behind the step are new.
         let closed = closed_folios(self.alloc, &self.parts, keys.as_slice())?;
         self.folios.reserve(closed.len())?;

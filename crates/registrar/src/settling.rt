@@ -1,41 +1,47 @@
 //! What an item brings, added to the parts of a register (GBO §§ 16 to 18).
-ghost use Rattle.std.specs.Prelude.{◌≡◌, ◌<◌, ◌≤◌, ℕ, Some, length, option_map, Contains, IsSome, IsTrue};
+ghost use Rattle.std.specs.Prelude.{◌≡◌, ◌<◌, ◌≤◌, ℕ, Some, length, Contains, IsSome, IsTrue};
+ghost use Rattle.std.specs.Result.{result_err, result_ok};
 ghost use Rattle.gb_base.specs.declared.keys.Key.{Key};
-ghost use Rattle.act_model.specs.Receiving.{receipt_at};
+ghost use Rattle.act_model.specs.Receiving.{item_at};
 ghost use Rattle.act_model.specs.Touches.{filing_at, keys_of_filing};
 ghost use Rattle.folio_sections.specs.Adding.{AddsList, HasRoom};
 ghost use Rattle.registrar.specs.Enters.{enters};
 ghost use Rattle.consent_rules.specs.Judging.{KnowsExchanges};
 ghost use Rattle.interim_orders.specs.Orders.{state_of};
 ghost use Rattle.interim_orders.specs.declared.states.FilingState.TheVariants.{Pending};
-ghost use Rattle.registrar.specs.Brings.{brought_by_cure, brought_by_filing, brought_by_item, brought_in_state, verdict_on_lapse};
+ghost use Rattle.registrar.specs.Brings.{brought_by_cure, brought_by_filing, brought_by_item, brought_in_state, lowest_said, verdict_on_award, verdict_on_lapse, verdict_unless};
 ghost use Rattle.conflict_queue.specs.ItemKeys.{keys_by_item};
-ghost use Rattle.registrar.specs.inner.Exchanges.{KnowsItsExchanges};
+ghost use Rattle.registrar.specs.Rooms.{IsRoomy, room_by_item};
+ghost use Rattle.sale_rules.specs.SaleParts.{CanSettle, OfEachKept};
 
-use crate::Verdict;
+use crate::{Scratch, Verdict};
 use act_model::{Item, Journal, Matter, filing_at};
+use auction_classes::Lowest;
 use consent_rules::{Judgement, judge};
 use entry_rules::enter;
 use folio_sections::Parts;
-use gb_base::ReceiptNo;
+use gb_base::{ReceiptNo, Section};
 use interim_orders::{FilingState, Lapse, close_order, enter_notices, lapse, open_order, state};
+use sale_rules::{AwardRefusal, award, open_bids, register, seize};
 
 /// Adds what this item of the journal brings, and says what becomes of it.
 pub(crate) fn settle<P: Parts>(
     parts: &mut P,
+    scratch: &mut Scratch,
     journal: &Journal,
     item: ReceiptNo,
     received: &Item,
 ) -> Verdict
     requires received { item ≤ length journal.now.receipts }
-    requires item { option_map (λ r. r.item) (receipt_at journal.now.receipts item) ≡ Some received.now }
-    requires held { (k : Key) → Contains (keys_by_item journal.now.receipts item received.now) k → IsTrue (P.holds parts.old k) }
-    requires room { HasRoom (P.room parts.old) (brought_by_item journal.now.receipts item (P.at parts.old) received.now).entries }
-    requires exchanges { KnowsItsExchanges journal.now.receipts item (P.at parts.old) received.now }
-    ensures verdict { result ≡ (brought_by_item journal.now.receipts item (P.at parts.old) received.now).verdict }
-    ensures added { AddsList (P.at parts.old) (P.at parts.new) (P.room parts.old) (P.room parts.new)
-        (brought_by_item journal.now.receipts item (P.at parts.old) received.now).entries }
+    requires item { item_at journal.now.receipts item ≡ Some received.now }
+    requires parts { CanSettle journal.now.receipts item (keys_by_item journal.now.receipts item received.now) (P.holds parts.old) (P.at parts.old) (P.room parts.old) }
+    requires room { (k : Key) → Contains (keys_by_item journal.now.receipts item received.now) k → room_by_item item received.now (P.at parts.old k) ≤ P.room parts.old k }
+    requires scratch { IsRoomy journal.now.receipts item (P.at parts.old) received.now scratch.old }
+    ensures verdict { OfEachKept journal.now.receipts (P.holds parts.old) (P.at parts.old) (λ register. result ≡ (brought_by_item journal.now.receipts item register received.now).verdict) }
+    ensures added { OfEachKept journal.now.receipts (P.holds parts.old) (P.at parts.old)
+        (λ register. AddsList (P.at parts.old) (P.at parts.new) (P.room parts.old) (P.room parts.new) (brought_by_item journal.now.receipts item register received.now).entries) }
     ensures held { P.holds parts.new ≡ P.holds parts.old }
+    ensures scratch { scratch.new ≡ scratch.old }
 {
     match received {
         Item::Filing(_) => {
@@ -44,10 +50,21 @@ pub(crate) fn settle<P: Parts>(
         }
         Item::Cure { filing, .. } => settle_cure(parts, journal, item, *filing),
         Item::Lapse { .. } => verdict_on_lapse(lapse(parts, journal, item)),
-        Item::Seize { .. } => Verdict::NotPending,
-        Item::Register { .. } => Verdict::NotPending,
-        Item::OpenBids { .. } => Verdict::NotPending,
-        Item::Award { .. } => Verdict::NotPending,
+        Item::Seize { folio, basis, .. } => verdict_unless(
+            seize(parts, journal, item, *folio, basis).err(),
+            Verdict::Seized,
+        ),
+        Item::Register { folio, what } => verdict_unless(
+            register(parts, journal, item, *folio, what).err(),
+            Verdict::Registered,
+        ),
+        Item::OpenBids { folio, costs } => {
+            verdict_on_call(open_bids(parts, scratch, journal, item, *folio, *costs))
+        }
+        Item::Award { folio, buyer, bid } => verdict_on_award(
+            bid.get(),
+            award(parts, scratch, journal, item, *folio, *buyer, *bid),
+        ),
         Item::Distribute { .. } => Verdict::NotPending,
     }
 }
@@ -168,5 +185,39 @@ fn verdict_on_lapse(answer: Lapse) -> Verdict
         Lapse::Rejected => Verdict::Lapsed,
         Lapse::TooEarly(until) => Verdict::TooEarly(until),
         Lapse::NotPending => Verdict::NotPending,
+    }
+}
+
+/// What becomes of an item of a sale: it is rejected under a section, or this.
+fn verdict_unless(refused: Option<Section>, let_in: Verdict) -> Verdict
+    ensures { result ≡ verdict_unless refused let_in }
+{
+    match refused {
+        Some(section) => Verdict::Rejected(section),
+        None => let_in,
+    }
+}
+
+/// What becomes of a call to bid: it is rejected, or says the lowest bid.
+fn verdict_on_call(answer: Result<Lowest, Section>) -> Verdict
+    ensures { result ≡ verdict_unless (result_err answer) (lowest_said (result_ok answer)) }
+{
+    match answer {
+        Ok(lowest) => Verdict::Lowest {
+            total: lowest.total,
+            cash: lowest.cash,
+        },
+        Err(section) => Verdict::Rejected(section),
+    }
+}
+
+/// What becomes of an award at this bid, in cents.
+fn verdict_on_award(bid: u64, answer: Result<(), AwardRefusal>) -> Verdict
+    ensures { result ≡ verdict_on_award bid (result_err answer) }
+{
+    match answer {
+        Ok(()) => Verdict::Awarded,
+        Err(AwardRefusal::Ground(section)) => Verdict::Rejected(section),
+        Err(AwardRefusal::BidTooLow { cash }) => Verdict::BidTooLow { bid, cash },
     }
 }

@@ -8,7 +8,7 @@ ghost use Rattle.kept_registers.specs.Kept.{Kept};
 ghost use Rattle.folio_sections.specs.declared.entries.Entry.{Entry};
 ghost use Rattle.registrar.specs.Brings.{brings};
 ghost use Rattle.conflict_queue.specs.ItemKeys.{keys_of_item};
-ghost use Rattle.registrar.specs.Rooms.{HasItsRoom};
+ghost use Rattle.registrar.specs.Rooms.{HasItsRoom, HasItsScratch};
 ghost use Rattle.kept_registers.specs.Standing.{StandsFor, StandsForKept};
 
 use crate::settling::settle;
@@ -24,13 +24,14 @@ use gb_base::ReceiptNo;
 /// and cannot fail.
 pub fn step<P: Parts>(
     parts: &mut P,
-    _scratch: &mut Scratch,
+    scratch: &mut Scratch,
     journal: &Journal,
     item: ReceiptNo,
 ) -> Verdict
     requires received { item ≤ length journal.now.receipts }
     requires held { (k : Key) → Contains (keys_of_item journal.now.receipts item) k → IsTrue (P.holds parts.old k) }
     requires room { HasItsRoom journal.now.receipts item (P.at parts.old) (P.room parts.old) }
+    requires scratch { HasItsScratch journal.now.receipts item (P.at parts.old) scratch.old }
     requires kept { StandsForKept journal.now.receipts (P.holds parts.old) (P.at parts.old) }
     requires earlier { (k : Key) → Contains (keys_of_item journal.now.receipts item) k → All (λ e. e.receipt < item) (P.at parts.old k) }
     ensures verdict { (register : Key → List Entry) → StandsFor (P.holds parts.old) (P.at parts.old) register → Kept journal.now.receipts register
@@ -42,10 +43,10 @@ pub fn step<P: Parts>(
     ensures stands { (register : Key → List Entry) → StandsFor (P.holds parts.old) (P.at parts.old) register → Kept journal.now.receipts register
         → StandsFor (P.holds parts.new) (P.at parts.new) (with_entries register (brings journal.now.receipts item register).entries) }
     ensures kept { StandsForKept journal.now.receipts (P.holds parts.new) (P.at parts.new) }
-    ensures scratch { _scratch.new ≡ _scratch.old }
+    ensures scratch { scratch.new ≡ scratch.old }
 {
     let receipt = receipt_of(journal, item);
-    settle(parts, journal, item, &receipt.item)
+    settle(parts, scratch, journal, item, &receipt.item)
 }
 
 /// The receipt of this number; and the list is a journal.

@@ -1,0 +1,101 @@
+-- What an item of a forced sale brings stays when more receipts come: a sale looks at receipts up to its item alone.
+use Rattle.std.proofs.Common.{◌≡◌, ℕ, ◌+◌, ◌-◌, ◌<◌, ◌≤◌, nat_lt, Bool, true, false, cond, ◌||◌, ◌&&◌, ◌==◌, List, [], ◌∷◌, ◌++◌, IfSome, filter, filter_map, find, fold, length, map, slice_get, Option, Some, None, is_none, option_and_then, option_map, refl, sym, ap, subst, ◌∙◌, arith}
+use Rattle.std.specs.List.{AllByRecursion, cons_option, list_any}
+use Rattle.std.specs.Option.{option_map_or}
+use Rattle.std.proofs.lemmas.List.Elements.{All-from_recursion, recursion_from_All}
+use Rattle.gb_base.specs.declared.keys.Key.{Key}
+use Rattle.gb_base.specs.declared.keys.Key.TheVariants.{Case, Right, Title}
+use Rattle.act_model.specs.Receiving.{day_of, item_at}
+use Rattle.act_model.specs.declared.items.Item.{Item}
+use Rattle.act_model.specs.declared.receipts.Receipt.{Receipt}
+use Rattle.act_model.specs.declared.sales.Basis.{Basis}
+use Rattle.act_model.specs.declared.sales.Registration.{Registration}
+use Rattle.act_model.specs.declared.sales.Registration.TheVariants as registration
+use Rattle.auction_classes.specs.SaleClaims.{SaleClaims, claimed_in, of_class_four, seized_with}
+use Rattle.auction_classes.specs.Sales.{Sale, at_case, costs_found, costs_named, costs_named_by, finding_of, is_behind, number_called, number_seized, read, registered_by, registrations_found, sale_at, sale_day, seizure_by, seizures_found, year_seized}
+use Rattle.auction_classes.specs.LowestBid.{lowest_bid, remaining}
+use Rattle.auction_classes.specs.declared.lowest_bids.Lowest.{Lowest}
+use Rattle.auction_classes.proofs.ClaimsStay.{all_inside, case_is_below, claimed_stays, numbers_below, numbers_of, same_any}
+use Rattle.folio_line.specs.FolioRights.{live_by_act}
+use Rattle.folio_sections.specs.Cases.{call, call_by, case, is_registration, is_seizure, registration_numbers, seizure_numbers}
+use Rattle.folio_sections.specs.Entries.{entry_by}
+use Rattle.folio_sections.specs.Fronts.{below}
+use Rattle.folio_sections.specs.declared.entries.Entry.{Entry}
+use Rattle.folio_sections.specs.declared.entries.What.{What}
+use Rattle.folio_sections.specs.declared.entries.What.TheVariants as what
+use Rattle.folio_sections.proofs.FilteredLists.{all_filtered}
+use Rattle.gb_base.specs.RightNo.{RightNo, same_right}
+use Rattle.gb_base.specs.declared.sections.Section.TheVariants as section
+use Rattle.kept_registers.specs.KeptCases.{arrears_of}
+use Rattle.registrar.proofs.LaterReceipts.{day_stays, entry_stays}
+use Rattle.registrar.specs.Brings.{Brought, brought_by_award, brought_by_call, brought_by_registration, brought_by_seizure, lowest_said, verdict_on_award, verdict_unless}
+use Rattle.registrar.specs.declared.verdicts.Verdict.TheVariants as verdict
+use Rattle.sale_rules.specs.SaleEntries.{award_entries, left_with, unless_refused}
+use Rattle.sale_rules.specs.SaleGrounds.{first_ground, has_all_registrations, is_awarded, lacks_call, lacks_case, lowest, refusal_by, refusal_of_award, refusal_of_call, refusal_of_registration, refusal_of_seizure, registers_arrears, repeats_arrears, short_of_cash}
+
+module _ (journal more : List Receipt) (stands : Key → List Entry) (folio i : ℕ) (within : i ≤ length journal) where
+  -- ---- each kind
+
+  pub seizure_as_before : (b : Basis) → brought_by_seizure (sale_at (journal ++ more) stands folio i) b ≡ brought_by_seizure (sale_at journal stands folio i) b
+  seizure_as_before b =
+      let entry = entry_stays journal more i within in
+      let refused = refusal_of_seizure (sale_at journal stands folio i) b in
+      λ j. record { entries = unless_refused refused (entry j (Case folio) what.Seized ∷ []); verdict = verdict_unless refused verdict.Seized }
+
+  again_stays : (r : Registration) → repeats_arrears (sale_at (journal ++ more) stands folio i) r ≡ repeats_arrears (sale_at journal stands folio i) r
+  again_stays (registration.Advance person amount) = refl
+  again_stays (registration.PublicCharge person amount due) = refl
+  again_stays (registration.Arrears right from until) =
+      same_any (registers_arrears (sale_at (journal ++ more) stands folio i) right) (registers_arrears (sale_at journal stands folio i) right) (numbers_of stands folio i (λ e. is_registration e.what))
+      (each (numbers_of stands folio i (λ e. is_registration e.what))
+      (all_inside journal more stands folio i within (numbers_of stands folio i (λ e. is_registration e.what)) (numbers_below (λ e. is_registration e.what) i (case (below i (stands (Case folio)))) (case_is_below i (stands (Case folio))))))
+    where
+      each : (ns : List ℕ) → AllByRecursion (λ n. item_at (journal ++ more) n ≡ item_at journal n) ns
+          → AllByRecursion (λ n. registers_arrears (sale_at (journal ++ more) stands folio i) right n ≡ registers_arrears (sale_at journal stands folio i) right n) ns
+      each [] all = tt
+      each (n ∷ ns) all = (ap (λ o. option_map_or (same_right right) (option_and_then arrears_of o) false) all.0, each ns all.1)
+
+  refused_registration : (r : Registration) → refusal_of_registration (sale_at (journal ++ more) stands folio i) r ≡ refusal_of_registration (sale_at journal stands folio i) r
+  refused_registration r =
+      let s = sale_at journal stands folio i in
+      ap (λ again. first_ground ((lacks_case s, section.Zvg15) ∷ (has_all_registrations s || again, section.Limit) ∷ [])) (again_stays r)
+
+  pub registration_as_before : (r : Registration) → brought_by_registration (sale_at (journal ++ more) stands folio i) r ≡ brought_by_registration (sale_at journal stands folio i) r
+  registration_as_before r =
+      let entry = entry_stays journal more i within in
+      let refused = refused_registration r in
+      λ j. record { entries = unless_refused (refused j) (entry j (Case folio) what.Registered ∷ []); verdict = verdict_unless (refused j) verdict.Registered }
+
+  lowest_stays : lowest (sale_at (journal ++ more) stands folio i) ≡ lowest (sale_at journal stands folio i)
+  lowest_stays = ap lowest_bid (claimed_stays journal more stands folio i within)
+
+  refused_call : refusal_of_call (sale_at (journal ++ more) stands folio i) ≡ refusal_of_call (sale_at journal stands folio i)
+  refused_call =
+      let s = sale_at journal stands folio i in
+      ap (λ o. first_ground ((lacks_case s, section.Zvg15) ∷ (is_awarded s, section.Zvg81) ∷ (is_none o, section.Zvg43) ∷ [])) lowest_stays
+
+  pub call_as_before : (costs : ℕ) → brought_by_call (sale_at (journal ++ more) stands folio i) costs ≡ brought_by_call (sale_at journal stands folio i) costs
+  call_as_before costs =
+      let entry = entry_stays journal more i within in
+      let refused = refused_call in
+      let least = lowest_stays in
+      λ j. record { entries = unless_refused (refused j) (entry j (Case folio) (what.Bids costs) ∷ []); verdict = verdict_unless (refused j) (lowest_said (least j)) }
+
+  refused_award : (bid : ℕ) → refusal_of_award (sale_at (journal ++ more) stands folio i) bid ≡ refusal_of_award (sale_at journal stands folio i) bid
+  refused_award bid =
+      let s = sale_at journal stands folio i in
+      ap (λ o. refusal_by (first_ground ((lacks_case s, section.Zvg15) ∷ (is_awarded s, section.Zvg81) ∷ (lacks_call s, section.Zvg66) ∷ (is_none o, section.Zvg43) ∷ [])) (option_and_then (short_of_cash bid) o)) lowest_stays
+
+  pub award_as_before : (buyer bid : ℕ) → brought_by_award (sale_at (journal ++ more) stands folio i) buyer bid ≡ brought_by_award (sale_at journal stands folio i) buyer bid
+  award_as_before buyer bid =
+      let entry = entry_stays journal more i within in
+      let refused = refused_award bid in
+      let least = lowest_stays in
+      let claimed = claimed_stays journal more stands folio i within in
+      let live = live_by_act (sale_at journal stands folio i).at folio in
+      λ j. record {
+        entries = unless_refused (refused j)
+            (option_map_or (λ (found : Lowest). entry j (Case folio) (what.Awarded buyer bid) ∷ entry j (Title folio) (what.AwardOwner buyer)
+            ∷ map (λ x. entry j (Right folio x.id) (left_with (remaining (claimed j) found.cover x.id))) live) (least j) []);
+        verdict = verdict_on_award bid (refused j);
+      }
