@@ -1,5 +1,5 @@
 -- An award is entered at the case and the title, and then at the rights, which it leaves as they were read.
-use Rattle.std.proofs.Common.{◌≡◌, ℕ, ◌+◌, ◌≤◌, Bool, true, false, cond, ◌&&◌, ◌==◌, List, [], ◌∷◌, ◌++◌, flat_map, length, IsTrue, refl, sym, ap, subst, ◌∙◌, arith}
+use Rattle.std.proofs.Common.{◌≡◌, ℕ, ◌≤◌, Bool, true, false, cond, ◌&&◌, ◌==◌, List, [], ◌∷◌, ◌++◌, flat_map, length, IsTrue, refl, sym, ap, subst, ◌∙◌, arith}
 use Rattle.std.specs.List.{AllByRecursion}
 use Rattle.std.proofs.lemmas.List.{append-nil}
 use Rattle.gb_base.specs.Keys.{same_key}
@@ -14,7 +14,6 @@ use Rattle.folio_sections.specs.declared.entries.Entry.{Entry}
 use Rattle.folio_sections.proofs.Additions.{adds_then, none_at}
 use Rattle.folio_sections.proofs.FilteredLists.{all_in, flat_map_alike}
 use Rattle.folio_sections.proofs.Unchanged.{all_weaker}
-use Rattle.folio_line.specs.FolioSlots.{capital_at}
 use Rattle.auction_classes.specs.LowestBid.{remaining}
 use Rattle.auction_classes.specs.SaleClaims.{SaleClaims}
 use Rattle.sale_rules.specs.SaleEntries.{left_with}
@@ -47,20 +46,20 @@ pub both_leave : (folio : ℕ) (at0 at1 at2 : Key → List Entry) (room0 room1 r
     → AddsList at0 at1 room0 room1 (e ∷ []) → AddsList at1 at2 room1 room2 (f ∷ []) → LeavesRights folio at0 at2 room0 room2
 both_leave folio at0 at1 at2 room0 room1 room2 e f case title first second =
     let one : (id : RightNo) → (at1 (Right folio id) ≡ at0 (Right folio id)) × (room1 (Right folio id) ≡ room0 (Right folio id)) =
-        λ id. one_leaves at0 at1 room0 room1 e (Case folio) (Right folio id) case (never_both (folio == folio)) first in
+    λ id. one_leaves at0 at1 room0 room1 e (Case folio) (Right folio id) case (never_both (folio == folio)) first in
     let two : (id : RightNo) → (at2 (Right folio id) ≡ at1 (Right folio id)) × (room2 (Right folio id) ≡ room1 (Right folio id)) =
-        λ id. one_leaves at1 at2 room1 room2 f (Title folio) (Right folio id) title (never_both (folio == folio)) second in
+    λ id. one_leaves at1 at2 room1 room2 f (Title folio) (Right folio id) title (never_both (folio == folio)) second in
     record { there = λ id. (two id).0 ∙ (one id).0; roomy = λ id. (two id).1 ∙ (one id).1 }
 
 -- so each of them can still be left what remains of it
 pub can_still : (claimed : SaleClaims) (cover folio : ℕ) (at0 at2 : Key → List Entry) (room0 room2 : Key → ℕ) (holds0 holds2 : Key → Bool) (ids : List RightNo) → LeavesRights folio at0 at2 room0 room2 → holds2 ≡ holds0
-    → AllByRecursion (CanBeLeft claimed cover folio holds0 at0 room0) ids → AllByRecursion (CanBeLeft claimed cover folio holds2 at2 room2) ids
+    → AllByRecursion (CanBeLeft claimed cover folio holds0 room0) ids → AllByRecursion (CanBeLeft claimed cover folio holds2 room2) ids
 can_still claimed cover folio at0 at2 room0 room2 holds0 holds2 ids leaves same all =
-    all_weaker (CanBeLeft claimed cover folio holds0 at0 room0) (CanBeLeft claimed cover folio holds2 at2 room2) ids
+    all_weaker (CanBeLeft claimed cover folio holds0 room0) (CanBeLeft claimed cover folio holds2 room2) ids
     (λ id can. record {
       held = subst (λ (h : Key → Bool). IsTrue (h (Right folio id))) (sym same) can.held;
       has_room = subst (λ n. 1 ≤ n) (sym (leaves.roomy id)) can.has_room;
-      within = subst (λ es. remaining claimed cover id ≤ capital_at (λ k. es) folio id) (sym (leaves.there id)) can.within;
+      within = can.within;
     }) all
 
 -- and all of it is added
@@ -71,7 +70,7 @@ pub award_added : (journal : List Receipt) (item folio : ℕ) (claimed : SaleCla
 award_added journal item folio claimed cover at0 at1 at2 at3 room0 room1 room2 room3 e f case title ids earlier is_case is_title same leaves first second third =
     let entry : RightNo → Entry = λ id. entry_by journal item (Right folio id) (left_with (remaining claimed cover id)) in
     let alike = flat_map_alike (left_at journal item folio claimed cover at2) (left_at journal item folio claimed cover at0) ids
-        (all_in (λ id. left_at journal item folio claimed cover at2 id ≡ left_at journal item folio claimed cover at0 id) ids (λ id _. ap (λ es. cond (is_live es) (entry id ∷ []) []) (leaves.there id))) in
+    (all_in (λ id. left_at journal item folio claimed cover at2 id ≡ left_at journal item folio claimed cover at0 id) ids (λ id _. ap (λ es. cond (is_live es) (entry id ∷ []) []) (leaves.there id))) in
     let whole = alike ∙ ap (flat_map (left_at journal item folio claimed cover at0)) same in
     adds_then at0 at1 at3 room0 room1 room3 (case ∷ []) (title ∷ flat_map (left_at journal item folio claimed cover at0) earlier)
     (subst (λ d. AddsList at0 at1 room0 room1 (d ∷ [])) is_case first)

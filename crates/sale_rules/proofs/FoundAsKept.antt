@@ -1,12 +1,11 @@
 -- What an item finds in parts that stand for a kept register is what it finds in the register.
-use Rattle.std.proofs.Common.{◌≡◌, ℕ, ◌≤◌, Bool, true, false, cond, not, ◌&&◌, ◌||◌, nat_lt, nat_le, List, [], ◌∷◌, Contains, IsTrue, Option, Some, None, is_some, map, option_map, slice_get, inl, inr, refl, sym, ap, subst, ◌∙◌, ⊎_elim, arith}
+use Rattle.std.proofs.Common.{◌≡◌, ℕ, Bool, false, cond, not, ◌&&◌, nat_lt, nat_le, List, [], ◌∷◌, Contains, IsTrue, None, is_some, map, option_map, slice_get, refl, sym, ap, subst, ◌∙◌, ⊎_elim, arith}
 use Rattle.std.specs.List.{list_any}
 use Rattle.std.specs.Option.{option_map_or}
 use Rattle.std.proofs.lemmas.List.Elements.{Contains-append_right}
 use Rattle.gb_base.specs.RightNo.{RightNo, same_right}
 use Rattle.gb_base.specs.declared.keys.Key.{Key}
 use Rattle.gb_base.specs.declared.keys.Key.TheVariants.{Case, Right, Title}
-use Rattle.gb_base.specs.declared.sections.Section.{Section}
 use Rattle.gb_base.specs.declared.sections.Section.TheVariants as section
 use Rattle.gb_base.proofs.Members.{In}
 use Rattle.gb_base.proofs.SameRights.{right_is}
@@ -18,19 +17,17 @@ use Rattle.act_model.specs.declared.sales.Basis.{Basis}
 use Rattle.act_model.specs.declared.sales.Basis.TheVariants as basis
 use Rattle.act_model.specs.declared.sales.Registration.{Registration}
 use Rattle.act_model.specs.declared.sales.Registration.TheVariants as registration
-use Rattle.folio_sections.specs.Cases.{award, is_running, registration_numbers, registrations, seizure_numbers, seizures}
+use Rattle.folio_sections.specs.Cases.{award, is_running, seizure_numbers, seizures}
 use Rattle.folio_sections.specs.Fronts.{below}
-use Rattle.folio_sections.specs.Limits.{most_registrations, most_seizures}
+use Rattle.folio_sections.specs.Limits.{most_seizures}
 use Rattle.folio_sections.specs.Rights.{created, is_conversion, is_full, is_full_form, live_right}
 use Rattle.folio_sections.specs.Titles.{is_open}
 use Rattle.folio_sections.specs.declared.entries.Created.{Created}
 use Rattle.folio_sections.specs.declared.entries.Entry.{Entry}
-use Rattle.folio_sections.specs.declared.entries.RightForm.{RightForm}
 use Rattle.folio_sections.specs.declared.entries.RightForm.TheVariants as form
 use Rattle.folio_sections.proofs.FilteredLists.{of_any}
 use Rattle.kept_registers.specs.Kept.{Kept}
 use Rattle.kept_registers.specs.Standing.{StandsFor}
-use Rattle.folio_line.specs.AllRights.{is_among}
 use Rattle.auction_classes.specs.Sales.{sale_at}
 use Rattle.auction_classes.proofs.KeptSales.{below_twice}
 use Rattle.auction_classes.proofs.PartsRead.{parts_read_alike}

@@ -1,5 +1,5 @@
 -- What is left of rights is entered one after the other: what is entered at one leaves what is read at the others.
-use Rattle.std.proofs.Common.{◌≡◌, ℕ, zero, suc, ◌+◌, ◌≤◌, Bool, true, false, cond, ◌&&◌, ◌==◌, List, [], ◌∷◌, ◌++◌, drop, flat_map, length, IsTrue, refl, sym, ap, subst, ◌∙◌, arith}
+use Rattle.std.proofs.Common.{◌≡◌, ℕ, zero, suc, ◌≤◌, Bool, true, false, cond, ◌&&◌, ◌==◌, List, [], ◌∷◌, ◌++◌, drop, length, IsTrue, refl, sym, ap, subst, ◌∙◌, arith}
 use Rattle.std.specs.List.{AllByRecursion}
 use Rattle.std.proofs.lemmas.Bool.Decides.{nat_tests}
 use Rattle.std.proofs.lemmas.List.{append-nil}
@@ -16,7 +16,6 @@ use Rattle.folio_sections.proofs.Additions.{none_at}
 use Rattle.folio_sections.proofs.Progress.{Progress, goes_on_by}
 use Rattle.folio_sections.proofs.Unchanged.{all_weaker}
 use Rattle.folio_line.specs.AllRights.{AscendByNumber, is_numbered_before}
-use Rattle.folio_line.specs.FolioSlots.{capital_at}
 use Rattle.auction_classes.specs.LowestBid.{remaining}
 use Rattle.auction_classes.specs.SaleClaims.{SaleClaims}
 use Rattle.sale_rules.specs.SaleEntries.{left_with}
@@ -59,20 +58,20 @@ pub stays_there : (f : (Key → List Entry) → RightNo → List Entry) (folio :
 stays_there f folio ids x rest at0 at1 room0 room1 holds0 holds1 so_far =
     let key = Right folio x in
     let none : at so_far.done key ≡ [] =
-        none_at so_far.done key (all_weaker (IsApart folio (x ∷ rest)) (λ e. same_key e.key key ≡ false) so_far.done (λ e apart. apart.0) so_far.keeps) in
+    none_at so_far.done key (all_weaker (IsApart folio (x ∷ rest)) (λ e. same_key e.key key ≡ false) so_far.done (λ e apart. apart.0) so_far.keeps) in
     let count = ap length none in
     let used = so_far.added.room key in
     (so_far.added.there key ∙ ap (λ es. at0 key ++ es) none ∙ append-nil (at0 key), omega (arith, count, used))
 
 pub still_left : (f : (Key → List Entry) → RightNo → List Entry) (claimed : SaleClaims) (cover folio : ℕ) (ids : List RightNo) (x : RightNo) (rest : List RightNo) (at0 at1 : Key → List Entry) (room0 room1 : Key → ℕ) (holds0 holds1 : Key → Bool)
     → Progress RightNo f (IsApart folio (x ∷ rest)) ids (x ∷ rest) at0 at1 room0 room1 holds0 holds1
-    → CanBeLeft claimed cover folio holds0 at0 room0 x → CanBeLeft claimed cover folio holds1 at1 room1 x
+    → CanBeLeft claimed cover folio holds0 room0 x → CanBeLeft claimed cover folio holds1 room1 x
 still_left f claimed cover folio ids x rest at0 at1 room0 room1 holds0 holds1 so_far can =
     let stays = stays_there f folio ids x rest at0 at1 room0 room1 holds0 holds1 so_far in
     record {
       held = subst (λ (h : Key → Bool). IsTrue (h (Right folio x))) (sym so_far.held) can.held;
       has_room = subst (λ n. 1 ≤ n) (sym stays.1) can.has_room;
-      within = subst (λ es. remaining claimed cover x ≤ capital_at (λ k. es) folio x) (sym stays.0) can.within;
+      within = can.within;
     }
 
 -- and the next right's entries are added
@@ -86,7 +85,7 @@ left_next journal item folio claimed cover ids x rest at0 at1 at2 room0 room1 ro
     let entry = entry_by journal item (Right folio x) (left_with (remaining claimed cover x)) in
     let stays = stays_there f folio ids x rest at0 at1 room0 room1 holds0 holds1 so_far in
     let apart : IsApart folio rest entry =
-        all_weaker (λ y. is_numbered_before x y ≡ true) (λ y. same_key (Right folio x) (Right folio y) ≡ false) rest (λ y before. apart_keys folio x y before) up.0 in
+    all_weaker (λ y. is_numbered_before x y ≡ true) (λ y. same_key (Right folio x) (Right folio y) ≡ false) rest (λ y before. apart_keys folio x y before) up.0 in
     goes_on_by RightNo f (IsApart folio (x ∷ rest)) (IsApart folio rest) ids x rest at0 at1 at2 room0 room1 room2 holds0 holds1 holds2 so_far
     (ap (λ es. cond (is_live es) (entry ∷ []) []) stays.0)
     (all_weaker (IsApart folio (x ∷ rest)) (IsApart folio rest) so_far.done (λ e both. both.1) so_far.keeps)

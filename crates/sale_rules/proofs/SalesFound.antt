@@ -1,12 +1,11 @@
 -- When an item finds a sale whose lowest bid can be reckoned.
-use Rattle.std.proofs.Common.{◌≡◌, ℕ, Bool, true, false, cond, not, ◌==◌, ◌+◌, length, ◌||◌, List, [], ◌∷◌, filter, map, slice_get, IsSome, IsTrue, Option, Some, None, is_none, is_some, option_and_then, refl, sym, ap, subst, ◌∙◌}
+use Rattle.std.proofs.Common.{◌≡◌, ℕ, Bool, true, false, cond, not, ◌==◌, ◌+◌, length, ◌||◌, List, [], ◌∷◌, filter, map, slice_get, IsSome, IsTrue, Option, Some, None, is_none, option_and_then, refl, sym, ap, subst, ◌∙◌}
 use Rattle.std.specs.List.{list_any}
 use Rattle.std.specs.Option.{option_map_or}
 use Rattle.std.proofs.lemmas.Bool.{eq-eqb, false≢true}
 use Rattle.gb_base.specs.declared.keys.Key.{Key}
 use Rattle.gb_base.specs.declared.keys.Key.TheVariants.{Case}
 use Rattle.act_model.specs.Receiving.{item_at}
-use Rattle.act_model.specs.declared.items.Item.{Item}
 use Rattle.act_model.specs.declared.items.Item.TheVariants as item
 use Rattle.act_model.specs.declared.receipts.Receipt.{Receipt}
 use Rattle.folio_sections.specs.Cases.{call, case, is_running, is_seizure, seizure_numbers}

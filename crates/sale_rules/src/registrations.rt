@@ -134,10 +134,7 @@ fn names_arrears(item: &Item, right: RightId) -> bool
 {
     match item {
         Item::Register {
-            what: Registration::Arrears {
-                right: other,
-                ..
-            },
+            what: Registration::Arrears { right: other, .. },
             ..
         } => right == *other,
         _ => false,

@@ -59,12 +59,7 @@ pub fn seize<P: Parts>(
 }
 
 /// Why a seizure is refused; None where it is let in.
-fn refusal<P: Parts>(
-    parts: &P,
-    folio: FolioId,
-    item: ReceiptNo,
-    basis: &Basis,
-) -> Option<Section>
+fn refusal<P: Parts>(parts: &P, folio: FolioId, item: ReceiptNo, basis: &Basis) -> Option<Section>
     requires { CanBeFound (P.holds parts.now) (P.at parts.now) }
     ensures { (journal : List Receipt) → result ≡ refusal_of_seizure (sale_read journal (P.holds parts.now) (P.at parts.now) folio item) basis.now }
 {

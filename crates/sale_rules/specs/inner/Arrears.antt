@@ -1,5 +1,5 @@
 -- A registration in a case that is full, or that has its arrears already.
-use Rattle.std.specs.Prelude.{ℕ, Bool, false, ◌||◌, nat_le, List, option_and_then, take}
+use Rattle.std.specs.Prelude.{ℕ, Bool, false, ◌||◌, nat_le, List, option_and_then}
 use Rattle.std.specs.List.{list_any}
 use Rattle.std.specs.Option.{option_map_or}
 use Rattle.gb_base.specs.RightNo.{RightNo, same_right}

@@ -1,4 +1,4 @@
-use Rattle.std.proofs.Common.{◌≡◌, cond, Some, None, is_none, sym, ap, ◌∙◌}
+use Rattle.std.proofs.Common.{cond, Some, None, is_none, sym, ap, ◌∙◌}
 use Rattle.gb_base.specs.declared.sections.Section.TheVariants as section
 use Rattle.sale_rules.proofs.CallsAsKept.{call_as_kept}
 use Rattle.sale_rules.proofs.FoundAsKept.{case_key}

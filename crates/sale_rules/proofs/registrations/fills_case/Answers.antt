@@ -1,4 +1,4 @@
-use Rattle.std.proofs.Common.{◌≡◌, sym, ap, ◌∙◌}
+use Rattle.std.proofs.Common.{sym, ap, ◌∙◌}
 use Rattle.sale_rules.specs.inner.Arrears.{fills_case}
 use Rattle.sale_rules.proofs.CaseCounts.{few_repeat}
 use Rattle.sale_rules.proofs.registrations.fills_case.Goals as goal

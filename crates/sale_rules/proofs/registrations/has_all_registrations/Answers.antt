@@ -1,4 +1,4 @@
-use Rattle.std.proofs.Common.{◌≡◌, nat_le, length, ap, ◌∙◌}
+use Rattle.std.proofs.Common.{nat_le, length, ap, ◌∙◌}
 use Rattle.sale_rules.proofs.CaseCounts.{thirty_two}
 use Rattle.sale_rules.proofs.registrations.has_all_registrations.Goals as goal
 

@@ -1,4 +1,4 @@
-use Rattle.std.proofs.Common.{◌≡◌, [], ◌∷◌, refl, sym, ◌∙◌, arith}
+use Rattle.std.proofs.Common.{[], ◌∷◌, refl, sym, ◌∙◌, arith}
 use Rattle.gb_base.specs.declared.keys.Key.TheVariants.{Case}
 use Rattle.folio_sections.specs.Entries.{entry_by}
 use Rattle.folio_sections.specs.declared.entries.What.TheVariants as what

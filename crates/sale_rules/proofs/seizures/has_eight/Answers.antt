@@ -1,4 +1,4 @@
-use Rattle.std.proofs.Common.{◌≡◌, nat_le, length, ap, ◌∙◌}
+use Rattle.std.proofs.Common.{nat_le, length, ap, ◌∙◌}
 use Rattle.sale_rules.proofs.CaseCounts.{eight}
 use Rattle.sale_rules.proofs.seizures.has_eight.Goals as goal
 
