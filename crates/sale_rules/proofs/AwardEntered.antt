@@ -14,7 +14,6 @@ use Rattle.folio_sections.specs.declared.entries.Entry.{Entry}
 use Rattle.folio_sections.proofs.Additions.{adds_then, none_at}
 use Rattle.folio_sections.proofs.FilteredLists.{all_in, flat_map_alike}
 use Rattle.folio_sections.proofs.Unchanged.{all_weaker}
-use Rattle.folio_line.specs.FolioSlots.{capital_at}
 use Rattle.auction_classes.specs.LowestBid.{remaining}
 use Rattle.auction_classes.specs.SaleClaims.{SaleClaims}
 use Rattle.sale_rules.specs.SaleEntries.{left_with}
@@ -54,13 +53,13 @@ both_leave folio at0 at1 at2 room0 room1 room2 e f case title first second =
 
 -- so each of them can still be left what remains of it
 pub can_still : (claimed : SaleClaims) (cover folio : ℕ) (at0 at2 : Key → List Entry) (room0 room2 : Key → ℕ) (holds0 holds2 : Key → Bool) (ids : List RightNo) → LeavesRights folio at0 at2 room0 room2 → holds2 ≡ holds0
-    → AllByRecursion (CanBeLeft claimed cover folio holds0 at0 room0) ids → AllByRecursion (CanBeLeft claimed cover folio holds2 at2 room2) ids
+    → AllByRecursion (CanBeLeft claimed cover folio holds0 room0) ids → AllByRecursion (CanBeLeft claimed cover folio holds2 room2) ids
 can_still claimed cover folio at0 at2 room0 room2 holds0 holds2 ids leaves same all =
-    all_weaker (CanBeLeft claimed cover folio holds0 at0 room0) (CanBeLeft claimed cover folio holds2 at2 room2) ids
+    all_weaker (CanBeLeft claimed cover folio holds0 room0) (CanBeLeft claimed cover folio holds2 room2) ids
     (λ id can. record {
       held = subst (λ (h : Key → Bool). IsTrue (h (Right folio id))) (sym same) can.held;
       has_room = subst (λ n. 1 ≤ n) (sym (leaves.roomy id)) can.has_room;
-      within = subst (λ es. remaining claimed cover id ≤ capital_at (λ k. es) folio id) (sym (leaves.there id)) can.within;
+      within = can.within;
     }) all
 
 -- and all of it is added

@@ -1,17 +1,16 @@
 -- What an award leaves of the rights of a folio, and that each can be entered.
 use Rattle.std.proofs.Common.{◌≡◌, ℕ, ◌<◌, ◌≤◌, Bool, true, false, cond, nat_lt, All, List, [], ◌∷◌, ◌++◌, filter_map, flat_map, fold, map, Contains, IsTrue, Option, Some, None, option_map, is_some, refl, sym, ap, subst, ◌∙◌, arith}
 use Rattle.std.specs.List.{AllByRecursion, cons_option}
-use Rattle.std.specs.Option.{option_map_or}
 use Rattle.std.proofs.lemmas.Bool.{false≢true}
 use Rattle.std.proofs.lemmas.Bool.Decides.{nat_tests}
 use Rattle.std.proofs.lemmas.List.Elements.{recursion_from_All}
+use Rattle.gb_base.specs.Limits.{most_cents}
 use Rattle.gb_base.specs.RightNo.{RightNo}
 use Rattle.gb_base.specs.declared.keys.Key.{Key}
-use Rattle.gb_base.specs.declared.keys.Key.TheVariants.{Case, Right}
+use Rattle.gb_base.specs.declared.keys.Key.TheVariants.{Right}
 use Rattle.act_model.specs.Receiving.{IsJournal}
 use Rattle.act_model.specs.SaleKeys.{earlier_rights, keys_of_sale}
 use Rattle.act_model.specs.declared.receipts.Receipt.{Receipt}
-use Rattle.folio_sections.specs.Cases.{award}
 use Rattle.folio_sections.specs.Entries.{entry_by}
 use Rattle.folio_sections.specs.Fronts.{below}
 use Rattle.folio_sections.specs.Rights.{created, created_by, is_live, live_by}
@@ -28,25 +27,23 @@ use Rattle.kept_registers.specs.Kept.{Kept}
 use Rattle.kept_registers.specs.Standing.{StandsFor}
 use Rattle.folio_line.specs.AllRights.{AscendByNumber}
 use Rattle.folio_line.specs.FolioRights.{is_live_with, live_by_act}
-use Rattle.folio_line.specs.FolioSlots.{capital_at}
 use Rattle.folio_line.specs.inner.RightWalk.{right_found}
 use Rattle.folio_line.specs.declared.folio_rights.CreatedRight.{CreatedRight}
 use Rattle.folio_line.proofs.AllRights.{filed_are_all}
 use Rattle.folio_line.proofs.CreatedRights.{is_in_ranges}
 use Rattle.folio_line.proofs.RightWalks.{walk_is}
-use Rattle.rank_slots.specs.CanFill.{CanFill}
 use Rattle.auction_classes.specs.LowestBid.{remaining}
 use Rattle.auction_classes.specs.SaleClaims.{SaleClaims, claimed_in}
-use Rattle.auction_classes.specs.Sales.{read, sale_at}
+use Rattle.auction_classes.specs.Sales.{sale_at}
 use Rattle.auction_classes.proofs.KeptSales.{below_twice, created_here}
+use Rattle.auction_classes.proofs.RemainsWithin.{remains_within}
 use Rattle.sale_rules.specs.SaleEntries.{left_of, left_with}
 use Rattle.sale_rules.specs.inner.RightsLeft.{CanBeLeft, left_at}
 use Rattle.sale_rules.proofs.FoundAsKept.{right_key}
-use Rattle.sale_rules.proofs.LeftWithin.{left_within}
 
 -- ---- the parts as an award finds them
 
--- All at the keys of the sale is by earlier items, and no award stands in the case.
+-- All at the keys of the sale is by earlier items.
 pub record FindsSale (journal : List Receipt) (holds : Key → Bool) (at register : Key → List Entry) (folio item : ℕ) : Type 0 where
   pub received : IsJournal journal
   pub stands : StandsFor holds at register
@@ -65,31 +62,21 @@ pub as_it_stands : (journal : List Receipt) (holds : Key → Bool) (at register 
 as_it_stands journal holds at register folio item k s there =
     ap (below item) (sym (s.stands k (s.held k there))) ∙ all_earlier item (at k) (s.earlier k there)
 
--- ---- no more than the capital
-
-read_there : (journal : List Receipt) (register : Key → List Entry) (folio item : ℕ) (k : Key) → award (below item (register (Case folio))) ≡ None
-    → read (sale_at journal register folio item) k ≡ below item (register k)
-read_there journal register folio item k none =
-    ap (λ o. below (option_map_or (λ n. n) o item) (below item (register k))) none ∙ below_twice item item (register k) (omega arith)
+-- ---- what is left is an amount
 
 -- each of the rights can be left what remains of it
 pub can_be_left : (journal : List Receipt) (holds : Key → Bool) (at register : Key → List Entry) (room : Key → ℕ) (folio item : ℕ) (claimed : SaleClaims) (cover : ℕ)
     → FindsSale journal holds at register folio item → ((k : Key) → Contains (keys_of_sale journal item folio) k → 1 ≤ room k)
-    → claimed ≡ claimed_in (sale_at journal register folio item) → CanFill claimed.line_four → award (below item (register (Case folio))) ≡ None
-    → AllByRecursion (CanBeLeft claimed cover folio holds at room) (earlier_rights journal item folio)
-can_be_left journal holds at register room folio item claimed cover s roomy is fits none =
-    all_in (CanBeLeft claimed cover folio holds at room) (earlier_rights journal item folio)
+    → claimed ≡ claimed_in (sale_at journal register folio item)
+    → AllByRecursion (CanBeLeft claimed cover folio holds room) (earlier_rights journal item folio)
+can_be_left journal holds at register room folio item claimed cover s roomy is =
+    all_in (CanBeLeft claimed cover folio holds room) (earlier_rights journal item folio)
     (λ id there.
-    let k = Right folio id in
     let key = right_key journal item folio id there in
-    let whole = read_there journal register folio item k none ∙ as_it_stands journal holds at register folio item k s key in
     record {
-      held = s.held k key;
-      has_room = roomy k key;
-      within =
-          subst (λ es. remaining claimed cover id ≤ capital_at (λ j. es) folio id) whole
-          (subst (λ (c : SaleClaims). remaining c cover id ≤ capital_at (read (sale_at journal register folio item)) folio id) (sym is)
-          (left_within (sale_at journal register folio item) cover id (subst (λ (c : SaleClaims). CanFill c.line_four) is fits)));
+      held = s.held (Right folio id) key;
+      has_room = roomy (Right folio id) key;
+      within = subst (λ (c : SaleClaims). remaining c cover id ≤ most_cents) (sym is) (remains_within journal register folio item cover id s.kept s.received);
     })
 
 -- they stand in order

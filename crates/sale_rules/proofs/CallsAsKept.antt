@@ -1,6 +1,5 @@
 -- On which grounds a call to bid or an award is refused, from what was found in the parts.
 use Rattle.std.proofs.Common.{◌≡◌, ℕ, Bool, true, false, cond, not, List, [], ◌∷◌, IsTrue, IfOk, Ok, Err, Option, Some, None, is_none, is_some, option_and_then, refl, sym, ap, ◌∙◌}
-use Rattle.std.proofs.lemmas.Bool.{false≢true}
 use Rattle.std.specs.declared.result.Result.{Result}
 use Rattle.gb_base.specs.declared.keys.Key.{Key}
 use Rattle.gb_base.specs.declared.keys.Key.TheVariants.{Case}
@@ -64,24 +63,6 @@ award_as_kept journal holds at register folio item bid found stands held runs aw
     by : (b : Bool) → cond b (Some section.Zvg43) None ≡ section_refused false false false b
     by true = refl
     by false = refl
-
-unawarded : (lacks awarded uncalled unserved : Bool) (low : Option AwardRefusal) → None ≡ refusal_by (section_refused lacks awarded uncalled unserved) low → awarded ≡ false
-unawarded true awarded uncalled unserved low none = absurd (false≢true (ap is_some none))
-unawarded false true uncalled unserved low none = absurd (false≢true (ap is_some none))
-unawarded false false uncalled unserved low none = refl
-
-no_award : {X : Type 0} (o : Option X) → is_some o ≡ false → o ≡ None
-no_award None is = refl
-no_award (Some x) is = absurd (false≢true (sym is))
-
--- where an award is not refused, none stands in the case
-pub none_awarded : (journal : List Receipt) (register : Key → List Entry) (folio item bid : ℕ) → None ≡ refusal_of_award (sale_at journal register folio item) bid
-    → award (below item (register (Case folio))) ≡ None
-none_awarded journal register folio item bid none =
-    let es = below item (register (Case folio)) in
-    no_award (award es)
-    (unawarded (not (is_running es)) (is_some (award es)) (is_none (call es)) (is_none (lowest (sale_at journal register folio item)))
-    (option_and_then (short_of_cash bid) (lowest (sale_at journal register folio item))) none)
 
 -- the lowest bid that was found, where it is given
 pub least_found : (r : Result Lowest AwardRefusal) (low found : Option Lowest) (bid : Lowest) → found ≡ low → found ≡ Some bid → IfOk r (λ x. x ≡ bid) → IfOk r (λ x. low ≡ Some x)

@@ -6,7 +6,5 @@ pub mod Brought
 pub mod CallsAsKept
 pub mod CaseCounts
 pub mod FoundAsKept
-pub mod LeftWithin
-pub mod PayWithin
 pub mod RightsInTurn
 pub mod SalesFound

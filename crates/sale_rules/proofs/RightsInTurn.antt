@@ -16,7 +16,6 @@ use Rattle.folio_sections.proofs.Additions.{none_at}
 use Rattle.folio_sections.proofs.Progress.{Progress, goes_on_by}
 use Rattle.folio_sections.proofs.Unchanged.{all_weaker}
 use Rattle.folio_line.specs.AllRights.{AscendByNumber, is_numbered_before}
-use Rattle.folio_line.specs.FolioSlots.{capital_at}
 use Rattle.auction_classes.specs.LowestBid.{remaining}
 use Rattle.auction_classes.specs.SaleClaims.{SaleClaims}
 use Rattle.sale_rules.specs.SaleEntries.{left_with}
@@ -66,13 +65,13 @@ stays_there f folio ids x rest at0 at1 room0 room1 holds0 holds1 so_far =
 
 pub still_left : (f : (Key → List Entry) → RightNo → List Entry) (claimed : SaleClaims) (cover folio : ℕ) (ids : List RightNo) (x : RightNo) (rest : List RightNo) (at0 at1 : Key → List Entry) (room0 room1 : Key → ℕ) (holds0 holds1 : Key → Bool)
     → Progress RightNo f (IsApart folio (x ∷ rest)) ids (x ∷ rest) at0 at1 room0 room1 holds0 holds1
-    → CanBeLeft claimed cover folio holds0 at0 room0 x → CanBeLeft claimed cover folio holds1 at1 room1 x
+    → CanBeLeft claimed cover folio holds0 room0 x → CanBeLeft claimed cover folio holds1 room1 x
 still_left f claimed cover folio ids x rest at0 at1 room0 room1 holds0 holds1 so_far can =
     let stays = stays_there f folio ids x rest at0 at1 room0 room1 holds0 holds1 so_far in
     record {
       held = subst (λ (h : Key → Bool). IsTrue (h (Right folio x))) (sym so_far.held) can.held;
       has_room = subst (λ n. 1 ≤ n) (sym stays.1) can.has_room;
-      within = subst (λ es. remaining claimed cover x ≤ capital_at (λ k. es) folio x) (sym stays.0) can.within;
+      within = can.within;
     }
 
 -- and the next right's entries are added

@@ -14,7 +14,6 @@ ghost use Rattle.folio_line.specs.FolioLine.{all_rises};
 ghost use Rattle.folio_sections.specs.Adding.{AddsList};
 ghost use Rattle.folio_sections.specs.Entries.{entry_by};
 ghost use Rattle.folio_sections.specs.declared.entries.What.TheVariants as what;
-ghost use Rattle.rank_slots.specs.CanFill.{CanFill};
 ghost use Rattle.auction_classes.specs.SaleClaims.{claimed_in};
 ghost use Rattle.auction_classes.specs.Sales.{sale_at};
 ghost use Rattle.sale_rules.specs.SaleEntries.{award_brought};
@@ -31,7 +30,7 @@ use act_model::Journal;
 use auction_classes::{Claims, Lowest};
 use folio_line::rights_filed;
 use folio_sections::{Parts, What, add, entry_by};
-use gb_base::{Cents, FolioId, Key, Person, ReceiptNo, RightId, Section};
+use gb_base::{Cents, FolioId, Key, Person, ReceiptNo, Section};
 use rank_slots::Slots;
 
 /// Why an award is refused.
@@ -83,7 +82,6 @@ pub fn award<P: Parts>(
     );
     match found {
         Ok(lowest) => {
-            can_fill(&scratch.slots);
             enter_award(
                 parts,
                 &scratch.claims,
@@ -99,14 +97,6 @@ pub fn award<P: Parts>(
         }
         Err(refusal) => Err(refusal),
     }
-}
-
-/// Called for its clause: what slots are filled with makes a line.
-fn can_fill(slots: &Slots)
-    ensures { CanFill slots.now.filled }
-{
-    let knot = slots.knot_of(RightId::default());
-    prove!(knot.is_some() || knot.is_none());
 }
 
 /// The lowest bid, or why the award is refused. Where there is one the slots are filled with the line
@@ -184,7 +174,7 @@ fn enter_award<P: Parts>(
     requires held { (k : Key) → Contains (keys_of_sale journal.now.receipts item folio) k → IsTrue (P.holds parts.old k) }
     requires room { (k : Key) → Contains (keys_of_sale journal.now.receipts item folio) k → 1 ≤ P.room parts.old k }
     requires ascend { AscendByNumber (earlier_rights journal.now.receipts item folio) }
-    requires left { AllByRecursion (CanBeLeft claims.now.claimed cover folio (P.holds parts.old) (P.at parts.old) (P.room parts.old)) (earlier_rights journal.now.receipts item folio) }
+    requires left { AllByRecursion (CanBeLeft claims.now.claimed cover folio (P.holds parts.old) (P.room parts.old)) (earlier_rights journal.now.receipts item folio) }
     ensures added { AddsList (P.at parts.old) (P.at parts.new) (P.room parts.old) (P.room parts.new)
         (entry_by journal.now.receipts item (Case folio) (what.Awarded buyer bid) ∷ entry_by journal.now.receipts item (Title folio) (what.AwardOwner buyer)
         ∷ flat_map (left_at journal.now.receipts item folio claims.now.claimed cover (P.at parts.old)) (earlier_rights journal.now.receipts item folio)) }

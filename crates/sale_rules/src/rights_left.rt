@@ -3,7 +3,6 @@ ghost use Rattle.std.specs.Prelude.{◌≡◌, ◌≤◌, true, flat_map, length
 ghost use Rattle.std.specs.List.{AllByRecursion};
 ghost use Rattle.gb_base.specs.declared.keys.Key.TheVariants.{Right};
 ghost use Rattle.folio_line.specs.AllRights.{AscendByNumber};
-ghost use Rattle.folio_line.specs.FolioSlots.{capital_at};
 ghost use Rattle.folio_sections.specs.Adding.{AddsList};
 ghost use Rattle.folio_sections.specs.Rights.{is_live};
 ghost use Rattle.gb_base.specs.Limits.{most_cents};
@@ -32,7 +31,7 @@ pub(crate) fn enter_rights_left<P: Parts>(
     requires received { item ≤ length journal.now.receipts }
     requires filled { slots.now.filled ≡ claims.now.claimed.line_four }
     requires ascend { AscendByNumber ids.now }
-    requires left { AllByRecursion (CanBeLeft claims.now.claimed cover folio (P.holds parts.old) (P.at parts.old) (P.room parts.old)) ids.now }
+    requires left { AllByRecursion (CanBeLeft claims.now.claimed cover folio (P.holds parts.old) (P.room parts.old)) ids.now }
     ensures added { AddsList (P.at parts.old) (P.at parts.new) (P.room parts.old) (P.room parts.new)
         (flat_map (left_at journal.now.receipts item folio claims.now.claimed cover (P.at parts.old)) ids.now) }
     ensures held { P.holds parts.new ≡ P.holds parts.old }
@@ -55,16 +54,13 @@ fn enter_right_left<P: Parts>(
 )
     requires received { item ≤ length journal.now.receipts }
     requires filled { slots.now.filled ≡ claims.now.claimed.line_four }
-    requires left { CanBeLeft claims.now.claimed cover folio (P.holds parts.old) (P.at parts.old) (P.room parts.old) id }
+    requires left { CanBeLeft claims.now.claimed cover folio (P.holds parts.old) (P.room parts.old) id }
     ensures added { AddsList (P.at parts.old) (P.at parts.new) (P.room parts.old) (P.room parts.new)
         (left_at journal.now.receipts item folio claims.now.claimed cover (P.at parts.old) id) }
     ensures held { P.holds parts.new ≡ P.holds parts.old }
 {
     if is_live(parts, folio, id) {
-        let capital = capital_of(parts, folio, id);
-        let left = claims.remaining(slots, cover, id);
-        prove!(left <= capital);
-        let what = left_with(left);
+        let what = left_with(claims.remaining(slots, cover, id));
         add(parts, entry_by(journal, item, Key::Right(folio, id), what));
     }
 }
@@ -75,18 +71,6 @@ fn is_live<P: Parts>(parts: &P, folio: FolioId, id: RightId) -> bool
     ensures { result ≡ is_live (P.at parts.now (Right folio id)) }
 {
     parts.right(folio, id).unwrap().live()
-}
-
-/// The capital of a right, in cents; 0 where it has none.
-fn capital_of<P: Parts>(parts: &P, folio: FolioId, id: RightId) -> u64
-    requires { P.holds parts.now (Right folio id) ≡ true }
-    ensures value { result ≡ capital_at (P.at parts.now) folio id }
-    ensures bound { result ≤ most_cents }
-{
-    match parts.right(folio, id).unwrap().capital() {
-        Some(capital) => capital.get(),
-        None => 0,
-    }
 }
 
 /// What is entered at a right of which so much is left (ZVG §§ 52, 91).

@@ -38,4 +38,30 @@ impl Scratch {
             slots: Slots::with_room(alloc, rights, exchanges)?,
         })
     }
+
+    /// Makes the scratch one for so many rights and exchanges at least; it keeps the room that it
+    /// has. Wants memory (NoMemory), and is unchanged where none is found.
+    pub fn reserve(
+        &mut self,
+        alloc: Global,
+        rights: usize,
+        exchanges: usize,
+    ) -> Result<(), NoMemory>
+        ensures rights { OnOk result (rights ≤ self.new.rights) }
+        ensures exchanges { OnOk result (exchanges ≤ self.new.exchanges) }
+        ensures unchanged { OnErr result (self.new ≡ self.old) }
+    {
+        let right_room = self.claims.right_room();
+        let exchange_room = self.claims.exchange_room();
+        if rights <= right_room && exchanges <= exchange_room {
+            return Ok(());
+        }
+        // Exchanges come one at a time, so that room for them at least doubles.
+        *self = Scratch::with_room(
+            alloc,
+            rights.max(right_room),
+            exchanges.max(exchange_room.saturating_mul(2)),
+        )?;
+        Ok(())
+    }
 }

@@ -1,10 +1,10 @@
 -- What is left of each of some rights when the land is awarded.
 use Rattle.std.specs.Prelude.{ℕ, ◌≤◌, Bool, if◌then◌else◌, List, [], ◌∷◌, IsTrue}
+use Rattle.gb_base.specs.Limits.{most_cents}
 use Rattle.gb_base.specs.RightNo.{RightNo}
 use Rattle.gb_base.specs.declared.keys.Key.{Key}
 use Rattle.gb_base.specs.declared.keys.Key.TheVariants.{Right}
 use Rattle.act_model.specs.declared.receipts.Receipt.{Receipt}
-use Rattle.folio_line.specs.FolioSlots.{capital_at}
 use Rattle.folio_sections.specs.Entries.{entry_by}
 use Rattle.folio_sections.specs.Rights.{is_live}
 use Rattle.folio_sections.specs.declared.entries.Entry.{Entry}
@@ -17,8 +17,8 @@ abbrev pub left_at : List Receipt → ℕ → ℕ → SaleClaims → ℕ → (Ke
 left_at journal item folio claimed cover at id =
     if is_live (at (Right folio id)) then entry_by journal item (Right folio id) (left_with (remaining claimed cover id)) ∷ [] else []
 
--- The right's part is held, with room for an entry, and no more is left than its capital.
-pub record CanBeLeft (claimed : SaleClaims) (cover folio : ℕ) (holds : Key → Bool) (at : Key → List Entry) (room : Key → ℕ) (id : RightNo) : Type 0 where
+-- The right's part is held, with room for an entry, and what is left is an amount.
+pub record CanBeLeft (claimed : SaleClaims) (cover folio : ℕ) (holds : Key → Bool) (room : Key → ℕ) (id : RightNo) : Type 0 where
   pub held : IsTrue (holds (Right folio id))
   pub has_room : 1 ≤ room (Right folio id)
-  pub within : remaining claimed cover id ≤ capital_at at folio id
+  pub within : remaining claimed cover id ≤ most_cents

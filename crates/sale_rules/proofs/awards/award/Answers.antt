@@ -2,14 +2,12 @@ use Rattle.std.proofs.Common.{[], sym, subst}
 use Rattle.std.specs.Option.{option_map_or}
 use Rattle.act_model.specs.SaleKeys.{earlier_rights}
 use Rattle.folio_sections.specs.Adding.{AddsList}
-use Rattle.rank_slots.specs.CanFill.{CanFill}
 use Rattle.auction_classes.specs.Sales.{sale_at}
 use Rattle.sale_rules.specs.SaleEntries.{award_entries, unless_refused}
 use Rattle.sale_rules.specs.SaleGrounds.{lowest, refusal_of_award}
 use Rattle.sale_rules.proofs.AwardGiven.{award_given}
 use Rattle.sale_rules.proofs.AwardedRights.{can_be_left, earlier_ascend, rights_left_are}
 use Rattle.sale_rules.proofs.Brought.{brings_all, brings_none}
-use Rattle.sale_rules.proofs.CallsAsKept.{none_awarded}
 use Rattle.sale_rules.proofs.awards.award.Goals.{in-Ok, in-Err}
 use Rattle.sale_rules.proofs.awards.award.Goals as goal
 
@@ -24,8 +22,7 @@ enter_award-requires-clause-left g c =
     can_be_left journal (g.P.Parts.holds c.args.parts.now) (g.P.Parts.at c.args.parts.now) k.register (g.P.Parts.room c.args.parts.now) c.args.folio c.args.item
     c.lowest_for_award-found.new.claims.claimed c.in-Ok.lowest.cover
     (record { received = c.is_journal.ensures; stands = k.stands; kept = k.kept; held = c.requires.parts.held; earlier = c.requires.parts.earlier })
-    c.requires.parts.has_room (c.in-Ok.ensures.claimed k.register k.stands k.kept) (subst CanFill c.in-Ok.ensures.filled c.can_fill.ensures)
-    (none_awarded journal k.register c.args.folio c.args.item c.args.bid (c.in-Ok.ensures.answer k.register k.stands k.kept))
+    c.requires.parts.has_room (c.in-Ok.ensures.claimed k.register k.stands k.kept)
 
 pub returns-clause-added : goal.returns-clause-added
 returns-clause-added g c register stands kept =

@@ -28,7 +28,7 @@ enter_rights_left-requires-clause-left g c =
     let at2 = g.P.Parts.at c.add-2.new.parts in
     let room0 = g.P.Parts.room c.args.parts.now in
     let room2 = g.P.Parts.room c.add-2.new.parts in
-    subst (AllByRecursion (CanBeLeft c.args.claims.now.claimed c.args.cover c.args.folio (g.P.Parts.holds c.add-2.new.parts) at2 room2)) (sym c.rights_filed-ids.ensures.value)
+    subst (AllByRecursion (CanBeLeft c.args.claims.now.claimed c.args.cover c.args.folio (g.P.Parts.holds c.add-2.new.parts) room2)) (sym c.rights_filed-ids.ensures.value)
     (can_still c.args.claims.now.claimed c.args.cover c.args.folio at0 at2 room0 room2 (g.P.Parts.holds c.args.parts.now) (g.P.Parts.holds c.add-2.new.parts)
     (earlier_rights c.args.journal.now.receipts c.args.item c.args.folio)
     (both_leave c.args.folio at0 (g.P.Parts.at c.add.new.parts) at2 room0 (g.P.Parts.room c.add.new.parts) room2 c.entry_by.result c.entry_by-2.result

@@ -22,8 +22,8 @@ enter_right_left-requires-clause-left g c =
     let room1 = g.P.Parts.room c.loop-id.parts in
     let holds1 = g.P.Parts.holds c.loop-id.parts in
     let next : drop c.loop-id.id-index ids ≡ id ∷ rest = drop_next RightNo ids c.loop-id.id-index id c.loop-id-test.true c.id-item.is in
-    let can = subst (AllByRecursion (CanBeLeft c.args.claims.now.claimed c.args.cover c.args.folio holds0 at0 room0)) next
-    (all_dropped (CanBeLeft c.args.claims.now.claimed c.args.cover c.args.folio holds0 at0 room0) c.loop-id.id-index ids c.requires.left) in
+    let can = subst (AllByRecursion (CanBeLeft c.args.claims.now.claimed c.args.cover c.args.folio holds0 room0)) next
+    (all_dropped (CanBeLeft c.args.claims.now.claimed c.args.cover c.args.folio holds0 room0) c.loop-id.id-index ids c.requires.left) in
     still_left f c.args.claims.now.claimed c.args.cover c.args.folio ids id rest at0 at1 room0 room1 holds0 holds1
     (subst (λ ks. Progress RightNo f (IsApart c.args.folio ks) ids ks at0 at1 room0 room1 holds0 holds1) next c.loop-id.invariant) can.0
 
