@@ -22,6 +22,7 @@ pub mod ExchangedKept
 pub mod ExchangesStand
 pub mod ExercisedOnce
 pub mod FiledItems
+pub mod FiledSteps
 pub mod FitFilings
 pub mod GoingOn
 pub mod InPlaceKept
@@ -61,6 +62,7 @@ pub mod SaleGroundsFail
 pub mod SalesAsBefore
 pub mod SalesKeep
 pub mod SalesLocally
+pub mod ScratchRooms
 pub mod SettledAsBefore
 pub mod StandingParts
 pub mod StepLemmas

@@ -195,13 +195,13 @@ award_named n buyer bid s =
     (elim (lowest s) as (λ o. AllByRecursion (Names n) (option_map_or (award_entries s buyer bid) o [])) [
       | None ↦ tt
       | Some least ↦ (
+        tt,
+        (
           tt,
-          (
-            tt,
-            each_mapped (Names n) (λ (x : CreatedRight). left_of s least.cover x.id) (live_by_act s.at s.folio)
-            (λ x. left_named n (remaining (claimed_in s) least.cover x.id) (Right s.folio x.id)),
-          ),
-        )
+          each_mapped (Names n) (λ (x : CreatedRight). left_of s least.cover x.id) (live_by_act s.at s.folio)
+              (λ x. left_named n (remaining (claimed_in s) least.cover x.id) (Right s.folio x.id)),
+        ),
+      )
     ])
 
 item_named : (journal : List Receipt) (i : ℕ) (stands : Key → List Entry) (w : Item) → AllByRecursion (Names i) (brought_by_item journal i stands w).entries

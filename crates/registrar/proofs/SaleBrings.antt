@@ -68,7 +68,7 @@ live_created at folio x there =
     (of_filing is_live_with at folio from.0 x from.2).made
 
 -- what is among some rights has its key among theirs
-in_keys : (folio : ℕ) (ids : List RightNo) (id : RightNo) → In id ids → Contains (map (Right folio) ids) (Right folio id)
+pub in_keys : (folio : ℕ) (ids : List RightNo) (id : RightNo) → In id ids → Contains (map (Right folio) ids) (Right folio id)
 in_keys folio [] id there = absurd there
 in_keys folio (x ∷ xs) id there =
     ⊎_elim (λ first. subst (λ r. Contains (Right folio x ∷ map (Right folio) xs) (Right folio r)) first (contains_first (Right folio x) (map (Right folio) xs)))
@@ -80,7 +80,7 @@ among_keys folio ids id is =
     subst (λ r. Contains (map (Right folio) ids) (Right folio r)) (sym (right_is id found.0 found.2)) (in_keys folio ids found.0 found.1)
 
 -- the keys of the sale behind its first
-abbrev title_and_rights : List Receipt → ℕ → ℕ → List Key
+abbrev pub title_and_rights : List Receipt → ℕ → ℕ → List Key
 title_and_rights journal i folio = Title folio ∷ map (Right folio) (earlier_rights journal i folio)
 
 -- A right that stood before a receipt, as item i finds it in a kept register, has its key among those of the sale.
@@ -158,10 +158,10 @@ award_is_of_item journal at folio i buyer bid kept stands =
     (elim (lowest s) as (λ o. AllByRecursion (IsOfItem journal i keys) (option_map_or (award_entries s buyer bid) o [])) [
       | None ↦ tt
       | Some least ↦ (
-          record { by_item = refl; on_day = refl; there = case_is_key journal i folio; content = tt },
-          (
-            record { by_item = refl; on_day = refl; there = title_is_key journal i folio; content = tt },
-            rights_are_of_item journal at folio i least kept stands,
-          ),
-        )
+        record { by_item = refl; on_day = refl; there = case_is_key journal i folio; content = tt },
+        (
+          record { by_item = refl; on_day = refl; there = title_is_key journal i folio; content = tt },
+          rights_are_of_item journal at folio i least kept stands,
+        ),
+      )
     ])

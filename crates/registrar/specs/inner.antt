@@ -6,3 +6,4 @@ pub mod OpenFolios
 pub mod Reckoned
 pub mod RoomToEnter
 pub mod SettledTo
+pub mod Steps

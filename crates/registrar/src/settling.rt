@@ -2,25 +2,24 @@
 ghost use Rattle.std.specs.Prelude.{◌≡◌, ◌<◌, ◌≤◌, ℕ, Some, length, Contains, IsSome, IsTrue};
 ghost use Rattle.std.specs.Result.{result_err, result_ok};
 ghost use Rattle.gb_base.specs.declared.keys.Key.{Key};
-ghost use Rattle.act_model.specs.Receiving.{item_at};
 ghost use Rattle.act_model.specs.Touches.{filing_at, keys_of_filing};
 ghost use Rattle.folio_sections.specs.Adding.{AddsList, HasRoom};
 ghost use Rattle.registrar.specs.Enters.{enters};
 ghost use Rattle.consent_rules.specs.Judging.{KnowsExchanges};
 ghost use Rattle.interim_orders.specs.Orders.{state_of};
 ghost use Rattle.interim_orders.specs.declared.states.FilingState.TheVariants.{Pending};
-ghost use Rattle.registrar.specs.Brings.{brought_by_cure, brought_by_filing, brought_by_item, brought_in_state, lowest_said, verdict_on_award, verdict_on_lapse, verdict_unless};
-ghost use Rattle.conflict_queue.specs.ItemKeys.{keys_by_item};
-ghost use Rattle.registrar.specs.Rooms.{IsRoomy, room_by_item};
-ghost use Rattle.sale_rules.specs.SaleParts.{CanSettle, OfEachKept};
+ghost use Rattle.registrar.specs.Brings.{brought_by_cure, brought_by_filing, brought_in_state, lowest_said, verdict_on_award, verdict_on_lapse, verdict_unless};
+ghost use Rattle.registrar.specs.Rooms.{IsForFolio, IsRoomy};
+ghost use Rattle.registrar.specs.inner.Steps.{CanStep, Settles, filing_item, lapse_item};
+ghost use Rattle.act_model.specs.declared.items.Item.TheVariants.{Award, Cure, OpenBids, Register, Seize};
 
 use crate::{Scratch, Verdict};
-use act_model::{Item, Journal, Matter, filing_at};
+use act_model::{Basis, Docs, Filing, Item, Journal, Matter, Registration, filing_at};
 use auction_classes::Lowest;
 use consent_rules::{Judgement, judge};
 use entry_rules::enter;
 use folio_sections::Parts;
-use gb_base::{ReceiptNo, Section};
+use gb_base::{Cents, Day, FolioId, Person, ReceiptNo, Section};
 use interim_orders::{FilingState, Lapse, close_order, enter_notices, lapse, open_order, state};
 use sale_rules::{AwardRefusal, award, open_bids, register, seize};
 
@@ -32,41 +31,153 @@ pub(crate) fn settle<P: Parts>(
     item: ReceiptNo,
     received: &Item,
 ) -> Verdict
-    requires received { item ≤ length journal.now.receipts }
-    requires item { item_at journal.now.receipts item ≡ Some received.now }
-    requires parts { CanSettle journal.now.receipts item (keys_by_item journal.now.receipts item received.now) (P.holds parts.old) (P.at parts.old) (P.room parts.old) }
-    requires room { (k : Key) → Contains (keys_by_item journal.now.receipts item received.now) k → room_by_item item received.now (P.at parts.old k) ≤ P.room parts.old k }
+    requires step { CanStep journal.now.receipts item received.now (P.holds parts.old) (P.at parts.old) (P.room parts.old) }
     requires scratch { IsRoomy journal.now.receipts item (P.at parts.old) received.now scratch.old }
-    ensures verdict { OfEachKept journal.now.receipts (P.holds parts.old) (P.at parts.old) (λ register. result ≡ (brought_by_item journal.now.receipts item register received.now).verdict) }
-    ensures added { OfEachKept journal.now.receipts (P.holds parts.old) (P.at parts.old)
-        (λ register. AddsList (P.at parts.old) (P.at parts.new) (P.room parts.old) (P.room parts.new) (brought_by_item journal.now.receipts item register received.now).entries) }
+    ensures settles { Settles journal.now.receipts item (received.now) (P.holds parts.old) (P.at parts.old) (P.at parts.new) (P.room parts.old) (P.room parts.new) result }
     ensures held { P.holds parts.new ≡ P.holds parts.old }
     ensures scratch { scratch.new ≡ scratch.old }
 {
     match received {
-        Item::Filing(_) => {
-            let judgement = judge(parts, journal, item, item);
-            settle_filing(parts, journal, item, judgement)
+        Item::Filing(filing) => settle_received(parts, journal, item, filing),
+        Item::Cure { filing, docs } => settle_cured(parts, journal, item, *filing, docs),
+        Item::Lapse { filing } => settle_lapse(parts, journal, item, *filing),
+        Item::Seize {
+            folio,
+            basis,
+            served,
+        } => settle_seizure(parts, journal, item, *folio, basis, *served),
+        Item::Register { folio, what } => {
+            settle_registration(parts, journal, item, *folio, what)
         }
-        Item::Cure { filing, .. } => settle_cure(parts, journal, item, *filing),
-        Item::Lapse { .. } => verdict_on_lapse(lapse(parts, journal, item)),
-        Item::Seize { folio, basis, .. } => verdict_unless(
-            seize(parts, journal, item, *folio, basis).err(),
-            Verdict::Seized,
-        ),
-        Item::Register { folio, what } => verdict_unless(
-            register(parts, journal, item, *folio, what).err(),
-            Verdict::Registered,
-        ),
         Item::OpenBids { folio, costs } => {
-            verdict_on_call(open_bids(parts, scratch, journal, item, *folio, *costs))
+            settle_call(parts, scratch, journal, item, *folio, *costs)
         }
-        Item::Award { folio, buyer, bid } => verdict_on_award(
-            bid.get(),
-            award(parts, scratch, journal, item, *folio, *buyer, *bid),
-        ),
+        Item::Award { folio, buyer, bid } => {
+            settle_award(parts, scratch, journal, item, *folio, *buyer, *bid)
+        }
         Item::Distribute { .. } => Verdict::NotPending,
     }
+}
+
+/// A filing is judged as it is received.
+fn settle_received<P: Parts>(
+    parts: &mut P,
+    journal: &Journal,
+    item: ReceiptNo,
+    filing: &Filing,
+) -> Verdict
+    requires { CanStep journal.now.receipts item (filing_item filing.now) (P.holds parts.old) (P.at parts.old) (P.room parts.old) }
+    ensures settles { Settles journal.now.receipts item (filing_item filing.now) (P.holds parts.old) (P.at parts.old) (P.at parts.new) (P.room parts.old) (P.room parts.new) result }
+    ensures held { P.holds parts.new ≡ P.holds parts.old }
+{
+    let judgement = judge(parts, journal, item, item);
+    settle_filing(parts, journal, item, judgement)
+}
+
+/// A cure has the filing that it names judged anew, where that waits.
+fn settle_cured<P: Parts>(
+    parts: &mut P,
+    journal: &Journal,
+    item: ReceiptNo,
+    filing: ReceiptNo,
+    docs: &Docs,
+) -> Verdict
+    requires { CanStep journal.now.receipts item (Cure filing docs.now) (P.holds parts.old) (P.at parts.old) (P.room parts.old) }
+    ensures settles { Settles journal.now.receipts item (Cure filing docs.now) (P.holds parts.old) (P.at parts.old) (P.at parts.new) (P.room parts.old) (P.room parts.new) result }
+    ensures held { P.holds parts.new ≡ P.holds parts.old }
+{
+    settle_cure(parts, journal, item, filing)
+}
+
+/// A lapse ends the waiting of the filing that it names, where its deadline is over.
+fn settle_lapse<P: Parts>(
+    parts: &mut P,
+    journal: &Journal,
+    item: ReceiptNo,
+    filing: ReceiptNo,
+) -> Verdict
+    requires { CanStep journal.now.receipts item (lapse_item filing) (P.holds parts.old) (P.at parts.old) (P.room parts.old) }
+    ensures settles { Settles journal.now.receipts item (lapse_item filing) (P.holds parts.old) (P.at parts.old) (P.at parts.new) (P.room parts.old) (P.room parts.new) result }
+    ensures held { P.holds parts.new ≡ P.holds parts.old }
+{
+    verdict_on_lapse(lapse(parts, journal, item))
+}
+
+/// Land is seized, or the seizure is refused (ZVG § 20).
+fn settle_seizure<P: Parts>(
+    parts: &mut P,
+    journal: &Journal,
+    item: ReceiptNo,
+    folio: FolioId,
+    basis: &Basis,
+    served: Day,
+) -> Verdict
+    requires { CanStep journal.now.receipts item (Seize folio basis.now served) (P.holds parts.old) (P.at parts.old) (P.room parts.old) }
+    ensures settles { Settles journal.now.receipts item (Seize folio basis.now served) (P.holds parts.old) (P.at parts.old) (P.at parts.new) (P.room parts.old) (P.room parts.new) result }
+    ensures held { P.holds parts.new ≡ P.holds parts.old }
+{
+    verdict_unless(
+        seize(parts, journal, item, folio, basis).err(),
+        Verdict::Seized,
+    )
+}
+
+/// A claim is registered, or the registration is refused (ZVG § 37).
+fn settle_registration<P: Parts>(
+    parts: &mut P,
+    journal: &Journal,
+    item: ReceiptNo,
+    folio: FolioId,
+    what: &Registration,
+) -> Verdict
+    requires { CanStep journal.now.receipts item (Register folio what.now) (P.holds parts.old) (P.at parts.old) (P.room parts.old) }
+    ensures settles { Settles journal.now.receipts item (Register folio what.now) (P.holds parts.old) (P.at parts.old) (P.at parts.new) (P.room parts.old) (P.room parts.new) result }
+    ensures held { P.holds parts.new ≡ P.holds parts.old }
+{
+    verdict_unless(
+        register(parts, journal, item, folio, what).err(),
+        Verdict::Registered,
+    )
+}
+
+/// Bidders are called, or the call is refused (ZVG § 66).
+fn settle_call<P: Parts>(
+    parts: &mut P,
+    scratch: &mut Scratch,
+    journal: &Journal,
+    item: ReceiptNo,
+    folio: FolioId,
+    costs: Cents,
+) -> Verdict
+    requires step { CanStep journal.now.receipts item (OpenBids folio costs) (P.holds parts.old) (P.at parts.old) (P.room parts.old) }
+    requires scratch { IsForFolio journal.now.receipts item folio (P.at parts.old) scratch.old }
+    ensures settles { Settles journal.now.receipts item (OpenBids folio costs) (P.holds parts.old) (P.at parts.old) (P.at parts.new) (P.room parts.old) (P.room parts.new) result }
+    ensures held { P.holds parts.new ≡ P.holds parts.old }
+    ensures scratch { scratch.new ≡ scratch.old }
+{
+    verdict_on_call(open_bids(parts, scratch, journal, item, folio, costs))
+}
+
+/// The land is awarded, or the award is refused (ZVG § 81).
+fn settle_award<P: Parts>(
+    parts: &mut P,
+    scratch: &mut Scratch,
+    journal: &Journal,
+    item: ReceiptNo,
+    folio: FolioId,
+    buyer: Person,
+    bid: Cents,
+) -> Verdict
+    requires step { CanStep journal.now.receipts item (Award folio buyer bid) (P.holds parts.old) (P.at parts.old) (P.room parts.old) }
+    requires scratch { IsForFolio journal.now.receipts item folio (P.at parts.old) scratch.old }
+    ensures settles { Settles journal.now.receipts item (Award folio buyer bid) (P.holds parts.old) (P.at parts.old) (P.at parts.new) (P.room parts.old) (P.room parts.new) result }
+    ensures held { P.holds parts.new ≡ P.holds parts.old }
+    ensures scratch { scratch.new ≡ scratch.old }
+{
+    verdict_on_award(
+        bid.get(),
+        award(parts, scratch, journal, item, folio, buyer, bid),
+    )
 }
 
 /// A filing is entered, rejected or set to wait, as it is judged.

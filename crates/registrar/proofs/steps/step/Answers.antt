@@ -6,17 +6,17 @@ use Rattle.registrar.proofs.StepLemmas.{brings_is, can_settle, has_room, is_room
 use Rattle.registrar.specs.Brings.{Brought, brings}
 use Rattle.registrar.proofs.steps.step.Goals as goal
 
-pub settle-requires-clause-item : goal.settle-requires-clause-item
-settle-requires-clause-item g c = item_is c.args.journal.now.receipts c.args.item c.receipt_of-receipt.result.now c.receipt_of-receipt.ensures.value
-
-pub settle-requires-clause-parts : goal.settle-requires-clause-parts
-settle-requires-clause-parts g c =
-    can_settle c.args.journal.now.receipts c.args.item (g.P.Parts.holds c.args.parts.now) (g.P.Parts.at c.args.parts.now) (g.P.Parts.room c.args.parts.now) c.receipt_of-receipt.result.now
-    c.receipt_of-receipt.ensures.value c.requires.held c.requires.room c.requires.earlier c.requires.kept
-
-pub settle-requires-clause-room : goal.settle-requires-clause-room
-settle-requires-clause-room g c =
-    has_room c.args.journal.now.receipts c.args.item (g.P.Parts.at c.args.parts.now) (g.P.Parts.room c.args.parts.now) c.receipt_of-receipt.result.now c.receipt_of-receipt.ensures.value c.requires.room
+pub settle-requires-clause-step : goal.settle-requires-clause-step
+settle-requires-clause-step g c = record {
+  receives = c.receipt_of-receipt.ensures.journal;
+  within = c.requires.received;
+  item = item_is c.args.journal.now.receipts c.args.item c.receipt_of-receipt.result.now c.receipt_of-receipt.ensures.value;
+  parts =
+      can_settle c.args.journal.now.receipts c.args.item (g.P.Parts.holds c.args.parts.now) (g.P.Parts.at c.args.parts.now) (g.P.Parts.room c.args.parts.now) c.receipt_of-receipt.result.now
+      c.receipt_of-receipt.ensures.value c.requires.held c.requires.room c.requires.earlier c.requires.kept;
+  wanted =
+      has_room c.args.journal.now.receipts c.args.item (g.P.Parts.at c.args.parts.now) (g.P.Parts.room c.args.parts.now) c.receipt_of-receipt.result.now c.receipt_of-receipt.ensures.value c.requires.room;
+}
 
 pub settle-requires-clause-scratch : goal.settle-requires-clause-scratch
 settle-requires-clause-scratch g c =
@@ -24,20 +24,20 @@ settle-requires-clause-scratch g c =
 
 pub returns-clause-verdict : goal.returns-clause-verdict
 returns-clause-verdict g c = λ register stands kept.
-    c.settle.ensures.verdict register stands kept
+    c.settle.ensures.settles.verdict register stands kept
     ∙ ap (λ (b : Brought). b.verdict) (sym (brings_is c.args.journal.now.receipts c.args.item register c.receipt_of-receipt.result.now c.receipt_of-receipt.ensures.value))
 
 pub returns-clause-added : goal.returns-clause-added
 returns-clause-added g c = λ register stands kept.
     subst (λ (b : Brought). AddsList (g.P.Parts.at c.args.parts.now) (g.P.Parts.at c.settle.new.parts) (g.P.Parts.room c.args.parts.now) (g.P.Parts.room c.settle.new.parts) b.entries)
     (sym (brings_is c.args.journal.now.receipts c.args.item register c.receipt_of-receipt.result.now c.receipt_of-receipt.ensures.value))
-    (c.settle.ensures.added register stands kept)
+    (c.settle.ensures.settles.added register stands kept)
 
 pub returns-clause-others : goal.returns-clause-others
 returns-clause-others g c = λ k off.
     let before = c.requires.kept in
     stays_elsewhere c.args.journal.now.receipts c.args.item before.register (g.P.Parts.at c.args.parts.now) (g.P.Parts.at c.settle.new.parts) c.receipt_of-receipt.result.now k
-    c.receipt_of-receipt.ensures.journal before.kept c.receipt_of-receipt.ensures.value off (c.settle.ensures.added before.register before.stands before.kept).there
+    c.receipt_of-receipt.ensures.journal before.kept c.receipt_of-receipt.ensures.value off (c.settle.ensures.settles.added before.register before.stands before.kept).there
 
 pub returns-clause-stands : goal.returns-clause-stands
 returns-clause-stands g c = λ register stands kept.
@@ -45,7 +45,7 @@ returns-clause-stands g c = λ register stands kept.
     (brings c.args.journal.now.receipts c.args.item register).entries stands c.settle.ensures.held
     (subst (λ (b : Brought). AddsList (g.P.Parts.at c.args.parts.now) (g.P.Parts.at c.settle.new.parts) (g.P.Parts.room c.args.parts.now) (g.P.Parts.room c.settle.new.parts) b.entries)
     (sym (brings_is c.args.journal.now.receipts c.args.item register c.receipt_of-receipt.result.now c.receipt_of-receipt.ensures.value))
-    (c.settle.ensures.added register stands kept)).there
+    (c.settle.ensures.settles.added register stands kept)).there
 
 pub returns-clause-kept : goal.returns-clause-kept
 returns-clause-kept g c =
@@ -54,4 +54,4 @@ returns-clause-kept g c =
     c.receipt_of-receipt.ensures.journal c.requires.held c.requires.earlier c.settle.ensures.held
     (subst (λ (b : Brought). AddsList (g.P.Parts.at c.args.parts.now) (g.P.Parts.at c.settle.new.parts) (g.P.Parts.room c.args.parts.now) (g.P.Parts.room c.settle.new.parts) b.entries)
     (sym (brings_is c.args.journal.now.receipts c.args.item before.register c.receipt_of-receipt.result.now c.receipt_of-receipt.ensures.value))
-    (c.settle.ensures.added before.register before.stands before.kept)).there
+    (c.settle.ensures.settles.added before.register before.stands before.kept)).there

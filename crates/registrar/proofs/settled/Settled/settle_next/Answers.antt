@@ -9,6 +9,14 @@ use Rattle.registrar.proofs.JournalKeys.{has_its_room, touched_is_given}
 use Rattle.registrar.specs.inner.Listed.{closed_folio_of_title}
 use Rattle.registrar.proofs.settled.Settled.settle_next.Goals as goal
 
+pub make_scratch-requires : goal.make_scratch-requires
+make_scratch-requires c = record {
+  held = λ k there.
+      c.in_ok-make_room.ensures.held k
+      ∙ or_right (is_held c.args.self.now.parts k) (is_given c.as_slice.result.now k)
+      (touched_is_given c.args.journal.now.receipts c.number_behind-item.result c.as_slice.result.now k (c.as_slice.ensures.value ∙ c.in_ok-keys.ensures) there);
+}
+
 pub step-verdict-requires-clause-held : goal.step-verdict-requires-clause-held
 step-verdict-requires-clause-held c = λ k there.
     c.in_ok-make_room.ensures.held k
