@@ -23,11 +23,11 @@ use Rattle.registrar.proofs.Dealing.{Deals}
 use Rattle.registrar.proofs.Dealing.Turn.{finds, is_it}
 use Rattle.registrar.proofs.ItemRooms.{lapse_names, named, read_of_item}
 use Rattle.kept_registers.proofs.WellFiled.{well_filed}
-use Rattle.registrar.proofs.ItemsKeep.{filing_leaves, fit_as_judged}
+use Rattle.registrar.proofs.ItemsKeep.{fit_as_judged}
 use Rattle.registrar.proofs.Keeping.{Leaves, cure_leaves, end_leaves, none_leave}
 use Rattle.registrar.proofs.WaitingStates.{found_waiting, waiting_is_a_filing}
-use Rattle.registrar.specs.Brings.{brought_by_cure, brought_by_item, brought_in_state, nothing_pending}
-use Rattle.conflict_queue.specs.ItemKeys.{keys_by_item, keys_of_named}
+use Rattle.registrar.specs.Brings.{brought_by_cure, brought_in_state, nothing_pending}
+use Rattle.conflict_queue.specs.ItemKeys.{keys_of_named}
 
 -- a receipt of which the item is known is there
 pub there_is : (o : Option Receipt) (w : Item) → option_map (λ r. r.item) o ≡ Some w → IsSome o

@@ -1,5 +1,5 @@
 -- What an item that is about a filing needs and brings on parts that stand for a kept register.
-use Rattle.std.proofs.Common.{◌≡◌, ℕ, Bool, List, Some, None, Option, option_map, sym, ap, subst, ◌∙◌}
+use Rattle.std.proofs.Common.{◌≡◌, ℕ, Bool, List, Some, option_map, sym, ap, subst, ◌∙◌}
 use Rattle.std.specs.Option.{option_map_or}
 use Rattle.gb_base.specs.declared.keys.Key.{Key}
 use Rattle.act_model.specs.Receiving.{item_at, receipt_at}

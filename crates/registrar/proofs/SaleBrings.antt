@@ -1,5 +1,5 @@
 -- What an item of a forced sale brings: entries by it, at keys of the sale, with contents of a sale alone.
-use Rattle.std.proofs.Common.{◌≡◌, ⊎_elim, ℕ, ◌≤◌, eqb, true, false, cond, List, [], ◌∷◌, All, Contains, Option, Some, None, map, refl, sym, ap, subst, ◌∙◌, arith}
+use Rattle.std.proofs.Common.{◌≡◌, ⊎_elim, ℕ, ◌≤◌, eqb, true, false, cond, List, [], ◌∷◌, Contains, Option, Some, None, map, refl, sym, ap, subst, ◌∙◌, arith}
 use Rattle.std.specs.List.{AllByRecursion}
 use Rattle.std.proofs.lemmas.Bool.Decides.{nat_tests}
 use Rattle.std.specs.Option.{option_map_or}

@@ -1,5 +1,5 @@
 -- What an item of a forced sale adds to its case goes with it.
-use Rattle.std.proofs.Common.{◌≡◌, ⊎_elim, inl, inr, ℕ, ◌<◌, ◌≤◌, nat_lt, nat_le, Bool, true, false, cond, not, ◌&&◌, ◌||◌, List, [], ◌∷◌, ◌++◌, Any, filter, map, slice_get, IfSome, IsSome, IsSomeAnd, IsTrue, Option, Some, None, is_some, option_and_then, option_map, refl, sym, ap, subst, ◌∙◌, arith}
+use Rattle.std.proofs.Common.{◌≡◌, ⊎_elim, inl, inr, ℕ, ◌<◌, ◌≤◌, nat_lt, Bool, true, false, cond, not, ◌&&◌, ◌||◌, List, [], ◌∷◌, ◌++◌, Any, filter, map, slice_get, IfSome, IsSome, IsSomeAnd, IsTrue, Option, Some, None, is_some, option_and_then, option_map, refl, sym, ap, subst, ◌∙◌, arith}
 use Rattle.std.specs.List.{AllByRecursion, list_any}
 use Rattle.std.specs.Option.{option_map_or}
 use Rattle.std.proofs.lemmas.Bool.{and_parts, cases_lt, false≢true}
@@ -12,7 +12,6 @@ use Rattle.gb_base.proofs.Members.{In}
 use Rattle.gb_base.proofs.SameRights.{others_turned, right_is}
 use Rattle.act_model.specs.Acts.{is_in_division_three}
 use Rattle.act_model.specs.Receiving.{IsJournal, item_at, receipt_at}
-use Rattle.act_model.specs.SaleKeys.{earlier_rights}
 use Rattle.act_model.specs.Touches.{act_at, act_of_right, filing_at, filing_in}
 use Rattle.act_model.specs.declared.items.Item.{Item}
 use Rattle.act_model.specs.declared.items.Item.TheVariants as item
@@ -21,21 +20,20 @@ use Rattle.act_model.specs.declared.sales.Basis.{Basis}
 use Rattle.act_model.specs.declared.sales.Basis.TheVariants as basis
 use Rattle.act_model.specs.declared.sales.Registration.{Registration}
 use Rattle.act_model.specs.declared.sales.Registration.TheVariants as registration
-use Rattle.auction_classes.specs.Sales.{at_case, sale_at}
+use Rattle.auction_classes.specs.Sales.{sale_at}
 use Rattle.auction_classes.proofs.KeptSales.{all_of_case, below_twice, created_here}
 use Rattle.auction_classes.proofs.PartsRead.{among_filed}
 use Rattle.folio_line.specs.AllRights.{is_among}
 use Rattle.folio_sections.specs.Cases.{case, is_registration, is_seizure, registrations, seizures}
 use Rattle.folio_sections.specs.Entries.{entry_by}
 use Rattle.folio_sections.specs.Fronts.{below}
-use Rattle.folio_sections.specs.Limits.{most_registrations, most_seizures}
 use Rattle.folio_sections.specs.Rights.{created, is_full, is_live, live_right}
 use Rattle.folio_sections.specs.Titles.{is_opening}
 use Rattle.folio_sections.specs.declared.entries.Created.{Created}
 use Rattle.folio_sections.specs.declared.entries.Entry.{Entry}
 use Rattle.folio_sections.specs.declared.entries.What.{What}
 use Rattle.folio_sections.specs.declared.entries.What.TheVariants as what
-use Rattle.folio_sections.proofs.FilteredLists.{all_in, any_in, in_all, of_any, of_filter}
+use Rattle.folio_sections.proofs.FilteredLists.{all_in, in_all, of_any, of_filter}
 use Rattle.kept_registers.specs.Kept.{Kept}
 use Rattle.kept_registers.specs.KeptCases.{IsItsItem, IsOpenedBefore, SeizesFromOlder, StandsByItem, arrears_of, register_same_arrears, seized_right}
 use Rattle.kept_registers.specs.KeptRights.{IsAsFiled}

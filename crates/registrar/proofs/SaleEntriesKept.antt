@@ -1,5 +1,5 @@
 -- What an item of a forced sale brings leaves receipts, places, waiting filings and rights as every register keeps them.
-use Rattle.std.proofs.Common.{◌≡◌, ℕ, ◌<◌, ◌≤◌, true, false, List, All, AllPairs, Contains, IsSome, refl, sym, subst}
+use Rattle.std.proofs.Common.{◌≡◌, ℕ, ◌≤◌, true, false, List, All, AllPairs, Contains, IsSome, refl, sym, subst}
 use Rattle.std.specs.List.{AllByRecursion}
 use Rattle.std.proofs.lemmas.List.Elements.{All-append, All-from_recursion}
 use Rattle.gb_base.specs.declared.keys.Key.{Key}

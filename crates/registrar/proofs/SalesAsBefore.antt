@@ -1,36 +1,30 @@
 -- What an item of a forced sale brings stays when more receipts come: a sale looks at receipts up to its item alone.
-use Rattle.std.proofs.Common.{◌≡◌, ℕ, ◌+◌, ◌-◌, ◌<◌, ◌≤◌, nat_lt, Bool, true, false, cond, ◌||◌, ◌&&◌, ◌==◌, List, [], ◌∷◌, ◌++◌, IfSome, filter, filter_map, find, fold, length, map, slice_get, Option, Some, None, is_none, option_and_then, option_map, refl, sym, ap, subst, ◌∙◌, arith}
-use Rattle.std.specs.List.{AllByRecursion, cons_option, list_any}
+use Rattle.std.proofs.Common.{◌≡◌, ℕ, ◌≤◌, false, ◌||◌, List, [], ◌∷◌, ◌++◌, length, map, is_none, option_and_then, refl, ap}
+use Rattle.std.specs.List.{AllByRecursion}
 use Rattle.std.specs.Option.{option_map_or}
-use Rattle.std.proofs.lemmas.List.Elements.{All-from_recursion, recursion_from_All}
 use Rattle.gb_base.specs.declared.keys.Key.{Key}
 use Rattle.gb_base.specs.declared.keys.Key.TheVariants.{Case, Right, Title}
-use Rattle.act_model.specs.Receiving.{day_of, item_at}
-use Rattle.act_model.specs.declared.items.Item.{Item}
+use Rattle.act_model.specs.Receiving.{item_at}
 use Rattle.act_model.specs.declared.receipts.Receipt.{Receipt}
 use Rattle.act_model.specs.declared.sales.Basis.{Basis}
 use Rattle.act_model.specs.declared.sales.Registration.{Registration}
 use Rattle.act_model.specs.declared.sales.Registration.TheVariants as registration
-use Rattle.auction_classes.specs.SaleClaims.{SaleClaims, claimed_in, of_class_four, seized_with}
-use Rattle.auction_classes.specs.Sales.{Sale, at_case, costs_found, costs_named, costs_named_by, finding_of, is_behind, number_called, number_seized, read, registered_by, registrations_found, sale_at, sale_day, seizure_by, seizures_found, year_seized}
+use Rattle.auction_classes.specs.Sales.{sale_at}
 use Rattle.auction_classes.specs.LowestBid.{lowest_bid, remaining}
 use Rattle.auction_classes.specs.declared.lowest_bids.Lowest.{Lowest}
 use Rattle.auction_classes.proofs.ClaimsStay.{all_inside, case_is_below, claimed_stays, numbers_below, numbers_of, same_any}
 use Rattle.folio_line.specs.FolioRights.{live_by_act}
-use Rattle.folio_sections.specs.Cases.{call, call_by, case, is_registration, is_seizure, registration_numbers, seizure_numbers}
-use Rattle.folio_sections.specs.Entries.{entry_by}
+use Rattle.folio_sections.specs.Cases.{case, is_registration}
 use Rattle.folio_sections.specs.Fronts.{below}
 use Rattle.folio_sections.specs.declared.entries.Entry.{Entry}
-use Rattle.folio_sections.specs.declared.entries.What.{What}
 use Rattle.folio_sections.specs.declared.entries.What.TheVariants as what
-use Rattle.folio_sections.proofs.FilteredLists.{all_filtered}
-use Rattle.gb_base.specs.RightNo.{RightNo, same_right}
+use Rattle.gb_base.specs.RightNo.{same_right}
 use Rattle.gb_base.specs.declared.sections.Section.TheVariants as section
 use Rattle.kept_registers.specs.KeptCases.{arrears_of}
-use Rattle.registrar.proofs.LaterReceipts.{day_stays, entry_stays}
-use Rattle.registrar.specs.Brings.{Brought, brought_by_award, brought_by_call, brought_by_registration, brought_by_seizure, lowest_said, verdict_on_award, verdict_unless}
+use Rattle.registrar.proofs.LaterReceipts.{entry_stays}
+use Rattle.registrar.specs.Brings.{brought_by_award, brought_by_call, brought_by_registration, brought_by_seizure, lowest_said, verdict_on_award, verdict_unless}
 use Rattle.registrar.specs.declared.verdicts.Verdict.TheVariants as verdict
-use Rattle.sale_rules.specs.SaleEntries.{award_entries, left_with, unless_refused}
+use Rattle.sale_rules.specs.SaleEntries.{left_with, unless_refused}
 use Rattle.sale_rules.specs.SaleGrounds.{first_ground, has_all_registrations, is_awarded, lacks_call, lacks_case, lowest, refusal_by, refusal_of_award, refusal_of_call, refusal_of_registration, refusal_of_seizure, registers_arrears, repeats_arrears, short_of_cash}
 
 module _ (journal more : List Receipt) (stands : Key → List Entry) (folio i : ℕ) (within : i ≤ length journal) where

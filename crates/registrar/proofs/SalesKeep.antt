@@ -1,14 +1,14 @@
 -- What an item of a forced sale brings leaves a kept register.
-use Rattle.std.proofs.Common.{◌≡◌, ⊎_elim, ℕ, ◌<◌, eqb, true, false, cond, ◌&&◌, List, [], ◌∷◌, ◌++◌, All, IfSome, IsSomeAnd, IsTrue, Option, Some, None, refl, sym, ap, subst, ◌∙◌, arith}
+use Rattle.std.proofs.Common.{◌≡◌, ℕ, ◌<◌, eqb, true, false, cond, ◌&&◌, List, [], ◌∷◌, ◌++◌, All, IsSomeAnd, IsTrue, Some, None, refl, sym, ap, subst, ◌∙◌}
 use Rattle.std.specs.List.{AllByRecursion}
 use Rattle.std.specs.Option.{option_map_or}
 use Rattle.std.proofs.lemmas.Bool.{false≢true}
 use Rattle.std.proofs.lemmas.List.{append-nil}
-use Rattle.std.proofs.lemmas.List.Elements.{All-from_recursion, recursion_from_All}
+use Rattle.std.proofs.lemmas.List.Elements.{recursion_from_All}
 use Rattle.gb_base.specs.Keys.{same_key}
 use Rattle.gb_base.specs.declared.keys.Key.{Key}
 use Rattle.gb_base.specs.declared.keys.Key.TheVariants.{Case, Right, Title}
-use Rattle.act_model.proofs.KeyOrder.{itself, same_is}
+use Rattle.act_model.proofs.KeyOrder.{same_is}
 use Rattle.act_model.specs.Receiving.{IsJournal, item_at, receipt_at}
 use Rattle.act_model.specs.SaleKeys.{keys_of_sale}
 use Rattle.act_model.specs.declared.items.Item.{Item}
@@ -20,7 +20,7 @@ use Rattle.auction_classes.specs.Sales.{sale_at}
 use Rattle.auction_classes.specs.declared.lowest_bids.Lowest.{Lowest}
 use Rattle.folio_line.specs.FolioRights.{live_by_act}
 use Rattle.folio_line.specs.declared.folio_rights.CreatedRight.{CreatedRight}
-use Rattle.folio_sections.specs.Cases.{case, is_distribution, is_registration, is_seizure}
+use Rattle.folio_sections.specs.Cases.{case, is_distribution, is_seizure}
 use Rattle.folio_sections.specs.Entries.{at, entry_by, with_entries}
 use Rattle.folio_sections.specs.Fronts.{below}
 use Rattle.folio_sections.specs.declared.entries.Entry.{Entry}
@@ -32,8 +32,8 @@ use Rattle.folio_sections.proofs.Unchanged.{all_weaker}
 use Rattle.folio_sections.specs.Titles.{is_opening}
 use Rattle.kept_registers.specs.KeptCases.{CaseInOrder, IsItsItem, IsOpenedBefore, LeavesCents, StandsByItem}
 use Rattle.registrar.proofs.CasesKept.{opened_stays}
-use Rattle.registrar.proofs.CasesPushed.{CaseHolds, GoesWith, SaleStands, all_are_below, sale_with}
-use Rattle.registrar.proofs.ContainedParts.{any_in_first, contains_first, contains_later, each_mapped}
+use Rattle.registrar.proofs.CasesPushed.{GoesWith, SaleStands, all_are_below, sale_with}
+use Rattle.registrar.proofs.ContainedParts.{any_in_first, contains_first, each_mapped}
 use Rattle.registrar.proofs.CreatedKept.{created_stays}
 use Rattle.registrar.proofs.CuresKeep.{AreEarlier, there_is}
 use Rattle.registrar.proofs.ExchangedKept.{exchanged_stays}

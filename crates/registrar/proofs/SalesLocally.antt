@@ -1,6 +1,6 @@
 -- An item of a forced sale looks at its own keys alone: what it brings to a kept register it brings to each other one that agrees
 -- with it there.
-use Rattle.std.proofs.Common.{◌≡◌, ⊎_elim, inl, inr, ℕ, Bool, true, false, cond, not, ◌&&◌, ◌||◌, List, [], ◌∷◌, ◌++◌, Contains, filter_map, flat_map, map, nat_lt, nat_le, slice_get, Option, Some, None, is_none, is_some, option_and_then, option_map, refl, sym, ap, subst, ◌∙◌, ◌≤◌, arith}
+use Rattle.std.proofs.Common.{◌≡◌, ⊎_elim, inl, inr, ℕ, true, false, not, ◌&&◌, ◌||◌, List, [], ◌∷◌, filter_map, flat_map, map, nat_lt, nat_le, slice_get, Some, None, is_none, is_some, option_and_then, refl, sym, ap, subst, ◌∙◌, ◌≤◌, arith}
 use Rattle.std.specs.List.{list_any}
 use Rattle.std.specs.Option.{option_map_or}
 use Rattle.std.proofs.lemmas.Bool.{false≢true}
@@ -30,7 +30,7 @@ use Rattle.folio_sections.specs.Entries.{entry_by}
 use Rattle.folio_sections.specs.Fronts.{below}
 use Rattle.folio_sections.specs.HeldRights.{receipt_numbers, rights_of_filing}
 use Rattle.folio_sections.specs.Limits.{most_registrations, most_seizures}
-use Rattle.folio_sections.specs.Rights.{created, is_full, live_right}
+use Rattle.folio_sections.specs.Rights.{created, live_right}
 use Rattle.folio_sections.specs.Titles.{is_open}
 use Rattle.folio_sections.specs.declared.entries.Created.{Created}
 use Rattle.folio_sections.specs.declared.entries.Entry.{Entry}
@@ -42,7 +42,7 @@ use Rattle.registrar.proofs.SaleBrings.{case_is_key, created_is_key_before, titl
 use Rattle.registrar.specs.Brings.{Brought, brought_by_award, brought_by_call, brought_by_registration, brought_by_seizure, lowest_said, verdict_on_award, verdict_unless}
 use Rattle.registrar.specs.declared.verdicts.Verdict.TheVariants as verdict
 use Rattle.sale_rules.specs.SaleEntries.{left_with, unless_refused}
-use Rattle.sale_rules.specs.SaleGrounds.{first_ground, is_filed_behind, is_seizable, lacks_right, lowest, refusal_by, refusal_of_award, refusal_of_call, refusal_of_registration, refusal_of_seizure, registers_arrears, repeats_arrears, short_of_cash}
+use Rattle.sale_rules.specs.SaleGrounds.{first_ground, is_filed_behind, is_seizable, lacks_right, refusal_by, registers_arrears, repeats_arrears, short_of_cash}
 
 -- a right from which may be seized is one in both readings, or in neither
 seizable_alike : (x y : List Entry) → AreAlike x y → is_seizable y ≡ is_seizable x

@@ -1,6 +1,6 @@
 -- A scratch that has room for the rights of a folio that are held, and for the exchanges by which they rise, is roomy enough for an
 -- item that reckons there.
-use Rattle.std.proofs.Common.{◌≡◌, ◌⊎◌, ⊎_elim, ℕ, ◌≤◌, Bool, true, cond, List, [], ◌∷◌, ◌++◌, Contains, IfSome, IsTrue, filter_map, flat_map, length, map, OnOk, Option, Some, None, Result, Ok, Err, option_and_then, option_map, refl, sym, ap, subst, ◌∙◌, inl, inr}
+use Rattle.std.proofs.Common.{◌≡◌, ℕ, ◌≤◌, Bool, true, cond, List, [], ◌∷◌, ◌++◌, Contains, IfSome, IsTrue, filter_map, length, map, OnOk, Some, None, Result, Ok, Err, option_and_then, option_map, refl, sym, ap, subst, inl, inr}
 use Rattle.std.specs.Option.{option_map_or}
 use Rattle.gb_base.specs.RightNo.{RightNo}
 use Rattle.gb_base.specs.declared.keys.Key.{Key}

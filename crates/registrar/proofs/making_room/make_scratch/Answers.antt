@@ -1,5 +1,4 @@
-use Rattle.std.proofs.Common.{sym, ◌∙◌, ◌≤◌, length, arith}
-use Rattle.act_model.specs.declared.receipts.Receipt.{Receipt}
+use Rattle.std.proofs.Common.{sym, ◌∙◌, arith}
 use Rattle.folio_sections.specs.Held.{entries_at, is_held}
 use Rattle.registrar.proofs.ScratchRooms.{both_on_ok, roomy_in}
 use Rattle.registrar.specs.Rooms.{HasItsScratch}
