@@ -65,3 +65,11 @@ impl Scratch {
         Ok(())
     }
 }
+
+/// Takes any type whose values threads may hand on and share.
+fn is_shared<T: Send + Sync>() {}
+
+/// Threads may hand a scratch on and share it.
+fn scratches_are_shared() {
+    is_shared::<Scratch>();
+}
