@@ -1,7 +1,7 @@
 -- What becomes of an item, as a line.
 use Rattle.std.specs.Prelude.{ℕ, List, [], ◌∷◌, ◌++◌, codes, flat_map}
 use Rattle.std.specs.Fmt.{decimal}
-use Rattle.gb_base.specs.Texts.{date_text, section_text}
+use Rattle.gb_base.specs.Texts.{date_text, euro, section_text}
 use Rattle.consent_rules.specs.declared.judgements.Defect.{Defect}
 use Rattle.registrar.specs.declared.verdicts.Verdict.{Verdict}
 use Rattle.registrar.specs.declared.verdicts.Verdict.TheVariants as verdict
@@ -26,6 +26,11 @@ verdict_text (verdict.StillOpen defects) = codes "still open for " ++ defects_te
 verdict_text verdict.Lapsed = codes "lapsed GBO 18"
 verdict_text (verdict.TooEarly until) = codes "too early " ++ date_text until
 verdict_text verdict.NotPending = codes "not pending"
+verdict_text verdict.Seized = codes "seized"
+verdict_text verdict.Registered = codes "registered"
+verdict_text (verdict.Lowest total cash) = codes "lowest " ++ (euro total ++ (codes " cash " ++ euro cash))
+verdict_text verdict.Awarded = codes "awarded"
+verdict_text (verdict.BidTooLow bid cash) = codes "rejected ZVG 44 bid " ++ (euro bid ++ (codes " cash " ++ euro cash))
 
 -- the same of receipt n, as a line
 abbrev pub verdict_line : ℕ → Verdict → List ℕ

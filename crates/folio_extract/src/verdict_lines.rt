@@ -1,7 +1,7 @@
 //! What becomes of a receipt, as a line.
 ghost use Rattle.std.specs.Prelude.{◌≡◌, ◌++◌, IfOk, OnOk, codes, option_map};
 ghost use Rattle.std.specs.String.{string_bytes};
-ghost use Rattle.gb_base.specs.Texts.{date_text};
+ghost use Rattle.gb_base.specs.Texts.{date_text, euro};
 ghost use Rattle.registrar.specs.RegisterState.{verdict_among};
 ghost use Rattle.folio_extract.specs.VerdictLines.{defect_text, defects_text, verdict_line, verdict_lines, verdict_text};
 
@@ -64,7 +64,35 @@ fn add_verdict(text: &mut String, verdict: &Verdict) -> Result<(), NoMemory>
         Verdict::Lapsed => text.push_str("lapsed GBO 18")?,
         Verdict::TooEarly(until) => write!(text, "too early {until}")?,
         Verdict::NotPending => text.push_str("not pending")?,
+        Verdict::Seized => text.push_str("seized")?,
+        Verdict::Registered => text.push_str("registered")?,
+        Verdict::Lowest { total, cash } => add_amounts(text, "lowest ", *total, *cash)?,
+        Verdict::Awarded => text.push_str("awarded")?,
+        Verdict::BidTooLow { bid, cash } => {
+            add_amounts(text, "rejected ZVG 44 bid ", *bid, *cash)?
+        }
     }
+    Ok(())
+}
+
+/// Adds these words with an amount, and the part in cash, both in cents.
+fn add_amounts(text: &mut String, words: &str, amount: u64, cash: u64) -> Result<(), NoMemory>
+    ensures { OnOk result (string_bytes text.new ≡ string_bytes text.old
+        ++ (words.now ++ (euro amount ++ (codes " cash " ++ euro cash)))) }
+{
+    text.push_str(words)?;
+    add_euro(text, amount)?;
+    text.push_str(" cash ")?;
+    add_euro(text, cash)
+}
+
+/// Adds an amount of cents as whole euros, a point and two digits. Sums of a sale may pass what a
+/// single amount may be.
+fn add_euro(text: &mut String, cents: u64) -> Result<(), NoMemory>
+    ensures { OnOk result (string_bytes text.new ≡ string_bytes text.old ++ euro cents) }
+{
+    let rest = cents % 100;
+    write!(text, "{}.{}{}", cents / 100, rest / 10, rest % 10)?;
     Ok(())
 }
 

@@ -22,7 +22,18 @@ pub enum Verdict {
     Lapsed,
     /// The deadline of the filing that the lapse names is not over: this day is the last of it.
     TooEarly(Day),
-    /// The item names no earlier filing that waits. Items of a forced sale, which are not settled
-    /// yet, are answered so too.
+    /// The item names no earlier filing that waits. A distribution, which is not settled yet, is
+    /// answered so too.
     NotPending,
+    /// The land is seized (ZVG § 20).
+    Seized,
+    /// The claim is registered (ZVG § 37).
+    Registered,
+    /// Bidders are called: the lowest bid, and the part of it that is paid in cash, in cents (ZVG
+    /// §§ 44, 49, 66).
+    Lowest { total: u64, cash: u64 },
+    /// The land is awarded (ZVG § 81).
+    Awarded,
+    /// The bid is below the part of the lowest bid that is paid in cash, in cents (ZVG §§ 44, 49).
+    BidTooLow { bid: u64, cash: u64 },
 }
