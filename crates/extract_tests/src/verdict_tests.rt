@@ -29,8 +29,59 @@ fn each_verdict_has_its_line(rt: HostRuntime) -> Result<(), Fail> {
             "receipt 12 too early 2024-02-29\n",
         ),
         (Verdict::NotPending, "receipt 12 not pending\n"),
+        (Verdict::Seized, "receipt 12 seized\n"),
+        (Verdict::Registered, "receipt 12 registered\n"),
+        (Verdict::Awarded, "receipt 12 awarded\n"),
     ] {
         check_line(&rt, alloc, &verdict, line)?;
+    }
+    Ok(())
+}
+
+/// The last sums are above what a single amount may be.
+#[test]
+fn sums_of_a_sale_are_euros_and_two_digits(rt: HostRuntime) -> Result<(), Fail> {
+    let alloc = rt.alloc();
+    for (total, cash, line) in [
+        (5, 5, "receipt 12 lowest 0.05 cash 0.05\n"),
+        (
+            12_345_678,
+            345_600,
+            "receipt 12 lowest 123456.78 cash 3456.00\n",
+        ),
+        (
+            10_000_000_000_001,
+            99,
+            "receipt 12 lowest 100000000000.01 cash 0.99\n",
+        ),
+        (
+            12_345_678_901_234_567,
+            2_000_000_000_000_030,
+            "receipt 12 lowest 123456789012345.67 cash 20000000000000.30\n",
+        ),
+    ] {
+        check_line(&rt, alloc, &Verdict::Lowest { total, cash }, line)?;
+    }
+    Ok(())
+}
+
+#[test]
+fn a_bid_that_is_too_low_stands_ahead_of_the_part_in_cash(rt: HostRuntime) -> Result<(), Fail> {
+    let alloc = rt.alloc();
+    for (bid, cash, line) in [
+        (5, 100, "receipt 12 rejected ZVG 44 bid 0.05 cash 1.00\n"),
+        (
+            345_604,
+            345_605,
+            "receipt 12 rejected ZVG 44 bid 3456.04 cash 3456.05\n",
+        ),
+        (
+            10_000_000_000_000,
+            10_000_000_000_001,
+            "receipt 12 rejected ZVG 44 bid 100000000000.00 cash 100000000000.01\n",
+        ),
+    ] {
+        check_line(&rt, alloc, &Verdict::BidTooLow { bid, cash }, line)?;
     }
     Ok(())
 }

@@ -78,7 +78,7 @@ fn add_verdict(text: &mut String, verdict: &Verdict) -> Result<(), NoMemory>
 /// Adds these words with an amount, and the part in cash, both in cents.
 fn add_amounts(text: &mut String, words: &str, amount: u64, cash: u64) -> Result<(), NoMemory>
     ensures { OnOk result (string_bytes text.new ≡ string_bytes text.old
-        ++ (string_bytes words.now ++ (euro amount ++ (codes " cash " ++ euro cash)))) }
+        ++ (words.now ++ (euro amount ++ (codes " cash " ++ euro cash)))) }
 {
     text.push_str(words)?;
     add_euro(text, amount)?;
