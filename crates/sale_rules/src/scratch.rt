@@ -1,5 +1,5 @@
 //! What a sale is reckoned in.
-ghost use Rattle.std.specs.Prelude.{◌≡◌, ◌≤◌, IfOk, OnErr, OnOk};
+ghost use Rattle.std.specs.Prelude.{◌≡◌, ◌*◌, ◌≤◌, IfOk, OnErr, OnOk, max};
 
 use auction_classes::Claims;
 use gb_base::NoMemory;
@@ -30,8 +30,8 @@ impl Scratch {
     /// A scratch for so many rights of a folio, and for so many exchanges of ranks among them.
     /// Wants memory (NoMemory).
     pub fn with_room(alloc: Global, rights: usize, exchanges: usize) -> Result<Scratch, NoMemory>
-        ensures rights { IfOk result (λ scratch. rights ≤ scratch.rights) }
-        ensures exchanges { IfOk result (λ scratch. exchanges ≤ scratch.exchanges) }
+        ensures rights { IfOk result (λ scratch. scratch.rights ≡ rights) }
+        ensures exchanges { IfOk result (λ scratch. scratch.exchanges ≡ exchanges) }
     {
         Ok(Scratch {
             claims: Claims::with_room(alloc, rights, exchanges)?,
@@ -40,7 +40,8 @@ impl Scratch {
     }
 
     /// Makes the scratch one for so many rights and exchanges at least; it keeps the room that it
-    /// has. Wants memory (NoMemory), and is unchanged where none is found.
+    /// has, and of what is too little it makes at most twice what is wanted. Wants memory
+    /// (NoMemory), and is unchanged where none is found.
     pub fn reserve(
         &mut self,
         alloc: Global,
@@ -49,6 +50,10 @@ impl Scratch {
     ) -> Result<(), NoMemory>
         ensures rights { OnOk result (rights ≤ self.new.rights) }
         ensures exchanges { OnOk result (exchanges ≤ self.new.exchanges) }
+        ensures kept_rights { OnOk result (self.old.rights ≤ self.new.rights) }
+        ensures kept_exchanges { OnOk result (self.old.exchanges ≤ self.new.exchanges) }
+        ensures few_rights { OnOk result (self.new.rights ≤ max self.old.rights (2 * rights)) }
+        ensures few_exchanges { OnOk result (self.new.exchanges ≤ max self.old.exchanges (2 * exchanges)) }
         ensures unchanged { OnErr result (self.new ≡ self.old) }
     {
         let right_room = self.claims.right_room();
@@ -56,13 +61,26 @@ impl Scratch {
         if rights <= right_room && exchanges <= exchange_room {
             return Ok(());
         }
-        // Exchanges come one at a time, so that room for them at least doubles.
         *self = Scratch::with_room(
             alloc,
-            rights.max(right_room),
-            exchanges.max(exchange_room.saturating_mul(2)),
+            room_for(rights, right_room),
+            room_for(exchanges, exchange_room),
         )?;
         Ok(())
+    }
+}
+
+/// The room to make for so many, where there is some. Rights and exchanges come one at a time, so
+/// what is too little at least doubles.
+fn room_for(wanted: usize, room: usize) -> usize
+    ensures enough { wanted ≤ result }
+    ensures kept { room ≤ result }
+    ensures few { result ≤ max room (2 * wanted) }
+{
+    if wanted <= room {
+        room
+    } else {
+        wanted.max(room.saturating_mul(2))
     }
 }
 
