@@ -1,0 +1,11 @@
+//! Tests of forced sales up to the award, by what `registrar` exports.
+#![tactic(auto)]
+
+#[cfg(test)]
+mod award_tests;
+#[cfg(test)]
+mod lowest_bid_tests;
+#[cfg(test)]
+mod refusal_tests;
+#[cfg(test)]
+mod sale_journals;
