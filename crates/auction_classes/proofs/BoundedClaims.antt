@@ -97,7 +97,7 @@ part_within : (b : Bool) (amount : ℕ) → amount ≤ most_cents → cond b amo
 part_within true amount within = within
 part_within false amount within = omega arith
 
-all_both : {X : Type 0} (P : X → Type 0) (xs ys : List X) → AllByRecursion P xs → AllByRecursion P ys → AllByRecursion P (xs ++ ys)
+pub all_both : {X : Type 0} (P : X → Type 0) (xs ys : List X) → AllByRecursion P xs → AllByRecursion P ys → AllByRecursion P (xs ++ ys)
 all_both P [] ys all rest = rest
 all_both P (x ∷ xs) ys all rest = (all.0, all_both P xs ys all.1 rest)
 

@@ -35,7 +35,7 @@ use Rattle.auction_classes.proofs.KeptSales.{read_as}
 
 -- ---- the interest on an amount
 
-any_interest : (capital rate days : ℕ) → capital ≤ most_cents → rate ≤ most_rate → days ≤ 82830 → interest capital rate days ≤ 461111111111111
+pub any_interest : (capital rate days : ℕ) → capital ≤ most_cents → rate ≤ most_rate → days ≤ 82830 → interest capital rate days ≤ 461111111111111
 any_interest capital rate days amount most few =
     let first : capital * rate ≤ 20000000000000000 = mul-le capital rate 10000000000000 2000 amount most in
     let second : capital * rate * days ≤ 1656600000000000000000 = mul-le (capital * rate) days 20000000000000000 82830 first few in
@@ -51,10 +51,10 @@ interest_of_years capital rate days amount most few =
 -- ---- that of a right
 
 -- The capital is an amount, the rate one of those that there are, and the days are those of a year of the range.
-record IsBounded (a : Accrual) : Type 0 where
-  capital : a.capital ≤ most_cents
-  rate : a.rate ≤ most_rate
-  days : (from until : ℕ) → arrears_in_class a from until ≤ 6000000000000
+pub record IsBounded (a : Accrual) : Type 0 where
+  pub capital : a.capital ≤ most_cents
+  pub rate : a.rate ≤ most_rate
+  pub days : (from until : ℕ) → arrears_in_class a from until ≤ 6000000000000
 
 named_at_most : (a : Accrual) (id : RightNo) (w : Registration) → IsBounded a → arrears_named arrears_in_class a id w ≤ 6000000000000
 named_at_most a id (registration.Arrears right from until) bounded =
@@ -69,7 +69,7 @@ all_at_most : (late : Bool) (a : Accrual) (id : RightNo) (rs : List Registered) 
 all_at_most late a id [] bounded = tt
 all_at_most late a id (r ∷ rs) bounded = (each_at_most late a id r bounded, all_at_most late a id rs bounded)
 
-found_at_most : (late : Bool) (a : Accrual) (id : RightNo) (rs : List Registered) → IsBounded a → length rs ≤ 32 → arrears_found arrears_in_class late a id rs ≤ 192000000000000
+pub found_at_most : (late : Bool) (a : Accrual) (id : RightNo) (rs : List Registered) → IsBounded a → length rs ≤ 32 → arrears_found arrears_in_class late a id rs ≤ 192000000000000
 found_at_most late a id rs bounded few =
     let each : Registered → ℕ = λ r. cond (are_both late r.late) (arrears_named arrears_in_class a id r.what) 0 in
     let sum = sum_by-le each 6000000000000 rs (All-from_recursion (λ (r : Registered). each r ≤ 6000000000000) rs (all_at_most late a id rs bounded)) in
@@ -77,7 +77,7 @@ found_at_most late a id rs bounded few =
 
 -- ---- of the live rights of a sale
 
-few_registrations : (journal : List Receipt) (at : Key → List Entry) (folio a : ℕ) → Kept journal at → length (registrations_found (sale_at journal at folio a)) ≤ 32
+pub few_registrations : (journal : List Receipt) (at : Key → List Entry) (folio a : ℕ) → Kept journal at → length (registrations_found (sale_at journal at folio a)) ≤ 32
 few_registrations journal at folio a kept =
     let s = sale_at journal at folio a in
     let entries = case (below a (at (Case folio))) in
@@ -87,10 +87,10 @@ few_registrations journal at folio a kept =
     omega (arith, found, size, counted, kept.case_in_order.registrations folio a)
 
 -- how a live right of the sale accrues interest
-abbrev accrues : Sale → CreatedRight → Accrual
+abbrev pub accrues : Sale → CreatedRight → Accrual
 accrues s x = accrual_by (finding_of s) x (at_right s x.id)
 
-is_bounded : (s : Sale) (x : CreatedRight) → IsReadAs (at_right s) x → capital_at (read s) s.folio x.id ≤ most_cents → IsBounded (accrues s x)
+pub is_bounded : (s : Sale) (x : CreatedRight) → IsReadAs (at_right s) x → capital_at (read s) s.folio x.id ≤ most_cents → IsBounded (accrues s x)
 is_bounded s x own amount =
     let a = accrues s x in
     record {

@@ -56,7 +56,7 @@ call_step : (a receipt : ℕ) (before : Option ℕ) (w : What) → receipt < a �
 call_step a receipt before (what.Bids costs) within is = within
 call_step a receipt before other within is = is
 
-call_below : (a : ℕ) (before : Option ℕ) (xs : List Entry) → IfSome before (λ n. n < a) → AllByRecursion (λ (e : Entry). e.receipt < a) xs
+pub call_below : (a : ℕ) (before : Option ℕ) (xs : List Entry) → IfSome before (λ n. n < a) → AllByRecursion (λ (e : Entry). e.receipt < a) xs
     → IfSome (fold (λ b (e : Entry). call_by e.receipt b e.what) before xs) (λ n. n < a)
 call_below a before [] is all = is
 call_below a before (x ∷ xs) is all = call_below a (call_by x.receipt before x.what) xs (call_step a x.receipt before x.what all.0 is) all.1

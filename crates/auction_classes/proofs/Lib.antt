@@ -1,4 +1,5 @@
 -- Lemmas.
+pub mod BehindAward
 pub mod BoundedClaims
 pub mod BoundedInterest
 pub mod BoundedLists
@@ -13,8 +14,10 @@ pub mod ClassFills
 pub mod CommercialDays
 pub mod EarlierRights
 pub mod ExchangesAlike
+pub mod FewOfClass
 pub mod FoundSoFar
 pub mod KeptSales
+pub mod LateClaims
 pub mod LeastCovers
 pub mod LineFits
 pub mod LinesAsRead
@@ -22,14 +25,20 @@ pub mod NarrowedRights
 pub mod NewYears
 pub mod NoClaims
 pub mod OrderedClaims
+pub mod OwnedCases
 pub mod PartsRead
+pub mod PayableAmounts
 pub mod PaysWithin
 pub mod PlacesRead
 pub mod ReadAlike
 pub mod RemainsWithin
+pub mod RightsClaimed
 pub mod RightsOnLine
 pub mod RoomKept
 pub mod SalesAsRead
 pub mod SalesFilled
 pub mod SalesHeld
+pub mod SalesPayable
 pub mod StampYears
+pub mod UnreadEntries
+pub mod WeighedClaims

@@ -53,11 +53,11 @@ classes_left f class within =
 -- ---- how many
 
 -- the claims by the classes from one on
-abbrev in_classes : Bool → List Claim → ℕ → ℕ → List Claim
+abbrev pub in_classes : Bool → List Claim → ℕ → ℕ → List Claim
 in_classes late cs from many = flat_map (of_class late cs) (range_with_len from many)
 
 -- a claim of an earlier class adds nothing
-passed_class : (late : Bool) (c : Claim) (cs : List Claim) (from many : ℕ) → c.class < from → in_classes late (c ∷ cs) from many ≡ in_classes late cs from many
+pub passed_class : (late : Bool) (c : Claim) (cs : List Claim) (from many : ℕ) → c.class < from → in_classes late (c ∷ cs) from many ≡ in_classes late cs from many
 passed_class late c cs from zero below = refl
 passed_class late c cs from (suc many) below =
     let other : (c.class == from) ≡ false = grind (arith, nat_tests, below) in

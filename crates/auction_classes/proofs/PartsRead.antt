@@ -23,7 +23,7 @@ use Rattle.auction_classes.proofs.KeptSales.{below_twice, created_here}
 use Rattle.auction_classes.proofs.ReadAlike.{AreAlike, ReadAlike}
 
 -- a right that was created has a number that a right may have
-numbered : (journal : List Receipt) (folio : ℕ) (id : RightNo) (made : Created) → IsJournal journal → IsCreatedHere journal folio id made → In id right_numbers
+pub numbered : (journal : List Receipt) (folio : ℕ) (id : RightNo) (made : Created) → IsJournal journal → IsCreatedHere journal folio id made → In id right_numbers
 numbered journal folio id made stands here =
     let ranges = is_in_ranges journal folio id made stands here in
     in_right_numbers id (record {

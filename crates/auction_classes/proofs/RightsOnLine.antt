@@ -35,12 +35,12 @@ use Rattle.auction_classes.specs.declared.case_items.Seizure.{Seizure}
 use Rattle.auction_classes.specs.declared.claim_items.RightClaimed.{RightClaimed}
 use Rattle.auction_classes.specs.declared.claim_items.SeizedFor.{SeizedFor}
 use Rattle.auction_classes.specs.declared.rights_found.RightFound.{RightFound}
-use Rattle.auction_classes.specs.inner.Reckoning.{AreOnLine, CanCover, CanCoverServed}
+use Rattle.auction_classes.specs.Reckoning.{AreOnLine, CanCover, CanCoverServed}
 use Rattle.auction_classes.proofs.ClassFills.{read_in_order}
 
 -- ---- a live right stands on the line of its class
 
-live_on_line : (journal : List Receipt) (at : Key → List Entry) (folio a class : ℕ) (right : RightNo) → Kept journal at → IsJournal journal
+pub live_on_line : (journal : List Receipt) (at : Key → List Entry) (folio a class : ℕ) (right : RightNo) → Kept journal at → IsJournal journal
     → (class_of_right (sale_at journal at folio a) right == class) ≡ true → is_live (at_right (sale_at journal at folio a) right) ≡ true → keeps_place (line_of_class (sale_at journal at folio a) class).places right ≡ true
 live_on_line journal at folio a class right kept stands own live =
     let s = sale_at journal at folio a in

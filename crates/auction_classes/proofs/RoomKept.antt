@@ -1,7 +1,7 @@
 -- Lists that have as much room as before have room for as much, and for less.
-use Rattle.std.proofs.Common.{ℕ, ◌≤◌, arith}
-use Rattle.auction_classes.specs.inner.ClaimLists.{HaveRoomFor, KeepRoom}
-use Rattle.auction_classes.specs.inner.LinesRead.{HasLineRoom, KeepsLineRoom}
+use Rattle.std.proofs.Common.{◌≡◌, ℕ, ◌+◌, ◌≤◌, arith}
+use Rattle.auction_classes.specs.inner.ClaimLists.{HaveRoomFor, KeepRoom, lists_capacity}
+use Rattle.auction_classes.specs.inner.LinesRead.{HasLineRoom, KeepsLineRoom, line_capacity}
 use Rattle.auction_classes.specs.declared.claim_lists.ClaimLists.{ClaimLists}
 use Rattle.auction_classes.specs.declared.class_lines.ClassLine.{ClassLine}
 
@@ -33,3 +33,10 @@ line_room_kept rights exchanges before now room same = record {
   swaps = omega (arith, room.swaps, same.swaps);
   knots = omega (arith, room.knots, same.knots);
 }
+
+-- and as much memory
+pub lists_capacity_kept : (before now : ClaimLists) → KeepRoom before now → lists_capacity now ≡ lists_capacity before
+lists_capacity_kept before now same = λ i. same.items i + same.owners i + same.seizures i + same.rights i + same.found i + same.claims i + same.ordered i
+
+pub line_capacity_kept : (before now : ClassLine) → KeepsLineRoom before now → line_capacity now ≡ line_capacity before
+line_capacity_kept before now same = λ i. same.places i + same.swaps i + same.knots i

@@ -1,26 +1,31 @@
 -- What is written of a sale is what is claimed in it, and can be reckoned with.
-use Rattle.std.proofs.Common.{◌≡◌, ℕ, ◌<◌, List, sym, ap, subst, ◌∙◌}
+use Rattle.std.proofs.Common.{◌≡◌, ℕ, ◌<◌, ◌≤◌, IsSome, List, length, slice_get, sym, ap, subst, ◌∙◌}
 use Rattle.gb_base.specs.Limits.{most_sum}
 use Rattle.gb_base.specs.declared.keys.Key.{Key}
 use Rattle.gb_base.specs.declared.keys.Key.TheVariants.{Right}
+use Rattle.folio_sections.specs.Cases.{seizure_numbers}
+use Rattle.folio_sections.specs.Titles.{owners}
 use Rattle.folio_sections.specs.declared.entries.Entry.{Entry}
 use Rattle.folio_line.specs.FolioLine.{IsLineOf, LineState}
 use Rattle.rank_slots.specs.CanFill.{CanFill}
 use Rattle.auction_classes.specs.ClassLines.{line_of_class}
+use Rattle.auction_classes.specs.PayableClaims.{IsPayable}
 use Rattle.auction_classes.specs.SaleClaims.{SaleClaims, claimed_in}
 use Rattle.auction_classes.specs.Sales.{finding_of}
 use Rattle.auction_classes.specs.inner.CaseSales.{sale_of_case}
 use Rattle.auction_classes.specs.inner.ClaimLists.{AreClaimedIn, AreClaimsOf}
 use Rattle.auction_classes.specs.inner.LinesRead.{line_read}
-use Rattle.auction_classes.specs.inner.Reckoning.{AreOnLine, CanCoverServed, IsReckonable, filled_of}
+use Rattle.auction_classes.specs.Reckoning.{AreOnLine, CanCoverServed, IsReckonable, filled_of}
 use Rattle.auction_classes.specs.declared.claim_lists.ClaimLists.{ClaimLists}
 use Rattle.auction_classes.specs.declared.class_lines.ClassLine.{ClassLine}
 use Rattle.auction_classes.specs.declared.findings.Finding.{Finding}
 use Rattle.auction_classes.proofs.BoundedLists.{KeepWithin}
 use Rattle.auction_classes.proofs.ClassFills.{class_can_fill}
 use Rattle.auction_classes.proofs.LinesAsRead.{line_as_read}
+use Rattle.auction_classes.proofs.OwnedCases.{owners_found}
 use Rattle.auction_classes.proofs.RightsOnLine.{rights_on_line, served_on_line}
 use Rattle.auction_classes.proofs.SalesAsRead.{claimed_as_read, finding_as_read}
+use Rattle.auction_classes.proofs.SalesPayable.{sale_payable}
 use Rattle.auction_classes.proofs.SalesHeld.{IsSaleRead, SaleReading, case_is, reads_in, sale_in, sale_read_alike, sale_read_from}
 
 -- the claims in these lists
@@ -97,3 +102,19 @@ written_reckonable r register line finding costs lists four six is are few withi
       seized = subst (λ (c : SaleClaims). CanCoverServed c.line_four c.seizures) same (served_on_line r.journal register r.folio r.item is.kept is.received);
       rights = subst (λ (c : SaleClaims). AreOnLine c.line_four c.rights) same (rights_on_line r.journal register r.folio r.item is.kept is.received);
     }
+
+-- ---- and it can be paid
+
+-- the register names owners for the sale where it has a seizure
+pub written_owned : (r : SaleReading) (register : Key → List Entry) (line : LineState) → IsSaleRead r register → IsLineOf (reads_in r) r.folio line → IsSome (slice_get (seizure_numbers r.entries) 0) → IsSome (owners r.title)
+written_owned r register line is of_line runs =
+    let case = case_is r register is in
+    let found = owners_found r.journal register r.folio r.item is.kept (subst (λ es. IsSome (slice_get (seizure_numbers es) 0)) (sym case) runs) in
+    subst (λ es. IsSome (owners es)) (sale_read_from r register line is of_line).owned found
+
+pub written_payable : (r : SaleReading) (register : Key → List Entry) (line : LineState) (finding : Finding) (costs : ℕ) (lists : ClaimLists) (four six : ClassLine) → IsSaleRead r register → AreWritten r line finding costs lists four six
+    → 1 ≤ length lists.owners.items → IsPayable (written costs lists four six)
+written_payable r register line finding costs lists four six is are owned =
+    let same = written_is r register line finding costs lists four six is are in
+    let some : 1 ≤ length (claimed_in (sale_in r register)).owners = subst (λ (c : SaleClaims). 1 ≤ length c.owners) same owned in
+    subst IsPayable (sym same) (sale_payable r.journal register r.folio r.item is.kept is.received some)

@@ -3,6 +3,8 @@ pub mod Claims
 pub mod ClassLines
 pub mod Interest
 pub mod LowestBid
+pub mod PayableClaims
+pub mod Reckoning
 pub mod SaleClaims
 pub mod Sales
 pub mod inner

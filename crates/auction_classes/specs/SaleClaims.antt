@@ -44,11 +44,12 @@ line_of class c = if class == 4 then c.line_four else c.line_six
 abbrev pub no_claims : SaleClaims
 no_claims = record { items = []; costs = 0; owners = []; seizures = []; rights = []; line_four = empty; line_six = empty }
 
--- the claims, with room for those of so many rights and exchanges
+-- the claims, with room for those of so many rights and exchanges, and how much memory their lists have
 pub record ClaimsState : Type 0 where
   pub right_room : ℕ
   pub exchange_room : ℕ
   pub claimed : SaleClaims
+  pub capacity : ℕ
 
 -- a seizure, where the sale is on this day, and this is read at each right
 abbrev pub seized_with : ℕ → (RightNo → List Entry) → Seizure → SeizedFor

@@ -4,4 +4,3 @@ pub mod ClaimLists
 pub mod ClaimsRoom
 pub mod LinesRead
 pub mod Readings
-pub mod Reckoning

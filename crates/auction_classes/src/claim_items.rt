@@ -3,8 +3,8 @@
 use act_model::Basis;
 use gb_base::{Person, RightId};
 
-/// A claim in a forced sale, in cents (ZVG § 10).
-#[derive(Clone, Copy, Debug, PartialEq, Eq)]
+/// A claim in a forced sale, in cents (ZVG § 10). Its default is of no class.
+#[derive(Clone, Copy, Debug, Default, PartialEq, Eq)]
 pub struct ClaimItem {
     /// Its class, from 1 to 8 without 2.
     pub class: u8,

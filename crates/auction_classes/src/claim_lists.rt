@@ -1,5 +1,6 @@
 //! What is claimed in a forced sale, in lists that keep their room (ZVG §§ 10 to 13).
-ghost use Rattle.std.specs.Prelude.{◌≡◌, ◌+◌, ◌*◌, ◌≤◌, All, IfOk, IfSome, length};
+ghost use Rattle.std.specs.Prelude.{◌≡◌, ◌+◌, ◌*◌, ◌≤◌, All, IfOk, IfSome, IsSome, length};
+ghost use Rattle.folio_sections.specs.Titles.{owners};
 ghost use Rattle.folio_line.specs.FolioReading.{CanBeRead};
 ghost use Rattle.auction_classes.specs.Sales.{finding_of};
 ghost use Rattle.auction_classes.specs.inner.CaseSales.{CanFind, sale_of_case};
@@ -75,6 +76,7 @@ impl ClaimLists {
         ensures finding { result ≡ finding_of (sale_of_case journal.now.receipts case.now item) }
         ensures claimed { AreClaimedIn (sale_of_case journal.now.receipts case.now item) (rights_read P.holds P.at reading.now) title.now live.now self.new }
         ensures interest { All HasLowInterest self.new.found.items }
+        ensures owned { IsSome (owners title.now) → 1 ≤ length self.new.owners.items }
         ensures few { length self.new.items.items ≤ 4 * length live.now + 40 }
         ensures room { KeepRoom self.old self.new }
     {

@@ -6,8 +6,10 @@ ghost use Rattle.folio_sections.specs.declared.entries.Entry.{Entry};
 ghost use Rattle.kept_registers.specs.Kept.{Kept};
 ghost use Rattle.kept_registers.specs.Standing.{StandsFor, StandsForKept};
 ghost use Rattle.folio_line.specs.FolioLine.{all_rises};
+ghost use Rattle.auction_classes.specs.PayableClaims.{IsPayable};
 ghost use Rattle.auction_classes.specs.SaleClaims.{claimed_in, line_of, no_claims};
 ghost use Rattle.auction_classes.specs.Sales.{IsFound, sale_at};
+ghost use Rattle.auction_classes.specs.Reckoning.{IsReckonable};
 
 use crate::ClaimItem;
 use crate::claim_lists::ClaimLists;
@@ -25,7 +27,7 @@ use std::marker::Model;
 
 /// What is claimed in a forced sale (ZVG §§ 10 to 13), with room for the rights of a folio and the
 /// exchanges among them, so that it is filled without memory. In contracts it is what is claimed,
-/// and how much it has room for.
+/// how much it has room for, and how much memory its lists have.
 #[derive(Drop)]
 pub struct Claims {
     right_room: usize,
@@ -40,9 +42,13 @@ pub struct Claims {
 }
 
 impl Model for Claims {
+    ghost use Rattle.std.specs.Prelude.{◌+◌};
     ghost use Rattle.auction_classes.specs.SaleClaims.{ClaimsState};
+    ghost use Rattle.auction_classes.specs.inner.ClaimLists.{lists_capacity};
+    ghost use Rattle.auction_classes.specs.inner.LinesRead.{line_capacity};
     ghost use Rattle.auction_classes.specs.inner.ClaimsRoom.{HaveRoom};
-    ghost use Rattle.auction_classes.specs.inner.Reckoning.{IsReckonable, filled_of};
+    ghost use Rattle.auction_classes.specs.PayableClaims.{IsPayable};
+    ghost use Rattle.auction_classes.specs.Reckoning.{IsReckonable, filled_of};
 
     ghost Value = { ClaimsState };
 
@@ -58,9 +64,18 @@ impl Model for Claims {
         line_four = filled_of a.line_four;
         line_six = filled_of a.line_six;
       };
+      capacity = lists_capacity a.lists + (line_capacity a.line_four + (line_capacity a.line_six + a.line.capacity));
     } };
 
     ghost invariant = { λ a. HaveRoom a.right_room a.exchange_room a.lists a.line a.line_four a.line_six × IsReckonable (record {
+      items = a.lists.items.items;
+      costs = a.costs;
+      owners = a.lists.owners.items;
+      seizures = a.lists.seizures.items;
+      rights = a.lists.rights.items;
+      line_four = filled_of a.line_four;
+      line_six = filled_of a.line_six;
+    }) × IsPayable (record {
       items = a.lists.items.items;
       costs = a.costs;
       owners = a.lists.owners.items;
@@ -124,6 +139,7 @@ impl Claims {
         ensures swaps_four { length self.new.claimed.line_four.swaps ≤ self.new.exchange_room }
         ensures places_six { length self.new.claimed.line_six.places ≤ self.new.right_room }
         ensures swaps_six { length self.new.claimed.line_six.swaps ≤ self.new.exchange_room }
+        ensures memory { self.new.capacity ≡ self.old.capacity }
     {
         // The contract of `len` says that this is a journal.
         let receipts = journal.len() as usize;
@@ -154,7 +170,9 @@ impl Claims {
     /// The claims of at least one cent, in the order in which a plan prints them: the timely ones
     /// class by class, and then the late ones (ZVG §§ 10, 109, 110). Takes no memory.
     pub fn items(&self) -> &[ClaimItem]
-        ensures { result.now ≡ self.now.claimed.items }
+        ensures value { result.now ≡ self.now.claimed.items }
+        ensures payable { IsPayable self.now.claimed }
+        ensures reckonable { IsReckonable self.now.claimed }
     {
         &self.lists.items
     }

@@ -12,7 +12,7 @@ use rank_slots::Slots;
 /// The lowest bid that is let in, in cents.
 #[derive(Clone, Copy, Debug, PartialEq, Eq)]
 pub struct Lowest {
-    /// The costs, the claims of classes 1 and 3, and the cover of the base (ZVG § 44(1)).
+    /// The costs, the timely claims of classes 1 and 3, and the cover of the base (ZVG § 44(1)).
     pub total: u64,
     /// The part of it that is paid in cash: without what remains of rights (ZVG §§ 49, 52).
     pub cash: u64,
@@ -20,7 +20,8 @@ pub struct Lowest {
     pub cover: u64,
 }
 
-/// No seizure is served in time (ZVG § 43).
+/// No seizure is served: none was in time that is a personal creditor's, or from a right that still
+/// stands (ZVG § 43).
 #[derive(Clone, Copy, Debug, PartialEq, Eq)]
 pub struct NoServedCreditor;
 

@@ -4,7 +4,7 @@ ghost use Rattle.std.specs.List.{list_all};
 ghost use Rattle.std.specs.Option.{option_copied, option_map_or};
 ghost use Rattle.gb_base.specs.RightNo.{same_right};
 ghost use Rattle.rank_slots.specs.Payments.{reaches_end};
-ghost use Rattle.auction_classes.specs.inner.Reckoning.{AreOnLine};
+ghost use Rattle.auction_classes.specs.Reckoning.{AreOnLine};
 ghost use Rattle.rank_slots.specs.Groups.{keeps_place};
 ghost use Rattle.auction_classes.specs.LowestBid.{is_paid_enough, reaches_group, reaches_knot, remaining, remaining_of};
 

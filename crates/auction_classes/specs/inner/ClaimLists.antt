@@ -20,6 +20,12 @@ pub record HaveRoomFor (many : ℕ) (lists : ClaimLists) : Type 0 where
   pub claims : 4 * many + 40 ≤ vec_capacity lists.claims
   pub ordered : 4 * many + 40 ≤ vec_capacity lists.ordered
 
+-- how much memory the lists have
+abbrev pub lists_capacity : ClaimLists → ℕ
+lists_capacity lists =
+    vec_capacity lists.items + vec_capacity lists.owners + vec_capacity lists.seizures + vec_capacity lists.rights + vec_capacity lists.found
+    + vec_capacity lists.claims + vec_capacity lists.ordered
+
 -- they have as much room as before
 pub record KeepRoom (before now : ClaimLists) : Type 0 where
   pub items : vec_capacity now.items ≡ vec_capacity before.items

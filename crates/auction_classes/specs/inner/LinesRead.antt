@@ -28,6 +28,10 @@ pub record HasLineRoom (rights exchanges : ℕ) (own : ClassLine) : Type 0 where
   pub swaps : exchanges ≤ vec_capacity own.swaps
   pub knots : rights ≤ vec_capacity own.knots
 
+-- how much memory its lists have
+abbrev pub line_capacity : ClassLine → ℕ
+line_capacity own = vec_capacity own.places + vec_capacity own.swaps + vec_capacity own.knots
+
 -- the line has room for all that stands on the folio's line
 pub record HasRoomForAll (line : LineState) (own : ClassLine) : Type 0 where
   pub places : length line.rights ≤ vec_capacity own.places

@@ -1,5 +1,5 @@
 -- What is read of the sale, and what is written of it.
-use Rattle.std.proofs.Common.{◌≡◌, List, All, IsSome, Some, length, slice_get, sym, ap, subst, ◌∙◌, arith}
+use Rattle.std.proofs.Common.{◌≡◌, List, All, IsSome, Some, length, slice_get, ◌+◌, sym, ap, subst, ◌∙◌, arith}
 use Rattle.gb_base.specs.declared.keys.Key.{Key}
 use Rattle.gb_base.specs.declared.keys.Key.TheVariants.{Right, Title}
 use Rattle.folio_sections.specs.Cases.{seizure_numbers}
@@ -17,8 +17,8 @@ use Rattle.auction_classes.specs.inner.Readings.{IsReadAs}
 use Rattle.auction_classes.proofs.BoundedLists.{lists_within}
 use Rattle.auction_classes.proofs.EarlierRights.{filed_at_most}
 use Rattle.auction_classes.proofs.LineFits.{line_fits}
-use Rattle.auction_classes.proofs.RoomKept.{line_room_kept, room_for_fewer, room_kept}
-use Rattle.auction_classes.proofs.SalesFilled.{AreWritten, written_is, written_reckonable}
+use Rattle.auction_classes.proofs.RoomKept.{line_capacity_kept, line_room_kept, lists_capacity_kept, room_for_fewer, room_kept}
+use Rattle.auction_classes.proofs.SalesFilled.{AreWritten, written_is, written_owned, written_payable, written_reckonable}
 use Rattle.auction_classes.proofs.SalesHeld.{IsSaleRead, SaleReading, can_be_read, can_find_case, held_rise, holds_sale, ids_are_all, ids_few, ids_in, ids_rise, reading_of, reads_in, sale_is_read, sale_line_within, sale_live_as_read, sale_live_few}
 use Rattle.auction_classes.proofs.claims.Claims.fill.Goals as goal
 
@@ -155,6 +155,15 @@ returns-clause-swaps_six g c = omega (arith, c.fill-2.ensures.swaps, (line_is_wi
 
 -- ---- and there is as much room as before
 
+pub returns-clause-memory : goal.returns-clause-memory
+returns-clause-memory g c =
+    let lists = lists_capacity_kept c.self.inside.lists c.fill-finding.new.self c.fill-finding.ensures.room in
+    let four = line_capacity_kept c.self.inside.line_four c.fill.new.self c.fill.ensures.room in
+    let six = line_capacity_kept c.self.inside.line_six c.fill-2.new.self c.fill-2.ensures.room in
+    let line = c.read.ensures.memory in
+    let before = ap (λ (s : ClaimsState). s.capacity) c.self.view_is in
+    (λ i. lists i + (four i + (six i + line i))) ∙ before
+
 pub invariant_of-self : goal.invariant_of-self
 invariant_of-self g c =
     let r = read_so g c in
@@ -179,4 +188,5 @@ invariant_of-self g c =
         in_six = line_room_kept c.self.inside.right_room c.self.inside.exchange_room c.self.inside.line_six c.fill-2.new.self c.self.invariant.0.in_six c.fill-2.ensures.room;
       },
       written_reckonable r register line c.fill-finding.result c.get-self-inside.result lists c.fill.new.self c.fill-2.new.self is are (omega (arith, c.get-self-inside.ensures.in_range)) within,
+      written_payable r register line c.fill-finding.result c.get-self-inside.result lists c.fill.new.self c.fill-2.new.self is are (c.fill-finding.ensures.owned (written_owned r register line is c.read.ensures.line runs)),
     )
