@@ -1,5 +1,5 @@
 -- What an item finds in parts that stand for a kept register is what it finds in the register.
-use Rattle.std.proofs.Common.{◌≡◌, ℕ, Bool, false, cond, not, ◌&&◌, nat_lt, nat_le, List, [], ◌∷◌, Contains, IsTrue, None, is_some, map, option_map, slice_get, refl, sym, ap, subst, ◌∙◌, ⊎_elim, arith}
+use Rattle.std.proofs.Common.{◌≡◌, ℕ, Bool, false, cond, not, ◌&&◌, nat_lt, nat_le, List, [], ◌∷◌, Contains, IsTrue, None, is_none, is_some, map, option_map, slice_get, refl, sym, ap, subst, ◌∙◌, ⊎_elim, arith}
 use Rattle.std.specs.List.{list_any}
 use Rattle.std.specs.Option.{option_map_or}
 use Rattle.std.proofs.lemmas.List.Elements.{Contains-append_right}
@@ -31,7 +31,8 @@ use Rattle.kept_registers.specs.Standing.{StandsFor}
 use Rattle.auction_classes.specs.Sales.{sale_at}
 use Rattle.auction_classes.proofs.KeptSales.{below_twice}
 use Rattle.auction_classes.proofs.PartsRead.{parts_read_alike}
-use Rattle.sale_rules.specs.SaleGrounds.{first_ground, is_seizable, refusal_of_registration, refusal_of_seizure}
+use Rattle.sale_rules.specs.SaleGrounds.{first_ground, is_seizable, refusal_of_distribution, refusal_of_registration, refusal_of_seizure}
+use Rattle.sale_rules.specs.SaleMoney.{money, money_awarded}
 use Rattle.sale_rules.specs.inner.Arrears.{fills_case}
 use Rattle.sale_rules.specs.inner.SalesRead.{found_at, sale_read}
 
@@ -133,3 +134,14 @@ registration_as_kept journal holds at register folio item r s =
     of_fills journal register folio item (registration.Advance person amount) = refl
     of_fills journal register folio item (registration.PublicCharge person amount due) = refl
     of_fills journal register folio item (registration.Arrears right from until) = refl
+
+pub distribution_as_kept : (journal : List Receipt) (holds : Key → Bool) (at register : Key → List Entry) (folio item : ℕ) → CaseKept holds at register folio
+    → refusal_of_distribution (sale_read journal holds at folio item) ≡ refusal_of_distribution (sale_at journal register folio item)
+distribution_as_kept journal holds at register folio item s =
+    let case = found_as_kept holds at register item (Case folio) s.stands s.held in
+    λ i. first_ground ((not (is_running (case i)), section.Zvg15) ∷ (is_none (award (case i)), section.Zvg113) ∷ [])
+
+pub money_as_kept : (journal : List Receipt) (holds : Key → Bool) (at register : Key → List Entry) (folio item : ℕ) → CaseKept holds at register folio
+    → money (sale_read journal holds at folio item) ≡ money (sale_at journal register folio item)
+money_as_kept journal holds at register folio item s =
+    ap (λ es. option_map_or (money_awarded (sale_at journal register folio item)) (award es) 0) (found_as_kept holds at register item (Case folio) s.stands s.held)

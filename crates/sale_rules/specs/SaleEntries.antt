@@ -1,4 +1,4 @@
--- What items of a forced sale bring (ZVG §§ 20, 37, 66, 81, 90, 91): nothing where they are refused.
+-- What items of a forced sale bring (ZVG §§ 20, 37, 66, 81, 90, 91, 105): nothing where they are refused.
 use Rattle.std.specs.Prelude.{ℕ, ◌==◌, if◌then◌else◌, List, [], ◌∷◌, map, Option, Some, None}
 use Rattle.std.specs.Option.{option_map_or}
 use Rattle.gb_base.specs.RightNo.{RightNo}
@@ -15,7 +15,7 @@ use Rattle.auction_classes.specs.LowestBid.{remaining}
 use Rattle.auction_classes.specs.SaleClaims.{claimed_in}
 use Rattle.auction_classes.specs.Sales.{Sale}
 use Rattle.auction_classes.specs.declared.lowest_bids.Lowest.{Lowest}
-use Rattle.sale_rules.specs.SaleGrounds.{lowest, refusal_of_award, refusal_of_call, refusal_of_registration, refusal_of_seizure}
+use Rattle.sale_rules.specs.SaleGrounds.{lowest, refusal_of_award, refusal_of_call, refusal_of_distribution, refusal_of_registration, refusal_of_seizure}
 
 -- an entry by the item
 abbrev pub entry_in_sale : Sale → Key → What → Entry
@@ -60,3 +60,9 @@ award_entries s buyer bid least =
 -- an award brings them where nothing refuses it, and then there is a lowest bid
 abbrev pub award_brought : Sale → ℕ → ℕ → List Entry
 award_brought s buyer bid = unless_refused (refusal_of_award s bid) (option_map_or (award_entries s buyer bid) (lowest s) [])
+
+-- ---- distributions
+
+-- a distribution stands at the case, which ends by it (ZVG § 105)
+abbrev pub distribution_brought : Sale → List Entry
+distribution_brought s = unless_refused (refusal_of_distribution s) (entry_in_sale s (Case s.folio) what.Distributed ∷ [])

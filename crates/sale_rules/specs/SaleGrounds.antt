@@ -1,4 +1,4 @@
--- On which grounds items of a forced sale are refused (ZVG §§ 15, 23, 43, 44, 66, 81): each kind has its grounds in order, of which
+-- On which grounds items of a forced sale are refused (ZVG §§ 15, 23, 43, 44, 66, 81, 113): each kind has its grounds in order, of which
 -- the first that holds is named.
 use Rattle.std.specs.Prelude.{ℕ, Bool, false, not, ◌&&◌, ◌||◌, nat_le, nat_lt, if◌then◌else◌, List, [], ◌∷◌, find, slice_get, Option, Some, None, option_and_then, option_map, is_none, is_some}
 use Rattle.std.specs.List.{list_any}
@@ -128,3 +128,13 @@ refusal_by None low = low
 -- why an award at this bid is refused; none where it is given (ZVG § 81)
 abbrev pub refusal_of_award : Sale → ℕ → Option AwardRefusal
 refusal_of_award s bid = refusal_by (section_against_award s) (option_and_then (short_of_cash bid) (lowest s))
+
+-- ---- distributions
+
+-- ZVG § 113: the land was not awarded in the case
+abbrev pub lacks_award : Sale → Bool
+lacks_award s = is_none (award (at_case s))
+
+-- why a distribution is refused; none where the proceeds are distributed (ZVG § 105)
+abbrev pub refusal_of_distribution : Sale → Option Section
+refusal_of_distribution s = first_ground ((lacks_case s, section.Zvg15) ∷ (lacks_award s, section.Zvg113) ∷ [])

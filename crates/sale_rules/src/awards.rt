@@ -129,6 +129,8 @@ fn lowest_for_award<P: Parts>(
     ensures exchange_room { claims.new.exchange_room ≡ claims.old.exchange_room }
     ensures place_room { slots.new.place_room ≡ slots.old.place_room }
     ensures swap_room { slots.new.swap_room ≡ slots.old.swap_room }
+    ensures claims_memory { claims.new.capacity ≡ claims.old.capacity }
+    ensures slots_memory { slots.new.capacity ≡ slots.old.capacity }
 {
     if lacks_case(parts, folio, item) {
         return Err(AwardRefusal::Ground(Section::Zvg15));

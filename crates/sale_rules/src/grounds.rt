@@ -40,3 +40,14 @@ pub(crate) fn lacks_call<P: Parts>(parts: &P, folio: FolioId, item: ReceiptNo) -
         None => true,
     }
 }
+
+/// Whether the land was not awarded in the case (ZVG § 113).
+pub(crate) fn lacks_award<P: Parts>(parts: &P, folio: FolioId, item: ReceiptNo) -> bool
+    requires { CanBeFound (P.holds parts.now) (P.at parts.now) }
+    ensures { result ≡ is_none (award (found_at (P.holds parts.now) (P.at parts.now) item (Case folio))) }
+{
+    match case_found(parts, folio, item) {
+        Some(case) => case.award().is_none(),
+        None => true,
+    }
+}

@@ -1,8 +1,9 @@
-//! What items of a forced sale bring, and on which grounds they are refused (ZVG §§ 15 to 91).
+//! What items of a forced sale bring, and on which grounds they are refused (ZVG §§ 15 to 113).
 #![tactic(auto)]
 
 mod awards;
 mod calls;
+mod distributions;
 mod found;
 mod grounds;
 mod lowest_found;
@@ -13,6 +14,7 @@ mod seizures;
 
 pub use awards::{AwardRefusal, award};
 pub use calls::open_bids;
+pub use distributions::{distribute, money_distributed};
 pub use registrations::register;
 pub use scratch::Scratch;
 pub use seizures::seize;

@@ -8,7 +8,7 @@ use std::alloc::Global;
 use std::marker::Model;
 
 /// What the lowest bid of a sale is reckoned in, so that settling takes no memory: the claims, and
-/// the line of a class. In contracts it is how much it is for.
+/// the line of a class. In contracts it is how much it is for, and how much memory it has.
 #[derive(Drop)]
 pub struct Scratch {
     pub(crate) claims: Claims,
@@ -16,12 +16,16 @@ pub struct Scratch {
 }
 
 impl Model for Scratch {
-    ghost use Rattle.std.specs.Prelude.{◌≤◌};
+    ghost use Rattle.std.specs.Prelude.{◌≤◌, ◌+◌};
     ghost use Rattle.sale_rules.specs.ScratchRoom.{ScratchRoom};
 
     ghost Value = { ScratchRoom };
 
-    ghost view = { λ a. record { rights = a.claims.right_room; exchanges = a.claims.exchange_room } };
+    ghost view = { λ a. record {
+      rights = a.claims.right_room;
+      exchanges = a.claims.exchange_room;
+      capacity = a.claims.capacity + a.slots.capacity;
+    } };
 
     ghost invariant = { λ a. (a.claims.right_room ≤ a.slots.place_room) × (a.claims.exchange_room ≤ a.slots.swap_room) };
 }
