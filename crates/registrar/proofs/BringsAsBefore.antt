@@ -23,7 +23,7 @@ use Rattle.interim_orders.specs.declared.states.FilingState.TheVariants.{NotPend
 use Rattle.registrar.proofs.EntersAsBefore.{enters_as_before}
 use Rattle.registrar.proofs.JudgedAsBefore.{judged_as_before}
 use Rattle.registrar.proofs.LaterReceipts.{day_stays, entry_stays, filing_stays, keys_stay}
-use Rattle.registrar.proofs.SalesAsBefore.{award_as_before, call_as_before, registration_as_before, seizure_as_before}
+use Rattle.registrar.proofs.SalesAsBefore.{award_as_before, call_as_before, distribution_as_before, registration_as_before, seizure_as_before}
 use Rattle.registrar.specs.Brings.{Brought, brings, brought_by_cure, brought_by_filing, brought_by_item, brought_in_state, nothing_pending, verdict_on_lapse}
 use Rattle.registrar.specs.NamesUpTo.{AllNameUpTo}
 use Rattle.registrar.specs.declared.verdicts.Verdict.TheVariants as verdict
@@ -145,7 +145,7 @@ module _ (journal more : List Receipt) (stands : Key → List Entry) (named : Al
   item_as_before i (item.Register folio registered) within = registration_as_before journal more stands folio i within registered
   item_as_before i (item.OpenBids folio costs) within = call_as_before journal more stands folio i within costs
   item_as_before i (item.Award folio buyer bid) within = award_as_before journal more stands folio i within buyer bid
-  item_as_before i (item.Distribute folio) within = refl
+  item_as_before i (item.Distribute folio) within = distribution_as_before journal more stands folio i within
 
 pub brings_as_before : (journal more : List Receipt) (i : ℕ) (stands : Key → List Entry) → i ≤ length journal → AllNameUpTo (length journal) stands → brings (journal ++ more) i stands ≡ brings journal i stands
 brings_as_before journal more i stands within named =

@@ -10,7 +10,7 @@ use Rattle.folio_sections.specs.Cases.{case, case_below, is_distribution, is_reg
 use Rattle.folio_sections.specs.Fronts.{below}
 use Rattle.folio_sections.specs.Limits.{most_registrations, most_seizures}
 use Rattle.folio_sections.specs.declared.entries.Entry.{Entry}
-use Rattle.folio_sections.proofs.Cases.{behind_more, count_push}
+use Rattle.folio_sections.proofs.Cases.{behind_another, behind_more, count_push}
 use Rattle.kept_registers.specs.KeptCases.{IsOpenedBefore, SeizesFromOlder, StandsByItem, register_same_arrears}
 use Rattle.registrar.proofs.ContainedParts.{pairs_append}
 
@@ -71,6 +71,20 @@ case_with journal xs e was goes = record {
   older = older_of journal xs e was.older goes.older;
 }
 
+-- behind an entry that goes with it the case still holds
+pub goes_behind : (journal : List Receipt) (entries : List Entry) (e : Entry) → is_distribution e.what ≡ false → GoesWith journal (case entries) e → CaseHolds journal (case entries)
+    → CaseHolds journal (case (entries ++ e ∷ []))
+goes_behind journal entries e goes_on goes was =
+    subst (CaseHolds journal) (sym (behind_more (λ d. is_distribution d.what) entries e goes_on)) (case_with journal (case entries) e was goes)
+
+-- a case without an entry holds
+none_hold : (journal : List Receipt) → CaseHolds journal []
+none_hold journal = record { begins = tt; seizures = omega arith; registrations = omega arith; arrears = λ i j d less within. absurd (omega (arith, less, within)); older = tt }
+
+-- and so does the one behind a distribution
+pub case_ends : (journal : List Receipt) (entries : List Entry) (e : Entry) → is_distribution e.what ≡ true → CaseHolds journal (case (entries ++ e ∷ []))
+case_ends journal entries e ends = subst (CaseHolds journal) (sym (behind_another (λ d. is_distribution d.what) entries e ends)) (none_hold journal)
+
 -- ---- the entries at a forced sale
 
 -- What holds of the entries at the forced sale of a folio, where these stand at its title.
@@ -92,9 +106,9 @@ later_too i n [] less all = tt
 later_too i n (x ∷ xs) less all = (let first = all.0 in omega (arith, first, less), later_too i n xs less all.1)
 
 pub sale_with : (journal : List Receipt) (folio i : ℕ) (title entries : List Entry) (e : Entry) → SaleStands journal folio title entries → AllByRecursion (λ (d : Entry). d.receipt < i) entries → e.receipt ≡ i
-    → is_distribution e.what ≡ false → (IsTrue (is_seizure e.what) → IsOpenedBefore e.receipt title) → StandsByItem journal folio e.receipt e.what → GoesWith journal (case entries) e
+    → (IsTrue (is_seizure e.what) → IsOpenedBefore e.receipt title) → StandsByItem journal folio e.receipt e.what → (CaseHolds journal (case entries) → CaseHolds journal (case (entries ++ e ∷ [])))
     → SaleStands journal folio title (entries ++ e ∷ [])
-sale_with journal folio i title entries e was earlier by_item goes_on opened item goes = record {
+sale_with journal folio i title entries e was earlier by_item opened item behind = record {
   opened = All-push (λ d. IsTrue (is_seizure d.what) → IsOpenedBefore d.receipt title) entries e was.opened opened;
   items = All-push (λ d. StandsByItem journal folio d.receipt d.what) entries e was.items item;
   cases = λ n.
@@ -104,8 +118,7 @@ sale_with journal folio i title entries e was earlier by_item goes_on opened ite
             let less : i < n = grind (arith, nat_tests, inside, by_item) in
             let all : below n entries ≡ entries = all_are_below n entries (later_too i n entries less earlier) in
             let whole : below n (entries ++ e ∷ []) ≡ entries ++ e ∷ [] = is ∙ ap (λ xs. xs ++ e ∷ []) all in
-            subst (CaseHolds journal) (sym (ap case whole ∙ behind_more (λ d. is_distribution d.what) entries e goes_on))
-            (case_with journal (case entries) e (subst (λ xs. CaseHolds journal (case xs)) all (was.cases n)) goes)
+            subst (λ xs. CaseHolds journal (case xs)) (sym whole) (behind (subst (λ xs. CaseHolds journal (case xs)) all (was.cases n)))
         | false ↦ λ outside is.
             let same : below n (entries ++ e ∷ []) ≡ below n entries = is ∙ append-nil (below n entries) in
             subst (λ xs. CaseHolds journal (case xs)) (sym same) (was.cases n)

@@ -40,10 +40,10 @@ AreEarlier i at keys = (k : Key) → Contains keys k → All (λ e. e.receipt < 
 
 -- ---- the filing that an item finds waiting
 
-record Found (journal : List Receipt) (m i : ℕ) (at : Key → List Entry) : Type 0 where
-  filing : Filing
-  deals : Deals journal m filing i at
-  earlier : m < i
+pub record Found (journal : List Receipt) (m i : ℕ) (at : Key → List Entry) : Type 0 where
+  pub filing : Filing
+  pub deals : Deals journal m filing i at
+  pub earlier : m < i
 
 abbrev some_filing : (o : Option Filing) → IsSome o → Filing
 some_filing (Some f) there = f
@@ -54,7 +54,7 @@ some_is (Some f) there = refl
 some_is None there = absurd (false≢true there)
 
 -- it waits at each of its keys, since it waits at one
-found : (journal : List Receipt) (m i : ℕ) (at : Key → List Entry) (until : ℕ) → IsSome (receipt_at journal i) → IsJournal journal → Kept journal at → AreEarlier i at (keys_of_named journal i m)
+pub found : (journal : List Receipt) (m i : ℕ) (at : Key → List Entry) (until : ℕ) → IsSome (receipt_at journal i) → IsJournal journal → Kept journal at → AreEarlier i at (keys_of_named journal i m)
     → state_of journal m i at ≡ Pending until → Found journal m i at
 found journal m i at until received stands kept before is =
     let finds_it = found_waiting journal m i at until is in

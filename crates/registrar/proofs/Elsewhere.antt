@@ -20,7 +20,7 @@ use Rattle.kept_registers.specs.Kept.{Kept}
 use Rattle.registrar.proofs.Added.{none_elsewhere}
 use Rattle.registrar.proofs.FiledItems.{IsFiled}
 use Rattle.registrar.proofs.ItemRooms.{item_fits}
-use Rattle.registrar.proofs.SaleBrings.{IsOfItem, award_is_of_item, call_is_of_item, registration_is_of_item, seizure_is_of_item}
+use Rattle.registrar.proofs.SaleBrings.{IsOfItem, award_is_of_item, call_is_of_item, distribution_is_of_item, registration_is_of_item, seizure_is_of_item}
 use Rattle.registrar.proofs.StepLemmas.{keys_are}
 use Rattle.registrar.specs.Brings.{brought_by_item}
 use Rattle.std.specs.List.{AllByRecursion}
@@ -59,7 +59,8 @@ nothing_elsewhere journal i register (item.Award folio buyer bid) k is_one kept 
 nothing_elsewhere journal i register (item.Filing f) k is_one kept is lacks = filed_elsewhere journal i register (item.Filing f) k tt is_one is lacks
 nothing_elsewhere journal i register (item.Cure m docs) k is_one kept is lacks = filed_elsewhere journal i register (item.Cure m docs) k tt is_one is lacks
 nothing_elsewhere journal i register (item.Lapse m) k is_one kept is lacks = filed_elsewhere journal i register (item.Lapse m) k tt is_one is lacks
-nothing_elsewhere journal i register (item.Distribute folio) k is_one kept is lacks = filed_elsewhere journal i register (item.Distribute folio) k tt is_one is lacks
+nothing_elsewhere journal i register (item.Distribute folio) k is_one kept is lacks =
+    sale_elsewhere journal i (keys_of_sale journal i folio) _ k (distribution_is_of_item journal register folio i) lacks
 
 pub stays_elsewhere : (journal : List Receipt) (i : ℕ) (register at0 at1 : Key → List Entry) (r : Receipt) (k : Key) → IsJournal journal → Kept journal register → receipt_at journal i ≡ Some r
     → (Contains (keys_of_item journal i) k → ⊥) → AddsAll at0 at1 (brought_by_item journal i register r.item).entries → at1 k ≡ at0 k

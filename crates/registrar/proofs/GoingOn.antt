@@ -17,15 +17,18 @@ use Rattle.folio_sections.specs.PartState.{PartState}
 use Rattle.folio_sections.specs.Titles.{is_open, is_opening}
 use Rattle.folio_sections.specs.declared.entries.Entry.{Entry}
 use Rattle.kept_registers.specs.Kept.{Kept}
+use Rattle.registrar.proofs.AwardsKeep.{step_keeps}
+use Rattle.registrar.proofs.DistributionsKeep.{Distributes, step_distributes}
 use Rattle.registrar.proofs.JournalKeys.{given_next, not_given_is_apart}
 use Rattle.registrar.proofs.Listing.{in_listed, listed_behind, listed_in, open_in_order}
 use Rattle.registrar.proofs.OneListOfFolios.{one_list_of_folios, open_folios_are}
-use Rattle.registrar.proofs.Registering.{added_to, left_by, next_settled, none_settled}
+use Rattle.registrar.proofs.Registering.{added_to, distributes_so_far, left_by, next_settled, none_settled}
 use Rattle.registrar.proofs.RisingNumbers.{contains_of_in, in_of_contains}
 use Rattle.registrar.proofs.StepLemmas.{step_leaves}
 use Rattle.registrar.specs.Brings.{brings}
 use Rattle.registrar.specs.HasSettled.{HasSettled, settled_first}
 use Rattle.registrar.specs.HeldKeys.{keys_of_first}
+use Rattle.registrar.specs.KeptAwards.{AwardsKept}
 use Rattle.registrar.specs.OpenFolios.{open_folios}
 use Rattle.registrar.specs.declared.settled.Settled.{Settled}
 use Rattle.registrar.specs.declared.verdicts.Verdict.{Verdict}
@@ -62,9 +65,14 @@ next_behind journal before after i keys closed ready v next stands so_far are sa
     let at2 = entries_at after.parts in
     let earlier : (k : Key) → All (λ e. e.receipt < i) (at1 k) = λ k.
     subst (λ stand. All (λ e. e.receipt < i) (stand k)) (sym same) (subst (λ m. All (λ e. e.receipt < m) (at0 k)) (sym next) (so_far.settled.earlier k)) in
-    let kept = step_leaves journal i at1 at2 stands (subst (Kept journal) (sym same) so_far.settled.kept) (λ k there. earlier k) added in
+    let kept_before = subst (Kept journal) (sym same) so_far.settled.kept in
+    let kept = step_leaves journal i at1 at2 stands kept_before (λ k there. earlier k) added in
+    let awards_before = subst (AwardsKept journal) (sym same) so_far.settled.awards in
+    let awards = step_keeps journal i at1 at2 stands kept_before awards_before (λ k there. earlier k) added in
+    let distributes = step_distributes journal i at1 at2 stands kept_before awards_before
+    (subst (Distributes journal) (sym same) (distributes_so_far journal n at0 before.verdicts.items so_far.settled)) earlier added in
     let more = next_settled journal n i at0 at2 before.verdicts.items after.verdicts.items v next stands so_far.settled (added_to journal i at0 at1 at2 same added)
-    (is ∙ ap (λ stand. (brings journal i stand).verdict) same) kept whole in
+    (is ∙ ap (λ stand. (brings journal i stand).verdict) same) kept awards distributes whole in
     record {
       settled = subst (λ m. SettledTo journal m at2 after.verdicts.items) (sym more.count) more;
       held = λ k. ap (λ f. f k) held ∙ holds k ∙ ap (λ b. b || is_given keys k) (so_far.held k) ∙ given_next journal n i keys k next are
@@ -105,12 +113,16 @@ is_behind journal s stands empty has =
     let left = left_by journal n stands empty in
     let entries : entries_at s.parts ≡ at_key (settled_first journal n).entries = has.entries ∙ ap (λ m. at_key (settled_first journal m).entries) count in
     let entries_then = settled_first journal n in
+    let distributes = subst (Distributes journal) (sym entries) (distributes_so_far journal n (at_key entries_then.entries) left.verdicts left.settled) in
     record {
       settled = record {
         entries = entries;
         verdicts = has.verdicts ∙ ap (λ m. (settled_first journal m).verdicts) count;
         count = refl;
         kept = subst (Kept journal) (sym entries) left.settled.kept;
+        awards = subst (AwardsKept journal) (sym entries) left.settled.awards;
+        distributed = distributes.distributed;
+        rise = distributes.rise;
         earlier = subst (λ at. (k : Key) → All (λ e. e.receipt < n + 1) (at k)) (sym entries) left.settled.earlier;
       };
       held = λ k. has.held k ∙ ap (λ m. is_given (keys_of_first journal m) k) count;

@@ -76,4 +76,4 @@ item_fits journal i at room (item.Seize folio basis served) filed stands is room
 item_fits journal i at room (item.Register folio registered) filed stands is roomy = absurd filed
 item_fits journal i at room (item.OpenBids folio costs) filed stands is roomy = absurd filed
 item_fits journal i at room (item.Award folio buyer bid) filed stands is roomy = absurd filed
-item_fits journal i at room (item.Distribute folio) filed stands is roomy = no_entry room
+item_fits journal i at room (item.Distribute folio) filed stands is roomy = absurd filed

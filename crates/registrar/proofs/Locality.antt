@@ -27,7 +27,7 @@ use Rattle.registrar.proofs.FiledItems.{IsFiled}
 use Rattle.registrar.proofs.ItemRooms.{lapse_names, named, read_of_item}
 use Rattle.registrar.proofs.JudgedLocally.{judged_locally}
 use Rattle.registrar.proofs.KnownExchanges.{known_when_filed, known_while_waiting}
-use Rattle.registrar.proofs.SalesLocally.{award_locally, call_locally, registration_locally, seizure_locally}
+use Rattle.registrar.proofs.SalesLocally.{award_locally, call_locally, distribution_locally, registration_locally, seizure_locally}
 use Rattle.registrar.proofs.WaitingStates.{found_waiting}
 use Rattle.registrar.specs.Brings.{Brought, brings, brought_by_cure, brought_by_filing, brought_by_item, brought_in_state, nothing_pending, verdict_on_lapse}
 use Rattle.registrar.specs.declared.verdicts.Verdict.TheVariants as verdict
@@ -115,7 +115,7 @@ filed_locally journal i at0 at1 (item.Seize folio basis served) about kept is be
 filed_locally journal i at0 at1 (item.Register folio registered) about kept is before agrees = absurd about
 filed_locally journal i at0 at1 (item.OpenBids folio costs) about kept is before agrees = absurd about
 filed_locally journal i at0 at1 (item.Award folio buyer bid) about kept is before agrees = absurd about
-filed_locally journal i at0 at1 (item.Distribute folio) about kept is before agrees = refl
+filed_locally journal i at0 at1 (item.Distribute folio) about kept is before agrees = absurd about
 
 -- any item brings the same to another kept register
 item_locally : (journal : List Receipt) (i : ℕ) (at0 at1 : Key → List Entry) (w : Item) → IsJournal journal → Kept journal at0 → Kept journal at1 → item_at journal i ≡ Some w → AreEarlier i at0 (keys_by_item journal i w)
@@ -127,7 +127,7 @@ item_locally journal i at0 at1 (item.Award folio buyer bid) stands kept0 kept1 i
 item_locally journal i at0 at1 (item.Filing f) stands kept0 kept1 is before agrees = filed_locally journal i at0 at1 (item.Filing f) tt kept0 is before agrees
 item_locally journal i at0 at1 (item.Cure m docs) stands kept0 kept1 is before agrees = filed_locally journal i at0 at1 (item.Cure m docs) tt kept0 is before agrees
 item_locally journal i at0 at1 (item.Lapse m) stands kept0 kept1 is before agrees = filed_locally journal i at0 at1 (item.Lapse m) tt kept0 is before agrees
-item_locally journal i at0 at1 (item.Distribute folio) stands kept0 kept1 is before agrees = refl
+item_locally journal i at0 at1 (item.Distribute folio) stands kept0 kept1 is before agrees = distribution_locally journal at0 at1 folio i kept0 kept1 stands agrees
 
 pub locality : (journal : List Receipt) (i : ℕ) (at0 at1 : Key → List Entry) → IsJournal journal → Kept journal at0 → Kept journal at1 → AreEarlier i at0 (keys_of_item journal i)
     → AgreesAt (keys_of_item journal i) at0 at1 → brings journal i at1 ≡ brings journal i at0

@@ -43,7 +43,7 @@ use Rattle.auction_classes.specs.Sales.{Sale, sale_at}
 use Rattle.folio_line.specs.FolioRights.{live_by_act}
 use Rattle.folio_line.specs.declared.folio_rights.CreatedRight.{CreatedRight}
 use Rattle.sale_rules.specs.SaleEntries.{award_brought, award_entries, left_of, left_with, unless_refused}
-use Rattle.sale_rules.specs.SaleGrounds.{lowest, refusal_of_award, refusal_of_call, refusal_of_registration, refusal_of_seizure}
+use Rattle.sale_rules.specs.SaleGrounds.{lowest, refusal_of_award, refusal_of_call, refusal_of_distribution, refusal_of_registration, refusal_of_seizure}
 use Rattle.registrar.specs.Brings.{brings, brought_by_cure, brought_by_filing, brought_by_item, brought_in_state, nothing_pending}
 use Rattle.registrar.specs.Enters.{enters}
 use Rattle.registrar.specs.NamesUpTo.{AllNameUpTo, NamesUpTo}
@@ -212,7 +212,7 @@ item_named journal i stands (item.Seize folio basis served) = unless_named i (re
 item_named journal i stands (item.Register folio registered) = unless_named i (refusal_of_registration (sale_at journal stands folio i) registered) _ (tt, tt)
 item_named journal i stands (item.OpenBids folio costs) = unless_named i (refusal_of_call (sale_at journal stands folio i)) _ (tt, tt)
 item_named journal i stands (item.Award folio buyer bid) = award_named i buyer bid (sale_at journal stands folio i)
-item_named journal i stands (item.Distribute folio) = tt
+item_named journal i stands (item.Distribute folio) = unless_named i (refusal_of_distribution (sale_at journal stands folio i)) _ (tt, tt)
 
 pub brings_named : (journal : List Receipt) (i : ℕ) (stands : Key → List Entry) → AllByRecursion (Names i) (brings journal i stands).entries
 brings_named journal i stands =

@@ -15,8 +15,13 @@ use Rattle.folio_sections.specs.declared.entries.Entry.{Entry}
 use Rattle.folio_sections.proofs.Additions.{at-append}
 use Rattle.folio_sections.proofs.HeldParts.{nothing_at}
 use Rattle.folio_sections.proofs.Unchanged.{all_at, all_weaker}
+use Rattle.registrar.proofs.AwardsKeep.{brings_keep, none_kept}
+use Rattle.registrar.proofs.DistributionsKeep.{Distributes, brings_distribute, none_distributed}
 use Rattle.registrar.proofs.StepLemmas.{brings_leaves}
 use Rattle.registrar.specs.Brings.{Brought, brings}
+use Rattle.registrar.specs.HasSettled.{settled_first}
+use Rattle.registrar.specs.KeptAwards.{AwardsKept}
+use Rattle.registrar.specs.KeptDistributions.{DistributionsKept}
 use Rattle.registrar.specs.Settling.{Settlement, nothing_settled, registrar, settled_in_order, settled_next}
 use Rattle.registrar.specs.declared.verdicts.Verdict.{Verdict}
 use Rattle.registrar.specs.inner.SettledTo.{SettledTo}
@@ -54,11 +59,15 @@ numbered_more a (w ∷ ws) v =
 pub none_settled : (journal : List Receipt) (parts : List PartState) → All (λ p. p.entries ≡ []) parts → Kept journal (λ k. []) → SettledTo journal 0 (entries_at parts) []
 none_settled journal parts none kept =
     let empty : entries_at parts ≡ λ k. [] = λ j k. nothing_at parts k none j in
+    let distributes = subst (Distributes journal) (sym empty) (none_distributed journal) in
     record {
       entries = empty;
       verdicts = refl;
       count = refl;
       kept = subst (Kept journal) (sym empty) kept;
+      awards = subst (AwardsKept journal) (sym empty) (none_kept journal);
+      distributed = distributes.distributed;
+      rise = distributes.rise;
       earlier = λ k. subst (All (λ e. e.receipt < 0 + 1)) (sym (nothing_at parts k none)) (λ n e within. absurd (omega arith));
     }
 
@@ -70,8 +79,9 @@ all_before n before more earlier now =
 
 -- one more
 pub one_settled : (journal : List Receipt) (n : ℕ) (at0 at1 : Key → List Entry) (vs : List Verdict) (v : Verdict) → IsJournal journal → SettledTo journal n at0 vs
-    → at1 ≡ with_entries at0 (brings journal (n + 1) at0).entries → v ≡ (brings journal (n + 1) at0).verdict → Kept journal at1 → SettledTo journal (n + 1) at1 (vs ++ v ∷ [])
-one_settled journal n at0 at1 vs v stands so_far added is kept =
+    → at1 ≡ with_entries at0 (brings journal (n + 1) at0).entries → v ≡ (brings journal (n + 1) at0).verdict → Kept journal at1 → AwardsKept journal at1 → Distributes journal at1
+    → SettledTo journal (n + 1) at1 (vs ++ v ∷ [])
+one_settled journal n at0 at1 vs v stands so_far added is kept awards distributes =
     let before = settled_in_order journal (range_with_len 1 n) in
     let brought = brings journal (n + 1) at0 in
     let again : brought ≡ brings journal (n + 1) (at before.entries) = ap (brings journal (n + 1)) so_far.entries in
@@ -86,16 +96,23 @@ one_settled journal n at0 at1 vs v stands so_far added is kept =
           ∙ ap (λ (s : Settlement). s.verdicts) (sym (settled_more journal n));
       count = length-append vs (v ∷ []) ∙ ap (λ m. m + 1) so_far.count;
       kept = kept;
+      awards = awards;
+      distributed = distributes.distributed;
+      rise = distributes.rise;
       earlier = λ k. subst (λ es. All (λ e. e.receipt < (n + 1) + 1) es) (sym (λ j. added j k))
           (all_before n (at0 k) (at brought.entries k) (so_far.earlier k) (all_at (λ e. e.receipt ≡ n + 1) brought.entries k leaves.by_item));
     }
 
 -- the same, where the item's number and the list of verdicts are known by equations
 pub next_settled : (journal : List Receipt) (n i : ℕ) (at0 at1 : Key → List Entry) (vs all : List Verdict) (v : Verdict) → i ≡ n + 1 → IsJournal journal → SettledTo journal n at0 vs
-    → at1 ≡ with_entries at0 (brings journal i at0).entries → v ≡ (brings journal i at0).verdict → Kept journal at1 → all ≡ vs ++ v ∷ [] → SettledTo journal (n + 1) at1 all
-next_settled journal n i at0 at1 vs all v next stands so_far added is kept whole =
+    → at1 ≡ with_entries at0 (brings journal i at0).entries → v ≡ (brings journal i at0).verdict → Kept journal at1 → AwardsKept journal at1 → Distributes journal at1 → all ≡ vs ++ v ∷ [] → SettledTo journal (n + 1) at1 all
+next_settled journal n i at0 at1 vs all v next stands so_far added is kept awards distributes whole =
     subst (SettledTo journal (n + 1) at1) (sym whole)
-    (one_settled journal n at0 at1 vs v stands so_far (added ∙ ap (λ x. with_entries at0 (brings journal x at0).entries) next) (is ∙ ap (λ x. (brings journal x at0).verdict) next) kept)
+    (one_settled journal n at0 at1 vs v stands so_far (added ∙ ap (λ x. with_entries at0 (brings journal x at0).entries) next) (is ∙ ap (λ x. (brings journal x at0).verdict) next) kept awards distributes)
+
+-- what it keeps of distributions
+pub distributes_so_far : (journal : List Receipt) (n : ℕ) (at0 : Key → List Entry) (vs : List Verdict) → SettledTo journal n at0 vs → Distributes journal at0
+distributes_so_far journal n at0 vs so_far = record { distributed = so_far.distributed; rise = so_far.rise }
 
 -- the one registrar settles as many items as the journal has
 pub registrar_is : (journal : List Receipt) → settled_in_order journal (range_with_len 1 (length journal)) ≡ registrar journal
@@ -113,7 +130,9 @@ left_by journal (suc n) stands empty =
     let at0 = at (settled_in_order journal (range_with_len 1 n)).entries in
     let brought = brings journal (n + 1) at0 in
     let leaves = brings_leaves journal (n + 1) at0 stands before.settled.kept (λ k there. before.settled.earlier k) in
-    let more = one_settled journal n at0 (with_entries at0 brought.entries) before.verdicts brought.verdict stands before.settled refl refl leaves.kept in
+    let awards = brings_keep journal (n + 1) at0 stands before.settled.kept before.settled.awards (λ k there. before.settled.earlier k) in
+    let distributes = brings_distribute journal (n + 1) at0 stands before.settled.kept before.settled.awards (distributes_so_far journal n at0 before.verdicts before.settled) before.settled.earlier in
+    let more = one_settled journal n at0 (with_entries at0 brought.entries) before.verdicts brought.verdict stands before.settled refl refl leaves.kept awards distributes in
     let end : n + 1 ≡ suc n = omega arith in
     record {
       verdicts = before.verdicts ++ brought.verdict ∷ [];
@@ -125,3 +144,11 @@ left_by journal (suc n) stands empty =
 pub registrar_kept : (journal : List Receipt) → IsJournal journal → Kept journal (λ k. []) → Kept journal (at (registrar journal).entries)
 registrar_kept journal stands empty =
     subst (λ (s : Settlement). Kept journal (at s.entries)) (registrar_is journal) (left_by journal (length journal) stands empty).settled.kept
+
+-- so is that of its first items, and it keeps its awards
+pub first_keep_awards : (journal : List Receipt) (n : ℕ) → IsJournal journal → Kept journal (λ k. []) → AwardsKept journal (at (settled_first journal n).entries)
+first_keep_awards journal n stands empty = (left_by journal n stands empty).settled.awards
+
+-- and its distributions are covered
+pub first_are_covered : (journal : List Receipt) (n : ℕ) → IsJournal journal → Kept journal (λ k. []) → DistributionsKept journal (at (settled_first journal n).entries)
+first_are_covered journal n stands empty = (left_by journal n stands empty).settled.distributed

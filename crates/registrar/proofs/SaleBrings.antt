@@ -36,8 +36,8 @@ use Rattle.folio_sections.specs.declared.entries.What.TheVariants as what
 use Rattle.folio_sections.proofs.FilteredLists.{all_in, of_any}
 use Rattle.kept_registers.specs.Kept.{Kept}
 use Rattle.registrar.proofs.ContainedParts.{all_mapped, contains_first, contains_later}
-use Rattle.sale_rules.specs.SaleEntries.{award_brought, award_entries, call_brought, left_of, left_with, registration_brought, rights_left, seizure_brought, unless_refused}
-use Rattle.sale_rules.specs.SaleGrounds.{lowest, refusal_of_award, refusal_of_call, refusal_of_registration, refusal_of_seizure}
+use Rattle.sale_rules.specs.SaleEntries.{award_brought, award_entries, call_brought, distribution_brought, left_of, left_with, registration_brought, rights_left, seizure_brought, unless_refused}
+use Rattle.sale_rules.specs.SaleGrounds.{lowest, refusal_of_award, refusal_of_call, refusal_of_distribution, refusal_of_registration, refusal_of_seizure}
 
 -- ---- contents
 
@@ -50,6 +50,7 @@ IsOfSale (what.Awarded buyer bid) (Case folio) = Unit {0}
 IsOfSale (what.AwardOwner buyer) (Title folio) = Unit {0}
 IsOfSale (what.Remains capital) (Right folio right) = (1 ≤ capital) × (capital ≤ most_cents)
 IsOfSale what.Expired (Right folio right) = Unit {0}
+IsOfSale what.Distributed (Case folio) = Unit {0}
 IsOfSale other key = ⊥
 
 -- an entry that item i brings at one of these keys
@@ -99,7 +100,7 @@ created_is_key journal register folio i id made kept stands is =
 -- ---- what each kind brings
 
 -- nothing where it is refused
-unless : {R : Type 0} (P : Entry → Type 0) (o : Option R) (es : List Entry) → AllByRecursion P es → AllByRecursion P (unless_refused o es)
+pub unless : {R : Type 0} (P : Entry → Type 0) (o : Option R) (es : List Entry) → AllByRecursion P es → AllByRecursion P (unless_refused o es)
 unless P None es all = all
 unless P (Some refusal) es all = tt
 
@@ -125,6 +126,12 @@ pub call_is_of_item : (journal : List Receipt) (at : Key → List Entry) (folio 
     → AllByRecursion (IsOfItem journal i (keys_of_sale journal i folio)) (call_brought (sale_at journal at folio i) costs)
 call_is_of_item journal at folio i costs =
     unless (IsOfItem journal i (keys_of_sale journal i folio)) (refusal_of_call (sale_at journal at folio i)) _
+    (record { by_item = refl; on_day = refl; there = case_is_key journal i folio; content = tt }, tt)
+
+pub distribution_is_of_item : (journal : List Receipt) (at : Key → List Entry) (folio i : ℕ)
+    → AllByRecursion (IsOfItem journal i (keys_of_sale journal i folio)) (distribution_brought (sale_at journal at folio i))
+distribution_is_of_item journal at folio i =
+    unless (IsOfItem journal i (keys_of_sale journal i folio)) (refusal_of_distribution (sale_at journal at folio i)) _
     (record { by_item = refl; on_day = refl; there = case_is_key journal i folio; content = tt }, tt)
 
 -- what is left of a right is a content of a sale

@@ -37,6 +37,7 @@ leaves_rights (what.Awarded buyer bid) k is = tt
 leaves_rights (what.AwardOwner buyer) k is = tt
 leaves_rights (what.Remains capital) k is = tt
 leaves_rights what.Expired k is = tt
+leaves_rights what.Distributed k is = tt
 leaves_rights other k is = absurd is
 
 is_quiet : (w : What) (k : Key) → IsOfSale w k → IsQuiet w
@@ -47,6 +48,7 @@ is_quiet (what.Awarded buyer bid) k is = tt
 is_quiet (what.AwardOwner buyer) k is = tt
 is_quiet (what.Remains capital) k is = tt
 is_quiet what.Expired k is = tt
+is_quiet what.Distributed k is = tt
 is_quiet other k is = absurd is
 
 keeps_waiting : (w : What) (k : Key) → IsOfSale w k → KeepsWaiting w
@@ -57,6 +59,7 @@ keeps_waiting (what.Awarded buyer bid) k is = tt
 keeps_waiting (what.AwardOwner buyer) k is = tt
 keeps_waiting (what.Remains capital) k is = tt
 keeps_waiting what.Expired k is = tt
+keeps_waiting what.Distributed k is = tt
 keeps_waiting other k is = absurd is
 
 pub leaves_cents : (w : What) (k : Key) → IsOfSale w k → LeavesCents w
@@ -69,6 +72,7 @@ leaves_cents (what.Remains capital) (Right folio right) is = is
 leaves_cents (what.Remains capital) (Title folio) is = absurd is
 leaves_cents (what.Remains capital) (Case folio) is = absurd is
 leaves_cents what.Expired k is = tt
+leaves_cents what.Distributed k is = tt
 leaves_cents other k is = absurd is
 
 placed_in_time : (journal : List Receipt) (receipt day : ℕ) (key : Key) (w : What) (k : Key) → IsOfSale w k → IsPlacedInTime journal (record { receipt = receipt; day = day; key = key; what = w }) k
@@ -81,6 +85,7 @@ placed_in_time journal receipt day key (what.Bids costs) (Title folio) is = absu
 placed_in_time journal receipt day key (what.Awarded buyer bid) (Title folio) is = absurd is
 placed_in_time journal receipt day key (what.Remains capital) (Title folio) is = absurd is
 placed_in_time journal receipt day key what.Expired (Title folio) is = absurd is
+placed_in_time journal receipt day key what.Distributed (Title folio) is = absurd is
 placed_in_time journal receipt day key other (Title folio) is = absurd is
 
 waits_in_time : (receipt : ℕ) (w : What) (k : Key) → IsOfSale w k → WaitsInTime receipt w
@@ -91,6 +96,7 @@ waits_in_time receipt (what.Awarded buyer bid) k is = tt
 waits_in_time receipt (what.AwardOwner buyer) k is = tt
 waits_in_time receipt (what.Remains capital) k is = tt
 waits_in_time receipt what.Expired k is = tt
+waits_in_time receipt what.Distributed k is = tt
 waits_in_time receipt other k is = absurd is
 
 created_in_time : (receipt : ℕ) (w : What) (k : Key) → IsOfSale w k → IsCreatedInTime receipt k w
@@ -103,6 +109,7 @@ created_in_time receipt what.Registered (Right folio right) is = absurd is
 created_in_time receipt (what.Bids costs) (Right folio right) is = absurd is
 created_in_time receipt (what.Awarded buyer bid) (Right folio right) is = absurd is
 created_in_time receipt (what.AwardOwner buyer) (Right folio right) is = absurd is
+created_in_time receipt what.Distributed (Right folio right) is = absurd is
 created_in_time receipt other (Right folio right) is = absurd is
 
 -- ---- the register behind them

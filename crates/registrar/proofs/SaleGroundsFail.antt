@@ -11,7 +11,7 @@ use Rattle.sale_rules.specs.SaleGrounds.{first_ground, has_all_registrations, ha
 use Rattle.sale_rules.specs.declared.awards.AwardRefusal.{AwardRefusal}
 
 -- where no ground is named, each fails
-all_fail : (grounds : List (Bool × Section)) → first_ground grounds ≡ None → AllByRecursion (λ (g : Bool × Section). g.0 ≡ false) grounds
+pub all_fail : (grounds : List (Bool × Section)) → first_ground grounds ≡ None → AllByRecursion (λ (g : Bool × Section). g.0 ≡ false) grounds
 all_fail [] none = tt
 all_fail (g ∷ gs) none =
     elim g.0 as (λ b. g.0 ≡ b → option_map (λ (h : Bool × Section). h.1) (cond b (Some g) (find (λ (h : Bool × Section). h.0) gs)) ≡ None → AllByRecursion (λ (h : Bool × Section). h.0 ≡ false) (g ∷ gs)) [

@@ -1,5 +1,5 @@
 -- What an item of a forced sale brings stays when more receipts come: a sale looks at receipts up to its item alone.
-use Rattle.std.proofs.Common.{◌≡◌, ℕ, ◌≤◌, false, ◌||◌, List, [], ◌∷◌, ◌++◌, length, map, is_none, option_and_then, refl, ap}
+use Rattle.std.proofs.Common.{◌≡◌, ℕ, ◌≤◌, false, ◌||◌, List, [], ◌∷◌, ◌++◌, length, map, is_none, Option, Some, None, option_and_then, refl, ap, arith}
 use Rattle.std.specs.List.{AllByRecursion}
 use Rattle.std.specs.Option.{option_map_or}
 use Rattle.gb_base.specs.declared.keys.Key.{Key}
@@ -12,20 +12,22 @@ use Rattle.act_model.specs.declared.sales.Registration.TheVariants as registrati
 use Rattle.auction_classes.specs.Sales.{sale_at}
 use Rattle.auction_classes.specs.LowestBid.{lowest_bid, remaining}
 use Rattle.auction_classes.specs.declared.lowest_bids.Lowest.{Lowest}
-use Rattle.auction_classes.proofs.ClaimsStay.{all_inside, case_is_below, claimed_stays, numbers_below, numbers_of, same_any}
+use Rattle.auction_classes.proofs.ClaimsStay.{all_inside, case_is_below, claimed_stays, item_stays, numbers_below, numbers_of, same_any}
+use Rattle.auction_classes.proofs.KeptSales.{read_within}
 use Rattle.folio_line.specs.FolioRights.{live_by_act}
-use Rattle.folio_sections.specs.Cases.{case, is_registration}
+use Rattle.folio_sections.specs.Cases.{award, case, is_registration}
 use Rattle.folio_sections.specs.Fronts.{below}
 use Rattle.folio_sections.specs.declared.entries.Entry.{Entry}
 use Rattle.folio_sections.specs.declared.entries.What.TheVariants as what
 use Rattle.gb_base.specs.RightNo.{same_right}
 use Rattle.gb_base.specs.declared.sections.Section.TheVariants as section
 use Rattle.kept_registers.specs.KeptCases.{arrears_of}
-use Rattle.registrar.proofs.LaterReceipts.{entry_stays}
-use Rattle.registrar.specs.Brings.{brought_by_award, brought_by_call, brought_by_registration, brought_by_seizure, lowest_said, verdict_on_award, verdict_unless}
+use Rattle.registrar.proofs.LaterReceipts.{day_stays, entry_stays}
+use Rattle.registrar.specs.Brings.{brought_by_award, brought_by_call, brought_by_distribution, brought_by_registration, brought_by_seizure, lowest_said, verdict_on_award, verdict_unless}
 use Rattle.registrar.specs.declared.verdicts.Verdict.TheVariants as verdict
 use Rattle.sale_rules.specs.SaleEntries.{left_with, unless_refused}
-use Rattle.sale_rules.specs.SaleGrounds.{first_ground, has_all_registrations, is_awarded, lacks_call, lacks_case, lowest, refusal_by, refusal_of_award, refusal_of_call, refusal_of_registration, refusal_of_seizure, registers_arrears, repeats_arrears, short_of_cash}
+use Rattle.sale_rules.specs.SaleGrounds.{first_ground, has_all_registrations, is_awarded, lacks_call, lacks_case, lowest, refusal_by, refusal_of_award, refusal_of_call, refusal_of_distribution, refusal_of_registration, refusal_of_seizure, registers_arrears, repeats_arrears, short_of_cash}
+use Rattle.sale_rules.specs.SaleMoney.{bid_named, bid_with_interest, money, money_awarded}
 
 module _ (journal more : List Receipt) (stands : Key → List Entry) (folio i : ℕ) (within : i ≤ length journal) where
   -- ---- each kind
@@ -93,3 +95,20 @@ module _ (journal more : List Receipt) (stands : Key → List Entry) (folio i : 
             ∷ map (λ x. entry j (Right folio x.id) (left_with (remaining (claimed j) found.cover x.id))) live) (least j) []);
         verdict = verdict_on_award bid (refused j);
       }
+
+  money_stays : money (sale_at (journal ++ more) stands folio i) ≡ money (sale_at journal stands folio i)
+  money_stays = by (award (below i (stands (Case folio)))) (read_within journal stands folio i)
+    where
+      by : (o : Option ℕ) → option_map_or (λ (n : ℕ). n) o i ≤ i
+          → option_map_or (money_awarded (sale_at (journal ++ more) stands folio i)) o 0 ≡ option_map_or (money_awarded (sale_at journal stands folio i)) o 0
+      by None inside = refl
+      by (Some n) inside =
+          let there : n ≤ length journal = omega (arith, inside, within) in
+          λ j. option_map_or (bid_with_interest (day_stays journal more n there j) (day_stays journal more i within j)) (option_and_then bid_named (item_stays journal more stands folio i within n there j)) 0
+
+  pub distribution_as_before : brought_by_distribution (sale_at (journal ++ more) stands folio i) ≡ brought_by_distribution (sale_at journal stands folio i)
+  distribution_as_before =
+      let entry = entry_stays journal more i within in
+      let refused = refusal_of_distribution (sale_at journal stands folio i) in
+      let cents = money_stays in
+      λ j. record { entries = unless_refused refused (entry j (Case folio) what.Distributed ∷ []); verdict = verdict_unless refused (verdict.Distributed (cents j)) }

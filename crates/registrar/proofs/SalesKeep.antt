@@ -20,7 +20,7 @@ use Rattle.auction_classes.specs.Sales.{sale_at}
 use Rattle.auction_classes.specs.declared.lowest_bids.Lowest.{Lowest}
 use Rattle.folio_line.specs.FolioRights.{live_by_act}
 use Rattle.folio_line.specs.declared.folio_rights.CreatedRight.{CreatedRight}
-use Rattle.folio_sections.specs.Cases.{case, is_distribution, is_seizure}
+use Rattle.folio_sections.specs.Cases.{case, is_seizure}
 use Rattle.folio_sections.specs.Entries.{at, entry_by, with_entries}
 use Rattle.folio_sections.specs.Fronts.{below}
 use Rattle.folio_sections.specs.declared.entries.Entry.{Entry}
@@ -32,7 +32,7 @@ use Rattle.folio_sections.proofs.Unchanged.{all_weaker}
 use Rattle.folio_sections.specs.Titles.{is_opening}
 use Rattle.kept_registers.specs.KeptCases.{CaseInOrder, IsItsItem, IsOpenedBefore, LeavesCents, StandsByItem}
 use Rattle.registrar.proofs.CasesKept.{opened_stays}
-use Rattle.registrar.proofs.CasesPushed.{GoesWith, SaleStands, all_are_below, sale_with}
+use Rattle.registrar.proofs.CasesPushed.{CaseHolds, SaleStands, all_are_below, case_ends, goes_behind, sale_with}
 use Rattle.registrar.proofs.ContainedParts.{any_in_first, contains_first, each_mapped}
 use Rattle.registrar.proofs.CreatedKept.{created_stays}
 use Rattle.registrar.proofs.CuresKeep.{AreEarlier, there_is}
@@ -40,12 +40,12 @@ use Rattle.registrar.proofs.ExchangedKept.{exchanged_stays}
 use Rattle.registrar.proofs.InPlaceKept.{in_place_stays}
 use Rattle.registrar.proofs.Keeping.{Leaves, none_leave}
 use Rattle.registrar.proofs.LeavingRights.{LeavesRights}
-use Rattle.registrar.proofs.SaleBrings.{IsOfItem, award_is_of_item, call_is_of_item, case_is_key, registration_is_of_item, seizure_is_of_item}
+use Rattle.registrar.proofs.SaleBrings.{IsOfItem, award_is_of_item, call_is_of_item, case_is_key, distribution_is_of_item, registration_is_of_item, seizure_is_of_item}
 use Rattle.registrar.proofs.SaleCases.{goes_on, registration_goes, seizure_goes, seizure_opened}
 use Rattle.registrar.proofs.SaleEntriesKept.{IsSaleStep, all_behind, each_says, leaves_cents, leaves_rights, sale_places, sale_receipts_rise, sale_waiting}
 use Rattle.registrar.proofs.SaleGroundsFail.{award_let_in, call_let_in, registration_let_in, seizure_let_in}
-use Rattle.sale_rules.specs.SaleEntries.{award_brought, award_entries, call_brought, left_of, registration_brought, rights_left, seizure_brought, unless_refused}
-use Rattle.sale_rules.specs.SaleGrounds.{lowest, refusal_of_award, refusal_of_call, refusal_of_registration, refusal_of_seizure}
+use Rattle.sale_rules.specs.SaleEntries.{award_brought, award_entries, call_brought, distribution_brought, left_of, registration_brought, rights_left, seizure_brought, unless_refused}
+use Rattle.sale_rules.specs.SaleGrounds.{lowest, refusal_of_award, refusal_of_call, refusal_of_distribution, refusal_of_registration, refusal_of_seizure}
 
 -- ---- the forced sales of all folios
 
@@ -82,12 +82,11 @@ in_order journal register remains each = record {
 -- An item that is let in adds this entry to its case, and the others stand at no case.
 record AddsToCase (journal : List Receipt) (i folio : ℕ) (register : Key → List Entry) (w : What) (rest : List Entry) : Type 0 where
   apart : (f : ℕ) → at rest (Case f) ≡ []
-  ends_none : is_distribution w ≡ false
   opened : IsTrue (is_seizure w) → IsOpenedBefore i (register (Title folio))
   item : StandsByItem journal folio i w
-  goes : GoesWith journal (case (register (Case folio))) (entry_by journal i (Case folio) w)
+  behind : CaseHolds journal (case (register (Case folio))) → CaseHolds journal (case (register (Case folio) ++ entry_by journal i (Case folio) w ∷ []))
 
-same_case : (a b : ℕ) → same_key (Case a) (Case b) ≡ true → a ≡ b
+pub same_case : (a b : ℕ) → same_key (Case a) (Case b) ≡ true → a ≡ b
 same_case a b same = ap folio_of (same_is (Case a) (Case b) same)
   where
     folio_of : Key → ℕ
@@ -109,7 +108,7 @@ sales_behind journal i folio keys register w rest step earlier adds f =
           subst (λ ys. SaleStands journal f title (register (Case f) ++ e ∷ ys)) (sym (adds.apart f))
           (subst (λ g. SaleStands journal g (with_entries register es (Title g)) (register (Case g)) → SaleStands journal g (with_entries register es (Title g)) (register (Case g) ++ e ∷ [])) (same_case folio f same)
           (λ own. sale_with journal folio i (with_entries register es (Title folio)) (register (Case folio)) e own
-          (recursion_from_All (λ (d : Entry). d.receipt < i) (register (Case folio)) earlier) refl adds.ends_none (λ seizes. opened_too (adds.opened seizes)) adds.item adds.goes) old)
+          (recursion_from_All (λ (d : Entry). d.receipt < i) (register (Case folio)) earlier) refl (λ seizes. opened_too (adds.opened seizes)) adds.item adds.behind) old)
       | false ↦ λ other. subst (SaleStands journal f title) (sym (ap (λ ys. register (Case f) ++ ys) (adds.apart f) ∙ append-nil (register (Case f)))) old
     ] refl
   where
@@ -143,7 +142,7 @@ step_leaves journal i folio keys register w rest step earlier adds =
 -- ---- each kind
 
 -- what is read below the item at a key of it is what stands there
-whole : (register : Key → List Entry) (i : ℕ) (k : Key) → All (λ e. e.receipt < i) (register k) → below i (register k) ≡ register k
+pub whole : (register : Key → List Entry) (i : ℕ) (k : Key) → All (λ e. e.receipt < i) (register k) → below i (register k) ≡ register k
 whole register i k earlier = all_are_below i (register k) (recursion_from_All (λ (e : Entry). e.receipt < i) (register k) earlier)
 
 by_item_at : (P : Item → Type 0) (journal : List Receipt) (i : ℕ) (w : Item) → item_at journal i ≡ Some w → P w → IsSomeAnd (item_at journal i) P
@@ -166,10 +165,9 @@ module _ (journal : List Receipt) (register : Key → List Entry) (folio i : ℕ
             (record { received = there_is (receipt_at journal i) (item.Seize folio b served) is; kept = kept; earlier = before; brought = brought }) earlier
             (record {
               apart = λ f. refl;
-              ends_none = refl;
               opened = λ _. seizure_opened journal register folio i kept stands at_case b let_in;
               item = by_item_at (IsItsItem folio what.Seized) journal i (item.Seize folio b served) is refl;
-              goes = seizure_goes journal register folio i kept stands at_case b served is let_in;
+              behind = goes_behind journal (register (Case folio)) _ refl (seizure_goes journal register folio i kept stands at_case b served is let_in);
             })
       ] refl (seizure_is_of_item journal register folio i b)
 
@@ -188,10 +186,9 @@ module _ (journal : List Receipt) (register : Key → List Entry) (folio i : ℕ
             (record { received = there_is (receipt_at journal i) (item.Register folio r) is; kept = kept; earlier = before; brought = brought }) earlier
             (record {
               apart = λ f. refl;
-              ends_none = refl;
               opened = λ seizes. absurd (false≢true seizes);
               item = by_item_at (IsItsItem folio what.Registered) journal i (item.Register folio r) is refl;
-              goes = registration_goes journal register folio i kept stands at_case r is (registration_let_in s r none);
+              behind = goes_behind journal (register (Case folio)) _ refl (registration_goes journal register folio i kept stands at_case r is (registration_let_in s r none));
             })
       ] refl (registration_is_of_item journal register folio i r)
 
@@ -210,15 +207,14 @@ module _ (journal : List Receipt) (register : Key → List Entry) (folio i : ℕ
             (record { received = there_is (receipt_at journal i) (item.OpenBids folio costs) is; kept = kept; earlier = before; brought = brought }) earlier
             (record {
               apart = λ f. refl;
-              ends_none = refl;
               opened = λ seizes. absurd (false≢true seizes);
               item = by_item_at (IsItsItem folio (what.Bids costs)) journal i (item.OpenBids folio costs) is (refl, refl);
-              goes = goes_on journal register folio i kept stands at_case e refl refl (call_let_in s none).runs;
+              behind = goes_behind journal (register (Case folio)) _ refl (goes_on journal register folio i kept stands at_case e refl refl (call_let_in s none).runs);
             })
       ] refl (call_is_of_item journal register folio i costs)
 
   -- what an award brings beside the case stands at the title and at rights
-  award_apart : (least : Lowest) (buyer f : ℕ)
+  pub award_apart : (least : Lowest) (buyer f : ℕ)
       → at (entry_by journal i (Title folio) (what.AwardOwner buyer) ∷ rights_left (sale_at journal register folio i) least) (Case f) ≡ []
   award_apart least buyer f =
       let s = sale_at journal register folio i in
@@ -253,10 +249,28 @@ module _ (journal : List Receipt) (register : Key → List Entry) (folio i : ℕ
                   (record { received = there_is (receipt_at journal i) (item.Award folio buyer bid) is; kept = kept; earlier = before; brought = brought }) earlier
                   (record {
                     apart = λ f. award_apart least buyer f;
-                    ends_none = refl;
                     opened = λ seizes. absurd (false≢true seizes);
                     item = by_item_at (IsItsItem folio (what.Awarded buyer bid)) journal i (item.Award folio buyer bid) is (refl, refl, refl);
-                    goes = goes_on journal register folio i kept stands at_case (entry_by journal i (Case folio) (what.Awarded buyer bid)) refl refl (award_let_in s bid none).runs;
+                    behind = goes_behind journal (register (Case folio)) _ refl (goes_on journal register folio i kept stands at_case (entry_by journal i (Case folio) (what.Awarded buyer bid)) refl refl (award_let_in s bid none).runs);
                   })
             ]
       ] refl (award_is_of_item journal register folio i buyer bid kept stands)
+
+  pub distribution_leaves : item_at journal i ≡ Some (item.Distribute folio) → AreEarlier i register (keys_of_sale journal i folio)
+      → Leaves journal i register (distribution_brought (sale_at journal register folio i))
+  distribution_leaves is before =
+      let s = sale_at journal register folio i in
+      let keys = keys_of_sale journal i folio in
+      let e = entry_by journal i (Case folio) what.Distributed in
+      elim (refusal_of_distribution s) as (λ o. AllByRecursion (IsOfItem journal i keys) (unless_refused o (e ∷ [])) → Leaves journal i register (unless_refused o (e ∷ []))) [
+        | Some section ↦ λ _. none_leave journal i register kept
+        | None ↦ λ brought.
+            step_leaves journal i folio keys register what.Distributed []
+            (record { received = there_is (receipt_at journal i) (item.Distribute folio) is; kept = kept; earlier = before; brought = brought }) (before (Case folio) (case_is_key journal i folio))
+            (record {
+              apart = λ f. refl;
+              opened = λ seizes. absurd (false≢true seizes);
+              item = tt;
+              behind = λ _. case_ends journal (register (Case folio)) e refl;
+            })
+      ] (distribution_is_of_item journal register folio i)

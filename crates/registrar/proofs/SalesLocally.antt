@@ -39,10 +39,11 @@ use Rattle.kept_registers.specs.Kept.{Kept}
 use Rattle.registrar.proofs.Agreeing.{AgreesAt}
 use Rattle.registrar.proofs.ContainedParts.{contains_first}
 use Rattle.registrar.proofs.SaleBrings.{case_is_key, created_is_key_before, title_is_key}
-use Rattle.registrar.specs.Brings.{Brought, brought_by_award, brought_by_call, brought_by_registration, brought_by_seizure, lowest_said, verdict_on_award, verdict_unless}
+use Rattle.registrar.specs.Brings.{Brought, brought_by_award, brought_by_call, brought_by_distribution, brought_by_registration, brought_by_seizure, lowest_said, verdict_on_award, verdict_unless}
 use Rattle.registrar.specs.declared.verdicts.Verdict.TheVariants as verdict
 use Rattle.sale_rules.specs.SaleEntries.{left_with, unless_refused}
 use Rattle.sale_rules.specs.SaleGrounds.{first_ground, is_filed_behind, is_seizable, lacks_right, refusal_by, registers_arrears, repeats_arrears, short_of_cash}
+use Rattle.sale_rules.specs.SaleMoney.{money_awarded}
 
 -- a right from which may be seized is one in both readings, or in neither
 seizable_alike : (x y : List Entry) → AreAlike x y → is_seizable y ≡ is_seizable x
@@ -145,6 +146,18 @@ module _ (journal : List Receipt) (at0 at1 : Key → List Entry) (folio i : ℕ)
             (option_map_or (λ (found : Lowest). entry_by journal i (Case folio) (what.Awarded buyer bid) ∷ entry_by journal i (Title folio) (what.AwardOwner buyer)
             ∷ map (λ x. entry_by journal i (Right folio x.id) (left_with (remaining (claimed j) found.cover x.id))) (live j)) least []);
         verdict = verdict_on_award bid refused;
+      }
+
+  -- ---- distributions
+
+  pub distribution_locally : brought_by_distribution (sale_at journal at1 folio i) ≡ brought_by_distribution (sale_at journal at0 folio i)
+  distribution_locally =
+      let case = same_case in
+      λ j.
+      let refused = first_ground ((not (is_running (case j)), section.Zvg15) ∷ (is_none (award (case j)), section.Zvg113) ∷ []) in
+      record {
+        entries = unless_refused refused (entry_by journal i (Case folio) what.Distributed ∷ []);
+        verdict = verdict_unless refused (verdict.Distributed (option_map_or (money_awarded (sale_at journal at0 folio i)) (award (case j)) 0));
       }
 
 -- ---- registrations, which touch the case alone

@@ -19,6 +19,7 @@ use Rattle.kept_registers.specs.Kept.{Kept}
 use Rattle.folio_sections.specs.Rights.{live_right}
 use Rattle.folio_sections.specs.declared.entries.Entry.{Entry}
 use Rattle.registrar.proofs.Agreeing.{AgreesAt, agrees_before, agrees_behind}
+use Rattle.registrar.proofs.AwardsKeep.{brings_keep}
 use Rattle.registrar.proofs.CuresKeep.{AreEarlier}
 use Rattle.registrar.proofs.ItemRooms.{named}
 use Rattle.registrar.proofs.FiledItems.{IsFiled}
@@ -28,6 +29,7 @@ use Rattle.registrar.proofs.WaitingStates.{found_waiting}
 use Rattle.registrar.specs.Brings.{brings, brought_by_item}
 use Rattle.conflict_queue.specs.ItemKeys.{keys_by_item, keys_of_item}
 use Rattle.kept_registers.specs.Standing.{StandsFor, StandsForKept}
+use Rattle.registrar.specs.StandingAwards.{StandsForKeptAwards}
 use Rattle.registrar.specs.inner.Exchanges.{KnowsItsExchanges}
 
 -- ---- a judge knows the same of two registers that agree at a filing's keys
@@ -94,13 +96,19 @@ stand_behind holds0 holds1 at0 at1 register es stands still added k held_now =
     let held_before : IsTrue (holds0 k) = subst (λ holds. IsTrue (holds k)) still held_now in
     added k ∙ ap (λ xs. xs ++ at es k) (stands k held_before)
 
--- and so for a kept one
-pub still_stand : (journal : List Receipt) (i : ℕ) (holds0 holds1 : Key → Bool) (at0 at1 : Key → List Entry) (before : StandsForKept journal holds0 at0) → IsJournal journal → ((k : Key) → Contains (keys_of_item journal i) k → IsTrue (holds0 k))
-    → AreEarlier i at0 (keys_of_item journal i) → holds1 ≡ holds0 → AddsAll at0 at1 (brings journal i before.register).entries → StandsForKept journal holds1 at1
+-- what stands for a kept register that keeps its awards stands for a kept one
+pub for_kept : (journal : List Receipt) (holds : Key → Bool) (at : Key → List Entry) → StandsForKeptAwards journal holds at → StandsForKept journal holds at
+for_kept journal holds at whole = record { register = whole.register; stands = whole.stands; kept = whole.kept }
+
+-- and so for a kept one that keeps its awards
+pub still_stand : (journal : List Receipt) (i : ℕ) (holds0 holds1 : Key → Bool) (at0 at1 : Key → List Entry) (before : StandsForKeptAwards journal holds0 at0) → IsJournal journal → ((k : Key) → Contains (keys_of_item journal i) k → IsTrue (holds0 k))
+    → AreEarlier i at0 (keys_of_item journal i) → holds1 ≡ holds0 → AddsAll at0 at1 (brings journal i before.register).entries → StandsForKeptAwards journal holds1 at1
 still_stand journal i holds0 holds1 at0 at1 before journaled held earlier still added =
     let agrees = stand_agree holds0 at0 before.register (keys_of_item journal i) before.stands held in
+    let earlier_there = stand_earlier i at0 before.register (keys_of_item journal i) agrees earlier in
     record {
       register = with_entries before.register (brings journal i before.register).entries;
       stands = stand_behind holds0 holds1 at0 at1 before.register (brings journal i before.register).entries before.stands still added;
-      kept = (brings_leaves journal i before.register journaled before.kept (stand_earlier i at0 before.register (keys_of_item journal i) agrees earlier)).kept;
+      kept = (brings_leaves journal i before.register journaled before.kept earlier_there).kept;
+      awards = brings_keep journal i before.register journaled before.kept before.awards earlier_there;
     }

@@ -1,5 +1,4 @@
 -- What an item brings about: entries and a verdict (GBO §§ 16 to 18).
--- Why so: docs/DECISIONS.md, "A distribution brings nothing".
 use Rattle.std.specs.Prelude.{ℕ, List, [], ◌++◌, Option, Some, None}
 use Rattle.std.specs.Option.{option_map_or}
 use Rattle.gb_base.specs.declared.keys.Key.{Key}
@@ -12,8 +11,9 @@ use Rattle.act_model.specs.declared.sales.Registration.{Registration}
 use Rattle.auction_classes.specs.Sales.{Sale, sale_at}
 use Rattle.auction_classes.specs.declared.lowest_bids.Lowest.{Lowest}
 use Rattle.gb_base.specs.declared.sections.Section.{Section}
-use Rattle.sale_rules.specs.SaleEntries.{award_brought, call_brought, registration_brought, seizure_brought}
-use Rattle.sale_rules.specs.SaleGrounds.{lowest, refusal_of_award, refusal_of_call, refusal_of_registration, refusal_of_seizure}
+use Rattle.sale_rules.specs.SaleEntries.{award_brought, call_brought, distribution_brought, registration_brought, seizure_brought}
+use Rattle.sale_rules.specs.SaleGrounds.{lowest, refusal_of_award, refusal_of_call, refusal_of_distribution, refusal_of_registration, refusal_of_seizure}
+use Rattle.sale_rules.specs.SaleMoney.{money}
 use Rattle.sale_rules.specs.declared.awards.AwardRefusal.{AwardRefusal}
 use Rattle.sale_rules.specs.declared.awards.AwardRefusal.TheVariants as refusal
 use Rattle.registrar.specs.Enters.{enters}
@@ -35,7 +35,7 @@ pub record Brought : Type 0 where
   pub entries : List Entry
   pub verdict : Verdict
 
--- nothing: the item names no filing that waits, distributes, or is not there
+-- nothing: the item names no filing that waits, or is not there
 abbrev pub nothing_pending : Brought
 nothing_pending = record { entries = []; verdict = verdict.NotPending }
 
@@ -102,6 +102,13 @@ verdict_on_award bid (Some (refusal.BidTooLow cash)) = verdict.BidTooLow bid cas
 abbrev pub brought_by_award : Sale → ℕ → ℕ → Brought
 brought_by_award s buyer bid = record { entries = award_brought s buyer bid; verdict = verdict_on_award bid (refusal_of_award s bid) }
 
+-- The proceeds are distributed, or the distribution is refused (ZVG § 105). The verdict says the money.
+abbrev pub brought_by_distribution : Sale → Brought
+brought_by_distribution s = record {
+  entries = distribution_brought s;
+  verdict = verdict_unless (refusal_of_distribution s) (verdict.Distributed (money s));
+}
+
 -- ---- an item
 
 -- what item i brings
@@ -114,7 +121,7 @@ brought_by_item journal i at (item.Seize folio basis served) = brought_by_seizur
 brought_by_item journal i at (item.Register folio registered) = brought_by_registration (sale_at journal at folio i) registered
 brought_by_item journal i at (item.OpenBids folio costs) = brought_by_call (sale_at journal at folio i) costs
 brought_by_item journal i at (item.Award folio buyer bid) = brought_by_award (sale_at journal at folio i) buyer bid
-brought_by_item journal i at (item.Distribute folio) = nothing_pending
+brought_by_item journal i at (item.Distribute folio) = brought_by_distribution (sale_at journal at folio i)
 
 -- what receipt i brings; nothing where there is none
 abbrev pub brings : List Receipt → ℕ → (Key → List Entry) → Brought

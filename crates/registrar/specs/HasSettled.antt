@@ -20,3 +20,8 @@ pub record HasSettled (journal : List Receipt) (register : RegisterState) : Type
   pub verdicts : register.verdicts ≡ (settled_first journal (length register.verdicts)).verdicts
   pub folios : register.folios ≡ open_folios (settled_first journal (length register.verdicts)).entries
   pub held : (k : Key) → is_held register.parts k ≡ is_given (keys_of_first journal (length register.verdicts)) k
+
+-- the register is that of the one registrar, who has settled the whole journal
+pub record IsRegisterOf (journal : List Receipt) (register : RegisterState) : Type 0 where
+  pub settled : HasSettled journal register
+  pub whole : length register.verdicts ≡ length journal

@@ -1,5 +1,4 @@
 -- The one registrar, who settles the items of a journal one after the other, in the order of their receipts (GBO § 17).
--- Why so: docs/DECISIONS.md, "Every item of a journal has a verdict".
 use Rattle.std.specs.Prelude.{ℕ, List, [], ◌∷◌, ◌++◌, fold}
 use Rattle.act_model.specs.declared.receipts.Receipt.{Receipt}
 use Rattle.conflict_queue.specs.Schedules.{in_receipt_order}

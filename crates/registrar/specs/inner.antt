@@ -1,5 +1,6 @@
 -- What only private clauses and proofs use.
 pub mod Behind
+pub mod CasesRise
 pub mod Exchanges
 pub mod Listed
 pub mod OpenFolios

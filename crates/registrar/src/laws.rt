@@ -24,9 +24,12 @@ ghost use Rattle.registrar.specs.Brings.{brings};
 ghost use Rattle.registrar.specs.Enters.{enters};
 ghost use Rattle.conflict_queue.specs.ItemKeys.{keys_of_item};
 ghost use Rattle.registrar.specs.HasSettled.{HasSettled, settled_first};
+ghost use Rattle.registrar.specs.KeptAwards.{AwardsKept};
+ghost use Rattle.registrar.specs.KeptDistributions.{DistributionsKept, IsDistributed};
 ghost use Rattle.registrar.specs.NamesUpTo.{AllNameUpTo};
 ghost use Rattle.registrar.specs.RegisterState.{RegisterState, verdict_among};
 ghost use Rattle.registrar.specs.Settling.{registrar};
+ghost use Rattle.registrar.specs.declared.verdicts.Verdict.TheVariants as verdict;
 ghost use Rattle.registrar.specs.declared.verdicts.Verdict.TheVariants.{Cured, Entered};
 
 use kept_registers::laws::empty_register_is_kept;
@@ -52,9 +55,36 @@ pub fn items_keep()
         → Kept journal (with_entries register (brings journal i register).entries) }
 {}
 
+/// And what it brings to one that keeps its awards leaves one that does: each was given behind a
+/// call, at no less than the part in cash of the lowest bid as it found the sale, and no case goes
+/// on behind its award (ZVG §§ 66, 81, 90, 91).
+pub fn awards_stay()
+    ensures awards { (journal : List Receipt) (i : ℕ) (register : Key → List Entry) → IsJournal journal → Kept journal register → AwardsKept journal register
+        → ((k : Key) → Contains (keys_of_item journal i) k → All (λ e. e.receipt < i) (register k))
+        → AwardsKept journal (with_entries register (brings journal i register).entries) }
+{}
+
 /// So the one registrar leaves a kept register of every journal.
 pub fn registers_are_kept()
     ensures kept { (journal : List Receipt) → IsJournal journal → Kept journal (at (registrar journal).entries) }
+{
+    empty_register_is_kept();
+}
+
+/// And one that keeps its awards, behind the first items of a journal, however many.
+pub fn registers_keep_awards()
+    ensures awards { (journal : List Receipt) (n : ℕ) → IsJournal journal → AwardsKept journal (at (settled_first journal n).entries) }
+{
+    empty_register_is_kept();
+}
+
+/// Each distribution of the one registrar's register stands by its item in a case with a call, and
+/// its money covers the part in cash of the lowest bid (ZVG §§ 49, 105); and a verdict that says so
+/// is of such a one, with that money.
+pub fn distributions_are_covered()
+    ensures kept { (journal : List Receipt) (n : ℕ) → IsJournal journal → DistributionsKept journal (at (settled_first journal n).entries) }
+    ensures verdicts { (journal : List Receipt) (n m cents : ℕ) → IsJournal journal → verdict_among (settled_first journal n).verdicts m ≡ Some (verdict.Distributed cents)
+        → (folio : ℕ) × IsDistributed journal (at (settled_first journal n).entries) folio m cents }
 {
     empty_register_is_kept();
 }

@@ -8,6 +8,7 @@ ghost use Rattle.folio_sections.specs.Held.{entries_at, is_held, room_at};
 ghost use Rattle.folio_sections.specs.HeldRights.{held_rights};
 ghost use Rattle.kept_registers.specs.Kept.{Kept};
 ghost use Rattle.registrar.specs.HasSettled.{HasSettled};
+ghost use Rattle.registrar.specs.KeptAwards.{AwardsKept};
 ghost use Rattle.registrar.specs.RegisterState.{verdict_among};
 ghost use Rattle.registrar.specs.inner.Behind.{register_of};
 
@@ -54,6 +55,7 @@ impl Register {
         ensures settled { OnOk result (HasSettled journal.now.receipts self.new) }
         ensures one_more { OnOk result (length self.new.verdicts ≡ length self.old.verdicts + 1) }
         ensures kept { OnOk result (Kept journal.now.receipts (entries_at self.new.parts)) }
+        ensures awards { OnOk result (AwardsKept journal.now.receipts (entries_at self.new.parts)) }
         ensures entries { OnErr result (entries_at self.new.parts ≡ entries_at self.old.parts) }
         ensures verdicts { OnErr result (self.new.verdicts ≡ self.old.verdicts) }
         ensures folios { OnErr result (self.new.folios ≡ self.old.folios) }

@@ -1,6 +1,8 @@
 //! What an item brings, added to the parts of a register (GBO §§ 16 to 18).
 ghost use Rattle.std.specs.Prelude.{◌≡◌, ◌<◌, ◌≤◌, ℕ, Some, length, Contains, IsSome, IsTrue};
+ghost use Rattle.std.specs.Option.{option_map_or};
 ghost use Rattle.std.specs.Result.{result_err, result_ok};
+ghost use Rattle.registrar.specs.declared.verdicts.Verdict.TheVariants as verdict;
 ghost use Rattle.gb_base.specs.declared.keys.Key.{Key};
 ghost use Rattle.act_model.specs.Touches.{filing_at, keys_of_filing};
 ghost use Rattle.folio_sections.specs.Adding.{AddsList, HasRoom};
@@ -11,7 +13,7 @@ ghost use Rattle.interim_orders.specs.declared.states.FilingState.TheVariants.{P
 ghost use Rattle.registrar.specs.Brings.{brought_by_cure, brought_by_filing, brought_in_state, lowest_said, verdict_on_award, verdict_on_lapse, verdict_unless};
 ghost use Rattle.registrar.specs.Rooms.{IsForFolio, IsRoomy};
 ghost use Rattle.registrar.specs.inner.Steps.{CanStep, Settles, filing_item, lapse_item};
-ghost use Rattle.act_model.specs.declared.items.Item.TheVariants.{Award, Cure, OpenBids, Register, Seize};
+ghost use Rattle.act_model.specs.declared.items.Item.TheVariants.{Award, Cure, Distribute, OpenBids, Register, Seize};
 
 use crate::{Scratch, Verdict};
 use act_model::{Basis, Docs, Filing, Item, Journal, Matter, Registration, filing_at};
@@ -21,7 +23,7 @@ use entry_rules::enter;
 use folio_sections::Parts;
 use gb_base::{Cents, Day, FolioId, Person, ReceiptNo, Section};
 use interim_orders::{FilingState, Lapse, close_order, enter_notices, lapse, open_order, state};
-use sale_rules::{AwardRefusal, award, open_bids, register, seize};
+use sale_rules::{AwardRefusal, award, distribute, open_bids, register, seize};
 
 /// Adds what this item of the journal brings, and says what becomes of it.
 pub(crate) fn settle<P: Parts>(
@@ -55,7 +57,7 @@ pub(crate) fn settle<P: Parts>(
         Item::Award { folio, buyer, bid } => {
             settle_award(parts, scratch, journal, item, *folio, *buyer, *bid)
         }
-        Item::Distribute { .. } => Verdict::NotPending,
+        Item::Distribute { folio } => settle_distribution(parts, journal, item, *folio),
     }
 }
 
@@ -178,6 +180,20 @@ fn settle_award<P: Parts>(
         bid.get(),
         award(parts, scratch, journal, item, folio, buyer, bid),
     )
+}
+
+/// The proceeds are distributed, or the distribution is refused (ZVG § 105).
+fn settle_distribution<P: Parts>(
+    parts: &mut P,
+    journal: &Journal,
+    item: ReceiptNo,
+    folio: FolioId,
+) -> Verdict
+    requires { CanStep journal.now.receipts item (Distribute folio) (P.holds parts.old) (P.at parts.old) (P.room parts.old) }
+    ensures settles { Settles journal.now.receipts item (Distribute folio) (P.holds parts.old) (P.at parts.old) (P.at parts.new) (P.room parts.old) (P.room parts.new) result }
+    ensures held { P.holds parts.new ≡ P.holds parts.old }
+{
+    verdict_on_distribution(distribute(parts, journal, item, folio))
 }
 
 /// A filing is entered, rejected or set to wait, as it is judged.
@@ -318,6 +334,16 @@ fn verdict_on_call(answer: Result<Lowest, Section>) -> Verdict
             total: lowest.total,
             cash: lowest.cash,
         },
+        Err(section) => Verdict::Rejected(section),
+    }
+}
+
+/// What becomes of a distribution: it is rejected, or says the money, in cents.
+fn verdict_on_distribution(answer: Result<u64, Section>) -> Verdict
+    ensures { result ≡ verdict_unless (result_err answer) (verdict.Distributed (option_map_or (λ cents. cents) (result_ok answer) 0)) }
+{
+    match answer {
+        Ok(money) => Verdict::Distributed { money },
         Err(section) => Verdict::Rejected(section),
     }
 }

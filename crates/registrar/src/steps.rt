@@ -1,4 +1,4 @@
-//! One step of a registrar: an item settled on parts that stand for a kept register.
+//! One step of a registrar: an item settled on parts that stand for a register that comes about.
 ghost use Rattle.std.specs.Prelude.{◌≡◌, List, ◌≤◌, ◌<◌, Some, length, All, Contains, IsTrue};
 ghost use Rattle.gb_base.specs.declared.keys.Key.{Key};
 ghost use Rattle.act_model.specs.Receiving.{IsJournal, receipt_at};
@@ -9,7 +9,8 @@ ghost use Rattle.folio_sections.specs.declared.entries.Entry.{Entry};
 ghost use Rattle.registrar.specs.Brings.{brings};
 ghost use Rattle.conflict_queue.specs.ItemKeys.{keys_of_item};
 ghost use Rattle.registrar.specs.Rooms.{HasItsRoom, HasItsScratch};
-ghost use Rattle.kept_registers.specs.Standing.{StandsFor, StandsForKept};
+ghost use Rattle.kept_registers.specs.Standing.{StandsFor};
+ghost use Rattle.registrar.specs.StandingAwards.{StandsForKeptAwards};
 
 use crate::settling::settle;
 use crate::{Scratch, Verdict};
@@ -17,11 +18,11 @@ use act_model::{Journal, Receipt};
 use folio_sections::Parts;
 use gb_base::ReceiptNo;
 
-/// Settles an item on parts that stand for a kept register, where all that stands at the item's
-/// keys is by earlier items (GBO § 17). It adds what the item brings, which is the same on each
-/// kept register that the parts stand for; no other key changes. The parts then stand for each of
-/// these registers with what the item brings to it, and again for a kept one. It takes no memory
-/// and cannot fail.
+/// Settles an item on parts that stand for a kept register that keeps its awards, where all that
+/// stands at the item's keys is by earlier items (GBO § 17). It adds what the item brings, which is
+/// the same on each kept register that the parts stand for; no other key changes. The parts then
+/// stand for each of these registers with what the item brings to it, and again for a kept one that
+/// keeps its awards. It takes no memory and cannot fail.
 pub fn step<P: Parts>(
     parts: &mut P,
     scratch: &mut Scratch,
@@ -32,7 +33,7 @@ pub fn step<P: Parts>(
     requires held { (k : Key) → Contains (keys_of_item journal.now.receipts item) k → IsTrue (P.holds parts.old k) }
     requires room { HasItsRoom journal.now.receipts item (P.at parts.old) (P.room parts.old) }
     requires scratch { HasItsScratch journal.now.receipts item (P.at parts.old) scratch.old }
-    requires kept { StandsForKept journal.now.receipts (P.holds parts.old) (P.at parts.old) }
+    requires kept { StandsForKeptAwards journal.now.receipts (P.holds parts.old) (P.at parts.old) }
     requires earlier { (k : Key) → Contains (keys_of_item journal.now.receipts item) k → All (λ e. e.receipt < item) (P.at parts.old k) }
     ensures verdict { (register : Key → List Entry) → StandsFor (P.holds parts.old) (P.at parts.old) register → Kept journal.now.receipts register
         → result ≡ (brings journal.now.receipts item register).verdict }
@@ -42,7 +43,7 @@ pub fn step<P: Parts>(
     ensures held { P.holds parts.new ≡ P.holds parts.old }
     ensures stands { (register : Key → List Entry) → StandsFor (P.holds parts.old) (P.at parts.old) register → Kept journal.now.receipts register
         → StandsFor (P.holds parts.new) (P.at parts.new) (with_entries register (brings journal.now.receipts item register).entries) }
-    ensures kept { StandsForKept journal.now.receipts (P.holds parts.new) (P.at parts.new) }
+    ensures kept { StandsForKeptAwards journal.now.receipts (P.holds parts.new) (P.at parts.new) }
     ensures scratch { scratch.new ≡ scratch.old }
 {
     let receipt = receipt_of(journal, item);

@@ -22,8 +22,7 @@ pub enum Verdict {
     Lapsed,
     /// The deadline of the filing that the lapse names is not over: this day is the last of it.
     TooEarly(Day),
-    /// The item names no earlier filing that waits. A distribution, which is not settled yet, is
-    /// answered so too.
+    /// The item names no earlier filing that waits.
     NotPending,
     /// The land is seized (ZVG § 20).
     Seized,
@@ -36,4 +35,7 @@ pub enum Verdict {
     Awarded,
     /// The bid is below the part of the lowest bid that is paid in cash, in cents (ZVG §§ 44, 49).
     BidTooLow { bid: u64, cash: u64 },
+    /// The proceeds are distributed: so much money, in cents, which is the bid of the award with its
+    /// interest (ZVG §§ 49, 105).
+    Distributed { money: u64 },
 }

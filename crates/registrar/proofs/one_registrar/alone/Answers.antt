@@ -19,3 +19,10 @@ returns-clause-folios c =
     (c.put_folios_in_order.ensures.behind c.args.journal.now.receipts c.in_ok-settled.ensures.behind)).folios
     ∙ ap (λ n. open_folios (settled_first c.args.journal.now.receipts n).entries)
     (length-enumerate_from 1 settled.verdicts.items ∙ ap (λ vs. length vs.items) c.put_folios_in_order.ensures.verdicts ∙ c.in_ok-settled.ensures.all)
+
+pub returns-clause-whole : goal.returns-clause-whole
+returns-clause-whole c = record {
+  settled = returns-clause-settled c;
+  whole = ap (λ r. length r.verdicts) c.new.ensures ∙ length-enumerate_from 1 c.put_folios_in_order.new.self.verdicts.items
+      ∙ ap (λ vs. length vs.items) c.put_folios_in_order.ensures.verdicts ∙ c.in_ok-settled.ensures.all;
+}

@@ -1,7 +1,7 @@
 use Rattle.std.proofs.Common.{sym, ap, subst, ◌∙◌}
 use Rattle.folio_sections.specs.Adding.{AddsList}
 use Rattle.registrar.proofs.Elsewhere.{stays_elsewhere}
-use Rattle.registrar.proofs.StandingParts.{stand_behind, still_stand}
+use Rattle.registrar.proofs.StandingParts.{for_kept, stand_behind, still_stand}
 use Rattle.registrar.proofs.StepLemmas.{brings_is, can_settle, has_room, is_roomy, item_is}
 use Rattle.registrar.specs.Brings.{Brought, brings}
 use Rattle.registrar.proofs.steps.step.Goals as goal
@@ -13,7 +13,7 @@ settle-requires-clause-step g c = record {
   item = item_is c.args.journal.now.receipts c.args.item c.receipt_of-receipt.result.now c.receipt_of-receipt.ensures.value;
   parts =
       can_settle c.args.journal.now.receipts c.args.item (g.P.Parts.holds c.args.parts.now) (g.P.Parts.at c.args.parts.now) (g.P.Parts.room c.args.parts.now) c.receipt_of-receipt.result.now
-      c.receipt_of-receipt.ensures.value c.requires.held c.requires.room c.requires.earlier c.requires.kept;
+      c.receipt_of-receipt.ensures.value c.requires.held c.requires.room c.requires.earlier (for_kept c.args.journal.now.receipts (g.P.Parts.holds c.args.parts.now) (g.P.Parts.at c.args.parts.now) c.requires.kept);
   wanted =
       has_room c.args.journal.now.receipts c.args.item (g.P.Parts.at c.args.parts.now) (g.P.Parts.room c.args.parts.now) c.receipt_of-receipt.result.now c.receipt_of-receipt.ensures.value c.requires.room;
 }

@@ -6,6 +6,7 @@ use Rattle.folio_sections.specs.Titles.{is_open}
 use Rattle.kept_registers.specs.Kept.{Kept}
 use Rattle.registrar.proofs.GoingOn.{next_behind, nothing_added}
 use Rattle.registrar.proofs.JournalKeys.{has_its_room, touched_is_given}
+use Rattle.registrar.specs.KeptAwards.{AwardsKept}
 use Rattle.registrar.specs.inner.Listed.{closed_folio_of_title}
 use Rattle.registrar.proofs.settled.Settled.settle_next.Goals as goal
 
@@ -33,6 +34,7 @@ step-verdict-requires-clause-kept c = record {
   register = entries_at c.make_room.new.parts;
   stands = λ k held. refl;
   kept = subst (Kept c.args.journal.now.receipts) (sym c.make_room.ensures.entries) c.requires.behind.settled.kept;
+  awards = subst (AwardsKept c.args.journal.now.receipts) (sym c.make_room.ensures.entries) c.requires.behind.settled.awards;
 }
 
 pub step-verdict-requires-clause-earlier : goal.step-verdict-requires-clause-earlier
