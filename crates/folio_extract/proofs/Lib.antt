@@ -1,10 +1,15 @@
 -- Lemmas.
 pub mod CentLines
 pub mod ExtractText
+pub mod FolioDistributed
 pub mod KeptRanks
 pub mod MapInOrder
 pub mod PieceRuns
+pub mod PlansReckoned
+pub mod PlansTold
 pub mod RankTableText
 pub mod RankWalks
 pub mod ReportTold
+pub mod SummaryTold
+pub mod Sums
 pub mod WaitingInOrder

@@ -1,4 +1,4 @@
--- The report: what becomes of each item, the extract and the rank table of each open folio, and a line that ends it.
+-- The report: what becomes of each item, the extract, the rank table and the plans of each open folio, and a line that ends it.
 use Rattle.std.specs.Prelude.{◌≡◌, ℕ, List, ◌++◌, codes, flat_map, length}
 use Rattle.std.specs.Fmt.{decimal}
 use Rattle.gb_base.specs.declared.keys.Key.{Key}
@@ -11,12 +11,14 @@ use Rattle.registrar.specs.RegisterState.{RegisterState}
 use Rattle.registrar.specs.Settling.{Settlement}
 use Rattle.registrar.specs.declared.verdicts.Verdict.{Verdict}
 use Rattle.folio_extract.specs.Extracts.{extract_text}
+use Rattle.folio_extract.specs.Plans.{plans_of_folio}
 use Rattle.folio_extract.specs.RankTables.{rank_table_text}
 use Rattle.folio_extract.specs.VerdictLines.{verdict_lines}
 
 -- the texts of these folios
 abbrev pub folio_texts : List Receipt → (Key → List Entry) → List ℕ → List ℕ
-folio_texts journal at folios = flat_map (λ folio. extract_text at folio ++ rank_table_text journal at folio) folios
+folio_texts journal at folios =
+    flat_map (λ folio. extract_text at folio ++ (rank_table_text journal at folio ++ plans_of_folio journal at folio)) folios
 
 -- the line that ends the report
 abbrev pub end_line : ℕ → ℕ → List ℕ

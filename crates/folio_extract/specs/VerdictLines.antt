@@ -31,6 +31,7 @@ verdict_text verdict.Registered = codes "registered"
 verdict_text (verdict.Lowest total cash) = codes "lowest " ++ (euro total ++ (codes " cash " ++ euro cash))
 verdict_text verdict.Awarded = codes "awarded"
 verdict_text (verdict.BidTooLow bid cash) = codes "rejected ZVG 44 bid " ++ (euro bid ++ (codes " cash " ++ euro cash))
+verdict_text (verdict.Distributed money) = codes "distributed " ++ euro money
 
 -- the same of receipt n, as a line
 abbrev pub verdict_line : ℕ → Verdict → List ℕ

@@ -57,6 +57,17 @@ pub(crate) fn title_entries(register: &Register, folio: FolioId) -> &[Entry]
     }
 }
 
+/// The entries at the forced sale of the folio.
+#[tactic(auto, using(folio_line::specs::inner::NotHeld::not_held))]
+pub(crate) fn case_entries(register: &Register, folio: FolioId) -> &[Entry]
+    ensures { result.now ≡ entries_at register.now.parts (Case folio) }
+{
+    match register.case(folio) {
+        Some(case) => case.entries(),
+        None => &[],
+    }
+}
+
 /// Whether a forced sale of the folio runs in which no award stands (ZVG § 19).
 #[tactic(auto, using(folio_line::specs::inner::NotHeld::not_held))]
 pub(crate) fn has_sale_note(register: &Register, folio: FolioId) -> bool

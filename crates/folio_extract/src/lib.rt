@@ -1,21 +1,27 @@
-//! The texts of a register: verdict lines, extracts, rank tables, and the report.
+//! The texts of a register: verdict lines, extracts, rank tables, plans, and the report.
 #![tactic(auto)]
 
 mod cent_lines;
 mod exchange_lines;
 mod extracts;
 mod folio_reads;
+mod plan_lines;
+mod plan_lists;
+mod plans;
 mod rank_lines;
 mod rank_tables;
 mod reports;
 mod right_lines;
+mod summaries;
 mod verdict_lines;
 mod waiting;
 mod waiting_lines;
 
 pub use extracts::extract;
 pub use folio_reads::awaits_award;
+pub use plans::{plan_csv, plan_text};
 pub use rank_tables::rank_table;
 pub use reports::report;
 pub use right_lines::add_right_line;
+pub use summaries::summary;
 pub use verdict_lines::{add_verdict_line, verdict_line};

@@ -3,14 +3,17 @@
 ghost use Rattle.std.specs.Prelude.{◌≡◌, ◌++◌, IfOk, OnOk, length};
 ghost use Rattle.std.specs.String.{string_bytes};
 ghost use Rattle.folio_sections.specs.Held.{entries_at};
-ghost use Rattle.kept_registers.specs.Kept.{Kept};
 ghost use Rattle.folio_extract.specs.Extracts.{extract_text};
+ghost use Rattle.folio_extract.specs.Plans.{plans_of_folio};
 ghost use Rattle.folio_extract.specs.RankTables.{rank_table_text};
 ghost use Rattle.folio_extract.specs.Reports.{Tells, end_line, folio_texts, report, report_text};
+ghost use Rattle.folio_extract.specs.inner.TellsPlans.{TellsPlans};
+ghost use Rattle.registrar.specs.HasSettled.{IsRegisterOf};
 ghost use Rattle.registrar.specs.Settling.{Settlement};
 
 use crate::extracts::add_extract;
 use crate::folio_reads::line_of;
+use crate::plans::{add_plans, tells_plans};
 use crate::rank_tables::add_rank_table;
 use crate::verdict_lines::add_verdict_lines;
 use act_model::Journal;
@@ -18,19 +21,20 @@ use gb_base::{FolioId, NoMemory};
 use registrar::Register;
 use std::alloc::Global;
 
-/// The report of a register: what became of each receipt, the extract and the rank table of each
-/// open folio, ascending, and a line that ends it.
+/// The report of a register: what became of each receipt, the extract, the rank table and the plans
+/// of the distributions of each open folio, ascending, and a line that ends it.
 pub fn report(alloc: Global, register: &Register, journal: &Journal) -> Result<Vec<u8>, NoMemory>
-    requires kept { Kept journal.now.receipts (entries_at register.now.parts) }
+    requires register { IsRegisterOf journal.now.receipts register.now }
     ensures text { IfOk result (λ text. text.items ≡ report_text journal.now.receipts register.now.verdicts (entries_at register.now.parts) register.now.folios) }
     ensures report { (settled : Settlement) → Tells register.now settled → IfOk result (λ text. text.items ≡ report journal.now.receipts settled) }
 {
+    tells_plans(register, journal);
     whole_text(alloc, register, journal)
 }
 
 /// The text of the report.
 fn whole_text(alloc: Global, register: &Register, journal: &Journal) -> Result<Vec<u8>, NoMemory>
-    requires { Kept journal.now.receipts (entries_at register.now.parts) }
+    requires told { TellsPlans journal.now.receipts register.now }
     ensures { IfOk result (λ text. text.items ≡ report_text journal.now.receipts register.now.verdicts (entries_at register.now.parts) register.now.folios) }
 {
     let mut text = String::new(alloc);
@@ -40,14 +44,14 @@ fn whole_text(alloc: Global, register: &Register, journal: &Journal) -> Result<V
     Ok(text.into_bytes())
 }
 
-/// Adds the extract and the rank table of each open folio.
+/// Adds the extract, the rank table and the plans of each open folio.
 fn add_folios(
     alloc: Global,
     text: &mut String,
     register: &Register,
     journal: &Journal,
 ) -> Result<(), NoMemory>
-    requires { Kept journal.now.receipts (entries_at register.now.parts) }
+    requires told { TellsPlans journal.now.receipts register.now }
     ensures { OnOk result (string_bytes text.new ≡ string_bytes text.old ++ folio_texts journal.now.receipts (entries_at register.now.parts) register.now.folios) }
 {
     for folio in register.folios() {
@@ -56,7 +60,8 @@ fn add_folios(
     Ok(())
 }
 
-/// Adds the extract and the rank table of an open folio, whose line is read once for both.
+/// Adds the extract, the rank table and the plans of an open folio, whose line is read once for the
+/// first two.
 fn add_folio(
     alloc: Global,
     text: &mut String,
@@ -64,13 +69,15 @@ fn add_folio(
     journal: &Journal,
     folio: FolioId,
 ) -> Result<(), NoMemory>
-    requires { Kept journal.now.receipts (entries_at register.now.parts) }
+    requires told { TellsPlans journal.now.receipts register.now }
     ensures { OnOk result (string_bytes text.new ≡ string_bytes text.old
-        ++ (extract_text (entries_at register.now.parts) folio ++ rank_table_text journal.now.receipts (entries_at register.now.parts) folio)) }
+        ++ (extract_text (entries_at register.now.parts) folio ++ (rank_table_text journal.now.receipts (entries_at register.now.parts) folio
+        ++ plans_of_folio journal.now.receipts (entries_at register.now.parts) folio))) }
 {
     let line = line_of(alloc, register, folio)?;
     add_extract(alloc, text, register, folio, line.live())?;
-    add_rank_table(alloc, text, register, journal, folio, &line)
+    add_rank_table(alloc, text, register, journal, folio, &line)?;
+    add_plans(alloc, text, register, journal, folio)
 }
 
 /// Adds the line that ends the report.

@@ -71,6 +71,7 @@ fn add_verdict(text: &mut String, verdict: &Verdict) -> Result<(), NoMemory>
         Verdict::BidTooLow { bid, cash } => {
             add_amounts(text, "rejected ZVG 44 bid ", *bid, *cash)?
         }
+        Verdict::Distributed { money } => add_distributed(text, *money)?,
     }
     Ok(())
 }
@@ -86,9 +87,17 @@ fn add_amounts(text: &mut String, words: &str, amount: u64, cash: u64) -> Result
     add_euro(text, cash)
 }
 
+/// Adds the words of a distribution of so much money, in cents.
+fn add_distributed(text: &mut String, money: u64) -> Result<(), NoMemory>
+    ensures { OnOk result (string_bytes text.new ≡ string_bytes text.old ++ (codes "distributed " ++ euro money)) }
+{
+    text.push_str("distributed ")?;
+    add_euro(text, money)
+}
+
 /// Adds an amount of cents as whole euros, a point and two digits. Sums of a sale may pass what a
 /// single amount may be.
-fn add_euro(text: &mut String, cents: u64) -> Result<(), NoMemory>
+pub(crate) fn add_euro(text: &mut String, cents: u64) -> Result<(), NoMemory>
     ensures { OnOk result (string_bytes text.new ≡ string_bytes text.old ++ euro cents) }
 {
     let rest = cents % 100;

@@ -1,4 +1,4 @@
-use Rattle.std.proofs.Common.{All, IsTrue, List, sym, subst, ◌∙◌}
+use Rattle.std.proofs.Common.{All, IsTrue, List, sym, subst}
 use Rattle.std.proofs.lemmas.Result.{on_ok_weaker}
 use Rattle.std.specs.String.{string_bytes}
 use Rattle.gb_base.specs.declared.keys.Key.TheVariants.{Right}

@@ -1,7 +1,7 @@
 use Rattle.std.proofs.Common.{ap, flat_map, ◌++◌, ◌∙◌}
 use Rattle.std.specs.String.{string_bytes}
 use Rattle.folio_sections.specs.Held.{entries_at}
-use Rattle.folio_extract.specs.RankTables.{exchange_line, exercise_line}
+use Rattle.folio_extract.specs.RankTables.{exercise_line}
 use Rattle.folio_extract.proofs.RankTableText.{table_added}
 use Rattle.folio_extract.proofs.rank_tables.add_rank_table.Goals as goal
 
