@@ -7,23 +7,17 @@ use Rattle.gb_base.specs.DayMinute.{DayMinute}
 use Rattle.act_model.specs.declared.items.Item.{Item}
 use Rattle.act_json.specs.Lines.{longest_line, stamped_of}
 use Rattle.act_json.specs.declared.lines.LineFault.{LineFault}
-use Rattle.intake.specs.Built.{is_built}
-use Rattle.intake.specs.Lines.{is_blank, request_of_line, request_of_item, request_of_stamped, request_read, is_stamped_by_clock}
+use Rattle.intake.specs.Lines.{is_blank, request_of_line, request_of_stamped, request_read, is_stamped_by_clock}
 use Rattle.intake.specs.Sessions.{ended, behind, ended_requests}
 use Rattle.intake.specs.declared.lines.LineKind.{LineKind}
 use Rattle.intake.specs.declared.lines.LineKind.TheVariants.{Stamped, Unstamped}
-use Rattle.intake_requests.specs.declared.requests.SenderReference.{SenderReference}
-use Rattle.intake_requests.specs.declared.requests.Request.TheVariants.{Nothing, Refused, Receive}
+use Rattle.intake_requests.specs.declared.requests.Request.TheVariants.{Nothing, Refused}
 use Rattle.intake_requests.specs.Asking.{asks_clock}
 
 -- ---- which lines ask the clock
 
-item_asks_none : (stamp : DayMinute) (from : SenderReference) (item : Item) → asks_clock (request_of_item (Some stamp) from item) ≡ false
-item_asks_none stamp from item =
-    elim (is_built item) as (λ b. asks_clock (cond b (Receive (Some stamp) from item) (Refused (codes "not built\n"))) ≡ false) [ true ↦ refl | false ↦ refl ]
-
 stamped_asks_none : (said : Result (DayMinute × ℕ × ℕ × Item) LineFault) → asks_clock (request_of_stamped said) ≡ false
-stamped_asks_none (Ok found) = item_asks_none found.0 (record { sender = found.1; reference = found.2 }) found.3
+stamped_asks_none (Ok found) = refl
 stamped_asks_none (Err fault) = refl
 
 stamped_line_asks_none : (line : List ℕ) → asks_clock (request_of_line Stamped line) ≡ false

@@ -1,6 +1,5 @@
 -- What contracts cite.
 pub mod Answered
-pub mod Built
 pub mod EarlyEnds
 pub mod Faults
 pub mod Grown

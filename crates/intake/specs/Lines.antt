@@ -7,7 +7,6 @@ use Rattle.act_model.specs.declared.items.Item.{Item}
 use Rattle.act_json.specs.Lines.{longest_line, item_of, stamped_of}
 use Rattle.act_json.specs.declared.lines.LineFault.{LineFault}
 use Rattle.act_json.specs.declared.lines.LineFault.TheVariants.{NotJson, NotItem, Memory}
-use Rattle.intake.specs.Built.{is_built}
 use Rattle.intake.specs.declared.lines.LineKind.{LineKind}
 use Rattle.intake.specs.declared.lines.LineKind.TheVariants.{Stamped, Unstamped}
 use Rattle.intake_requests.specs.declared.requests.Request.{Request}
@@ -24,18 +23,14 @@ fault_text NotJson = codes "malformed json"
 fault_text (NotItem path) = codes "malformed " ++ path
 fault_text Memory = []
 
--- an item that the office does not take yet is refused, and asks no clock
-abbrev pub request_of_item : Option DayMinute → SenderReference → Item → Request
-request_of_item stamp from item = if is_built item then Receive stamp from item else Refused (codes "not built\n")
-
 -- a line that has its stamp
 abbrev pub request_of_stamped : Result (DayMinute × ℕ × ℕ × Item) LineFault → Request
-request_of_stamped (Ok found) = request_of_item (Some found.0) (record { sender = found.1; reference = found.2 }) found.3
+request_of_stamped (Ok found) = Receive (Some found.0) (record { sender = found.1; reference = found.2 }) found.3
 request_of_stamped (Err fault) = Refused (fault_text fault ++ codes "\n")
 
 -- a line that the clock stamps
 abbrev pub request_of_plain : Result (ℕ × ℕ × Item) LineFault → Request
-request_of_plain (Ok found) = request_of_item None (record { sender = found.0; reference = found.1 }) found.2
+request_of_plain (Ok found) = Receive None (record { sender = found.0; reference = found.1 }) found.2
 request_of_plain (Err fault) = Refused (fault_text fault ++ codes "\n")
 
 -- what a line that is neither blank nor too long asks

@@ -3,18 +3,15 @@
 #![tactic(auto)]
 
 mod answering;
-mod built;
 mod faults;
 mod inputs;
 mod intakes;
-pub mod laws;
 mod lines;
 mod list_session;
 mod receivers;
 mod session;
 mod writing;
 
-pub use built::is_built;
 pub use faults::{OutputFault, SessionFault};
 pub use intakes::Intake;
 pub use lines::LineKind;

@@ -1,15 +1,11 @@
 //! One line of an input: what it asks.
 ghost use Rattle.std.specs.Prelude.{◌≡◌, ◌≤◌, ◌==◌, ◌||◌, ◌++◌, ◌≢◌, codes, length, IfOk, IsTrue};
-ghost use Rattle.act_model.specs.WellFormed.{well_formed};
 ghost use Rattle.act_json.specs.Lines.{longest_line, item_of, stamped_of};
-ghost use Rattle.intake.specs.Built.{is_built};
-ghost use Rattle.intake.specs.Lines.{is_blank, fault_text, request_of_line, request_of_item, request_of_stamped, request_of_plain};
+ghost use Rattle.intake.specs.Lines.{is_blank, fault_text, request_of_line, request_of_stamped, request_of_plain};
 ghost use Rattle.intake_requests.specs.Asking.{asks_well};
 
-use crate::built::is_built;
 use act_json::{LineFault, read_item, read_stamped};
-use act_model::Item;
-use gb_base::{NoMemory, Stamp};
+use gb_base::NoMemory;
 use intake_requests::{Reply, Request, SenderReference};
 use std::alloc::{AllocError, Global};
 
@@ -60,7 +56,8 @@ fn request_of_stamped(alloc: Global, line: &[u8]) -> Result<Request, NoMemory>
     match read_stamped(alloc, line) {
         Ok((stamp, sender, reference, item)) => {
             let from = SenderReference { sender, reference };
-            request_of_item(alloc, Some(stamp), from, item)
+            let stamp = Some(stamp);
+            Ok(Request::Receive { stamp, from, item })
         }
         Err(fault) => fault_line(alloc, &fault),
     }
@@ -75,27 +72,11 @@ fn request_of_plain(alloc: Global, line: &[u8]) -> Result<Request, NoMemory>
     match read_item(alloc, line) {
         Ok((sender, reference, item)) => {
             let from = SenderReference { sender, reference };
-            request_of_item(alloc, None, from, item)
+            let stamp = None;
+            Ok(Request::Receive { stamp, from, item })
         }
         Err(fault) => fault_line(alloc, &fault),
     }
-}
-
-/// An item is to be received where the office takes it.
-fn request_of_item(
-    alloc: Global,
-    stamp: Option<Stamp>,
-    from: SenderReference,
-    item: Item,
-) -> Result<Request, NoMemory>
-    requires { IsTrue (well_formed item) }
-    ensures value { IfOk result (λ request. request ≡ request_of_item stamp from item) }
-    ensures well_formed { IfOk result (λ request. IsTrue (asks_well request)) }
-{
-    if is_built(&item) {
-        return Ok(Request::Receive { stamp, from, item });
-    }
-    Request::refused(alloc, b"not built\n")
 }
 
 /// A line that is no item is refused.

@@ -5,7 +5,7 @@ use Rattle.gb_outside.specs.Bytes.{AppendsFront}
 use Rattle.act_model.specs.declared.receipts.Receipt.{Receipt}
 use Rattle.receipt_journal.specs.Standing.{StandsForJournal}
 use Rattle.receipt_journal.proofs.Standings.{journal_once}
-use Rattle.registry_office.specs.Outcomes.{settle_output}
+use Rattle.registry_office.specs.Outcomes.{report_of}
 use Rattle.registry_office.specs.Disks.{IsJournalFile, FindsBy}
 use Rattle.intake.specs.Faults.{output_failed}
 use Rattle.registry_office.specs.Statuses.{is_of_writing, is_no_journal, read_fault, write_fault, disk_fault, door_fault}
@@ -16,13 +16,13 @@ use Rattle.intake.specs.declared.faults.OutputFault.{OutputFault}
 use Rattle.intake.specs.declared.faults.OutputFault.TheVariants as output
 use Rattle.intake.proofs.Replies.{whole_front}
 
-pub whole_of_file : (written0 written1 : Option (List ℕ)) (file : List ℕ) (settled kept journal : List Receipt) → settled ≡ kept → StandsForJournal file kept → StandsForJournal file journal → Appends written0 written1 (settle_output settled) → Appends written0 written1 (settle_output journal)
+pub whole_of_file : (written0 written1 : Option (List ℕ)) (file : List ℕ) (settled kept journal : List Receipt) → settled ≡ kept → StandsForJournal file kept → StandsForJournal file journal → Appends written0 written1 (report_of settled) → Appends written0 written1 (report_of journal)
 whole_of_file written0 written1 file settled kept journal same found stands wrote =
-    subst (λ j. Appends written0 written1 (settle_output j)) (same ∙ journal_once file kept journal found stands) wrote
+    subst (λ j. Appends written0 written1 (report_of j)) (same ∙ journal_once file kept journal found stands) wrote
 
-pub front_of_file : (written0 written1 : Option (List ℕ)) (file : List ℕ) (settled kept journal : List Receipt) → settled ≡ kept → StandsForJournal file kept → StandsForJournal file journal → AppendsFront written0 written1 (settle_output settled) → AppendsFront written0 written1 (settle_output journal)
+pub front_of_file : (written0 written1 : Option (List ℕ)) (file : List ℕ) (settled kept journal : List Receipt) → settled ≡ kept → StandsForJournal file kept → StandsForJournal file journal → AppendsFront written0 written1 (report_of settled) → AppendsFront written0 written1 (report_of journal)
 front_of_file written0 written1 file settled kept journal same found stands wrote =
-    subst (λ j. AppendsFront written0 written1 (settle_output j)) (same ∙ journal_once file kept journal found stands) wrote
+    subst (λ j. AppendsFront written0 written1 (report_of j)) (same ∙ journal_once file kept journal found stands) wrote
 
 -- ---- a text that was to be written, by its status
 

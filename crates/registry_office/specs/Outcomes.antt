@@ -1,28 +1,27 @@
 -- What the office writes. The number of desks occurs in none of these.
--- Why so: docs/DECISIONS.md, "A journal with an item that is not taken is not reported".
-use Rattle.std.specs.Prelude.{◌≡◌, ℕ, Bool, true, false, if◌then◌else◌, List, [], ◌∷◌, ◌++◌, codes, Option, Some, None}
-use Rattle.std.specs.List.{list_all}
+use Rattle.std.specs.Prelude.{◌≡◌, ℕ, Bool, true, false, List, [], ◌++◌, Option, Some, None}
 use Rattle.gb_base.specs.DayMinute.{DayMinute}
 use Rattle.act_model.specs.declared.receipts.Receipt.{Receipt}
 use Rattle.receipt_journal.specs.Standing.{StandsForJournal}
 use Rattle.registrar.specs.Settling.{registrar}
 use Rattle.folio_extract.specs.Reports.{report}
-use Rattle.intake.specs.Built.{is_built}
+use Rattle.folio_extract.specs.Summaries.{summary}
+use Rattle.sample_journals.specs.Sample.{sample}
 use Rattle.intake.specs.Intakes.{whole_of, cut_of}
 use Rattle.intake.specs.Requests.{InMemory, OnDisk, Held, holding, replies, held_after}
 use Rattle.intake.specs.Sessions.{line_requests, ended_requests}
 use Rattle.intake.specs.declared.lines.LineKind.TheVariants.{Stamped}
 use Rattle.intake_requests.specs.declared.requests.Request.{Request}
 use Rattle.registry_office.specs.declared.words.Command.{Command}
-use Rattle.registry_office.specs.declared.words.Command.TheVariants.{Settle, SettleLines, Receive}
+use Rattle.registry_office.specs.declared.words.Command.TheVariants.{Settle, SettleLines, Receive, Sample}
 
 -- the report of the journal that one registrar takes in the order of receipt
 unfoldable pub report_of : List Receipt → List ℕ
 report_of journal = report journal (registrar journal)
 
--- the report of a journal; where an item of it is not built, one line that says so
-abbrev pub settle_output : List Receipt → List ℕ
-settle_output journal = if list_all (λ r. is_built r.item) journal then report_of journal else codes "not built" ++ 10 ∷ []
+-- the summary of what one registrar leaves who takes the generated journal of this seed and size in the order of receipt
+unfoldable pub sample_output : ℕ → ℕ → List ℕ
+sample_output seed size = summary (registrar (sample seed size))
 
 -- the replies of the session over this input, from the empty journal, and then the report of the journal that it leaves
 abbrev pub settle_lines_output : List ℕ → List ℕ
@@ -35,6 +34,7 @@ requests_of None input = []
 requests_of (Some (Settle desks)) input = []
 requests_of (Some (SettleLines desks)) input = line_requests Stamped input
 requests_of (Some (Receive intake)) input = whole_of intake input
+requests_of (Some (Sample seed size desks)) input = []
 
 -- what it asks where it is cut here
 abbrev pub cut_requests_of : Option Command → List ℕ → List Request
@@ -42,6 +42,7 @@ cut_requests_of None read = []
 cut_requests_of (Some (Settle desks)) read = []
 cut_requests_of (Some (SettleLines desks)) read = ended_requests Stamped [] read
 cut_requests_of (Some (Receive intake)) read = cut_of intake read
+cut_requests_of (Some (Sample seed size desks)) read = []
 
 -- the replies to these requests of the command
 abbrev pub replies_of : Option Command → Held → List Request → List ℕ
@@ -49,6 +50,7 @@ replies_of None held requests = []
 replies_of (Some (Settle desks)) held requests = []
 replies_of (Some (SettleLines desks)) held requests = replies InMemory (holding [] []) requests
 replies_of (Some (Receive intake)) held requests = replies OnDisk held requests
+replies_of (Some (Sample seed size desks)) held requests = []
 
 -- what a command writes, and the journal of the disk and the clock's ticks after it
 pub record Outcome : Type 0 where
@@ -59,13 +61,14 @@ pub record Outcome : Type 0 where
 -- what comes of the words, where the disk's journal and the clock's ticks are held and the source gives this input; words that are no command bring nothing
 abbrev pub outcome : Option Command → Held → List ℕ → Outcome
 outcome None held input = record { written = []; journal = held.journal; ticks = held.ticks }
-outcome (Some (Settle desks)) held input = record { written = settle_output held.journal; journal = held.journal; ticks = held.ticks }
+outcome (Some (Settle desks)) held input = record { written = report_of held.journal; journal = held.journal; ticks = held.ticks }
 outcome (Some (SettleLines desks)) held input = record { written = settle_lines_output input; journal = held.journal; ticks = held.ticks }
 outcome (Some (Receive intake)) held input = record {
   written = replies OnDisk held (whole_of intake input);
   journal = (held_after OnDisk held (whole_of intake input)).journal;
   ticks = (held_after OnDisk held (whole_of intake input)).ticks;
 }
+outcome (Some (Sample seed size desks)) held input = record { written = sample_output seed size; journal = held.journal; ticks = held.ticks }
 
 -- the command reads the input
 abbrev pub uses_input : Option Command → Bool
@@ -73,6 +76,7 @@ uses_input None = false
 uses_input (Some (Settle desks)) = false
 uses_input (Some (SettleLines desks)) = true
 uses_input (Some (Receive intake)) = true
+uses_input (Some (Sample seed size desks)) = false
 
 -- the command uses the disk
 abbrev pub uses_disk : Option Command → Bool
@@ -80,6 +84,7 @@ uses_disk None = false
 uses_disk (Some (Settle desks)) = true
 uses_disk (Some (SettleLines desks)) = false
 uses_disk (Some (Receive intake)) = true
+uses_disk (Some (Sample seed size desks)) = false
 
 -- the command receives onto the disk, with the clock's stamps
 abbrev pub receives : Option Command → Bool
@@ -87,6 +92,7 @@ receives None = false
 receives (Some (Settle desks)) = false
 receives (Some (SettleLines desks)) = false
 receives (Some (Receive intake)) = true
+receives (Some (Sample seed size desks)) = false
 
 -- The objects that the command uses tell what they hold: at first the disk's file stood for this journal, the clock had these ticks to give, and this was left of the input.
 pub record Told (command : Option Command) (tells : Bool) (file : List ℕ) (left : Option (List ℕ)) (known : Option (List DayMinute)) (held : Held) (input : List ℕ) : Type 0 where

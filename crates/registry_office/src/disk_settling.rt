@@ -1,8 +1,7 @@
 //! The journal of a book is settled, and the command that settles the journal of the disk.
 //! Why so: docs/DECISIONS.md, "The office has no rules of its own".
 //! Why so: docs/DECISIONS.md, "`settle` takes its desks and their gate, and uses neither".
-ghost use Rattle.std.specs.Prelude.{◌≡◌, ◌≤◌, ℕ, List, true, false, OnOk, OnErr, IsTrue};
-ghost use Rattle.std.specs.List.{list_all};
+ghost use Rattle.std.specs.Prelude.{◌≡◌, ◌≤◌, ℕ, List, true, false, IsTrue};
 ghost use Rattle.std.specs.Io.KnownBytes.{Appends};
 ghost use Rattle.gb_outside.specs.Bytes.{AppendsFront};
 ghost use Rattle.gb_outside.specs.Faults.{Counts};
@@ -10,23 +9,19 @@ ghost use Rattle.act_model.specs.declared.receipts.Receipt.{Receipt};
 ghost use Rattle.journal_disk.specs.Layout.{the_heading, made_from, IsMade, IsUnmade};
 ghost use Rattle.journal_disk.specs.Opening.{IsKept, AnswersSynced};
 ghost use Rattle.receipt_journal.specs.Standing.{StandsForJournal};
-ghost use Rattle.intake.specs.Built.{is_built};
 ghost use Rattle.registry_office.specs.Disks.{FindsBy, IsJournalFile, KeepsGrown};
-ghost use Rattle.intake.specs.Faults.{output_failed};
-ghost use Rattle.registry_office.specs.Outcomes.{settle_output};
+ghost use Rattle.registry_office.specs.Outcomes.{report_of};
 ghost use Rattle.registry_office.specs.Statuses.{read_fault, write_fault, disk_fault, door_fault, is_no_journal, is_of_writing, tells_of_opening};
 
 use crate::settling::write_report;
 use crate::statuses::{Status, status_of_opening, status_of_writing};
-use act_model::{Journal, Receipt};
+use act_model::Journal;
 use gb_outside::{DeskGate, Disk, Sink};
-use intake::{OutputFault, is_built, write_all};
 use receipt_journal::Book;
 use std::alloc::Global;
 
-/// Settles a journal at so many desks, 1 to 64, and writes the report. Where an item of it is not
-/// built, one line says so instead. It answers `Ok`, `WriteFault` or `Memory`. The number of desks
-/// never changes what is written.
+/// Settles a journal at so many desks, 1 to 64, and writes the report. It answers `Ok`, `WriteFault`
+/// or `Memory`. The number of desks never changes what is written.
 pub fn settle<R: AllocGlobal, K: Sink, G: DeskGate>(
     rt: &R,
     journal: &Journal,
@@ -35,12 +30,12 @@ pub fn settle<R: AllocGlobal, K: Sink, G: DeskGate>(
     _gate: &G,
 ) -> Status
     requires desks { (1 ≤ _desks) × (_desks ≤ 64) }
-    ensures written { result ≡ Status.Ok → Appends (K.written sink.old) (K.written sink.new) (settle_output journal.now.receipts) }
-    ensures part { AppendsFront (K.written sink.old) (K.written sink.new) (settle_output journal.now.receipts) }
+    ensures written { result ≡ Status.Ok → Appends (K.written sink.old) (K.written sink.new) (report_of journal.now.receipts) }
+    ensures part { AppendsFront (K.written sink.old) (K.written sink.new) (report_of journal.now.receipts) }
     ensures write { Counts (K.faults sink.old) (K.faults sink.new) (write_fault result) }
     ensures others { IsTrue (is_of_writing result) }
 {
-    status_of_writing(write_settled(rt.alloc(), journal, sink))
+    status_of_writing(write_report(rt.alloc(), journal, sink))
 }
 
 /// Opens the journal of the disk and settles it.
@@ -53,9 +48,9 @@ pub(crate) fn settle_disk<R: AllocGlobal, D: Disk, K: Sink, G: DeskGate>(
 ) -> Status
     requires desks { (1 ≤ desks) × (desks ≤ 64) }
     ensures written { IsTrue D.tells → (journal : List Receipt) → StandsForJournal (D.reads disk.old) journal → result ≡ Status.Ok
-        → Appends (K.written sink.old) (K.written sink.new) (settle_output journal) }
+        → Appends (K.written sink.old) (K.written sink.new) (report_of journal) }
     ensures part { IsTrue D.tells → (journal : List Receipt) → StandsForJournal (D.reads disk.old) journal
-        → AppendsFront (K.written sink.old) (K.written sink.new) (settle_output journal) }
+        → AppendsFront (K.written sink.old) (K.written sink.new) (report_of journal) }
     ensures stands_at_end { IsTrue D.tells → (journal : List Receipt) (file : List ℕ) → StandsForJournal (D.reads disk.old) journal → result ≡ Status.Ok
         → D.images disk.new file → StandsForJournal file journal }
 
@@ -81,23 +76,4 @@ pub(crate) fn settle_disk<R: AllocGlobal, D: Disk, K: Sink, G: DeskGate>(
         Ok(book) => settle(rt, book.journal(), sink, desks, gate),
         Err(fault) => status_of_opening(fault),
     }
-}
-
-/// Writes the report of a journal, or the line that says that an item of it is not built.
-fn write_settled<K: Sink>(alloc: Global, journal: &Journal, sink: &mut K) -> Result<(), OutputFault>
-    ensures whole { OnOk result (Appends (K.written sink.old) (K.written sink.new) (settle_output journal.now.receipts)) }
-    ensures part { OnErr result (AppendsFront (K.written sink.old) (K.written sink.new) (settle_output journal.now.receipts)) }
-    ensures cause { Counts (K.faults sink.old) (K.faults sink.new) (output_failed result) }
-{
-    if all_built(journal.receipts()) {
-        write_report(alloc, journal, sink)
-    } else {
-        write_all(sink, b"not built\n")
-    }
-}
-
-fn all_built(receipts: &[Receipt]) -> bool
-    ensures { result ≡ list_all (λ r. is_built r.item) receipts.now }
-{
-    receipts.iter().all(|receipt| is_built(&receipt.item))
 }

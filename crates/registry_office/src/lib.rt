@@ -3,6 +3,7 @@
 
 mod disk_settling;
 mod receiving;
+mod sampling;
 mod settling;
 mod statuses;
 mod taking;

@@ -23,6 +23,7 @@ ghost use Rattle.intake_requests.specs.declared.requests.Request.{Request};
 
 use crate::disk_settling::settle_disk;
 use crate::receiving::receive_disk;
+use crate::sampling::settle_sample;
 use crate::settling::settle_lines;
 use crate::statuses::{Status, status_of};
 use crate::words::{Command, read_words};
@@ -159,5 +160,8 @@ pub fn run<R: AllocGlobal, S: Source, K: Sink, D: Disk, C: Clock, L: Listener, G
         Some(Command::Settle { desks }) => settle_disk(rt, disk, sink, desks, gate),
         Some(Command::SettleLines { .. }) => status_of(settle_lines(rt.alloc(), source, sink)),
         Some(Command::Receive { intake }) => receive_disk(rt, intake, source, sink, disk, clock),
+        Some(Command::Sample { seed, size, desks }) => {
+            settle_sample(rt, seed, size, sink, desks, gate)
+        }
     }
 }

@@ -2,7 +2,8 @@
 ghost use Rattle.std.specs.Prelude.{◌≡◌, ◌≤◌, IfSome};
 ghost use Rattle.std.specs.Rc.{rc_str_bytes};
 ghost use Rattle.opening_lists.specs.Numerals.{number_in};
-ghost use Rattle.registry_office.specs.Words.{HasDesks, commanded, opening_by, settle_by, settle_lines_by};
+ghost use Rattle.act_model.specs.Limits.{most_receipts};
+ghost use Rattle.registry_office.specs.Words.{HasDesks, HasSize, commanded, opening_by, sample_by, settle_by, settle_lines_by};
 
 use intake::Intake;
 use opening_lists::number_in;
@@ -18,12 +19,16 @@ pub enum Command {
     SettleLines { desks: u16 },
     /// Receive what the input has into the journal of the disk.
     Receive { intake: Intake },
+    /// Make the generated journal of this seed and size, settle it at so many desks, and write its
+    /// summary.
+    Sample { seed: u64, size: u32, desks: u16 },
 }
 
 /// The command of these words; None where they are none.
 pub fn read_words(words: &[RcStr]) -> Option<Command>
     ensures command { result ≡ commanded rc_str_bytes words.now }
     ensures desks { IfSome result HasDesks }
+    ensures size { IfSome result HasSize }
 {
     match words {
         [name] => {
@@ -51,6 +56,17 @@ pub fn read_words(words: &[RcStr]) -> Option<Command>
                 None
             }
         }
+        [name, first, seed, second, size, third, desks] => {
+            if &**name == "sample"
+                && &**first == "--seed"
+                && &**second == "--size"
+                && &**third == "--desks"
+            {
+                sample(&**seed, &**size, &**desks)
+            } else {
+                None
+            }
+        }
         _ => None,
     }
 }
@@ -58,6 +74,7 @@ pub fn read_words(words: &[RcStr]) -> Option<Command>
 fn settle_words(desks: &str) -> Option<Command>
     ensures command { result ≡ settle_by (number_in 1 64 desks.now) }
     ensures desks { IfSome result HasDesks }
+    ensures size { IfSome result HasSize }
 {
     Some(Command::Settle {
         desks: number_of_desks(desks)?,
@@ -67,6 +84,7 @@ fn settle_words(desks: &str) -> Option<Command>
 fn settle_lines(desks: &str) -> Option<Command>
     ensures command { result ≡ settle_lines_by (number_in 1 64 desks.now) }
     ensures desks { IfSome result HasDesks }
+    ensures size { IfSome result HasSize }
 {
     Some(Command::SettleLines {
         desks: number_of_desks(desks)?,
@@ -84,6 +102,7 @@ fn number_of_desks(text: &str) -> Option<u16>
 fn opening(sender: &str) -> Option<Command>
     ensures command { result ≡ opening_by (number_in 0 4294967295 sender.now) }
     ensures desks { IfSome result HasDesks }
+    ensures size { IfSome result HasSize }
 {
     let sender = number_in(sender.as_bytes(), 0, u64::from(u32::MAX))?;
     Some(Command::Receive {
@@ -91,4 +110,24 @@ fn opening(sender: &str) -> Option<Command>
             sender: sender as u32,
         },
     })
+}
+
+fn sample(seed: &str, size: &str, desks: &str) -> Option<Command>
+    ensures command { result ≡ sample_by (number_in 0 9999999999 seed.now) (number_in 1 most_receipts size.now) (number_in 1 64 desks.now) }
+    ensures desks { IfSome result HasDesks }
+    ensures size { IfSome result HasSize }
+{
+    Some(Command::Sample {
+        seed: number_in(seed.as_bytes(), 0, 9_999_999_999)?,
+        size: number_of_receipts(size)?,
+        desks: number_of_desks(desks)?,
+    })
+}
+
+fn number_of_receipts(text: &str) -> Option<u32>
+    ensures value { result ≡ number_in 1 most_receipts text.now }
+    ensures bounds { IfSome result (λ size. (1 ≤ size) × (size ≤ most_receipts)) }
+{
+    let size = number_in(text.as_bytes(), 1, 200_000)?;
+    Some(size as u32)
 }

@@ -1,0 +1,4 @@
+-- Lemmas.
+mod Drawing
+mod Receiving
+mod WellFormedTurns

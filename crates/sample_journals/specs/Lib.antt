@@ -1,0 +1,6 @@
+-- What contracts cite.
+pub mod Draws
+pub mod Sample
+pub mod SampleFilings
+pub mod Turns
+pub mod inner

@@ -1,0 +1,3 @@
+-- What private clauses and proofs alone use.
+pub mod FirstReceipts
+pub mod KnownBefore
