@@ -10,6 +10,8 @@ mod extract_tests;
 #[cfg(test)]
 mod full_line_tests;
 #[cfg(test)]
+mod plan_tests;
+#[cfg(test)]
 mod rank_table_tests;
 #[cfg(test)]
 mod report_tests;

@@ -106,7 +106,7 @@ fn a_cure_that_is_rejected(rt: HostRuntime) -> Result<(), Fail> {
 }
 
 /// Cures and lapses of a later number, of themselves and of what is no filing find nothing that
-/// waits, nor does an item of a forced sale. They bring nothing.
+/// waits. They bring nothing.
 #[test]
 fn items_that_name_nothing_that_waits(rt: HostRuntime) -> Result<(), Fail> {
     let mut journal = opened(&rt, rt.alloc());
@@ -118,10 +118,8 @@ fn items_that_name_nothing_that_waits(rt: HostRuntime) -> Result<(), Fail> {
     receive(&rt, &mut journal, day(5, 2), &cured_by_owner(7));
     receive(&rt, &mut journal, day(5, 2), &cured_by_owner(2));
     receive(&rt, &mut journal, day(5, 2), &cured_by_owner(1));
-    let sale = distribution(7);
-    receive(&rt, &mut journal, day(5, 2), &sale);
     let register = alone(rt.alloc(), &journal)?;
-    for n in 2..11 {
+    for n in 2..10 {
         assert!(rt; is_not_pending(verdict(&rt, &register, n)));
     }
     assert!(rt; are(at_title(&rt, &register, 7), &[(1, Opened)]));

@@ -10,6 +10,8 @@ mod row_tests;
 #[cfg(test)]
 mod runs;
 #[cfg(test)]
+mod sample_tests;
+#[cfg(test)]
 mod settling_tests;
 #[cfg(test)]
 mod stamped_line_tests;

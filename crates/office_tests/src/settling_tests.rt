@@ -92,15 +92,9 @@ fn an_unmade_file_is_made_and_holds_nothing(rt: HostRuntime) -> Result<(), Fail>
 }
 
 #[test]
-fn an_item_that_is_not_built_is_said_to_be_none(rt: HostRuntime) -> Result<(), Fail> {
-    leaves(
-        &rt,
-        DISTRIBUTION,
-        &[],
-        Status::Ok,
-        b"not built\n",
-        DISTRIBUTION,
-    )
+fn a_distribution_without_a_case_is_refused(rt: HostRuntime) -> Result<(), Fail> {
+    let text = b"receipt 1 rejected ZVG 15\nend receipts 1 folios 0\n";
+    leaves(&rt, DISTRIBUTION, &[], Status::Ok, text, DISTRIBUTION)
 }
 
 #[test]

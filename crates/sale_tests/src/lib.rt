@@ -1,8 +1,10 @@
-//! Tests of forced sales up to the award, by what `registrar` exports.
+//! Tests of forced sales, by what `registrar` exports.
 #![tactic(auto)]
 
 #[cfg(test)]
 mod award_tests;
+#[cfg(test)]
+mod distribution_tests;
 #[cfg(test)]
 mod lowest_bid_tests;
 #[cfg(test)]

@@ -151,8 +151,8 @@ fn an_award_wants_a_seizure_served_in_time(rt: HostRuntime) -> Result<(), Fail> 
     Ok(())
 }
 
-/// Behind an award there is no seizure, call or award; registrations come late. A distribution is
-/// not settled yet.
+/// Behind an award there is no seizure, call or award; registrations come late, and the proceeds are
+/// distributed.
 #[test]
 fn nothing_but_registrations_behind_an_award(rt: HostRuntime) -> Result<(), Fail> {
     let mut journal = charged(&rt, rt.alloc());
@@ -170,6 +170,6 @@ fn nothing_but_registrations_behind_an_award(rt: HostRuntime) -> Result<(), Fail
         assert!(rt; is_refused(verdict(&rt, &register, n), Section::Zvg81));
     }
     assert!(rt; is_registered(verdict(&rt, &register, 10)));
-    assert!(rt; matches!(verdict(&rt, &register, 11), Verdict::NotPending));
+    assert!(rt; matches!(verdict(&rt, &register, 11), Verdict::Distributed { .. }));
     Ok(())
 }

@@ -128,6 +128,7 @@ pub enum Said {
     Called(u64),
     Awarded(u32, u64),
     AwardOwner(u32),
+    Distributed,
     Another,
 }
 
@@ -154,6 +155,7 @@ fn as_said(what: &What) -> Said {
         What::Bids { costs } => Said::Called(costs.get()),
         What::Awarded { buyer, bid } => Said::Awarded(buyer.get(), bid.get()),
         What::AwardOwner { buyer } => Said::AwardOwner(buyer.get()),
+        What::Distributed => Said::Distributed,
         _ => Said::Another,
     }
 }
