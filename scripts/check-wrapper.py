@@ -96,7 +96,7 @@ def check_help(look, room):
     status, output, errors = room.run("--help")
     look.same("--help", (status, errors), (0, b""))
     look.same("no words print the same, and are no command", room.run(), (2, output, b""))
-    for command in ("settle --desks N --lines", "take", "opening --sender N", "settle --desks N", "--build"):
+    for command in ("settle --desks N --lines", "take", "opening --sender N", "settle --desks N", "sample --seed S --size Y --desks N", "--build"):
         look.same(f"--help has {command}", f"    ./grundbuch {command}\n".encode() in output, True)
 
 
