@@ -13,6 +13,7 @@ FOLIO = 7
 OWNER = 10
 FIRST_DAY = "2005-03-01"
 BEHIND_THE_DEADLINE = "2005-04-02"
+SALE_DAY = "2005-06-09"
 
 
 # ---- lines
@@ -35,14 +36,18 @@ def lapse(of):
     return {"kind": "lapse", "filing": of}
 
 
+def seizure(basis):
+    return {"kind": "seize", "folio": FOLIO, "basis": basis, "served": "2005-04-10"}
+
+
 # ---- acts and documents
 
 def opening(folio, owner=OWNER):
     return {"act": "open", "folio": folio, "district": 1, "parcel": 1, "sub": 0, "area": 500, "owners": [owner]}
 
 
-def charge(capital, holder=OWNER, folio=FOLIO, group=1):
-    return {"act": "create", "folio": folio, "kind": "land-charge", "rate": 500, "capital": capital,
+def charge(capital, holder=OWNER, folio=FOLIO, group=1, rate=500):
+    return {"act": "create", "folio": folio, "kind": "land-charge", "rate": rate, "capital": capital,
             "holder": holder, "group": group}
 
 
@@ -66,18 +71,26 @@ def consent(person, form="certified", act=1):
     return {"doc": "consent", "act": act, "person": person, "form": form}
 
 
+def from_right(receipt):
+    return {"type": "right", "right": right(receipt)}
+
+
 AGREEMENT = {"doc": "agreement", "act": 1}
 CLEARANCE = {"doc": "clearance", "act": 1}
 OPENED = filing([opening(FOLIO)], [consent(OWNER)])
 ENTERED_TRANSFER = filing([transfer(OWNER)], [consent(OWNER), AGREEMENT, CLEARANCE])
 WAITING_TRANSFER = filing([transfer(OWNER)], [consent(OWNER), AGREEMENT])
+PERSONAL = {"type": "personal", "creditor": 61, "claim": 1_000_000}
+CALL = {"kind": "open-bids", "folio": FOLIO, "costs": 10_000}
+AWARD = {"kind": "award", "folio": FOLIO, "buyer": OWNER, "bid": 2_000_000}
+DISTRIBUTION = {"kind": "distribute", "folio": FOLIO}
 
 
-def charges(upto):
+def charges(upto, rate=500):
     """The opening, and behind it land charges up to this receipt."""
     yield stamped(1, OPENED)
     for number in range(2, upto + 1):
-        yield stamped(number, filing([charge(1_000_000 + number)], [consent(OWNER)]))
+        yield stamped(number, filing([charge(1_000_000 + number, rate=rate)], [consent(OWNER)]))
 
 
 # ---- shapes
@@ -151,23 +164,24 @@ def cures(count, draws):
 
 
 def others(count, draws):
-    """a third of the lines wait at one right; then its cancellations, each cured by a consent at a time"""
+    """a third of the lines wait at one right; then its cancellations, cured by a consent at a time, in
+    plain form and certified"""
     third = count // 3
     yield stamped(1, OPENED)
     yield stamped(2, filing([charge(1_000)], [consent(OWNER)]))
     for number in range(3, third + 1):
         applicant = 1_000 + number
         yield stamped(number, filing([of_right("assign", 2, holder=applicant)], [consent(OWNER, "plain")], applicant))
-    of, behind = None, 0
+    cancelled, person = [], 1_002
     for number in range(third + 1, count + 1):
-        if of is None or behind == 30:
-            first = draws.randint(1_003, 1_000 + third)
-            docs = [consent(OWNER), *(consent(first + more) for more in range(30) if first + more <= 1_000 + third)]
-            of, behind = number, 0
-            yield stamped(number, filing([of_right("cancel", 2)], docs))
+        if (number - third) % 3 == 1:
+            named = range(person + 1, min(person + 31, 1_000 + third))
+            cancelled.append(number)
+            yield stamped(number, filing([of_right("cancel", 2)], [consent(OWNER), *map(consent, named)]))
         else:
-            behind += 1
-            yield stamped(number, cure(of, [consent(draws.randint(1_003, 1_000 + third))]))
+            of = cancelled[0] if number % 3 == 0 else draws.choice(cancelled[:3])
+            person = person + 1 if person < 1_000 + third else 1_003
+            yield stamped(number, cure(of, [consent(person, "plain"), consent(person)]))
 
 
 def cancel(count, draws):
@@ -189,6 +203,59 @@ def exchanges(count, draws):
     for number in range(258, count + 1):
         one, other = draws.sample(range(2, 258), 2)
         yield stamped(number, filing([exchange(one, other)], [consent(OWNER)]))
+
+
+def bids(count, draws):
+    """256 rights with interest, 8 seizures and 32 arrears; then calls to bid that reckon with all"""
+    yield from charges(257)
+    for number in range(258, 265):
+        yield stamped(number, seizure(from_right(257 - 30 * (number - 258))), SALE_DAY)
+    yield stamped(265, seizure(PERSONAL), SALE_DAY)
+    for number in range(266, 298):
+        owed = {"type": "arrears", "right": right(2 + 8 * (number - 266)), "from": "2002-12-22", "until": SALE_DAY}
+        yield stamped(number, {"kind": "register", "folio": FOLIO, "what": owed}, SALE_DAY)
+    for number in range(298, count + 1):
+        yield stamped(number, CALL, SALE_DAY)
+
+
+def mixed(count, draws):
+    """256 rights, and a call to bid for a personal creditor behind every two exchanges of any two of them"""
+    yield from calls_between(PERSONAL, count, draws)
+
+
+def mixright(count, draws):
+    """the same for the creditor of one of the rights"""
+    yield from calls_between(from_right(130), count, draws)
+
+
+def calls_between(basis, count, draws):
+    yield from charges(257)
+    yield stamped(258, seizure(basis), SALE_DAY)
+    for number in range(259, count + 1):
+        item = CALL if number % 3 == 0 else filing([exchange(*draws.sample(range(2, 258), 2))], [consent(OWNER)])
+        yield stamped(number, item, SALE_DAY)
+
+
+def sales(count, draws):
+    """200 rights that remain in one sale after another: every fourth line is a plan of 200 lines"""
+    yield from charges(201, rate=0)
+    yield from sales_behind(201, count)
+
+
+def swapsales(count, draws):
+    """the same behind exchanges of any two of the rights, which are half of the lines"""
+    yield from charges(201, rate=0)
+    half = max(201, count // 2)
+    for number in range(202, half + 1):
+        yield stamped(number, filing([exchange(*draws.sample(range(2, 202), 2))], [consent(OWNER)]))
+    yield from sales_behind(half, count)
+
+
+def sales_behind(number, count):
+    """Whole sales, behind this receipt."""
+    for number in range(number + 1, count - 3, 4):
+        for step, item in enumerate([seizure(PERSONAL), CALL, AWARD, DISTRIBUTION]):
+            yield stamped(number + step, item, SALE_DAY)
 
 
 def wide(count, draws):
@@ -219,7 +286,7 @@ def waiting(count, draws):
 
 SHAPES = {shape.__name__.replace("_", "-"): shape for shape in [
     one_folio, many_folios, folios, transfers, pending, lapses, notices, cures, others, cancel, exchanges, wide,
-    senders, waiting]}
+    senders, waiting, bids, mixed, mixright, sales, swapsales]}
 
 
 def main():

@@ -18,7 +18,8 @@ import time
 
 PROGRAM = pathlib.Path(__file__).resolve().parent.parent / "grundbuch"
 GENERATOR = pathlib.Path(__file__).resolve().parent / "generate.py"
-SHAPES = ["pending", "lapses", "notices", "cures", "others", "exchanges", "transfers", "cancel", "wide", "folios", "senders"]
+SHAPES = ["pending", "lapses", "notices", "cures", "others", "exchanges", "transfers", "cancel", "wide", "folios", "senders",
+          "bids", "mixed", "mixright", "sales", "swapsales"]
 SIZES = [50_000, 100_000, 200_000]
 LONGEST = 600
 
