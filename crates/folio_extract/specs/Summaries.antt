@@ -19,7 +19,7 @@ abbrev pub is_entered : Verdict → Bool
 is_entered verdict.Entered = true
 is_entered other = false
 
--- the filing, the filing that a cure names, or the bid is rejected
+-- the filing, the filing that a cure names, the item of a forced sale or the bid is rejected
 abbrev pub is_rejected : Verdict → Bool
 is_rejected (verdict.Rejected section) = true
 is_rejected (verdict.CureRejected section) = true

@@ -116,7 +116,7 @@ fn is_entered(verdict: &Verdict) -> bool
     matches!(verdict, Verdict::Entered)
 }
 
-/// The filing, the filing that a cure names, or the bid is rejected.
+/// The filing, the filing that a cure names, the item of a forced sale or the bid is rejected.
 fn is_rejected(verdict: &Verdict) -> bool
     ensures { result ≡ is_rejected verdict.now }
 {

@@ -7,7 +7,7 @@ use gb_base::{Day, Section};
 pub enum Verdict {
     /// The filing is entered (GBO § 44).
     Entered,
-    /// The filing is rejected under this section (GBO § 18).
+    /// The filing is rejected, or the item of a forced sale is refused, under this section (GBO § 18).
     Rejected(Section),
     /// The filing waits for cures of these defects; behind this day a lapse ends its waiting (GBO
     /// § 18).

@@ -35,7 +35,7 @@ notes_of folios f = unwrap_or (slice_get folios (f - 1)) (first_notes f)
 abbrev pub folio_drawn : GeneratorState → ℕ
 folio_drawn g = 1 + drawn g.state (length g.folios)
 
--- the turn of receipt k: its folio is drawn, then one of eleven cases
+-- the turn of receipt k: its folio is drawn, then one of eleven kinds
 abbrev pub turn_of : ℕ → GeneratorState → Turn
 turn_of k g =
     turn (drawn (state_after g.state) 11) k (folio_drawn g) (notes_of g.folios (folio_drawn g)) (state_after (state_after g.state))

@@ -1,4 +1,4 @@
--- What a receipt behind the openings becomes in the folio that is drawn for it, by the case that is drawn: its item, and
+-- What a receipt behind the openings becomes in the folio that is drawn for it, by the kind that is drawn: its item, and
 -- what the generator keeps of the folio behind it.
 use Rattle.std.specs.Prelude.{ℕ, ◌+◌, ◌-◌, ◌/◌, ◌==◌, if◌then◌else◌, [], ◌∷◌, Option, Some, None}
 use Rattle.act_model.specs.declared.documents.Form.TheVariants as form
@@ -93,7 +93,7 @@ abbrev pub sells : ℕ → ℕ → FolioNotes → ℕ → Turn
 sells k folio notes x =
     record { item = sale_item notes.next k folio; notes = notes_after_sale notes.next k notes; state = x }
 
--- case 0 to 10 for receipt k: a creation for five of them, and one other each
+-- kind 0 to 10 for receipt k: a creation for five of them, and one other each
 unfoldable pub turn : ℕ → ℕ → ℕ → FolioNotes → ℕ → Turn
 turn op k folio notes x =
     if op == 5 then transfers k folio notes x

@@ -43,7 +43,7 @@ impl Generator {
         Generator { draws, folios }
     }
 
-    /// The item of receipt k: its folio is drawn, then one of eleven cases.
+    /// The item of receipt k: its folio is drawn, then one of eleven kinds.
     pub fn next_item(&mut self, k: ReceiptNo) -> Item
         requires few { k ≤ most_receipts }
         requires before { All (AreBefore k) self.old.folios }

@@ -1,7 +1,7 @@
 //! The generated journal: a large journal of valid items, for tests under load.
 //!
 //! `sample_journal` makes it. `draws` are its numbers, `filings` and `sales` its items,
-//! `folio_notes` what the generator keeps of each folio, and `turns` the cases of a receipt;
+//! `folio_notes` what the generator keeps of each folio, and `turns` the kinds of a receipt;
 //! `generators` draws one receipt after the other.
 #![tactic(auto)]
 

@@ -1,4 +1,4 @@
-//! What a receipt behind the openings becomes, by the case that is drawn.
+//! What a receipt behind the openings becomes, by the kind that is drawn.
 ghost use Rattle.std.specs.Prelude.{◌≡◌, ◌+◌, ◌≤◌};
 ghost use Rattle.act_model.specs.Limits.{most_receipts};
 ghost use Rattle.sample_journals.specs.SampleFilings.{transfer};
@@ -13,7 +13,7 @@ use crate::sales::{note_sale, sale_item};
 use act_model::{Form, Item};
 use gb_base::{FolioId, Person, ReceiptNo, RightId};
 
-/// The item of receipt k in a folio, for which case `op` from 0 to 10 was drawn.
+/// The item of receipt k in a folio, for which kind `op` from 0 to 10 was drawn.
 #[tactic(auto, unfolding(crate::specs::Turns::turn))]
 pub(crate) fn turn(
     op: u32,
