@@ -10,7 +10,7 @@ use Rattle.registry_office.proofs.Opened.{keeps_grown, opening_status, disk_at_o
 use Rattle.registry_office.proofs.disk_settling.settle_disk.Goals as goal
 
 -- an opened book was synced, and settling touches no disk
-synced : (g : _) (c : goal.After-drop-book-inside-in-Ok-6 g) → AnswersSynced g.D.Disk.reads g.D.Disk.images g.D.Disk.moment g.D.Disk.since c.args.disk.now c.open.new.disk false → AnswersSynced g.D.Disk.reads g.D.Disk.images g.D.Disk.moment g.D.Disk.since c.args.disk.now c.open.new.disk (disk_fault c.settle.result)
+synced : (g : _) (c : goal.After-drop-book-inside-in-Ok-7 g) → AnswersSynced g.D.Disk.reads g.D.Disk.images g.D.Disk.moment g.D.Disk.since c.args.disk.now c.open.new.disk false → AnswersSynced g.D.Disk.reads g.D.Disk.images g.D.Disk.moment g.D.Disk.since c.args.disk.now c.open.new.disk (disk_fault c.settle.result)
 synced g c first = subst (AnswersSynced g.D.Disk.reads g.D.Disk.images g.D.Disk.moment g.D.Disk.since c.args.disk.now c.open.new.disk) (sym (is_writing c.settle.result c.settle.ensures.others).no_disk) first
 
 pub returns-in-Ok-clause-written : goal.returns-in-Ok-clause-written

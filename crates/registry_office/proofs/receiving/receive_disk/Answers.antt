@@ -21,25 +21,25 @@ use Rattle.registry_office.proofs.OpenedFrames.{frames_after_opening, frames_uno
 use Rattle.registry_office.proofs.receiving.receive_disk.Goals as goal
 
 -- the book's journal is the one that the file stood for
-same : (g : _) (c : goal.After-drop-book-inside-in-Ok-6 g) (held : Held) → IsTrue g.D.Disk.tells → StandsForJournal (g.D.Disk.reads c.args.disk.now) held.journal → holding c.in-Ok.book.journal held.ticks ≡ held
+same : (g : _) (c : goal.After-drop-book-inside-in-Ok-7 g) (held : Held) → IsTrue g.D.Disk.tells → StandsForJournal (g.D.Disk.reads c.args.disk.now) held.journal → holding c.in-Ok.book.journal held.ticks ≡ held
 same g c held tells stands = ap (λ (j : List Receipt). holding j held.ticks) (journal_once (g.D.Disk.reads c.args.disk.now) c.in-Ok.book.journal held.journal (c.in-Ok.ensures.opened tells).found stands)
 
 -- what the session did
-session : (g : _) (c : goal.After-drop-book-inside-in-Ok-6 g) (held : Held) (input : List ℕ) → Told (Some (Receive c.args.intake)) g.D.Disk.tells (g.D.Disk.reads c.args.disk.now) (g.S.Source.left c.args.source.now) (g.C.Clock.ticks c.args.clock.now) held input
+session : (g : _) (c : goal.After-drop-book-inside-in-Ok-7 g) (held : Held) (input : List ℕ) → Told (Some (Receive c.args.intake)) g.D.Disk.tells (g.D.Disk.reads c.args.disk.now) (g.S.Source.left c.args.source.now) (g.C.Clock.ticks c.args.clock.now) held input
     → Receives (whole_of c.args.intake) (cut_of c.args.intake) held input (g.S.Source.left c.args.source.now) (g.S.Source.left c.receive.new.source) (g.C.Clock.ticks c.receive.new.clock) (g.K.Sink.written c.args.sink.now) (g.K.Sink.written c.receive.new.sink) c.receive.new.book.journal g.D.Disk.reads g.D.Disk.images g.D.Disk.moment g.D.Disk.since c.open.new.disk c.receive.new.disk c.receive.result
 session g c held input told =
     subst (λ (h : Held). Receives (whole_of c.args.intake) (cut_of c.args.intake) h input (g.S.Source.left c.args.source.now) (g.S.Source.left c.receive.new.source) (g.C.Clock.ticks c.receive.new.clock) (g.K.Sink.written c.args.sink.now) (g.K.Sink.written c.receive.new.sink) c.receive.new.book.journal g.D.Disk.reads g.D.Disk.images g.D.Disk.moment g.D.Disk.since c.open.new.disk c.receive.new.disk c.receive.result)
     (same g c held (told.disk_tells refl) (told.disk_stands refl)) (c.receive.ensures.session held.ticks input (record { disk = told.disk_tells refl; clock = told.clock_tells refl; source = told.source_left refl }))
 
 -- what it did to the disk, and what the opening did before
-moments : (g : _) (c : goal.After-drop-book-inside-in-Ok-6 g) (held : Held) (to : List Receipt) → IsTrue g.D.Disk.tells → StandsForJournal (g.D.Disk.reads c.args.disk.now) held.journal → IsFront held.journal to
+moments : (g : _) (c : goal.After-drop-book-inside-in-Ok-7 g) (held : Held) (to : List Receipt) → IsTrue g.D.Disk.tells → StandsForJournal (g.D.Disk.reads c.args.disk.now) held.journal → IsFront held.journal to
     → DiskGrows g.D.Disk.reads g.D.Disk.moment g.D.Disk.since c.open.new.disk c.receive.new.disk held.journal to
     → KeepsGrown g.D.Disk.reads g.D.Disk.images g.D.Disk.moment g.D.Disk.since c.args.disk.now c.receive.new.disk (disk_fault c.receive.result) held.journal to
 moments g c held to tells stands front grew =
     grows_further g.D.Disk.reads g.D.Disk.images g.D.Disk.moment g.D.Disk.since c.args.disk.now c.open.new.disk c.receive.new.disk held.journal to _
     (grows_synced g.D.Disk.reads g.D.Disk.images g.D.Disk.moment g.D.Disk.since c.args.disk.now c.open.new.disk held.journal to stands front (c.in-Ok.ensures.any_moment tells)) grew.left
 
-bytes : (g : _) (c : goal.After-drop-book-inside-in-Ok-6 g) (held : Held) (to : List Receipt) → IsTrue g.D.Disk.tells → IsFront held.journal to
+bytes : (g : _) (c : goal.After-drop-book-inside-in-Ok-7 g) (held : Held) (to : List Receipt) → IsTrue g.D.Disk.tells → IsFront held.journal to
     → DiskGrows g.D.Disk.reads g.D.Disk.moment g.D.Disk.since c.open.new.disk c.receive.new.disk held.journal to
     → WritesBehind (tells_of_opening c.receive.result) held.journal to (g.D.Disk.reads c.args.disk.now) (g.D.Disk.reads c.receive.new.disk)
 bytes g c held to tells front grew =
