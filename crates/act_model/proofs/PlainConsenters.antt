@@ -1,5 +1,5 @@
 -- Who has no certified consent in the cure of the first consent or an earlier one.
-use Rattle.std.proofs.Common.{◌≡◌, ℕ, ◌+◌, ◌<◌, ◌≤◌, Bool, true, false, cond, eqb, ltb, ◌&&◌, ◌||◌, nat_le, nat_lt, List, [], ◌∷◌, ◌++◌, filter, length, Option, Some, None, is_none, not, refl, sym, subst, ap, ◌∙◌, arith, le_trans}
+use Rattle.std.proofs.Common.{◌≡◌, ℕ, ◌<◌, ◌≤◌, Bool, true, false, cond, eqb, ◌&&◌, ◌||◌, nat_lt, List, [], ◌∷◌, ◌++◌, filter, length, Option, Some, None, is_none, not, refl, sym, subst, ap, ◌∙◌, arith, le_trans}
 use Rattle.std.specs.List.{list_any}
 use Rattle.std.specs.Option.{option_or}
 use Rattle.std.proofs.lemmas.Bool.{and_parts, eqb-true, false≢true}

@@ -91,7 +91,8 @@ impl CureDocuments {
         }
     }
 
-    /// Takes documents of receipt n, a cure of this filing, for which there is room.
+    /// Takes documents of receipt n, a cure of this filing, for which there is room. Who is plain is
+    /// told by what is found once all of them are taken, so that those behind one count with it.
     pub fn add(&mut self, n: ReceiptNo, filing: ReceiptNo, docs: &[Doc])
         requires room { HasRoomForDocs self.old filing docs.now }
         requires agree { AgreeTo n self.old }
@@ -155,8 +156,9 @@ impl CureDocuments {
         self.set_firsts(n, filing, doc);
     }
 
-    /// Lists who consents, where no earlier cure has that person's consent; as plain too, where none
-    /// of these documents of the same cure is a certified one.
+    /// Lists who consents, where that person's consent is the first; as plain too, where none of these
+    /// documents of the same cure is a certified one of the person. None taken before can be, or this
+    /// consent would not be the first.
     fn add_consenter(&mut self, n: ReceiptNo, filing: ReceiptNo, doc: &Doc, docs: &[Doc])
         requires room { (a : ℕ) → IsTrue (is_consent_to a doc.now) → 1 ≤ room pair_cmp self.old.consenters (filing, a) }
         requires plain_room { (a : ℕ) → IsTrue (is_consent_to a doc.now) → 1 ≤ room pair_cmp self.old.plain_consenters (filing, a) }
@@ -172,7 +174,7 @@ impl CureDocuments {
         list_consenter(&mut self.plain_consenters, n, filing, doc, is_plain);
     }
 
-    /// Whether the document is a consent, and no cure of the filing has one of the same person to the
+    /// Whether the document is a consent, and none that was taken is one of the same person to the
     /// same act.
     fn is_first_consent(&self, filing: ReceiptNo, doc: &Doc) -> bool
         ensures { result ≡ is_first_consent self.now filing doc.now }

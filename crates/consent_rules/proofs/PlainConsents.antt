@@ -1,10 +1,9 @@
 -- Who lacks the form has consented, so those who consent are asked.
-use Rattle.std.proofs.Common.{◌≡◌, ℕ, Bor, Bool, true, false, cond, eqb, ◌&&◌, List, [], ◌∷◌, Some, None, refl, sym, ap, subst, ◌∙◌, ⊎_elim}
+use Rattle.std.proofs.Common.{◌≡◌, ℕ, Bor, Bool, true, eqb, ◌&&◌, List, [], ◌∷◌, sym, ap, ◌∙◌, ⊎_elim}
 use Rattle.std.specs.Cmp.{both_ways}
 use Rattle.std.specs.List.{list_any}
 use Rattle.std.proofs.lemmas.Bool.{and_from, and_parts, eqb-true, false≢true, or_cases, or_left, or_right}
 use Rattle.act_model.specs.declared.documents.Doc.{Doc}
-use Rattle.act_model.specs.declared.documents.Form.TheVariants as form
 use Rattle.act_model.specs.declared.matters.Matter.{Matter}
 use Rattle.consent_rules.specs.declared.lacks.Lack.{Lack}
 use Rattle.consent_rules.specs.declared.lacks.Lack.TheVariants as lack

@@ -56,7 +56,7 @@ Finds old new found = (k : DocumentOf) → first new.firsts k ≡ option_or (fir
 abbrev pub consenters_to : CureDocuments → ℕ → ℕ → List Consenter
 consenters_to documents m a = listed pair_cmp documents.consenters (m, a)
 
--- those of them who are listed since they have no certified consent in the cure of their first consent or an earlier one
+-- those of them who are listed as plain
 abbrev pub plain_consenters_to : CureDocuments → ℕ → ℕ → List Consenter
 plain_consenters_to documents m a = listed pair_cmp documents.plain_consenters (m, a)
 
@@ -106,15 +106,15 @@ pub record AgreeTo (last : ℕ) (documents : CureDocuments) : Type 0 where
 abbrev pub comes_behind : ℕ → Option ℕ → Bool
 comes_behind n certified = option_map_or (λ k. nat_lt n k) certified true
 
--- somebody who consents to act a of filing m has no certified consent in the cure of the first consent or an earlier one, by these first cures
+-- somebody who consents to act a of filing m has no certified consent in the cure of the first consent or an earlier one (GBO § 29)
 abbrev pub is_plain_first : (ℕ → Sought → Option ℕ) → ℕ → ℕ → Consenter → Bool
 is_plain_first firsts m a c = comes_behind c.first (firsts m (sought.Certified a c.person))
 
--- of those who consent just they are listed as plain
+-- just those who consent so are listed as plain, by these first cures
 abbrev pub ArePlain : CureDocuments → (ℕ → Sought → Option ℕ) → Type 0
 ArePlain documents firsts = (m a : ℕ) → plain_consenters_to documents m a ≡ filter (is_plain_first firsts m a) (consenters_to documents m a)
 
--- the first cures once these are found besides
+-- the first cures, with what these find where there was none
 abbrev pub firsts_with : CureDocuments → (DocumentOf → Option ℕ) → ℕ → Sought → Option ℕ
 firsts_with documents found m s = option_or (first documents.firsts (key_of m s)) (found (key_of m s))
 
