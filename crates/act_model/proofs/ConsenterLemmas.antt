@@ -1,11 +1,11 @@
 -- Who consents in cures, with one document more.
-use Rattle.std.proofs.Common.{◌≡◌, ℕ, zero, suc, ◌+◌, ◌<◌, ◌≤◌, nat_le, drop, get_or, length, Bool, true, false, cond, eqb, ◌&&◌, ◌||◌, List, [], ◌∷◌, ◌++◌, Option, Some, None, is_none, is_some, not, refl, sym, subst, ap, ◌∙◌, arith}
+use Rattle.std.proofs.Common.{◌≡◌, ℕ, zero, suc, ◌+◌, ◌<◌, ◌≤◌, nat_le, drop, get_or, length, Bool, true, false, cond, eqb, ◌&&◌, ◌||◌, List, [], ◌∷◌, ◌++◌, Option, Some, None, is_none, refl, sym, subst, ap, ◌∙◌, arith}
 use Rattle.std.specs.BTreeMap.{BTreeMap}
 use Rattle.std.specs.Prelude.{Vec}
 use Rattle.std.specs.List.{list_any}
 use Rattle.std.specs.Option.{option_map_or, option_or}
 use Rattle.std.specs.Ordering.{is_eq}
-use Rattle.std.proofs.lemmas.Bool.{and_parts, eqb-true, false≢true}
+use Rattle.std.proofs.lemmas.Bool.{and_parts, eqb-true}
 use Rattle.std.proofs.lemmas.List.{append-nil}
 use Rattle.std.proofs.lemmas.List.Folds.{list_any-append}
 use Rattle.act_model.specs.declared.cure_documents.Consenter.{Consenter}
@@ -13,8 +13,9 @@ use Rattle.act_model.specs.declared.cure_documents.CureDocuments.{CureDocuments}
 use Rattle.act_model.specs.declared.documents.Doc.{Doc}
 use Rattle.act_model.specs.declared.documents.Doc.TheVariants as doc
 use Rattle.act_model.specs.declared.documents.Form.{Form}
+use Rattle.act_model.specs.declared.documents.Form.TheVariants as form
 use Rattle.act_model.specs.declared.sought.Sought.TheVariants as sought
-use Rattle.act_model.specs.inner.CureDocuments.{consenters_to, found_in, is_consent_to, is_consenter, key_of, new_consenters, AgreeTo, Finds, Rises}
+use Rattle.act_model.specs.inner.CureDocuments.{consenter_of, consenters_to, found_in, is_consent_to, is_consenter, key_of, new_consenters, AgreeTo, Finds, Rises}
 use Rattle.act_model.specs.inner.Firsts.{first}
 use Rattle.act_model.specs.inner.Index.{pair_cmp}
 use Rattle.act_model.specs.inner.Lists.{listed}
@@ -25,31 +26,24 @@ and_true : (b : Bool) → (b && true) ≡ b
 and_true true = refl
 and_true false = refl
 
--- what is_none answers
-pub none_of : (o : Option ℕ) (r : Bool) → is_some o ≡ not r → r ≡ true → is_none o ≡ true
-none_of o true is e = rw is refl
-none_of o false is e = absurd (false≢true e)
-
 -- a consent is one to its act
 pub consents : (d : Doc) (act p : ℕ) (given : Form) → d ≡ doc.Consent act p given → eqb act act ≡ true → is_consent_to act d ≡ true
 consents d act p given is itself = ap (is_consent_to act) is ∙ and_true (eqb act act) ∙ itself
 
--- who consents is listed behind the others
-pub listed_behind : {Z : Type 0} (old : CureDocuments) (lists : BTreeMap (ℕ × ℕ) (Vec Consenter Z)) (n filing act p : ℕ) (given : Form) (d : Doc) (before : ℕ → ℕ → List Consenter) → d ≡ doc.Consent act p given
-    → is_none (first old.firsts (key_of filing (sought.Consent act p))) ≡ true
+-- who consents is listed behind the others, where that is wanted
+pub listed_behind : {Z : Type 0} (lists : BTreeMap (ℕ × ℕ) (Vec Consenter Z)) (n filing act p : ℕ) (given : Form) (d : Doc) (wanted : Bool) (before : ℕ → ℕ → List Consenter) → d ≡ doc.Consent act p given → wanted ≡ true
     → ((q : ℕ × ℕ) → listed pair_cmp lists q ≡ cond (is_eq (pair_cmp (filing, act) q)) (before filing act ++ record { person = p; first = n } ∷ []) (before q.0 q.1))
-    → (m a : ℕ) → listed pair_cmp lists (m, a) ≡ before m a ++ new_consenters n old filing d m a
-listed_behind old lists n filing act p given d before is none wrote m a =
+    → (m a : ℕ) → listed pair_cmp lists (m, a) ≡ before m a ++ consenter_of n filing d wanted m a
+listed_behind lists n filing act p given d wanted before is comes wrote m a =
     wrote (m, a) ∙ ap (λ b. cond b (before filing act ++ record { person = p; first = n } ∷ []) (before m a)) (is_at-pair filing act m a)
     ∙ either (eqb filing m && eqb act a) refl
-    ∙ ap (λ x. before m a ++ new_consenters n old filing x m a) (sym is)
+    ∙ (λ i. before m a ++ consenter_of n filing (sym is i) (sym comes i) m a)
   where
     either : (b : Bool) → (eqb filing m && eqb act a) ≡ b
-        → cond b (before filing act ++ record { person = p; first = n } ∷ []) (before m a) ≡ before m a ++ cond (b && is_none (first old.firsts (key_of filing (sought.Consent act p)))) (record { person = p; first = n } ∷ []) []
+        → cond b (before filing act ++ record { person = p; first = n } ∷ []) (before m a) ≡ before m a ++ cond (b && true) (record { person = p; first = n } ∷ []) []
     either true e =
         let same = and_parts (eqb filing m) (eqb act a) e in
-        ap (λ t. before filing act ++ cond t (record { person = p; first = n } ∷ []) []) (sym none)
-        ∙ (λ i. before (eqb-true filing m same.0 i) (eqb-true act a same.1 i) ++ cond (is_none (first old.firsts (key_of filing (sought.Consent act p)))) (record { person = p; first = n } ∷ []) [])
+        λ i. before (eqb-true filing m same.0 i) (eqb-true act a same.1 i) ++ record { person = p; first = n } ∷ []
     either false e = sym (append-nil _)
 
 -- and takes room for one
@@ -127,6 +121,31 @@ rises_then old n filing (doc.Agreement act) m a cs up = subst (Rises 0 n) (sym (
 rises_then old n filing (doc.TaxClearance act) m a cs up = subst (Rises 0 n) (sym (append-nil cs)) up
 rises_then old n filing (doc.ExpiryProof act) m a cs up = subst (Rises 0 n) (sym (append-nil cs)) up
 
+-- ---- a certified consent is a consent
+
+neither : (o found : Option ℕ) → option_or o found ≡ None → (o ≡ None) × (found ≡ None)
+neither None found e = (refl, e)
+neither (Some x) found e = absurd (cc e)
+
+none_found : (n : ℕ) (t : Bool) → cond (t && (false || false)) (Some n) None ≡ None
+none_found n true = refl
+none_found n false = refl
+
+-- a document by which no consent is found is no certified one
+none_certified : (n filing : ℕ) (d : Doc) (m a p : ℕ) → found_in n filing (d ∷ []) (key_of m (sought.Consent a p)) ≡ None → found_in n filing (d ∷ []) (key_of m (sought.Certified a p)) ≡ None
+none_certified n filing (doc.Consent act q form.Certified) m a p none = none
+none_certified n filing (doc.Consent act q form.Plain) m a p none = none_found n (eqb filing m)
+none_certified n filing (doc.Agreement act) m a p none = none
+none_certified n filing (doc.TaxClearance act) m a p none = none
+none_certified n filing (doc.ExpiryProof act) m a p none = none
+
+certified_then : (old new : CureDocuments) (n filing : ℕ) (d : Doc) (m a p : ℕ) → Finds old new (found_in n filing (d ∷ []))
+    → (first old.firsts (key_of m (sought.Consent a p)) ≡ None → first old.firsts (key_of m (sought.Certified a p)) ≡ None)
+    → first new.firsts (key_of m (sought.Consent a p)) ≡ None → first new.firsts (key_of m (sought.Certified a p)) ≡ None
+certified_then old new n filing d m a p finds before none =
+    let parts = neither (first old.firsts (key_of m (sought.Consent a p))) (found_in n filing (d ∷ []) (key_of m (sought.Consent a p))) (sym (finds (key_of m (sought.Consent a p))) ∙ none) in
+    finds (key_of m (sought.Certified a p)) ∙ (λ i. option_or (before parts.0 i) (none_certified n filing d m a p parts.1 i))
+
 -- one document more: who is listed, and what is found
 pub agree_then : (old new : CureDocuments) (n filing : ℕ) (d : Doc) → AgreeTo n old
     → ((m a : ℕ) → consenters_to new m a ≡ consenters_to old m a ++ new_consenters n old filing d m a)
@@ -139,6 +158,7 @@ agree_then old new n filing d agree listed finds = record {
       ∙ known_then old n filing d m a p k
       ∙ ap (is_known k) (sym (finds (key_of m (sought.Consent a p))));
   rise = λ m a. subst (Rises 0 n) (sym (listed m a)) (rises_then old n filing d m a (consenters_to old m a) (agree.rise m a));
+  certified = λ m a p none. certified_then old new n filing d m a p finds (agree.certified m a p) none;
 }
 
 -- ---- walked up to a receipt

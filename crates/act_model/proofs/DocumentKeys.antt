@@ -74,7 +74,7 @@ or_none : {X : Type 0} (o : Option X) → o ≡ option_or o None
 or_none None = refl
 or_none (Some x) = refl
 
-or_twice : (n : ℕ) (o : Option ℕ) (a b : Bool) → option_or (option_or o (cond a (Some n) None)) (cond b (Some n) None) ≡ option_or o (cond (a || b) (Some n) None)
+pub or_twice : (n : ℕ) (o : Option ℕ) (a b : Bool) → option_or (option_or o (cond a (Some n) None)) (cond b (Some n) None) ≡ option_or o (cond (a || b) (Some n) None)
 or_twice n None true b = refl
 or_twice n None false b = refl
 or_twice n (Some x) a b = refl

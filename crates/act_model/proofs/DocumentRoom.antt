@@ -1,5 +1,7 @@
 -- Room for what documents bring.
-use Rattle.std.proofs.Common.{◌≡◌, ℕ, ◌-◌, ◌≤◌, ◌<◌, Bool, true, false, cond, eqb, List, [], ◌∷◌, filter, length, take, drop, get_or, Option, Some, None, is_some, Result, Ok, Err, IsTrue, refl, sym, subst, ap, ◌∙◌, ⊎_elim, arith, le_trans}
+use Rattle.std.proofs.Common.{◌≡◌, ℕ, ◌-◌, ◌≤◌, ◌<◌, Bool, true, false, cond, eqb, List, [], ◌∷◌, filter, length, take, drop, get_or, Option, Some, None, is_some, Result, Ok, Err, IsTrue, refl, sym, subst, ap, ◌∙◌, ⊎_elim, arith, le_trans, Vec}
+use Rattle.std.specs.BTreeMap.{BTreeMap}
+use Rattle.std.specs.declared.cmp.Ordering.{Ordering}
 use Rattle.std.specs.List.{list_any}
 use Rattle.std.specs.Option.{option_map_or, unwrap_or}
 use Rattle.std.specs.Result.{OnOk}
@@ -7,15 +9,16 @@ use Rattle.std.specs.Ordering.{is_eq}
 use Rattle.std.proofs.lemmas.Bool.{and_from, false≢true, or_cases, or_left}
 use Rattle.std.proofs.lemmas.Bool.Decides.{nat_tests}
 use Rattle.std.proofs.lemmas.List.{take_all}
+use Rattle.act_model.specs.declared.cure_documents.Consenter.{Consenter}
 use Rattle.act_model.specs.declared.cure_documents.CureDocuments.{CureDocuments}
 use Rattle.act_model.specs.declared.documents.Doc.{Doc}
 use Rattle.act_model.specs.declared.firsts.DocumentOf.{DocumentOf}
 use Rattle.act_model.specs.declared.sought.Sought.{Sought}
 use Rattle.act_model.specs.Sought.{is_sought}
-use Rattle.act_model.specs.inner.CureDocuments.{certified_as, is_consent_to, key_of, sought_as, HasRoomForDocs, KeepsDocuments}
+use Rattle.act_model.specs.inner.CureDocuments.{certified_as, is_consent_to, key_of, sought_as, HasRoomForConsents, HasRoomForDocs, KeepsDocuments}
 use Rattle.act_model.specs.inner.Firsts.{document_cmp, is_held}
 use Rattle.act_model.specs.inner.Index.{pair_cmp}
-use Rattle.act_model.specs.inner.Lists.{room}
+use Rattle.act_model.specs.inner.Lists.{room, Widens}
 use Rattle.act_model.proofs.DocumentKeys.{met_as, same_sought, tied}
 
 -- a list of one and others
@@ -63,23 +66,39 @@ few a (d ∷ docs) = elim (is_consent_to a d) as (λ b. length (cond b (d ∷ fi
   | false ↦ let rest = few a docs in omega arith
 ]
 
+-- room in lists for who consents in a document and in those behind it
+room_for_consents : {Z : Type 0} (before after : BTreeMap (ℕ × ℕ) (Vec Consenter Z)) (m : ℕ) (d : Doc) (docs rest : List Doc) → docs ≡ d ∷ rest → HasRoomForConsents before m rest → Widens pair_cmp before after
+    → ((a : ℕ) → IsTrue (is_consent_to a d) → length docs ≤ room pair_cmp after (m, a))
+    → HasRoomForConsents after m (d ∷ rest)
+room_for_consents before after m d docs rest is behind wider people a = by_test (is_consent_to a d) refl
+  where
+    by_test : (b : Bool) → is_consent_to a d ≡ b → length (cond b (d ∷ filter (is_consent_to a) rest) (filter (is_consent_to a) rest)) ≤ room pair_cmp after (m, a)
+    by_test true e =
+        let all : length docs ≤ room pair_cmp after (m, a) = people a e in
+        let count : length docs ≡ length (d ∷ rest) = ap length is in
+        let less = few a rest in
+        omega arith
+    by_test false e = le_trans (behind a) (wider.room (m, a))
+
 -- room for a document and those behind it
 pub room_for_all : (before after : CureDocuments) (m : ℕ) (d : Doc) (docs rest : List Doc) → docs ≡ d ∷ rest → HasRoomForDocs before m rest → KeepsDocuments before after
     → ((s : Sought) → IsTrue (is_sought s d) → IsTrue (is_held after.firsts (key_of m s)))
     → ((a : ℕ) → IsTrue (is_consent_to a d) → length docs ≤ room pair_cmp after.consenters (m, a))
+    → ((a : ℕ) → IsTrue (is_consent_to a d) → length docs ≤ room pair_cmp after.plain_consenters (m, a))
     → HasRoomForDocs after m docs
-room_for_all before after m d docs rest is behind keeps places people = subst (HasRoomForDocs after m) (sym is) (record {
+room_for_all before after m d docs rest is behind keeps places people plain = subst (HasRoomForDocs after m) (sym is) (record {
   held = λ s h. ⊎_elim (λ here. places s here) (λ later. keeps.held (key_of m s) (behind.held s later)) (or_cases (is_sought s d) (list_any (is_sought s) rest) h);
-  consenters = λ a. by_test a (is_consent_to a d) refl;
+  consenters = room_for_consents before.consenters after.consenters m d docs rest is behind.consenters keeps.consenters people;
+  plain_consenters = room_for_consents before.plain_consenters after.plain_consenters m d docs rest is behind.plain_consenters keeps.plain_consenters plain;
 })
+
+room_for_one : {Z : Type 0} (lists : BTreeMap (ℕ × ℕ) (Vec Consenter Z)) (m : ℕ) (d : Doc) (rest : List Doc) → HasRoomForConsents lists m (d ∷ rest) → HasRoomForConsents lists m (d ∷ [])
+room_for_one lists m d rest has a = by_test (is_consent_to a d) (has a)
   where
-    by_test : (a : ℕ) (b : Bool) → is_consent_to a d ≡ b → length (cond b (d ∷ filter (is_consent_to a) rest) (filter (is_consent_to a) rest)) ≤ room pair_cmp after.consenters (m, a)
-    by_test a true e =
-        let all : length docs ≤ room pair_cmp after.consenters (m, a) = people a e in
-        let count : length docs ≡ length (d ∷ rest) = ap length is in
-        let less = few a rest in
-        omega arith
-    by_test a false e = le_trans (behind.consenters a) (keeps.consenters.room (m, a))
+    by_test : (b : Bool) → length (cond b (d ∷ filter (is_consent_to a) rest) (filter (is_consent_to a) rest)) ≤ room pair_cmp lists (m, a)
+        → length (cond b (d ∷ []) []) ≤ room pair_cmp lists (m, a)
+    by_test true e = omega arith
+    by_test false e = omega arith
 
 -- room for one of several
 pub room_for_first : (documents : CureDocuments) (m : ℕ) (d : Doc) (docs rest : List Doc) → docs ≡ d ∷ rest → HasRoomForDocs documents m docs → HasRoomForDocs documents m (d ∷ [])
@@ -87,26 +106,30 @@ room_for_first documents m d docs rest is has =
     let all : HasRoomForDocs documents m (d ∷ rest) = subst (HasRoomForDocs documents m) is has in
     record {
       held = λ s h. ⊎_elim (λ here. all.held s (or_left _ _ here)) (λ none. absurd (cc none)) (or_cases (is_sought s d) false h);
-      consenters = λ a. by_test a (is_consent_to a d) (all.consenters a);
+      consenters = room_for_one documents.consenters m d rest all.consenters;
+      plain_consenters = room_for_one documents.plain_consenters m d rest all.plain_consenters;
     }
-  where
-    by_test : (a : ℕ) (b : Bool) → length (cond b (d ∷ filter (is_consent_to a) rest) (filter (is_consent_to a) rest)) ≤ room pair_cmp documents.consenters (m, a)
-        → length (cond b (d ∷ []) []) ≤ room pair_cmp documents.consenters (m, a)
-    by_test a true e = omega arith
-    by_test a false e = omega arith
 
 -- what holds where a result is Ok, carried over
 pub on_ok : {T E : Type 0} (r : Result T E) (P Q : Type 0) → (P → Q) → OnOk r P → OnOk r Q
 on_ok (Ok x) P Q then holds = then holds
 on_ok (Err e) P Q then holds = holds
 
+pub both_ok : {T E : Type 0} (r : Result T E) (P Q R : Type 0) → (P → Q → R) → OnOk r P → OnOk r Q → OnOk r R
+both_ok (Ok x) P Q R then first second = then first second
+both_ok (Err e) P Q R then first second = first
+
+widens_then : {K X Z : Type 0} (cmp : K → K → Ordering) (a b c : BTreeMap K (Vec X Z)) → Widens cmp a b → Widens cmp b c → Widens cmp a c
+widens_then cmp a b c first then = record {
+  listed = λ k. then.listed k ∙ first.listed k;
+  room = λ k. le_trans (first.room k) (then.room k);
+}
+
 -- what is kept twice
 pub keeps_then : (a b c : CureDocuments) → KeepsDocuments a b → KeepsDocuments b c → KeepsDocuments a c
 keeps_then a b c first then = record {
   first = λ k. then.first k ∙ first.first k;
   held = λ k h. then.held k (first.held k h);
-  consenters = record {
-    listed = λ k. then.consenters.listed k ∙ first.consenters.listed k;
-    room = λ k. le_trans (first.consenters.room k) (then.consenters.room k);
-  };
+  consenters = widens_then pair_cmp a.consenters b.consenters c.consenters first.consenters then.consenters;
+  plain_consenters = widens_then pair_cmp a.plain_consenters b.plain_consenters c.plain_consenters first.plain_consenters then.plain_consenters;
 }

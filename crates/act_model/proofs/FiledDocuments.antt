@@ -20,6 +20,7 @@ use Rattle.act_model.specs.Cures.{cure_of, cures, cures_of}
 use Rattle.act_model.specs.Documents.{act_of_doc, docs_by_cure, docs_of, is_consent_by, is_consent_of}
 use Rattle.act_model.specs.Sought.{act_sought, is_sought}
 use Rattle.act_model.specs.inner.CureDocuments.{consenters_to, is_consenter, AreDocumentsOf}
+use Rattle.act_model.specs.inner.FiledConsents.{consents_with}
 use Rattle.act_model.specs.inner.Firsts.{first_cure}
 use Rattle.act_model.proofs.ApplicantFilings.{nothing}
 use Rattle.act_model.proofs.ConsenterLemmas.{is_known}
@@ -209,7 +210,7 @@ consent_act a q (doc.ExpiryProof b) h = absurd (false≢true h)
 -- whether somebody consents who passes
 pub has_consenter : (matter : Matter) (documents : CureDocuments) (a : ℕ) (q : ℕ → Bool) → AreDocumentsOf documents matter.journal.now.receipts
     → list_any (is_consent_by a q) (docs_of matter)
-    ≡ (is_between 1 (length matter.filing.now.acts) a && (list_any (is_consent_by a q) matter.filing.now.docs || list_any (λ c. nat_le c.first matter.item && q c.person) (consenters_to documents matter.number a)))
+    ≡ consents_with matter a q (consenters_to documents matter.number a)
 has_consenter matter documents a q are =
     counted (is_consent_by a q) a (consent_act a q) matter
     ∙ ap (λ b. is_between 1 (length matter.filing.now.acts) a && (list_any (is_consent_by a q) matter.filing.now.docs || b))

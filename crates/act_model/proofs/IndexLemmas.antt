@@ -1,5 +1,5 @@
 -- The indexes of a journal with one receipt more, and with more room.
-use Rattle.std.proofs.Common.{◌≡◌, ℕ, ◌+◌, ◌≤◌, Option, List, [], ◌∷◌, ◌++◌, length, refl, sym, subst, ap, ◌∙◌, arith, le_refl, le_trans, Vec}
+use Rattle.std.proofs.Common.{◌≡◌, ℕ, ◌+◌, ◌≤◌, Option, List, [], ◌∷◌, ◌++◌, filter, length, refl, sym, subst, ap, ◌∙◌, arith, le_refl, le_trans, Vec}
 use Rattle.std.specs.List.{list_any}
 use Rattle.std.specs.Option.{option_or}
 use Rattle.std.specs.declared.cmp.Ordering.{Ordering}
@@ -11,9 +11,11 @@ use Rattle.act_model.specs.declared.items.Item.{Item}
 use Rattle.act_model.specs.declared.items.Item.TheVariants as item
 use Rattle.act_model.specs.declared.item_indexes.ItemIndexes.{ItemIndexes}
 use Rattle.act_model.specs.declared.receipts.Receipt.{Receipt}
+use Rattle.act_model.specs.declared.sought.Sought.{Sought}
 use Rattle.act_model.specs.declared.sought.Sought.TheVariants as sought
 use Rattle.act_model.specs.Creations.{creations_of_item}
-use Rattle.act_model.specs.inner.CureDocuments.{found_by, is_consenter, key_of, AgreeTo, AreDocumentsOf, Finds, HasRoomForItem, KeepsDocuments, Rises}
+use Rattle.act_model.specs.inner.CureDocuments.{firsts_with, found_by, is_consenter, is_plain_first, key_of, AgreeTo, AreDocumentsOf, ArePlain, Finds, HasRoomForItem, KeepsDocuments, Rises}
+use Rattle.act_model.specs.inner.Firsts.{first_cure}
 use Rattle.act_model.specs.inner.ItemIndexes.{creations_by, cures_by, filings_by, AreIndexesOf, HaveRoomFor, IsReady, IsReadyFor, Widen}
 use Rattle.act_model.specs.inner.Lists.{Adds, Widens}
 use Rattle.act_model.specs.inner.Index.{pair_cmp, IsIndexOf, IsIndexed}
@@ -27,16 +29,20 @@ pub agree_later : (documents : CureDocuments) (n last : ℕ) → n ≤ last → 
 agree_later documents n last le agree = record {
   known = agree.known;
   rise = λ m a. rises_later 0 n last _ le (agree.rise m a);
+  certified = agree.certified;
 }
 
 -- the indexes after one more receipt
 pub AreIndexesOf-push : (old new : ItemIndexes) (journal after : List Receipt) (r : Receipt) (n : ℕ) → after ≡ journal ++ r ∷ [] → n ≡ length journal + 1 → n ≡ length after
     → AreIndexesOf old journal → Adds nat_cmp old.cures new.cures (cures_by n r.item) → Adds nat_cmp old.creations new.creations (creations_by n r.item) → Adds nat_cmp old.filings new.filings (filings_by n r.item)
-    → Finds old.documents new.documents (found_by n r.item) → AgreeTo n new.documents → AreIndexesOf new after
-AreIndexesOf-push old new journal after r n same at count are more_cures more_creations more_filings finds agree =
+    → Finds old.documents new.documents (found_by n r.item) → AgreeTo n new.documents → ArePlain new.documents (firsts_with old.documents (found_by n r.item)) → AreIndexesOf new after
+AreIndexesOf-push old new journal after r n same at count are more_cures more_creations more_filings finds agree plain =
+    let then : (m : ℕ) (s : Sought) → firsts_with old.documents (found_by n r.item) m s ≡ first_cure (journal ++ r ∷ []) m s =
+    λ m s. ap (λ o. option_or o (found_by n r.item (key_of m s))) (are.documents.first m s) ∙ sym (first_cure-push journal r n m s at) in
     let documents : AreDocumentsOf new.documents (journal ++ r ∷ []) = record {
-      first = λ m s. finds (key_of m s) ∙ ap (λ o. option_or o (found_by n r.item (key_of m s))) (are.documents.first m s) ∙ sym (first_cure-push journal r n m s at);
+      first = λ m s. finds (key_of m s) ∙ then m s;
       agree = subst (λ k. AgreeTo k new.documents) (count ∙ ap length same) agree;
+      plain = subst (ArePlain new.documents) (λ i m s. then m s i) plain;
     } in
     subst (AreIndexesOf new) (sym same) (record {
       cures = λ m. more_cures m ∙ ap (λ xs. xs ++ cures_by n r.item m) (are.cures m) ∙ sym (cures_of-push journal r n m at);
@@ -50,7 +56,11 @@ agree_kept : (old new : CureDocuments) (n : ℕ) → KeepsDocuments old new → 
 agree_kept old new n keeps agree = record {
   known = λ m a p k. ap (list_any (is_consenter p k)) (keeps.consenters.listed (m, a)) ∙ agree.known m a p k ∙ ap (is_known k) (sym (keeps.first (key_of m (sought.Consent a p))));
   rise = λ m a. subst (Rises 0 n) (sym (keeps.consenters.listed (m, a))) (agree.rise m a);
+  certified = λ m a p none. keeps.first _ ∙ agree.certified m a p (sym (keeps.first _) ∙ none);
 }
+
+plain_kept : (old new : CureDocuments) (firsts : ℕ → Sought → Option ℕ) → KeepsDocuments old new → ArePlain old firsts → ArePlain new firsts
+plain_kept old new firsts keeps plain m a = keeps.plain_consenters.listed (m, a) ∙ plain m a ∙ ap (filter (is_plain_first firsts m a)) (sym (keeps.consenters.listed (m, a)))
 
 AreIndexesOf-widens : (old new : ItemIndexes) (journal : List Receipt) → Widen old new → AreIndexesOf old journal → AreIndexesOf new journal
 AreIndexesOf-widens old new journal wider are = record {
@@ -60,6 +70,7 @@ AreIndexesOf-widens old new journal wider are = record {
   documents = record {
     first = λ m s. wider.documents.first (key_of m s) ∙ are.documents.first m s;
     agree = agree_kept old.documents new.documents (length journal) wider.documents are.documents.agree;
+    plain = plain_kept old.documents new.documents (first_cure journal) wider.documents are.documents.plain;
   };
 }
 
@@ -67,6 +78,7 @@ room_kept : (old new : CureDocuments) (n : ℕ) (i : Item) → KeepsDocuments ol
 room_kept old new n (item.Cure m docs) keeps has = λ behind. record {
   held = λ s h. keeps.held (key_of m s) ((has behind).held s h);
   consenters = λ a. le_trans ((has behind).consenters a) (keeps.consenters.room (m, a));
+  plain_consenters = λ a. le_trans ((has behind).plain_consenters a) (keeps.plain_consenters.room (m, a));
 }
 room_kept old new n (item.Filing f) keeps has = tt
 room_kept old new n (item.Lapse f) keeps has = tt
@@ -92,7 +104,12 @@ widen_same indexes = record {
   cures = widens_same nat_cmp indexes.cures;
   creations = widens_same nat_cmp indexes.creations;
   filings = widens_same nat_cmp indexes.filings;
-  documents = record { first = λ k. refl; held = λ k h. h; consenters = widens_same pair_cmp indexes.documents.consenters };
+  documents = record {
+    first = λ k. refl;
+    held = λ k h. h;
+    consenters = widens_same pair_cmp indexes.documents.consenters;
+    plain_consenters = widens_same pair_cmp indexes.documents.plain_consenters;
+  };
 }
 
 all_indexed : (numbers : BTreeMap (ℕ × ℕ) ℕ) (n : ℕ) (journal : List Receipt) → n ≡ length journal → IsIndexOf numbers journal → IsIndexed numbers n journal

@@ -17,4 +17,6 @@ pub mod JournalLemmas
 mod KeyLemmas
 pub mod KeyOrder
 pub mod KeysStay
+pub mod PlainConsenters
+pub mod PlainForms
 pub mod ReadyLemmas

@@ -1,18 +1,19 @@
 //! The documents that cures bring, as they are found when a filing is judged (GBO §§ 18, 19, 29).
 //! Why so: docs/DECISIONS.md, "First cures are kept by what they bring".
-ghost use Rattle.std.specs.Prelude.{◌≡◌, ◌≤◌, ◌+◌, ◌++◌, ◌∷◌, ℕ, [], List, if◌then◌else◌, IsTrue, OnOk};
+ghost use Rattle.std.specs.Prelude.{◌≡◌, ◌≤◌, ◌+◌, ◌++◌, ◌∷◌, ◌&&◌, ℕ, [], List, Vec, if◌then◌else◌, not, IsTrue, OnOk};
 ghost use Rattle.act_model.specs.Sought.{is_sought};
 ghost use Rattle.act_model.specs.declared.documents.Doc.{Doc};
 ghost use Rattle.act_model.specs.declared.firsts.DocumentOf.{DocumentOf};
 ghost use Rattle.act_model.specs.declared.sought.Sought.{Sought};
-ghost use Rattle.act_model.specs.inner.CureDocuments.{certified_as, consenters_to, found_in, is_consent_to, key_of, new_consenters, sought_as, AgreeTo, AreDocumentsOf, Finds, HasRoomForDocs, KeepsDocuments};
+ghost use Rattle.act_model.specs.inner.CureDocuments.{consenter_of, consenters_to, firsts_with, found_in, is_certified_among, is_consent_to, is_first_consent, key_of, new_consenters, plain_consenters_to, AgreeTo, AreDocumentsOf, ArePlain, Finds, HasRoomForDocs, KeepsDocuments};
 ghost use Rattle.act_model.specs.inner.Firsts.{first, is_held};
 ghost use Rattle.act_model.specs.inner.Index.{pair_cmp};
-ghost use Rattle.act_model.specs.inner.Lists.{room};
+ghost use Rattle.act_model.specs.inner.Lists.{listed, room};
 
 use crate::firsts::{DocumentOf, first, make_room, set_first};
 use crate::lists::{listed, push, reserve};
-use crate::{Doc, Form, Sought};
+use crate::sought::{are_among, certified_as, sought_as};
+use crate::{Doc, Sought};
 use gb_base::{NoMemory, Person, ReceiptNo};
 use std::alloc::Global;
 use std::collections::BTreeMap;
@@ -34,6 +35,9 @@ pub struct CureDocuments {
     firsts: BTreeMap<DocumentOf, Option<ReceiptNo>>,
     /// Who consents, by the number of the filing and its act, in the order of receipt.
     consenters: BTreeMap<(u32, u8), Vec<Consenter>>,
+    /// Those of them who have no certified consent in the cure of their first consent or an earlier
+    /// one, in the same order: nobody else can have consented in plain form alone (GBO § 29).
+    plain_consenters: BTreeMap<(u32, u8), Vec<Consenter>>,
 }
 
 impl CureDocuments {
@@ -46,6 +50,7 @@ impl CureDocuments {
             alloc,
             firsts: BTreeMap::new(alloc),
             consenters: BTreeMap::new(alloc),
+            plain_consenters: BTreeMap::new(alloc),
         }
     }
 
@@ -63,6 +68,14 @@ impl CureDocuments {
         listed(&self.consenters, (filing.get(), act))
     }
 
+    /// Who consents to the act of the filing without a certified consent in the first cure or an
+    /// earlier one.
+    pub fn plain_consenters(&self, filing: ReceiptNo, act: u8) -> &[Consenter]
+        ensures { result.now ≡ plain_consenters_to self.now filing act }
+    {
+        listed(&self.plain_consenters, (filing.get(), act))
+    }
+
     /// Keeps room for documents of a cure of this filing.
     pub fn reserve(&mut self, filing: ReceiptNo, docs: &[Doc]) -> Result<(), NoMemory>
         ensures keeps { KeepsDocuments self.old self.new }
@@ -78,15 +91,18 @@ impl CureDocuments {
         }
     }
 
-    /// Takes documents of receipt n, a cure of this filing, for which there is room.
+    /// Takes documents of receipt n, a cure of this filing, for which there is room. Who is plain is
+    /// told by what is found once all of them are taken, so that those behind one count with it.
     pub fn add(&mut self, n: ReceiptNo, filing: ReceiptNo, docs: &[Doc])
         requires room { HasRoomForDocs self.old filing docs.now }
         requires agree { AgreeTo n self.old }
+        requires plain { ArePlain self.old (firsts_with self.old (found_in n filing docs.now)) }
         ensures finds { Finds self.old self.new (found_in n filing docs.now) }
         ensures agree { AgreeTo n self.new }
+        ensures plain { ArePlain self.new (firsts_with self.old (found_in n filing docs.now)) }
     {
         if let [doc, rest @ ..] = docs {
-            self.add_doc(n, filing, doc);
+            self.add_doc(n, filing, doc, docs);
             self.add(n, filing, rest);
         }
     }
@@ -114,48 +130,62 @@ impl CureDocuments {
     ) -> Result<(), NoMemory>
         ensures keeps { KeepsDocuments self.old self.new }
         ensures room { OnOk result ((a : ℕ) → IsTrue (is_consent_to a doc.now) → count ≤ room pair_cmp self.new.consenters (filing, a)) }
+        ensures plain_room { OnOk result ((a : ℕ) → IsTrue (is_consent_to a doc.now) → count ≤ room pair_cmp self.new.plain_consenters (filing, a)) }
     {
         match doc {
             Doc::Consent { act, .. } => {
-                reserve(
-                    &mut self.consenters,
-                    (filing.get(), *act),
-                    count,
-                    self.alloc,
-                )
+                let key = (filing.get(), *act);
+                reserve(&mut self.consenters, key, count, self.alloc)?;
+                reserve(&mut self.plain_consenters, key, count, self.alloc)
             }
             Doc::Agreement { .. } | Doc::TaxClearance { .. } | Doc::ExpiryProof { .. } => Ok(()),
         }
     }
 
-    /// Takes a document of receipt n, a cure of this filing.
-    fn add_doc(&mut self, n: ReceiptNo, filing: ReceiptNo, doc: &Doc)
+    /// Takes a document of receipt n, a cure of this filing, the first of these that are left of it.
+    fn add_doc(&mut self, n: ReceiptNo, filing: ReceiptNo, doc: &Doc, docs: &[Doc])
         requires room { HasRoomForDocs self.old filing (doc.now ∷ []) }
         requires agree { AgreeTo n self.old }
+        requires plain { ArePlain self.old (firsts_with self.old (found_in n filing docs.now)) }
         ensures finds { Finds self.old self.new (found_in n filing (doc.now ∷ [])) }
         ensures agree { AgreeTo n self.new }
+        ensures plain { ArePlain self.new (firsts_with self.old (found_in n filing docs.now)) }
         ensures room { (rest : List Doc) → HasRoomForDocs self.old filing (doc.now ∷ rest) → HasRoomForDocs self.new filing rest }
     {
-        self.add_consenter(n, filing, doc);
+        self.add_consenter(n, filing, doc, docs);
         self.set_firsts(n, filing, doc);
     }
 
-    /// Lists who consents, where no earlier cure has that person's consent.
-    fn add_consenter(&mut self, n: ReceiptNo, filing: ReceiptNo, doc: &Doc)
-        requires { (a : ℕ) → IsTrue (is_consent_to a doc.now) → 1 ≤ room pair_cmp self.old.consenters (filing, a) }
+    /// Lists who consents, where that person's consent is the first; as plain too, where none of these
+    /// documents of the same cure is a certified one of the person. None taken before can be, or this
+    /// consent would not be the first.
+    fn add_consenter(&mut self, n: ReceiptNo, filing: ReceiptNo, doc: &Doc, docs: &[Doc])
+        requires room { (a : ℕ) → IsTrue (is_consent_to a doc.now) → 1 ≤ room pair_cmp self.old.consenters (filing, a) }
+        requires plain_room { (a : ℕ) → IsTrue (is_consent_to a doc.now) → 1 ≤ room pair_cmp self.old.plain_consenters (filing, a) }
         ensures firsts { self.new.firsts ≡ self.old.firsts }
         ensures listed { (m a : ℕ) → consenters_to self.new m a ≡ consenters_to self.old m a ++ new_consenters n self.old filing doc.now m a }
+        ensures plain { (m a : ℕ) → plain_consenters_to self.new m a ≡ plain_consenters_to self.old m a ++ consenter_of n filing doc.now (is_first_consent self.old filing doc.now && not (is_certified_among docs.now doc.now)) m a }
         ensures room { (a : ℕ) → room pair_cmp self.old.consenters (filing, a) ≤ room pair_cmp self.new.consenters (filing, a) + (if is_consent_to a doc.now then 1 else 0) }
+        ensures plain_room { (a : ℕ) → room pair_cmp self.old.plain_consenters (filing, a) ≤ room pair_cmp self.new.plain_consenters (filing, a) + (if is_consent_to a doc.now then 1 else 0) }
     {
-        if let Doc::Consent { act, person, .. } = doc {
-            let (act, person) = (*act, *person);
-            if self
-                .first(filing, Sought::Consent { act, person })
-                .is_none()
-            {
-                let consenter = Consenter { person, first: n };
-                push(&mut self.consenters, (filing.get(), act), consenter);
+        let comes = self.is_first_consent(filing, doc);
+        let is_plain = comes && !is_certified_among(docs, doc);
+        list_consenter(&mut self.consenters, n, filing, doc, comes);
+        list_consenter(&mut self.plain_consenters, n, filing, doc, is_plain);
+    }
+
+    /// Whether the document is a consent, and none that was taken is one of the same person to the
+    /// same act.
+    fn is_first_consent(&self, filing: ReceiptNo, doc: &Doc) -> bool
+        ensures { result ≡ is_first_consent self.now filing doc.now }
+    {
+        match doc {
+            Doc::Consent { act, person, .. } => {
+                let (act, person) = (*act, *person);
+                self.first(filing, Sought::Consent { act, person })
+                    .is_none()
             }
+            Doc::Agreement { .. } | Doc::TaxClearance { .. } | Doc::ExpiryProof { .. } => false,
         }
     }
 
@@ -165,6 +195,7 @@ impl CureDocuments {
         ensures finds { Finds self.old self.new (found_in n filing (doc.now ∷ [])) }
         ensures held { (k : DocumentOf) → IsTrue (is_held self.old.firsts k) → IsTrue (is_held self.new.firsts k) }
         ensures consenters { self.new.consenters ≡ self.old.consenters }
+        ensures plain_consenters { self.new.plain_consenters ≡ self.old.plain_consenters }
     {
         let sought = sought_as(doc);
         set_first(&mut self.firsts, DocumentOf { filing, sought }, n);
@@ -174,34 +205,39 @@ impl CureDocuments {
     }
 }
 
-/// What the document is looked for as: a consent, whatever its form.
-fn sought_as(doc: &Doc) -> Sought
-    ensures { result ≡ sought_as doc.now }
+/// Lists who consents in a document of receipt n, where that is to be done.
+fn list_consenter(
+    lists: &mut BTreeMap<(u32, u8), Vec<Consenter>>,
+    n: ReceiptNo,
+    filing: ReceiptNo,
+    doc: &Doc,
+    is_wanted: bool,
+)
+    requires { (a : ℕ) → IsTrue (is_consent_to a doc.now) → 1 ≤ room pair_cmp lists.old (filing, a) }
+    ensures listed { (m a : ℕ) → listed pair_cmp lists.new (m, a) ≡ listed pair_cmp lists.old (m, a) ++ consenter_of n filing doc.now is_wanted m a }
+    ensures room { (a : ℕ) → room pair_cmp lists.old (filing, a) ≤ room pair_cmp lists.new (filing, a) + (if is_consent_to a doc.now then 1 else 0) }
 {
-    match doc {
-        Doc::Consent { act, person, .. } => Sought::Consent {
-            act: *act,
-            person: *person,
-        },
-        Doc::Agreement { act } => Sought::Agreement { act: *act },
-        Doc::TaxClearance { act } => Sought::Clearance { act: *act },
-        Doc::ExpiryProof { act } => Sought::Proof { act: *act },
+    if let Doc::Consent { act, person, .. } = doc {
+        if is_wanted {
+            let consenter = Consenter {
+                person: *person,
+                first: n,
+            };
+            push(lists, (filing.get(), *act), consenter);
+        }
     }
 }
 
-/// What a certified consent is looked for as besides (GBO § 29).
-fn certified_as(doc: &Doc) -> Option<Sought>
-    ensures { result ≡ certified_as doc.now }
+/// Whether one of these documents is a certified consent of the person who consents in this one, to
+/// the same act (GBO § 29).
+fn is_certified_among(docs: &[Doc], doc: &Doc) -> bool
+    ensures { result ≡ is_certified_among docs.now doc.now }
 {
     match doc {
-        Doc::Consent {
-            act,
-            person,
-            form: Form::Certified,
-        } => Some(Sought::Certified {
-            act: *act,
-            person: *person,
-        }),
-        _ => None,
+        Doc::Consent { act, person, .. } => {
+            let (act, person) = (*act, *person);
+            are_among(&Sought::Certified { act, person }, docs)
+        }
+        Doc::Agreement { .. } | Doc::TaxClearance { .. } | Doc::ExpiryProof { .. } => false,
     }
 }

@@ -6,9 +6,11 @@ ghost use Rattle.gb_base.specs.Limits.{is_between};
 ghost use Rattle.act_model.specs.Documents.{is_consent_by};
 ghost use Rattle.act_model.specs.Sought.{is_sought};
 ghost use Rattle.act_model.specs.inner.CureDocuments.{Rises};
+ghost use Rattle.act_model.specs.inner.FiledConsents.{consents_with};
 ghost use Rattle.act_model.specs.inner.Firsts.{first_cure};
 
 use crate::cure_documents::Consenter;
+use crate::sought::are_among;
 use crate::{Doc, Filing, Form, Matter, PersonTest, Sought};
 use gb_base::{Person, ReceiptNo};
 
@@ -16,7 +18,7 @@ use gb_base::{Person, ReceiptNo};
 /// settles it, but for those of an act that it does not have. Its own are walked; what cures bring
 /// is found.
 impl<'a> Matter<'a> {
-    ghost use Rattle.act_model.specs.Documents.{docs_of, given, has_proof};
+    ghost use Rattle.act_model.specs.Documents.{docs_of, given, has_proof, is_plain};
 
     /// Whether a document counts that is looked for so.
     pub fn has(&self, sought: &Sought) -> bool
@@ -31,6 +33,31 @@ impl<'a> Matter<'a> {
         ensures { result ≡ list_any (is_consent_by act (T.test test.now)) (docs_of self.now) }
     {
         let in_cures = self.journal.cure_documents().consenters(self.number, act);
+        self.some_consents(act, in_cures, test)
+    }
+
+    /// Whether somebody who passes the test has consented to the act in plain form alone (GBO § 29).
+    pub fn some_plain_consenter<T: PersonTest>(&self, act: u8, test: &T) -> bool
+        ensures { result ≡ list_any (is_consent_by act (λ p. is_plain (given (docs_of self.now) act p) && T.test test.now p)) (docs_of self.now) }
+    {
+        let in_cures = self
+            .journal
+            .cure_documents()
+            .plain_consenters(self.number, act);
+        let plain = PlainConsent {
+            matter: self,
+            act,
+            test,
+        };
+        self.some_consents(act, in_cures, &plain)
+    }
+
+    /// Whether somebody consents to the act who passes the test: in a document of the filing's own,
+    /// or as one of these, who consent in cures.
+    fn some_consents<T: PersonTest>(&self, act: u8, in_cures: &[Consenter], test: &T) -> bool
+        requires { (last : ℕ) × Rises 0 last in_cures.now }
+        ensures { result ≡ consents_with self.now act (T.test test.now) in_cures.now }
+    {
         has_act(self.filing, act)
             && (some_consent(self.filing.docs.list(), act, test)
                 || some_passes(in_cures, self.item, test))
@@ -58,18 +85,30 @@ impl<'a> Matter<'a> {
     }
 }
 
+/// A person who has consented to the act in plain form alone, and passes a test.
+#[derive(Drop)]
+struct PlainConsent<'a, T> {
+    matter: &'a Matter<'a>,
+    act: u8,
+    test: &'a T,
+}
+
+impl<'a, T: PersonTest> PersonTest for PlainConsent<'a, T> {
+    ghost use Rattle.std.specs.Prelude.{◌&&◌};
+    ghost use Rattle.act_model.specs.Documents.{docs_of, given, is_plain};
+
+    ghost test = { λ c p. is_plain (given (docs_of c.matter.now) c.act p) && T.test c.test.now p };
+
+    fn passes(&self, person: Person) -> bool {
+        self.matter.given(self.act, person) == Some(Form::Plain) && self.test.passes(person)
+    }
+}
+
 /// Whether the filing has an act of this number.
 fn has_act(filing: &Filing, act: u8) -> bool
     ensures { result ≡ is_between 1 (length filing.now.acts) act }
 {
     1 <= act && act as usize <= filing.acts.list().len()
-}
-
-/// Whether one of these documents is looked for so.
-fn are_among(sought: &Sought, docs: &[Doc]) -> bool
-    ensures { result ≡ list_any (is_sought sought.now) docs.now }
-{
-    docs.iter().any(|doc| sought.is_met_by(doc))
 }
 
 /// Whether a cure of the filing, up to the item with which it is judged, brings what is looked for.

@@ -3,7 +3,7 @@
 ghost use Rattle.std.specs.Prelude.{◌≡◌, ◌≤◌, ◌+◌, ℕ, [], length, OnOk};
 ghost use Rattle.std.specs.Ordering.{nat_cmp};
 ghost use Rattle.gb_base.specs.Limits.{most_acts};
-ghost use Rattle.act_model.specs.inner.CureDocuments.{found_by, AgreeTo, Finds};
+ghost use Rattle.act_model.specs.inner.CureDocuments.{firsts_with, found_by, AgreeTo, ArePlain, Finds};
 ghost use Rattle.act_model.specs.inner.ItemIndexes.{cures_by, creations_by, creations_by_acts, filings_by, AreIndexesOf, HaveRoomFor, Widen};
 ghost use Rattle.act_model.specs.inner.Lists.{listed, Adds, HasRoom, Widens};
 
@@ -93,11 +93,13 @@ impl ItemIndexes {
     pub fn add(&mut self, n: ReceiptNo, item: &Item)
         requires room { HaveRoomFor self.old n item.now }
         requires agree { AgreeTo n self.old.documents }
+        requires plain { ArePlain self.old.documents (firsts_with self.old.documents (found_by n item.now)) }
         ensures cures { Adds nat_cmp self.old.cures self.new.cures (cures_by n item.now) }
         ensures creations { Adds nat_cmp self.old.creations self.new.creations (creations_by n item.now) }
         ensures filings { Adds nat_cmp self.old.filings self.new.filings (filings_by n item.now) }
         ensures finds { Finds self.old.documents self.new.documents (found_by n item.now) }
         ensures agree { AgreeTo n self.new.documents }
+        ensures plain { ArePlain self.new.documents (firsts_with self.old.documents (found_by n item.now)) }
     {
         match item {
             Item::Cure { filing, docs } if *filing < n => {

@@ -1,6 +1,9 @@
 //! What is looked for among documents.
 ghost use Rattle.std.specs.Prelude.{◌≡◌};
+ghost use Rattle.std.specs.List.{list_any};
 ghost use Rattle.act_model.specs.Documents.{is_agreement, is_certified_consent_of, is_clearance, is_consent_of, is_proof};
+ghost use Rattle.act_model.specs.Sought.{is_sought};
+ghost use Rattle.act_model.specs.inner.CureDocuments.{certified_as, sought_as};
 
 use crate::{Doc, Form};
 use gb_base::Person;
@@ -59,6 +62,45 @@ impl Sought {
             Sought::Clearance { act } => is_clearance(doc, *act),
             Sought::Proof { act } => is_proof(doc, *act),
         }
+    }
+}
+
+/// Whether one of these documents is looked for so.
+pub fn are_among(sought: &Sought, docs: &[Doc]) -> bool
+    ensures { result ≡ list_any (is_sought sought.now) docs.now }
+{
+    docs.iter().any(|doc| sought.is_met_by(doc))
+}
+
+/// What the document is looked for as: a consent, whatever its form.
+pub fn sought_as(doc: &Doc) -> Sought
+    ensures { result ≡ sought_as doc.now }
+{
+    match doc {
+        Doc::Consent { act, person, .. } => Sought::Consent {
+            act: *act,
+            person: *person,
+        },
+        Doc::Agreement { act } => Sought::Agreement { act: *act },
+        Doc::TaxClearance { act } => Sought::Clearance { act: *act },
+        Doc::ExpiryProof { act } => Sought::Proof { act: *act },
+    }
+}
+
+/// What a certified consent is looked for as besides (GBO § 29).
+pub fn certified_as(doc: &Doc) -> Option<Sought>
+    ensures { result ≡ certified_as doc.now }
+{
+    match doc {
+        Doc::Consent {
+            act,
+            person,
+            form: Form::Certified,
+        } => Some(Sought::Certified {
+            act: *act,
+            person: *person,
+        }),
+        _ => None,
     }
 }
 

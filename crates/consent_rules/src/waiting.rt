@@ -51,40 +51,32 @@ impl<'a> Waiting<'a> {
         waits(self.journal, self.before, self.part, person)
     }
 
-    /// Whether this is lacking from one of them. Who lacks the form has consented, so those are
-    /// asked who consent; else all of them, until one has not consented.
+    /// Whether this is lacking from one of them. Who lacks the form has consented in plain form
+    /// alone, so those who have are asked; else all of them, until one has not consented.
     pub fn some(&self, lack: &Lack) -> bool
         ensures { result ≡ list_any (is_lacking lack.now) self.now }
     {
         match lack {
             Lack::Consent(_, _) => some_waits(self.journal, self.before, self.part, lack),
-            Lack::Form(matter, act) => {
-                let lacking = LackingWaiter {
-                    waiting: self,
-                    lack,
-                };
-                matter.some_consenter(*act, &lacking)
-            }
+            Lack::Form(matter, act) => matter.some_plain_consenter(*act, &Waiter { waiting: self }),
         }
     }
 }
 
-/// One of those who wait, from whom this is lacking.
+/// One of those who wait.
 #[derive(Drop)]
-struct LackingWaiter<'a> {
+struct Waiter<'a> {
     waiting: &'a Waiting<'a>,
-    lack: &'a Lack<'a>,
 }
 
-impl<'a> PersonTest for LackingWaiter<'a> {
-    ghost use Rattle.std.specs.Prelude.{◌&&◌, ◌==◌};
+impl<'a> PersonTest for Waiter<'a> {
+    ghost use Rattle.std.specs.Prelude.{◌==◌};
     ghost use Rattle.std.specs.List.{list_any};
-    ghost use Rattle.consent_rules.specs.inner.Lacks.{is_lacking};
 
-    ghost test = { λ w p. is_lacking w.lack.now p && list_any (λ q. q == p) w.waiting.now };
+    ghost test = { λ w p. list_any (λ q. q == p) w.waiting.now };
 
     fn passes(&self, person: Person) -> bool {
-        is_lacking(self.lack, person) && self.waiting.has(person)
+        self.waiting.has(person)
     }
 }
 

@@ -1,5 +1,6 @@
 -- What the documents of cures are looked for as, and who consents in them.
-use Rattle.std.specs.Prelude.{◌≡◌, ℕ, ◌≤◌, Bool, true, false, ◌&&◌, ◌==◌, nat_lt, if◌then◌else◌, List, [], ◌∷◌, filter, length, Option, Some, None, is_none}
+use Rattle.std.specs.Prelude.{◌≡◌, ℕ, ◌≤◌, Bool, true, false, ◌&&◌, ◌==◌, nat_lt, if◌then◌else◌, List, [], ◌∷◌, filter, length, Option, Some, None, is_none, Vec}
+use Rattle.std.specs.BTreeMap.{BTreeMap}
 use Rattle.std.specs.List.{list_any}
 use Rattle.std.specs.Option.{option_map_or, option_or}
 use Rattle.act_model.specs.declared.cure_documents.Consenter.{Consenter}
@@ -13,7 +14,7 @@ use Rattle.act_model.specs.declared.items.Item.TheVariants as item
 use Rattle.act_model.specs.declared.receipts.Receipt.{Receipt}
 use Rattle.act_model.specs.declared.sought.Sought.{Sought}
 use Rattle.act_model.specs.declared.sought.Sought.TheVariants as sought
-use Rattle.act_model.specs.DocumentTests.{is_consent_by}
+use Rattle.act_model.specs.DocumentTests.{is_certified_consent_of, is_consent_by}
 use Rattle.act_model.specs.Sought.{is_sought}
 use Rattle.act_model.specs.inner.Firsts.{first, first_cure, is_held}
 use Rattle.act_model.specs.inner.Index.{pair_cmp}
@@ -55,18 +56,39 @@ Finds old new found = (k : DocumentOf) → first new.firsts k ≡ option_or (fir
 abbrev pub consenters_to : CureDocuments → ℕ → ℕ → List Consenter
 consenters_to documents m a = listed pair_cmp documents.consenters (m, a)
 
+-- those of them who are listed as plain
+abbrev pub plain_consenters_to : CureDocuments → ℕ → ℕ → List Consenter
+plain_consenters_to documents m a = listed pair_cmp documents.plain_consenters (m, a)
+
 -- this person, whose first consent is in receipt n
 abbrev pub is_consenter : ℕ → ℕ → Consenter → Bool
 is_consenter p n c = c.person == p && c.first == n
 
+-- who consents in a document of receipt n for filing `filing`, where it is to be listed, among those who consent to act a of filing m
+abbrev pub consenter_of : ℕ → ℕ → Doc → Bool → ℕ → ℕ → List Consenter
+consenter_of n filing (doc.Consent act p given) wanted m a =
+    if (filing == m && act == a) && wanted then record { person = p; first = n } ∷ [] else []
+consenter_of n filing (doc.Agreement act) wanted m a = []
+consenter_of n filing (doc.TaxClearance act) wanted m a = []
+consenter_of n filing (doc.ExpiryProof act) wanted m a = []
+
+-- the document is a consent for filing m, and none of the same person to the same act is known
+abbrev pub is_first_consent : CureDocuments → ℕ → Doc → Bool
+is_first_consent documents m (doc.Consent act p given) = is_none (first documents.firsts (key_of m (sought.Consent act p)))
+is_first_consent documents m (doc.Agreement act) = false
+is_first_consent documents m (doc.TaxClearance act) = false
+is_first_consent documents m (doc.ExpiryProof act) = false
+
+-- one of these documents is a certified consent of the person who consents in this one, to the same act
+abbrev pub is_certified_among : List Doc → Doc → Bool
+is_certified_among docs (doc.Consent act p given) = list_any (is_certified_consent_of act p) docs
+is_certified_among docs (doc.Agreement act) = false
+is_certified_among docs (doc.TaxClearance act) = false
+is_certified_among docs (doc.ExpiryProof act) = false
+
 -- who comes to those who consent to act a of filing m with a document of receipt n for filing `filing`
 abbrev pub new_consenters : ℕ → CureDocuments → ℕ → Doc → ℕ → ℕ → List Consenter
-new_consenters n documents filing (doc.Consent act p given) m a =
-    if (filing == m && act == a) && is_none (first documents.firsts (key_of filing (sought.Consent act p)))
-    then record { person = p; first = n } ∷ [] else []
-new_consenters n documents filing (doc.Agreement act) m a = []
-new_consenters n documents filing (doc.TaxClearance act) m a = []
-new_consenters n documents filing (doc.ExpiryProof act) m a = []
+new_consenters n documents filing d m a = consenter_of n filing d (is_first_consent documents filing d) m a
 
 -- the receipts begin at `from`, do not fall, and end at `last` at the latest
 abbrev pub Rises : ℕ → ℕ → List Consenter → Type 0
@@ -74,23 +96,47 @@ Rises from last [] = Unit {0}
 Rises from last (c ∷ cs) = (from ≤ c.first) × ((c.first ≤ last) × Rises c.first last cs)
 
 -- Those who consent are the persons for whose consent a first cure is known, with that cure, in the order of receipts up to `last`.
+-- Whose consent is not known, of that person no certified one is.
 pub record AgreeTo (last : ℕ) (documents : CureDocuments) : Type 0 where
   pub known : (m a p n : ℕ) → list_any (is_consenter p n) (consenters_to documents m a) ≡ option_map_or (λ f. f == n) (first documents.firsts (key_of m (sought.Consent a p))) false
   pub rise : (m a : ℕ) → Rises 0 last (consenters_to documents m a)
+  pub certified : (m a p : ℕ) → first documents.firsts (key_of m (sought.Consent a p)) ≡ None → first documents.firsts (key_of m (sought.Certified a p)) ≡ None
+
+-- the first certified consent, if there is one, comes behind receipt n
+abbrev pub comes_behind : ℕ → Option ℕ → Bool
+comes_behind n certified = option_map_or (λ k. nat_lt n k) certified true
+
+-- somebody who consents to act a of filing m has no certified consent in the cure of the first consent or an earlier one (GBO § 29)
+abbrev pub is_plain_first : (ℕ → Sought → Option ℕ) → ℕ → ℕ → Consenter → Bool
+is_plain_first firsts m a c = comes_behind c.first (firsts m (sought.Certified a c.person))
+
+-- just those who consent so are listed as plain, by these first cures
+abbrev pub ArePlain : CureDocuments → (ℕ → Sought → Option ℕ) → Type 0
+ArePlain documents firsts = (m a : ℕ) → plain_consenters_to documents m a ≡ filter (is_plain_first firsts m a) (consenters_to documents m a)
+
+-- the first cures, with what these find where there was none
+abbrev pub firsts_with : CureDocuments → (DocumentOf → Option ℕ) → ℕ → Sought → Option ℕ
+firsts_with documents found m s = option_or (first documents.firsts (key_of m s)) (found (key_of m s))
 
 -- the first cures are those of the journal, and those who consent agree with them
 pub record AreDocumentsOf (documents : CureDocuments) (journal : List Receipt) : Type 0 where
   pub first : (m : ℕ) (s : Sought) → first documents.firsts (key_of m s) ≡ first_cure journal m s
   pub agree : AgreeTo (length journal) documents
+  pub plain : ArePlain documents (first_cure journal)
 
 -- a consent to act a
 abbrev pub is_consent_to : ℕ → Doc → Bool
 is_consent_to a = is_consent_by a (λ p. true)
 
+-- there is room in these lists for who consents in these documents of filing m
+abbrev pub HasRoomForConsents : {Z : Type 0} → BTreeMap (ℕ × ℕ) (Vec Consenter Z) → ℕ → List Doc → Type 0
+HasRoomForConsents lists m docs = (a : ℕ) → length (filter (is_consent_to a) docs) ≤ room pair_cmp lists (m, a)
+
 -- there is room for what these documents of filing m bring
 pub record HasRoomForDocs (documents : CureDocuments) (m : ℕ) (docs : List Doc) : Type 0 where
   pub held : (s : Sought) → list_any (is_sought s) docs ≡ true → is_held documents.firsts (key_of m s) ≡ true
-  pub consenters : (a : ℕ) → length (filter (is_consent_to a) docs) ≤ room pair_cmp documents.consenters (m, a)
+  pub consenters : HasRoomForConsents documents.consenters m docs
+  pub plain_consenters : HasRoomForConsents documents.plain_consenters m docs
 
 -- there is room for what item n brings
 abbrev pub HasRoomForItem : CureDocuments → ℕ → Item → Type 0
@@ -102,3 +148,4 @@ pub record KeepsDocuments (old new : CureDocuments) : Type 0 where
   pub first : (k : DocumentOf) → first new.firsts k ≡ first old.firsts k
   pub held : (k : DocumentOf) → is_held old.firsts k ≡ true → is_held new.firsts k ≡ true
   pub consenters : Widens pair_cmp old.consenters new.consenters
+  pub plain_consenters : Widens pair_cmp old.plain_consenters new.plain_consenters

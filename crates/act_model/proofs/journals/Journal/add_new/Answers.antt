@@ -7,11 +7,12 @@ use Rattle.act_model.specs.declared.receipts.Receipt.{Receipt}
 use Rattle.act_model.specs.Receiving.{number_of, is_before, stamp_after}
 use Rattle.act_model.specs.WellFormed.{well_formed}
 use Rattle.act_model.specs.JournalState.{has_room}
-use Rattle.act_model.specs.inner.CureDocuments.{found_by, Finds}
+use Rattle.act_model.specs.inner.CureDocuments.{firsts_with, found_by, ArePlain, Finds}
 use Rattle.act_model.specs.inner.ItemIndexes.{cures_by, creations_by, filings_by, HaveRoomFor}
 use Rattle.act_model.specs.inner.Lists.{Adds}
 use Rattle.act_model.proofs.IndexLemmas.{agree_later, length_behind, AreIndexesOf-push}
 use Rattle.act_model.proofs.JournalLemmas.{Journal-push, stamp_after-last}
+use Rattle.act_model.proofs.PlainConsenters.{plain_later}
 use Rattle.act_model.proofs.ReadyLemmas.{no_error, ready_for_it}
 use Rattle.act_model.proofs.journals.Journal.add_new.Goals as goal
 
@@ -33,6 +34,14 @@ add-requires-clause-agree c =
     let as_many = ap length as_before in
     let number : c.unwrap-n.result ≡ length c.self-2.inside.receipts.items + 1 = grind (arith, common_steps, as_many) in
     agree_later c.self-2.inside.indexes.documents (length c.self-2.inside.receipts.items) c.unwrap-n.result (omega arith) c.self-2.invariant.2.documents.agree
+
+pub add-requires-clause-plain : goal.add-requires-clause-plain
+add-requires-clause-plain c =
+    let as_before : c.self-2.inside.receipts.items ≡ c.self.inside.receipts.items =
+    ap (λ j. j.receipts) c.self-2.view_is ∙ c.reserve_one.ensures.receipts ∙ sym (ap (λ j. j.receipts) c.self.view_is) in
+    let as_many = ap length as_before in
+    let number : c.unwrap-n.result ≡ length c.self-2.inside.receipts.items + 1 = grind (arith, common_steps, as_many) in
+    plain_later c.self-2.inside.indexes.documents c.self-2.inside.receipts.items c.unwrap-n.result c.args.item.now (omega arith) c.self-2.invariant.2.documents
 
 pub push_reserved-requires : goal.push_reserved-requires
 push_reserved-requires c =
@@ -66,7 +75,8 @@ invariant_of-self c =
     (subst (λ i. Adds nat_cmp c.self-2.inside.indexes.creations c.add.new.self.creations (creations_by c.unwrap-n.result i)) (sym c.take_kept-item.ensures.item) c.add.ensures.creations)
     (subst (λ i. Adds nat_cmp c.self-2.inside.indexes.filings c.add.new.self.filings (filings_by c.unwrap-n.result i)) (sym c.take_kept-item.ensures.item) c.add.ensures.filings)
     (subst (λ i. Finds c.self-2.inside.indexes.documents c.add.new.self.documents (found_by c.unwrap-n.result i)) (sym c.take_kept-item.ensures.item) c.add.ensures.finds)
-    c.add.ensures.agree in
+    c.add.ensures.agree
+    (subst (λ i. ArePlain c.add.new.self.documents (firsts_with c.self-2.inside.indexes.documents (found_by c.unwrap-n.result i))) (sym c.take_kept-item.ensures.item) c.add.ensures.plain) in
     (pushed.0, pushed.1, indexes, λ i h. absurd (cc h))
 
 pub take_kept-item-requires : goal.take_kept-item-requires
