@@ -11,6 +11,7 @@ pub mod HeldRights
 pub mod Indexes
 pub mod ListLemmas
 pub mod Listed
+pub mod Marks
 pub mod Naming
 pub mod Notices
 pub mod NumbersBehind

@@ -72,9 +72,9 @@ at_ahead k ns xs e below =
       | None ↦ λ none. refl
     ] refl
 
-last_or-push : (o : Option ℕ) (ns : List ℕ) (n : ℕ) → last_or o (ns ++ n ∷ []) ≡ Some n
-last_or-push o [] n = refl
-last_or-push o (m ∷ ns) n = last_or-push (Some m) ns n
+pub last_or-push : {X : Type 0} (o : Option X) (xs : List X) (x : X) → last_or o (xs ++ x ∷ []) ≡ Some x
+last_or-push o [] x = refl
+last_or-push o (y ∷ xs) x = last_or-push (Some y) xs x
 
 -- the place behind all is below the number of entries then
 last_pushed : (b : ℕ) (ns : List ℕ) → last_below (b + 1) (ns ++ b ∷ []) ≡ Some b

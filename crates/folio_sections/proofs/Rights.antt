@@ -1,17 +1,17 @@
 -- What a right keeps, with one entry more.
-use Rattle.std.proofs.Common.{◌≡◌, ℕ, ◌+◌, ◌≤◌, Bool, true, false, cond, if◌then◌else◌, ◌||◌, List, [], ◌∷◌, ◌++◌, Option, Some, None, fold, length, option_map, refl, sym, ap, subst, ◌∙◌}
+use Rattle.std.proofs.Common.{◌≡◌, ℕ, ◌+◌, Bool, true, false, cond, if◌then◌else◌, ◌||◌, List, [], ◌∷◌, ◌++◌, Option, Some, None, fold, length, option_map, refl, sym, ap, subst, ◌∙◌}
 use Rattle.std.specs.Option.{option_or}
 use Rattle.std.proofs.lemmas.Bool.{false≢true}
 use Rattle.std.proofs.lemmas.List.{append-nil, append_assoc}
-use Rattle.std.proofs.lemmas.List.Sums.{count_by-le-length, fold-append}
-use Rattle.folio_sections.specs.Rights.{created, created_by, exchanges, holder, is_conversion, is_exchange, is_exercise, live_by, new_holder_by, remaining_by}
+use Rattle.std.proofs.lemmas.List.Sums.{fold-append}
+use Rattle.folio_sections.specs.Rights.{created, created_by, holder, is_conversion, is_exchange, is_exercise, live_by, new_holder_by, remaining_by}
 use Rattle.folio_sections.specs.declared.entries.Created.{Created}
 use Rattle.folio_sections.specs.declared.entries.Entry.{Entry}
 use Rattle.folio_sections.specs.declared.entries.What.{What}
 use Rattle.folio_sections.specs.declared.entries.What.TheVariants as what
 use Rattle.folio_sections.specs.declared.right_state.RightState.{RightState}
 use Rattle.folio_sections.specs.inner.Naming.{AreNamedAt}
-use Rattle.folio_sections.specs.inner.States.{IsRight, IsRightState, holder_named, names_holder, never_created, state_by, state_of}
+use Rattle.folio_sections.specs.inner.States.{IsRight, IsRightState, holder_named, names_holder, state_by, state_on}
 use Rattle.folio_sections.proofs.Cases.{count_push}
 use Rattle.folio_sections.proofs.Naming.{named_push, unnamed_push}
 use Rattle.folio_sections.proofs.Titles.{any_push}
@@ -62,16 +62,11 @@ state_push is xs e state = record {
 }
 
 -- a walk on over further entries
-states_on : (is : RightState) (xs ys : List Entry) → IsRightState is xs → IsRightState (fold (λ s e. state_by s e.what) is ys) (xs ++ ys)
+pub states_on : (is : RightState) (xs ys : List Entry) → IsRightState is xs → IsRightState (state_on is ys) (xs ++ ys)
 states_on is xs [] state = subst (IsRightState is) (sym (append-nil xs)) state
 states_on is xs (y ∷ ys) state =
-    subst (IsRightState (fold (λ s e. state_by s e.what) is (y ∷ ys))) (append_assoc xs (y ∷ []) ys)
+    subst (IsRightState (state_on is (y ∷ ys))) (append_assoc xs (y ∷ []) ys)
     (states_on (state_by is y.what) (xs ++ y ∷ []) ys (state_push is xs y state))
-
-pub walked_state : (is : RightState) (xs : List Entry) → is ≡ state_of xs → IsRightState is xs
-walked_state is xs walk =
-    subst (λ s. IsRightState s xs) (sym walk)
-    (states_on never_created [] xs (record { live = refl; created = refl; converted = refl; new_holder = refl; remaining = refl; spent = refl }))
 
 right_push_of : (is : RightState) (count : ℕ) (xs : List Entry) (ns : List ℕ) (e : Entry) → IsRight is count xs ns
     → IsRight (state_by is e.what) (count + cond (is_exchange e.what) 1 0) (xs ++ e ∷ []) (if names_holder is.new_holder e.what then ns ++ length xs ∷ [] else ns)

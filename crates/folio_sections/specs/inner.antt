@@ -2,6 +2,7 @@
 pub mod FilingLists
 pub mod Kinds
 pub mod Listed
+pub mod Marks
 pub mod Naming
 pub mod PartIndex
 pub mod RightsInKeys

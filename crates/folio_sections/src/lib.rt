@@ -19,6 +19,7 @@ mod parts;
 mod right_front;
 mod right_part;
 mod right_state;
+mod state_marks;
 mod title_front;
 mod title_part;
 mod title_places;

@@ -1,5 +1,5 @@
 //! Room in the lists of a part.
-ghost use Rattle.std.specs.Prelude.{◌≡◌, ◌+◌, ◌≤◌, vec_len, vec_capacity, IsOk, OnOk};
+ghost use Rattle.std.specs.Prelude.{◌≡◌, ◌+◌, ◌≤◌, nat_lt, [], ◌∷◌, ◌++◌, if◌then◌else◌, vec_len, vec_capacity, IsOk, OnOk};
 
 use gb_base::NoMemory;
 
@@ -16,5 +16,14 @@ pub(crate) fn keep_room<T>(list: &mut Vec<T>, n: usize) -> Result<(), NoMemory>
         list.reserve_exact(n)
     } else {
         list.reserve(n)
+    }
+}
+
+/// Puts a value behind the others, where there is room.
+pub(crate) fn push_where_room<T: Copy>(list: &mut Vec<T>, value: &T)
+    ensures { list.new.items ≡ if nat_lt (vec_len list.old) (vec_capacity list.old) then list.old.items ++ value.now ∷ [] else list.old.items }
+{
+    if list.len() < list.capacity() {
+        list.push_reserved(*value);
     }
 }

@@ -3,7 +3,7 @@ ghost use Rattle.std.specs.Prelude.{◌≡◌, ◌≤◌, length, take};
 ghost use Rattle.folio_sections.specs.Rights.{capital, created, holder, is_full, is_live};
 ghost use Rattle.folio_sections.specs.inner.States.{IsRightState};
 
-use crate::right_state::{RightState, state_of};
+use crate::right_state::RightState;
 use crate::{Created, Entry, RightPart};
 use gb_base::{Cents, Person};
 use std::marker::Model;
@@ -82,14 +82,14 @@ impl<'a> RightFront<'a> {
     }
 
     /// What is read from the entries: what the part keeps where these are all of its entries, else
-    /// by a walk over them.
+    /// what it says of so many of them.
     fn state(&self) -> RightState
         ensures { IsRightState result self.now }
     {
         if self.len == self.part.entries().len() {
             *self.part.state()
         } else {
-            state_of(self.entries())
+            self.part.state_ahead(self.len)
         }
     }
 }

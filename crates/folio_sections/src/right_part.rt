@@ -6,6 +6,7 @@ use crate::entry_list::EntryList;
 use crate::fronts::count_below;
 use crate::right_front::RightFront;
 use crate::right_state::{NEVER_CREATED, RightState, holder_named, names_holder, state_by};
+use crate::state_marks::StateMarks;
 use crate::{Created, Entry, What};
 use gb_base::{Cents, Day, Key, NoMemory, Person, ReceiptNo};
 use std::alloc::Global;
@@ -18,18 +19,21 @@ pub struct RightPart {
     state: RightState,
     /// How many exchanges the right is in.
     exchanges: usize,
+    /// The state behind each sixteenth entry, where memory for it was found.
+    marks: StateMarks,
 }
 
 impl Model for RightPart {
     ghost use Rattle.folio_sections.specs.PartState.{PartState};
     ghost use Rattle.folio_sections.specs.inner.Listed.{part_of};
+    ghost use Rattle.folio_sections.specs.inner.Marks.{AreMarks};
     ghost use Rattle.folio_sections.specs.inner.States.{IsRight};
 
     ghost Value = { PartState };
 
     ghost view = { λ a. part_of a.list };
 
-    ghost invariant = { λ a. IsRight a.state a.exchanges a.list.entries a.list.naming };
+    ghost invariant = { λ a. IsRight a.state a.exchanges a.list.entries a.list.naming × AreMarks a.marks.states.items a.list.entries };
 }
 
 impl RightPart {
@@ -48,6 +52,7 @@ impl RightPart {
             list: EntryList::new(alloc, key),
             state: NEVER_CREATED,
             exchanges: 0,
+            marks: StateMarks::new(alloc),
         }
     }
 
@@ -61,6 +66,7 @@ impl RightPart {
         ensures unchanged { OnErr result (self.new ≡ self.old) }
         ensures succeeds { n ≤ self.old.room → IsOk result }
     {
+        self.marks.reserve(self.list.entries().len(), n);
         self.list.reserve(n)
     }
 
@@ -78,6 +84,7 @@ impl RightPart {
         prove!(self.exchanges <= ahead);
         self.exchanges = exchanges_by(self.exchanges, &entry.what);
         self.list.append(entry, names);
+        self.marks.note(ahead + 1, &self.state);
     }
 
     /// Takes the entries away, and keeps their room. It takes no memory.
@@ -89,6 +96,7 @@ impl RightPart {
         self.list.clear();
         self.state = NEVER_CREATED;
         self.exchanges = 0;
+        self.marks.clear();
     }
 
     /// The entries, with what stands beside them.
@@ -103,6 +111,14 @@ impl RightPart {
         ensures { IsRightState result.now self.now.entries }
     {
         &self.state
+    }
+
+    /// What is read from the first so many entries, from the last mark that is not behind them on.
+    pub(crate) fn state_ahead(&self, ahead: usize) -> RightState
+        requires { ahead ≤ length self.now.entries }
+        ensures { IsRightState result (take ahead self.now.entries) }
+    {
+        self.marks.state_ahead(self.list.entries(), ahead)
     }
 
     /// The right as it stands.

@@ -2,7 +2,7 @@
 ghost use Rattle.std.specs.Prelude.{◌≡◌, List};
 ghost use Rattle.folio_sections.specs.Rights.{capital, created_by, is_conversion, is_exercise, is_full, live_by, new_holder_by, remaining_by};
 ghost use Rattle.folio_sections.specs.declared.entries.Entry.{Entry};
-ghost use Rattle.folio_sections.specs.inner.States.{IsRightState, holder_named, names_holder, state_by, state_of};
+ghost use Rattle.folio_sections.specs.inner.States.{IsRightState, holder_named, names_holder, state_by, state_on};
 
 use crate::{Created, Entry, RightForm, What};
 use gb_base::{Cents, Person};
@@ -47,11 +47,13 @@ impl RightState {
     }
 }
 
-/// The right of these entries.
-pub(crate) fn state_of(entries: &[Entry]) -> RightState
-    ensures { result ≡ state_of entries.now }
+/// The right behind these entries.
+pub(crate) fn state_on(before: RightState, entries: &[Entry]) -> RightState
+    ensures { result ≡ state_on before entries.now }
 {
-    entries.iter().fold(NEVER_CREATED, |before, entry| state_by(before, &entry.what))
+    entries
+        .iter()
+        .fold(before, |before, entry| state_by(before, &entry.what))
 }
 
 /// The right of no entries.

@@ -62,9 +62,9 @@ state_by before w = record {
 abbrev pub never_created : RightState
 never_created = record { live = false; created = None; converted = false; new_holder = None; remaining = None; spent = false }
 
--- the right of these entries
-abbrev pub state_of : List Entry → RightState
-state_of entries = fold (λ before e. state_by before e.what) never_created entries
+-- the right behind these entries
+abbrev pub state_on : RightState → List Entry → RightState
+state_on start entries = fold (λ before e. state_by before e.what) start entries
 
 -- the state is what is read from the entries
 pub record IsRightState (is : RightState) (entries : List Entry) : Type 0 where
