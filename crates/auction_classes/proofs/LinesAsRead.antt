@@ -16,6 +16,7 @@ use Rattle.folio_line.specs.declared.exchanges.Exchange.{Exchange}
 use Rattle.folio_line.specs.declared.folio_rights.CreatedRight.{CreatedRight}
 use Rattle.folio_line.specs.inner.PlaceByPlace.{places_behind}
 use Rattle.folio_line.proofs.GroupsWritten.{line_written}
+use Rattle.folio_line.proofs.PlacedDistinct.{placed_distinct}
 use Rattle.folio_line.proofs.PlacedOrder.{of_placed_rights}
 use Rattle.auction_classes.specs.Claims.{class_of_right, right_found, rights_found}
 use Rattle.auction_classes.specs.ClassLines.{claim_in_class, exchanges_of_class, line_of_class, stands_in_class}
@@ -87,7 +88,7 @@ class_places s class =
     all_in (λ x. stands_so own swaps at s.folio x ≡ true → ClaimsSo at s.folio claims (right_found s) x) (on_line s)
     (λ x there stands. claims_so s class (counted_exchanges at s.folio) x there (and_parts (class_of_right s x.id == class) (is_live (at (Right s.folio x.id)) || recedes_by swaps x.id) stands).0) in
     ap (λ xs. places_read own swaps at s.folio None (map (right_found s) xs) (on_line s)) (live_are (counted_exchanges at s.folio) at s.folio)
-    ∙ places_are own swaps at s.folio claims (right_found s) None (on_line s) each
+    ∙ places_are own swaps at s.folio claims (right_found s) None (on_line s) (λ x. record { right = refl; has_capital = refl }) (placed_distinct (stands_on_line (counted_exchanges at s.folio)) at s.folio) each
     ∙ (λ i. places_behind claims (is_gone at s.folio) None (filter (stands_same s class i) (on_line s)))
     ∙ ap (places_behind claims (is_gone at s.folio) None) (sym (rights_narrowed (stands_in_class s class) (stands_on_line (counted_exchanges at s.folio)) at s.folio (narrower s class)))
     ∙ line_written claims (is_gone at s.folio) (stands_in_class s class) at s.folio

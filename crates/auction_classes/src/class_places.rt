@@ -1,17 +1,19 @@
 //! The places on the line of a class, each with what its right claims (ZVG §§ 11, 12).
 ghost use Rattle.std.specs.Prelude.{◌≡◌, ◌≤◌, All, None, length, vec_capacity};
 ghost use Rattle.folio_line.specs.FolioReading.{CanBeRead, reads};
-ghost use Rattle.auction_classes.specs.inner.LinesRead.{HasLowInterest, behind_first, first_interest, found_behind, interest_read, most_interest, place_read, places_read, recedes_by, stands_by};
+ghost use Rattle.auction_classes.specs.inner.LinesRead.{HasLowInterest, behind_first, claim_read, first_claim, found_behind, is_next, place_read, places_read, recedes_by, stands_by};
 
 use crate::right_classes::RightClass;
 use crate::rights_found::RightFound;
-use folio_line::{CreatedRight, FolioReading, capital_of, is_live, joins_place};
+use folio_line::{CreatedRight, FolioReading, capital_of, joins_place};
 use folio_sections::Parts;
 use gb_base::RightId;
 use rank_slots::{Place, Swap};
 
 /// Writes the places of those of these rights anew that stand on the line of the class, where these
-/// are its exchanges. Of the live ones these are found, in their order. Takes no memory.
+/// are its exchanges. Of the live ones these are found, in their order: so which are live, and what
+/// they claim, is read of those, and of the folio only the capital of a right that is gone. Takes no
+/// memory.
 pub(crate) fn write_places<P: Parts>(
     places: &mut Vec<Place>,
     reading: &FolioReading<P>,
@@ -31,26 +33,30 @@ pub(crate) fn write_places<P: Parts>(
     let mut before = None;
     let mut rest = found;
     for right in rights {
-        if stands_by(reading, class, swaps, right.id) {
+        if stands_by(class, swaps, rest, right.id) {
             places.push_reserved(place_read(reading, before, rest, right));
             before = Some(*right);
         }
-        rest = found_behind(reading, rest, right.id);
+        rest = found_behind(rest, right.id);
     }
 }
 
-/// Whether a right stands on the line: it is of the class, and live or receding in one of these
-/// exchanges.
-fn stands_by<P: Parts>(
-    reading: &FolioReading<P>,
-    class: &RightClass,
-    swaps: &[Swap],
-    right: RightId,
-) -> bool
-    requires { CanBeRead P.holds P.at reading.now }
-    ensures { result ≡ stands_by class.now swaps.now (reads P.holds P.at reading.now) reading.now.folio right }
+/// Whether a right stands on the line, where these are left of what is found: it is of the class, and
+/// live or receding in one of these exchanges.
+fn stands_by(class: &RightClass, swaps: &[Swap], found: &[RightFound], right: RightId) -> bool
+    ensures { result ≡ stands_by class.now swaps.now found.now right }
 {
-    class.has(right) && (is_live(reading, right) || recedes_by(swaps, right))
+    class.has(right) && (is_next(found, right) || recedes_by(swaps, right))
+}
+
+/// Whether the next that is found is of this right, which is live then.
+fn is_next(found: &[RightFound], right: RightId) -> bool
+    ensures { result ≡ is_next found.now right }
+{
+    match found {
+        [] => false,
+        [first, ..] => first.right.id == right,
+    }
 }
 
 /// Whether the right recedes in one of these exchanges.
@@ -60,7 +66,7 @@ fn recedes_by(swaps: &[Swap], right: RightId) -> bool
     swaps.iter().any(|swap| swap.recede == right)
 }
 
-/// The place of a right behind another. It claims its interest, where it is live, and its capital.
+/// The place of a right behind another.
 fn place_read<P: Parts>(
     reading: &FolioReading<P>,
     before: Option<CreatedRight>,
@@ -73,50 +79,43 @@ fn place_read<P: Parts>(
 {
     Place {
         right: right.id,
-        claim: interest_read(reading, found, right.id) + capital_of(reading, right.id),
+        claim: claim_read(reading, found, right.id),
         with_previous: joins_place(before, right),
-        dropped: !is_live(reading, right.id),
+        dropped: !is_next(found, right.id),
     }
 }
 
-/// The interest of a right: that of the first that is found, where it is live.
-fn interest_read<P: Parts>(reading: &FolioReading<P>, found: &[RightFound], right: RightId) -> u64
+/// What a right claims, in cents: interest and capital, and one that is gone its capital alone.
+fn claim_read<P: Parts>(reading: &FolioReading<P>, found: &[RightFound], right: RightId) -> u64
     requires read { CanBeRead P.holds P.at reading.now }
     requires interest { All HasLowInterest found.now }
-    ensures value { result ≡ interest_read (reads P.holds P.at reading.now) reading.now.folio found.now right }
-    ensures at_most { result ≤ most_interest }
+    ensures { result ≡ claim_read (reads P.holds P.at reading.now) reading.now.folio found.now right }
 {
-    if is_live(reading, right) {
-        first_interest(found)
+    if is_next(found, right) {
+        first_claim(found)
     } else {
-        0
+        capital_of(reading, right)
     }
 }
 
-/// The interest of the first that is found; 0 where there is none.
-fn first_interest(found: &[RightFound]) -> u64
+/// The interest and the capital of the first that is found; 0 where there is none.
+fn first_claim(found: &[RightFound]) -> u64
     requires { All HasLowInterest found.now }
-    ensures value { result ≡ first_interest found.now }
-    ensures at_most { result ≤ most_interest }
+    ensures { result ≡ first_claim found.now }
 {
     match found {
         [] => 0,
-        [first, ..] => first.interest,
+        [first, ..] => first.interest + first.capital.get(),
     }
 }
 
 /// What is found of the live rights behind this one.
-fn found_behind<'a, P: Parts>(
-    reading: &FolioReading<P>,
-    found: &'a [RightFound],
-    right: RightId,
-) -> &'a [RightFound]
-    requires read { CanBeRead P.holds P.at reading.now }
-    requires interest { All HasLowInterest found.now }
-    ensures value { result.now ≡ found_behind (reads P.holds P.at reading.now) reading.now.folio found.now right }
+fn found_behind(found: &[RightFound], right: RightId) -> &[RightFound]
+    requires { All HasLowInterest found.now }
+    ensures value { result.now ≡ found_behind found.now right }
     ensures interest { All HasLowInterest result.now }
 {
-    if is_live(reading, right) {
+    if is_next(found, right) {
         behind_first(found)
     } else {
         found

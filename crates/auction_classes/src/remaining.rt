@@ -6,7 +6,7 @@ ghost use Rattle.gb_base.specs.RightNo.{same_right};
 ghost use Rattle.rank_slots.specs.Payments.{reaches_end};
 ghost use Rattle.auction_classes.specs.Reckoning.{AreOnLine};
 ghost use Rattle.rank_slots.specs.Groups.{keeps_place};
-ghost use Rattle.auction_classes.specs.LowestBid.{is_paid_enough, reaches_group, reaches_knot, remaining, remaining_of};
+ghost use Rattle.auction_classes.specs.LowestBid.{is_paid_enough, reaches_group, reaches_knot, remaining, remaining_by, remaining_of};
 
 use crate::{Claims, RightClaimed};
 use gb_base::RightId;
@@ -55,12 +55,24 @@ fn claimed_for(rights: &[RightClaimed], right: RightId) -> Option<&RightClaimed>
     rights.iter().find(|claimed| claimed.right == right)
 }
 
-/// What remains of a right.
+/// What remains of a right. Nothing is left of one that gets no more than its interest, whatever the
+/// cover reaches, so that is not asked then.
 fn remaining_of(slots: &Slots, cover: u64, claimed: &RightClaimed) -> u64
     requires kept { keeps_place slots.now.filled.places claimed.now.right ≡ true }
     ensures { result ≡ remaining_of slots.now.filled cover claimed.now }
 {
     let got = slots.pay(claimed.right, cover);
+    if got > claimed.interest {
+        remaining_by(slots, cover, claimed, got)
+    } else {
+        0
+    }
+}
+
+/// What remains of a right that gets so much.
+fn remaining_by(slots: &Slots, cover: u64, claimed: &RightClaimed, got: u64) -> u64
+    ensures { result ≡ remaining_by slots.now.filled cover claimed.now got }
+{
     if is_paid_enough(slots, claimed, got)
         && (reaches_group(slots, claimed.right, cover)
             && reaches_knot(slots, claimed.right, cover))

@@ -1,7 +1,7 @@
 //! The rights of a folio with what is claimed of them in a forced sale (ZVG §§ 10 to 13).
 ghost use Rattle.std.specs.Prelude.{◌≡◌, ◌*◌, ◌≤◌, All, IsSome, Some, if◌then◌else◌, length, map, vec_capacity};
 ghost use Rattle.std.specs.Option.{option_map_or};
-ghost use Rattle.folio_sections.specs.Rights.{capital, created, entered_by, entered_on, holder};
+ghost use Rattle.folio_sections.specs.Rights.{capital, created, entered_on, holder};
 ghost use Rattle.folio_line.specs.FolioReading.{CanBeRead};
 ghost use Rattle.gb_base.specs.Limits.{last_stamp_day, most_rate};
 ghost use Rattle.auction_classes.specs.Claims.{accrual_by, are_both, arrears_found, arrears_named, right_with};
@@ -16,7 +16,7 @@ use crate::lists::push_copy;
 use crate::right_classes::class_by;
 use act_model::Registration;
 use folio_line::{CreatedRight, FolioReading, right_front};
-use folio_sections::{Entry, Parts, RightFront, What};
+use folio_sections::{Parts, RightFront};
 use gb_base::{Cents, Day, Person, RightId};
 
 /// A live right of the folio with what is claimed of it, in cents.
@@ -152,28 +152,9 @@ fn capital_of(front: &RightFront) -> Cents
 fn entry_day(front: &RightFront) -> Day
     ensures { result ≡ option_map_or (λ day. day) (entered_on front.now) 0 }
 {
-    match entered_on(front.entries()) {
+    match front.entered_on() {
         Some(day) => day,
         None => Day::new(0).unwrap(),
-    }
-}
-
-/// The day on which these entries enter a right.
-fn entered_on(entries: &[Entry]) -> Option<Day>
-    ensures { result ≡ entered_on entries.now }
-{
-    entries
-        .iter()
-        .fold(None, |before, entry| entered_by(before, entry))
-}
-
-/// The day on which a right was entered behind an entry.
-fn entered_by(before: Option<Day>, entry: &Entry) -> Option<Day>
-    ensures { result ≡ entered_by entry.now.day before entry.now.what }
-{
-    match &entry.what {
-        What::Created(_) => Some(entry.day),
-        _ => before,
     }
 }
 

@@ -12,7 +12,7 @@ use Rattle.folio_sections.proofs.Naming.{last_or-push, length_push}
 use Rattle.folio_sections.proofs.Rights.{states_on}
 
 never : IsRightState never_created []
-never = record { live = refl; created = refl; converted = refl; new_holder = refl; remaining = refl; spent = refl }
+never = record { live = refl; created = refl; entered = refl; converted = refl; new_holder = refl; remaining = refl; spent = refl }
 
 -- no entries have no marks
 pub no_marks : AreMarks [] []

@@ -4,7 +4,7 @@ use Rattle.std.specs.Option.{option_or}
 use Rattle.std.proofs.lemmas.Bool.{false≢true}
 use Rattle.std.proofs.lemmas.List.{append-nil, append_assoc}
 use Rattle.std.proofs.lemmas.List.Sums.{fold-append}
-use Rattle.folio_sections.specs.Rights.{created, created_by, holder, is_conversion, is_exchange, is_exercise, live_by, new_holder_by, remaining_by}
+use Rattle.folio_sections.specs.Rights.{created, created_by, entered_by, holder, is_conversion, is_exchange, is_exercise, live_by, new_holder_by, remaining_by}
 use Rattle.folio_sections.specs.declared.entries.Created.{Created}
 use Rattle.folio_sections.specs.declared.entries.Entry.{Entry}
 use Rattle.folio_sections.specs.declared.entries.What.{What}
@@ -48,16 +48,17 @@ holders_push ns xs e are =
       | false ↦ λ names. unnamed_push holder holder_named ns xs e are (holder_push xs e ∙ unnamed_then (new_holder xs) (created xs) e.what names)
     ] refl
 
-walked : {B : Type 0} (f : B → What → B) (start before : B) (xs : List Entry) (e : Entry) → before ≡ fold (λ b d. f b d.what) start xs → f before e.what ≡ fold (λ b d. f b d.what) start (xs ++ e ∷ [])
-walked f start before xs e is = ap (λ b. f b e.what) is ∙ sym (fold-append (λ b d. f b d.what) start xs (e ∷ []))
+walked : {B : Type 0} (f : B → Entry → B) (start before : B) (xs : List Entry) (e : Entry) → before ≡ fold f start xs → f before e ≡ fold f start (xs ++ e ∷ [])
+walked f start before xs e is = ap (λ b. f b e) is ∙ sym (fold-append f start xs (e ∷ []))
 
-state_push : (is : RightState) (xs : List Entry) (e : Entry) → IsRightState is xs → IsRightState (state_by is e.what) (xs ++ e ∷ [])
+state_push : (is : RightState) (xs : List Entry) (e : Entry) → IsRightState is xs → IsRightState (state_by is e) (xs ++ e ∷ [])
 state_push is xs e state = record {
-  live = walked live_by false is.live xs e state.live;
-  created = walked created_by None is.created xs e state.created;
+  live = walked (λ b d. live_by b d.what) false is.live xs e state.live;
+  created = walked (λ b d. created_by b d.what) None is.created xs e state.created;
+  entered = walked (λ b d. entered_by d.day b d.what) None is.entered xs e state.entered;
   converted = ap (λ b. b || is_conversion e.what) state.converted ∙ sym (any_push (λ f. is_conversion f.what) xs e);
-  new_holder = walked new_holder_by None is.new_holder xs e state.new_holder;
-  remaining = walked remaining_by None is.remaining xs e state.remaining;
+  new_holder = walked (λ b d. new_holder_by b d.what) None is.new_holder xs e state.new_holder;
+  remaining = walked (λ b d. remaining_by b d.what) None is.remaining xs e state.remaining;
   spent = ap (λ b. b || is_exercise e.what) state.spent ∙ sym (any_push (λ f. is_exercise f.what) xs e);
 }
 
@@ -66,10 +67,10 @@ pub states_on : (is : RightState) (xs ys : List Entry) → IsRightState is xs �
 states_on is xs [] state = subst (IsRightState is) (sym (append-nil xs)) state
 states_on is xs (y ∷ ys) state =
     subst (IsRightState (state_on is (y ∷ ys))) (append_assoc xs (y ∷ []) ys)
-    (states_on (state_by is y.what) (xs ++ y ∷ []) ys (state_push is xs y state))
+    (states_on (state_by is y) (xs ++ y ∷ []) ys (state_push is xs y state))
 
 right_push_of : (is : RightState) (count : ℕ) (xs : List Entry) (ns : List ℕ) (e : Entry) → IsRight is count xs ns
-    → IsRight (state_by is e.what) (count + cond (is_exchange e.what) 1 0) (xs ++ e ∷ []) (if names_holder is.new_holder e.what then ns ++ length xs ∷ [] else ns)
+    → IsRight (state_by is e) (count + cond (is_exchange e.what) 1 0) (xs ++ e ∷ []) (if names_holder is.new_holder e.what then ns ++ length xs ∷ [] else ns)
 right_push_of is count xs ns e right = record {
   state = state_push is xs e right.state;
   counted = ap (λ n. n + cond (is_exchange e.what) 1 0) right.counted ∙ sym (count_push (λ f. is_exchange f.what) xs e);
@@ -77,10 +78,10 @@ right_push_of is count xs ns e right = record {
 }
 
 pub right_push : (is after : RightState) (count count' : ℕ) (xs ys : List Entry) (ns ms : List ℕ) (e : Entry) (names : Bool) → IsRight is count xs ns
-    → after ≡ state_by is e.what → count' ≡ count + cond (is_exchange e.what) 1 0 → ys ≡ xs ++ e ∷ []
+    → after ≡ state_by is e → count' ≡ count + cond (is_exchange e.what) 1 0 → ys ≡ xs ++ e ∷ []
     → names ≡ names_holder is.new_holder e.what → ms ≡ (if names then ns ++ length xs ∷ [] else ns) → IsRight after count' ys ms
 right_push is after count count' xs ys ns ms e names right state counts more named naming =
     subst (λ s. IsRight s count' ys ms) (sym state)
-    (subst (λ n. IsRight (state_by is e.what) n ys ms) (sym counts)
-    (subst (λ zs. IsRight (state_by is e.what) (count + cond (is_exchange e.what) 1 0) zs ms) (sym more)
-    (subst (IsRight (state_by is e.what) (count + cond (is_exchange e.what) 1 0) (xs ++ e ∷ [])) (sym (naming ∙ ap (λ b. if b then ns ++ length xs ∷ [] else ns) named)) (right_push_of is count xs ns e right))))
+    (subst (λ n. IsRight (state_by is e) n ys ms) (sym counts)
+    (subst (λ zs. IsRight (state_by is e) (count + cond (is_exchange e.what) 1 0) zs ms) (sym more)
+    (subst (IsRight (state_by is e) (count + cond (is_exchange e.what) 1 0) (xs ++ e ∷ [])) (sym (naming ∙ ap (λ b. if b then ns ++ length xs ∷ [] else ns) named)) (right_push_of is count xs ns e right))))

@@ -1,11 +1,11 @@
 //! A right as it stood before a receipt.
 ghost use Rattle.std.specs.Prelude.{◌≡◌, ◌≤◌, length, take};
-ghost use Rattle.folio_sections.specs.Rights.{capital, created, holder, is_full, is_live};
+ghost use Rattle.folio_sections.specs.Rights.{capital, created, entered_on, holder, is_full, is_live};
 ghost use Rattle.folio_sections.specs.inner.States.{IsRightState};
 
 use crate::right_state::RightState;
 use crate::{Created, Entry, RightPart};
-use gb_base::{Cents, Person};
+use gb_base::{Cents, Day, Person};
 use std::marker::Model;
 
 /// The first entries at a right. In contracts it is the list of these entries.
@@ -56,6 +56,13 @@ impl<'a> RightFront<'a> {
         ensures { result ≡ created self.now }
     {
         self.state().created
+    }
+
+    /// The day on which the right was entered (BGB § 873); None where it was not yet.
+    pub fn entered_on(&self) -> Option<Day>
+        ensures { result ≡ entered_on self.now }
+    {
+        self.state().entered
     }
 
     /// Whether the right itself was entered, and not only a priority notice for it (BGB § 883).

@@ -40,7 +40,7 @@ impl RightPart {
     ghost use Rattle.std.specs.List.{find};
     ghost use Rattle.folio_sections.specs.Fronts.{NeverFall, below};
     ghost use Rattle.folio_sections.specs.Waiting.{waiting_before, waiting_unnoticed, pending, is_above, notice};
-    ghost use Rattle.folio_sections.specs.Rights.{created, is_live, is_full, holder, holder_for, capital, exchanges, is_spent};
+    ghost use Rattle.folio_sections.specs.Rights.{created, entered_on, is_live, is_full, holder, holder_for, capital, exchanges, is_spent};
     ghost use Rattle.folio_sections.specs.inner.States.{IsRightState};
 
     /// The empty part at a key.
@@ -79,7 +79,7 @@ impl RightPart {
         ensures room { self.new.room + 1 ≡ self.old.room }
     {
         let names = names_holder(self.state.new_holder, &entry.what);
-        self.state = state_by(self.state, &entry.what);
+        self.state = state_by(self.state, &entry);
         let ahead = self.list.entries().len();
         prove!(self.exchanges <= ahead);
         self.exchanges = exchanges_by(self.exchanges, &entry.what);
@@ -164,6 +164,13 @@ impl RightPart {
         ensures { result ≡ created self.now.entries }
     {
         self.state.created
+    }
+
+    /// The day on which the right was entered (BGB § 873); None where it never was.
+    pub fn entered_on(&self) -> Option<Day>
+        ensures { result ≡ entered_on self.now.entries }
+    {
+        self.state.entered
     }
 
     /// Whether the right itself is entered, and not only a priority notice for it (BGB § 883).

@@ -1,17 +1,19 @@
 //! What is read of a right from its entries, kept as they come.
 ghost use Rattle.std.specs.Prelude.{◌≡◌, List};
-ghost use Rattle.folio_sections.specs.Rights.{capital, created_by, is_conversion, is_exercise, is_full, live_by, new_holder_by, remaining_by};
+ghost use Rattle.folio_sections.specs.Rights.{capital, created_by, entered_by, is_conversion, is_exercise, is_full, live_by, new_holder_by, remaining_by};
 ghost use Rattle.folio_sections.specs.declared.entries.Entry.{Entry};
 ghost use Rattle.folio_sections.specs.inner.States.{IsRightState, holder_named, names_holder, state_by, state_on};
 
 use crate::{Created, Entry, RightForm, What};
-use gb_base::{Cents, Person};
+use gb_base::{Cents, Day, Person};
 
 /// The right as its entries leave it.
 #[derive(Clone, Copy)]
 pub(crate) struct RightState {
     pub live: bool,
     pub created: Option<Created>,
+    /// The day of the creation's entry.
+    pub entered: Option<Day>,
     /// Whether the right of a priority notice is entered (BGB § 883(3)).
     pub converted: bool,
     /// The last new holder.
@@ -53,26 +55,29 @@ pub(crate) fn state_on(before: RightState, entries: &[Entry]) -> RightState
 {
     entries
         .iter()
-        .fold(before, |before, entry| state_by(before, &entry.what))
+        .fold(before, |before, entry| state_by(before, entry))
 }
 
 /// The right of no entries.
 pub(crate) const NEVER_CREATED: RightState = RightState {
     live: false,
     created: None,
+    entered: None,
     converted: false,
     new_holder: None,
     remaining: None,
     spent: false,
 };
 
-/// The right behind a content.
-pub(crate) fn state_by(before: RightState, what: &What) -> RightState
-    ensures { result ≡ state_by before what.now }
+/// The right behind an entry.
+pub(crate) fn state_by(before: RightState, entry: &Entry) -> RightState
+    ensures { result ≡ state_by before entry.now }
 {
+    let what = &entry.what;
     RightState {
         live: live_by(before.live, what),
         created: created_by(before.created, what),
+        entered: entered_by(before.entered, entry),
         converted: before.converted || is_conversion(what),
         new_holder: new_holder_by(before.new_holder, what),
         remaining: remaining_by(before.remaining, what),
@@ -98,6 +103,17 @@ fn created_by(before: Option<Created>, what: &What) -> Option<Created>
 {
     match what {
         What::Created(made) => Some(*made),
+        _ => before,
+    }
+}
+
+/// The day on which the right was entered behind an entry: that of one that creates it, else the one
+/// before.
+fn entered_by(before: Option<Day>, entry: &Entry) -> Option<Day>
+    ensures { result ≡ entered_by entry.now.day before entry.now.what }
+{
+    match &entry.what {
+        What::Created(_) => Some(entry.day),
         _ => before,
     }
 }

@@ -1,14 +1,12 @@
 -- The line of a class, as it is written of the folio's line and of what is found of the live rights.
-use Rattle.std.specs.Prelude.{◌≡◌, ℕ, ◌+◌, ◌*◌, ◌≤◌, Bool, ◌&&◌, ◌||◌, ◌==◌, if◌then◌else◌, List, [], ◌∷◌, filter, length, map, Option, Some, None, vec_capacity}
+use Rattle.std.specs.Prelude.{◌≡◌, ℕ, ◌+◌, ◌*◌, ◌≤◌, Bool, false, not, ◌&&◌, ◌||◌, ◌==◌, if◌then◌else◌, List, [], ◌∷◌, filter, length, map, Option, Some, None, vec_capacity}
 use Rattle.std.specs.List.{list_any}
 use Rattle.gb_base.specs.RightNo.{RightNo, same_right}
 use Rattle.gb_base.specs.declared.keys.Key.{Key}
-use Rattle.gb_base.specs.declared.keys.Key.TheVariants.{Right}
-use Rattle.folio_sections.specs.Rights.{is_live}
 use Rattle.folio_sections.specs.declared.entries.Entry.{Entry}
 use Rattle.folio_line.specs.FolioLine.{LineState}
 use Rattle.folio_line.specs.FolioRights.{joins_place}
-use Rattle.folio_line.specs.FolioSlots.{capital_at, is_gone, swap_of}
+use Rattle.folio_line.specs.FolioSlots.{capital_at, swap_of}
 use Rattle.folio_line.specs.declared.exchanges.Exchange.{Exchange}
 use Rattle.folio_line.specs.declared.folio_rights.CreatedRight.{CreatedRight}
 use Rattle.rank_slots.specs.Filled.{Filled}
@@ -69,43 +67,49 @@ exercises_within class exercises = filter (λ k. is_of_class class k.reserved &&
 abbrev pub recedes_by : List Swap → RightNo → Bool
 recedes_by swaps id = list_any (λ w. same_right w.recede id) swaps
 
--- the right stands on the line of the class
-abbrev pub stands_by : RightClass → List Swap → (Key → List Entry) → ℕ → RightNo → Bool
-stands_by class swaps at folio id = is_of_class class id && (is_live (at (Right folio id)) || recedes_by swaps id)
+-- The live rights are found in their order, each once: a right is live where the next that is found is of it.
+abbrev pub is_next : List RightFound → RightNo → Bool
+is_next [] id = false
+is_next (x ∷ xs) id = same_right x.right.id id
 
--- the interest of the first that is found
-abbrev pub first_interest : List RightFound → ℕ
-first_interest [] = 0
-first_interest (x ∷ xs) = x.interest
+-- the right stands on the line of the class, where these are left of what is found
+abbrev pub stands_by : RightClass → List Swap → List RightFound → RightNo → Bool
+stands_by class swaps found id = is_of_class class id && (is_next found id || recedes_by swaps id)
+
+-- the interest and the capital of the first that is found
+abbrev pub first_claim : List RightFound → ℕ
+first_claim [] = 0
+first_claim (x ∷ xs) = x.interest + x.capital
 
 -- those behind it
 abbrev pub behind_first : List RightFound → List RightFound
 behind_first [] = []
 behind_first (x ∷ xs) = xs
 
--- The live rights are found in their order: the next that is found is of this right, where that is live, and its interest is that one's.
-abbrev pub interest_read : (Key → List Entry) → ℕ → List RightFound → RightNo → ℕ
-interest_read at folio found id = if is_live (at (Right folio id)) then first_interest found else 0
+-- what a right claims: interest and capital, and one that is gone its capital alone
+abbrev pub claim_read : (Key → List Entry) → ℕ → List RightFound → RightNo → ℕ
+claim_read at folio found id = if is_next found id then first_claim found else capital_at at folio id
 
-abbrev pub found_behind : (Key → List Entry) → ℕ → List RightFound → RightNo → List RightFound
-found_behind at folio found id = if is_live (at (Right folio id)) then behind_first found else found
+-- what is found of the live rights behind this one
+abbrev pub found_behind : List RightFound → RightNo → List RightFound
+found_behind found id = if is_next found id then behind_first found else found
 
 -- the place of a right behind another
 abbrev pub place_read : (Key → List Entry) → ℕ → Option CreatedRight → List RightFound → CreatedRight → Place
 place_read at folio before found x = record {
   right = x.id;
-  claim = interest_read at folio found x.id + capital_at at folio x.id;
+  claim = claim_read at folio found x.id;
   with_previous = joins_place before x;
-  dropped = is_gone at folio x.id;
+  dropped = not (is_next found x.id);
 }
 
 -- the places of those of these rights that stand on the line, behind another right, with what is found of the live ones
 abbrev pub places_read : RightClass → List Swap → (Key → List Entry) → ℕ → Option CreatedRight → List RightFound → List CreatedRight → List Place
 places_read class swaps at folio before found [] = []
 places_read class swaps at folio before found (x ∷ xs) =
-    if stands_by class swaps at folio x.id
-    then place_read at folio before found x ∷ places_read class swaps at folio (Some x) (found_behind at folio found x.id) xs
-    else places_read class swaps at folio before (found_behind at folio found x.id) xs
+    if stands_by class swaps found x.id
+    then place_read at folio before found x ∷ places_read class swaps at folio (Some x) (found_behind found x.id) xs
+    else places_read class swaps at folio before (found_behind found x.id) xs
 
 -- ---- the line
 

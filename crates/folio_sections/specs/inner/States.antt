@@ -4,7 +4,7 @@ use Rattle.std.specs.List.{list_any}
 use Rattle.act_model.specs.declared.land.Inventory.{Inventory}
 use Rattle.folio_sections.specs.Cases.{award, call, case, is_distribution, registration_numbers, registrations, seizure_numbers, seizures}
 use Rattle.folio_sections.specs.Limits.{most_registrations, most_seizures}
-use Rattle.folio_sections.specs.Rights.{created, created_by, exchanges, holder, is_conversion, is_exercise, is_live, is_spent, live_by, new_holder_by, remaining_by}
+use Rattle.folio_sections.specs.Rights.{created, created_by, entered_by, entered_on, exchanges, holder, is_conversion, is_exercise, is_live, is_spent, live_by, new_holder_by, remaining_by}
 use Rattle.folio_sections.specs.Titles.{inventory, is_award_owner, is_open, owners, owners_by}
 use Rattle.folio_sections.specs.declared.case_part.Running.{Running}
 use Rattle.folio_sections.specs.declared.entries.Entry.{Entry}
@@ -47,29 +47,31 @@ names_holder before (what.Created made) = is_none before
 names_holder before (what.Holder person) = true
 names_holder before other = false
 
--- the right behind a content
-abbrev pub state_by : RightState → What → RightState
-state_by before w = record {
-  live = live_by before.live w;
-  created = created_by before.created w;
-  converted = before.converted || is_conversion w;
-  new_holder = new_holder_by before.new_holder w;
-  remaining = remaining_by before.remaining w;
-  spent = before.spent || is_exercise w;
+-- the right behind an entry
+abbrev pub state_by : RightState → Entry → RightState
+state_by before e = record {
+  live = live_by before.live e.what;
+  created = created_by before.created e.what;
+  entered = entered_by e.day before.entered e.what;
+  converted = before.converted || is_conversion e.what;
+  new_holder = new_holder_by before.new_holder e.what;
+  remaining = remaining_by before.remaining e.what;
+  spent = before.spent || is_exercise e.what;
 }
 
 -- the right of no entries
 abbrev pub never_created : RightState
-never_created = record { live = false; created = None; converted = false; new_holder = None; remaining = None; spent = false }
+never_created = record { live = false; created = None; entered = None; converted = false; new_holder = None; remaining = None; spent = false }
 
 -- the right behind these entries
 abbrev pub state_on : RightState → List Entry → RightState
-state_on start entries = fold (λ before e. state_by before e.what) start entries
+state_on start entries = fold state_by start entries
 
 -- the state is what is read from the entries
 pub record IsRightState (is : RightState) (entries : List Entry) : Type 0 where
   pub live : is.live ≡ is_live entries
   pub created : is.created ≡ created entries
+  pub entered : is.entered ≡ entered_on entries
   pub converted : is.converted ≡ list_any (λ e. is_conversion e.what) entries
   pub new_holder : is.new_holder ≡ fold (λ before e. new_holder_by before e.what) None entries
   pub remaining : is.remaining ≡ fold (λ before e. remaining_by before e.what) None entries
