@@ -18,7 +18,7 @@ either_by_second s c other = elim (same_right c s.rise) as (λ b. same_right c s
 ] refl
 
 -- a third right keeps its cents
-third_keeps : (s : Swap) (left n : ℕ) (c : RightNo) (cs : List RightNo) → is_of_either s c ≡ false → exchanged s left (replicate n c ++ cs) ≡ replicate n c ++ exchanged s left cs
+pub third_keeps : (s : Swap) (left n : ℕ) (c : RightNo) (cs : List RightNo) → is_of_either s c ≡ false → exchanged s left (replicate n c ++ cs) ≡ replicate n c ++ exchanged s left cs
 third_keeps s left zero c cs third = refl
 third_keeps s left (suc n) c cs third =
     (λ i. cond (third i) (cond (left == 0) (s.recede ∷ exchanged s 0 (replicate n c ++ cs)) (s.rise ∷ exchanged s (left - 1) (replicate n c ++ cs))) (c ∷ exchanged s left (replicate n c ++ cs)))
@@ -41,7 +41,7 @@ all_recede s (suc n) c cs party =
     ∙ ap (λ t. s.recede ∷ t) (all_recede s n c cs party)
 
 -- a piece of one of the two rights rises as far as cents are left to, and recedes behind
-party_splits : (s : Swap) (left n : ℕ) (c : RightNo) (cs : List RightNo) → is_of_either s c ≡ true
+pub party_splits : (s : Swap) (left n : ℕ) (c : RightNo) (cs : List RightNo) → is_of_either s c ≡ true
     → exchanged s left (replicate n c ++ cs) ≡ replicate (min left n) s.rise ++ (replicate (n - min left n) s.recede ++ exchanged s (left - min left n) cs)
 party_splits s left n c cs party = elim (cases_lt left n) [
   | inl less ↦

@@ -21,5 +21,7 @@ pub mod LonePay
 pub mod PlaceLines
 pub mod Precedence
 pub mod SharedCents
+pub mod SpanChains
+pub mod SpanRows
 pub mod TakenOut
 pub mod ThirdRights

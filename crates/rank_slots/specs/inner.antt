@@ -1,3 +1,4 @@
 -- What private clauses alone say.
 pub mod Pieces
 pub mod Slots
+pub mod Spans

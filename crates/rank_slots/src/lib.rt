@@ -10,6 +10,7 @@ mod pieces;
 mod places;
 mod relations;
 mod slots;
+mod spans;
 mod thresholds;
 
 pub use groups::{group_of, is_listed_ahead};
