@@ -10,6 +10,7 @@ pub mod GroupShares
 pub mod GroupSteps
 pub mod HandedOut
 pub mod Joined
+pub mod JoinedChains
 pub mod KnotPay
 pub mod KnotRoom
 pub mod KnotTies

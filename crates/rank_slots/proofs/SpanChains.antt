@@ -4,6 +4,7 @@ use Rattle.std.specs.List.{AllByRecursion}
 use Rattle.std.proofs.lemmas.Bool.{both_ways, false≢true, true≢false}
 use Rattle.std.proofs.lemmas.List.{append_assoc, get_or-set_other, get_or_append_left, length-append, length-set}
 use Rattle.rank_slots.specs.declared.spans.Span.{Span}
+use Rattle.rank_slots.specs.inner.SpanJoins.{Ascend, Before, Merge, turned}
 use Rattle.rank_slots.specs.inner.Spans.{Linked, StandInRow, last_first, link_at, no_span, span_at}
 
 -- ---- what a write leaves
@@ -49,15 +50,6 @@ push_leaves test spans links x link as_many =
 
 -- ---- the order of spans
 
--- the first ends ahead of the second
-abbrev pub Before : Span → Span → Type 0
-Before x y = (x.from < y.from) × (x.from + x.cents ≤ y.from)
-
--- each ends ahead of those behind it
-abbrev pub Ascend : List Span → Type 0
-Ascend [] = Unit {0}
-Ascend (x ∷ xs) = AllByRecursion (λ y. Before x y) xs × Ascend xs
-
 row_behind : (x : Span) (n : ℕ) (xs : List Span) → x.from < n → x.from + x.cents ≤ n → StandInRow n xs → AllByRecursion (λ y. Before x y) xs
 row_behind x n [] less least row = tt
 row_behind x n (y ∷ ys) less least row =
@@ -96,11 +88,6 @@ each_weaker P Q weaker (x ∷ xs) all = (weaker x all.0, each_weaker P Q weaker 
 
 -- ---- turned round
 
--- these spans turned round, and then those that are made
-abbrev pub turned : List Span → List Span → List Span
-turned made [] = made
-turned made (x ∷ xs) = turned (x ∷ made) xs
-
 turned_from : (test : Span → Bool) (made others xs : List Span) → turned made (last_first test others xs) ≡ turned (filter test xs ++ made) others
 turned_from test made others [] = refl
 turned_from test made others (x ∷ xs) =
@@ -123,14 +110,11 @@ parted made (x ∷ rest) up =
 pub left_ahead : (made : List Span) (x : Span) (rest : List Span) → Ascend (turned made (x ∷ rest)) → AllByRecursion (λ r. Before r x) rest
 left_ahead made x rest up = each_weaker (λ r. AllByRecursion (λ m. Before r m) (x ∷ made)) (λ r. Before r x) (λ r all. all.0) rest (parted (x ∷ made) rest up).1
 
--- ---- two chains in one
+pub all_turned : (P : Span → Type 0) (made rest : List Span) → AllByRecursion P (turned made rest) → AllByRecursion P made × AllByRecursion P rest
+all_turned P made [] all = (all, tt)
+all_turned P made (x ∷ rest) all = let later = all_turned P (x ∷ made) rest all in (later.0.1, (later.0.0, later.1))
 
--- the third list has the spans of both others, each in its order
-abbrev pub Merge : List Span → List Span → List Span → Type 0
-Merge firsts seconds [] = (firsts ≡ []) × (seconds ≡ [])
-Merge firsts seconds (x ∷ xs) =
-    ((rest : List Span) × ((firsts ≡ x ∷ rest) × Merge rest seconds xs))
-    ⊎ ((rest : List Span) × ((seconds ≡ x ∷ rest) × Merge firsts rest xs))
+-- ---- two chains in one
 
 pub merge_turned : (firsts seconds xs : List Span) → Merge firsts seconds xs → Merge seconds firsts xs
 merge_turned firsts seconds [] both = (both.1, both.0)

@@ -2,6 +2,7 @@
 //! groups of equal rank, exchanges of rank (BGB § 880) and exercised reservations (BGB § 881).
 #![tactic(auto)]
 
+mod chains;
 mod exchanging;
 mod groups;
 pub mod laws;
