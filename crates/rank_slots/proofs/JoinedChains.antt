@@ -2,7 +2,7 @@
 use Rattle.std.proofs.Common.{◌≡◌, ◌⊎◌, ℕ, ◌+◌, ◌<◌, ◌≤◌, Bool, true, false, cond, eqb, nat_lt, List, [], ◌∷◌, get_or, length, set, Option, Some, None, refl, subst, sym, ap, arith, inl, inr, ⊎_elim, ◌∙◌}
 use Rattle.std.specs.List.{AllByRecursion}
 use Rattle.std.proofs.lemmas.Bool.{eq-eqb, ne_eqb, lt-ltb, le-ltb}
-use Rattle.std.proofs.lemmas.List.{get_or-set_same}
+use Rattle.std.proofs.lemmas.List.{get_or-set_same, get_or_default}
 use Rattle.rank_slots.specs.declared.spans.Span.{Span}
 use Rattle.rank_slots.specs.inner.SpanJoins.{AreToJoin, Ascend, Before, Merge, reach, turned}
 use Rattle.rank_slots.specs.inner.Spans.{Begins, Linked, begins_ahead, later_first, link_at, span_at}
@@ -151,11 +151,32 @@ whole_of spans links first second joined whole pair as_many is none join =
     subst (λ head. GoesOn spans links head pair.1 joined whole) none
     (subst (λ (q : Option ℕ × Option ℕ). GoesOn spans links q.0 q.1 joined whole) (sym is) (goes_on spans links first second joined whole as_many join))
 
-pub nearer_of : (spans : List Span) (links : List (Option ℕ)) (first second joined : Option ℕ) (whole : List Span) (n : ℕ) (pair : Option ℕ × Option ℕ) → length links ≡ length spans
-    → pair ≡ later_first spans first second → pair.0 ≡ Some n → AreToJoin spans links first second joined whole
-    → reach spans (link_at links n) + reach spans pair.1 < reach spans first + reach spans second
-nearer_of spans links first second joined whole n pair as_many is some join =
-    let less = (next_of spans links first second joined whole n pair as_many is some join).less in
+-- the same with the link as it was read
+pub further_of : (spans : List Span) (links : List (Option ℕ)) (first second joined : Option ℕ) (whole : List Span) (n : ℕ) (pair : Option ℕ × Option ℕ) (link : Option ℕ) → length links ≡ length spans
+    → pair ≡ later_first spans first second → pair.0 ≡ Some n → AreToJoin spans links first second joined whole → link ≡ get_or links n link
+    → AreToJoin spans (set links n joined) link pair.1 (Some n) whole
+further_of spans links first second joined whole n pair link as_many is some join read =
+    let next = next_of spans links first second joined whole n pair as_many is some join in
+    let within = next.within in
+    subst (λ head. AreToJoin spans (set links n joined) head pair.1 (Some n) whole) (sym (read ∙ get_or_default links n link None (omega (arith, within)))) next.further
+
+pub nearer_of : (spans : List Span) (links : List (Option ℕ)) (first second joined : Option ℕ) (whole : List Span) (n : ℕ) (pair : Option ℕ × Option ℕ) (link : Option ℕ) → length links ≡ length spans
+    → pair ≡ later_first spans first second → pair.0 ≡ Some n → AreToJoin spans links first second joined whole → link ≡ get_or links n link
+    → reach spans link + reach spans pair.1 < reach spans first + reach spans second
+nearer_of spans links first second joined whole n pair link as_many is some join read =
+    let next = next_of spans links first second joined whole n pair as_many is some join in
+    let within = next.within in
+    let less = next.less in
+    let own = ap (reach spans) (read ∙ get_or_default links n link None (omega (arith, within))) in
     let all = ap (λ (q : Option ℕ × Option ℕ). reach spans q.0 + reach spans q.1) is ∙ reach_ordered spans first second in
     let here = ap (reach spans) some in
-    omega (arith, less, all, here)
+    omega (arith, less, all, here, own)
+
+-- chains of which no span passes a test that all spans of the whole pass are as they were
+pub others_of : (spans : List Span) (links : List (Option ℕ)) (first second joined : Option ℕ) (whole : List Span) (n : ℕ) (pair : Option ℕ × Option ℕ) → length links ≡ length spans
+    → pair ≡ later_first spans first second → pair.0 ≡ Some n → AreToJoin spans links first second joined whole
+    → (test : Span → Bool) (head : Option ℕ) (xs : List Span) → AllByRecursion (λ x. test x ≡ true) whole → AllByRecursion (λ x. test x ≡ false) xs
+    → Linked spans links head xs → Linked spans (set links n joined) head xs
+others_of spans links first second joined whole n pair as_many is some join test head xs own none chain =
+    let next = next_of spans links first second joined whole n pair as_many is some join in
+    carried test spans links spans (set links n joined) (link_leaves test spans links n joined (next.passes test own)) head xs none chain

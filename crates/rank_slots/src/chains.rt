@@ -30,12 +30,15 @@ impl Spans {
         let mut first = self.heads[one];
         let mut second = self.heads[other];
         let mut joined = None;
-        while let (Some(number), behind) = self.later_first(first, second) {
+        'spans: loop {
+            let (later, behind) = self.later_first(first, second);
+            let Some(number) = later else {
+                return joined;
+            };
             first = self.links[number];
             second = behind;
             self.links[number] = joined;
             joined = Some(number);
         }
-        joined
     }
 }

@@ -6,8 +6,8 @@ use Rattle.rank_slots.specs.inner.SpanJoins.{AreToJoin, reach}
 use Rattle.rank_slots.specs.inner.Spans.{Linked, link_at}
 use Rattle.rank_slots.proofs.spans.Spans.join.Given as goal
 
-abbrev pub invariant-loop-number : goal.invariant-loop-number
-invariant-loop-number l = record {
+abbrev pub invariant-spans : goal.invariant-spans
+invariant-spans l = record {
   joining : (whole : List Span) → AreToJoin l.fn.self.spans.items l.fn.self.links.items (link_at l.fn.self.heads.items l.one) (link_at l.fn.self.heads.items l.other) None whole
       → AreToJoin l.self.spans.items l.self.links.items l.first l.second l.joined whole;
   thirds : (whole : List Span) (test : Span → Bool) (head : Option ℕ) (xs : List Span)
@@ -20,5 +20,5 @@ invariant-loop-number l = record {
   capacity : vec_capacity l.self.links ≡ vec_capacity l.fn.self.links;
 }
 
-abbrev pub decreases-loop-number : goal.decreases-loop-number
-decreases-loop-number l = reach l.self.spans.items l.first + reach l.self.spans.items l.second
+abbrev pub decreases-spans : goal.decreases-spans
+decreases-spans l = reach l.self.spans.items l.first + reach l.self.spans.items l.second
