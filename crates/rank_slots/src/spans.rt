@@ -1,7 +1,8 @@
 //! The spans of a line, in no order, with a chain of those of each place.
 //! Why so: docs/DECISIONS.md, "An exchange walks the spans of its two rights".
-ghost use Rattle.std.specs.Prelude.{◌≡◌, ◌++◌, ◌∷◌, [], ◌<◌, length, slice_set, vec_capacity};
-ghost use Rattle.rank_slots.specs.inner.Spans.{Begins, begins_ahead, later_first, link_at};
+ghost use Rattle.std.specs.Prelude.{◌≡◌, ◌++◌, ◌∷◌, [], ◌+◌, ◌<◌, ◌≤◌, length, slice_set, vec_capacity};
+ghost use Rattle.gb_base.specs.Limits.{most_sum};
+ghost use Rattle.rank_slots.specs.inner.Spans.{Begins, back_of, begins_ahead, front_of, later_first, link_at};
 
 use gb_base::RightId;
 
@@ -13,6 +14,32 @@ pub(crate) struct Span {
     /// How many, from 1.
     pub cents: u64,
     pub right: RightId,
+}
+
+impl Span {
+    /// The first cents, as this right's.
+    pub fn front(&self, cents: u64, right: RightId) -> Span
+        ensures { result ≡ front_of self.now cents right }
+    {
+        Span {
+            from: self.from,
+            cents,
+            right,
+        }
+    }
+
+    /// The cents behind these, as this right's.
+    pub fn back(&self, cents: u64, right: RightId) -> Span
+        requires bounded { self.now.from + self.now.cents < most_sum }
+        requires within { cents ≤ self.now.cents }
+        ensures { result ≡ back_of self.now cents right }
+    {
+        Span {
+            from: self.from + cents,
+            cents: self.cents - cents,
+            right,
+        }
+    }
 }
 
 /// A line in spans. Those of a place are a chain, the last one first.
