@@ -1,5 +1,6 @@
 -- Lemmas.
 pub mod Ahead
+pub mod DealtChains
 pub mod EmptySums
 pub mod ExchangedCents
 pub mod Exchanges

@@ -49,11 +49,11 @@ impl Spans {
 
     /// Deals such a chain out to two places, which have none: the first cents to the rising right,
     /// and all others to the receding one.
-    pub fn deal(&mut self, joined: Option<usize>, swap: Swap, recede: usize, rise: usize, cents: u64)
+    pub fn deal(&mut self, joined: Option<usize>, swap: &Swap, recede: usize, rise: usize, cents: u64)
         requires recede { recede < length self.old.heads.items }
         requires rise { rise < length self.old.heads.items }
         requires two { recede ≢ rise }
-        requires differ { same_right swap.recede swap.rise ≡ false }
+        requires differ { same_right swap.now.recede swap.now.rise ≡ false }
         requires recede_none { link_at self.old.heads.items recede ≡ None }
         requires rise_none { link_at self.old.heads.items rise ≡ None }
         requires as_many { length self.old.links.items ≡ length self.old.spans.items }
@@ -61,7 +61,7 @@ impl Spans {
         requires link_room { length self.old.spans.items < vec_capacity self.old.links }
         requires chain { (whole : List Span) × IsToDeal (lists_of self.old) joined whole }
         ensures dealt { (whole : List Span) → IsToDeal (lists_of self.old) joined whole
-            → IsDealing (lists_of self.new) swap recede rise None 0 (length self.old.spans.items) cents whole }
+            → IsDealing (lists_of self.new) swap.now recede rise None 0 (length self.old.spans.items) cents whole }
         ensures thirds { (whole : List Span) (test : Span → Bool) (head : Option ℕ) (xs : List Span) → IsToDeal (lists_of self.old) joined whole
             → AllByRecursion (λ x. test x ≡ true) whole → AllByRecursion (λ x. test x ≡ false) xs
             → Linked self.old.spans.items self.old.links.items head xs → Linked self.new.spans.items self.new.links.items head xs }
@@ -82,7 +82,7 @@ impl Spans {
     }
 
     /// Deals one span out, and says how many cents are left to rise behind it.
-    fn deal_span(&mut self, swap: Swap, recede: usize, rise: usize, number: usize, left: u64) -> u64
+    fn deal_span(&mut self, swap: &Swap, recede: usize, rise: usize, number: usize, left: u64) -> u64
         requires number { number < length self.old.spans.items }
         requires recede { recede < length self.old.heads.items }
         requires rise { rise < length self.old.heads.items }
@@ -91,7 +91,7 @@ impl Spans {
         requires link_room { 0 < left → length self.old.spans.items < vec_capacity self.old.links }
         requires bounded { (span_at self.old.spans.items number).from + (span_at self.old.spans.items number).cents < most_sum }
         ensures left { result ≡ left - (span_at self.old.spans.items number).cents }
-        ensures lists { lists_of self.new ≡ span_dealt (lists_of self.old) swap recede rise number left }
+        ensures lists { lists_of self.new ≡ span_dealt (lists_of self.old) swap.now recede rise number left }
         ensures few { length self.new.spans.items ≤ length self.old.spans.items + 1 }
         ensures unsplit { left ≡ 0 → length self.new.spans.items ≡ length self.old.spans.items }
         ensures unsplit_yet { 0 < result → length self.new.spans.items ≡ length self.old.spans.items }
