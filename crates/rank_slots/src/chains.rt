@@ -3,7 +3,7 @@ ghost use Rattle.std.specs.Prelude.{◌≡◌, ◌≢◌, ◌+◌, ◌-◌, ◌<
 ghost use Rattle.std.specs.List.{AllByRecursion};
 ghost use Rattle.rank_slots.specs.declared.spans.Span.{Span};
 ghost use Rattle.rank_slots.specs.inner.SpanJoins.{AreToJoin};
-ghost use Rattle.rank_slots.specs.inner.SpanDeals.{IsDealing, IsToDeal};
+ghost use Rattle.rank_slots.specs.inner.SpanDeals.{IsDealt, IsToDeal};
 ghost use Rattle.rank_slots.specs.inner.SpanLists.{lists_of};
 ghost use Rattle.rank_slots.specs.inner.Spans.{Linked, link_at, span_at, span_dealt};
 ghost use Rattle.gb_base.specs.Limits.{most_sum};
@@ -61,7 +61,7 @@ impl Spans {
         requires link_room { length self.old.spans.items < vec_capacity self.old.links }
         requires chain { (whole : List Span) × IsToDeal (lists_of self.old) joined whole }
         ensures dealt { (whole : List Span) → IsToDeal (lists_of self.old) joined whole
-            → IsDealing (lists_of self.new) swap.now recede rise None 0 (length self.old.spans.items) cents whole }
+            → IsDealt (lists_of self.new) swap.now recede rise (length self.old.spans.items) cents whole }
         ensures thirds { (whole : List Span) (test : Span → Bool) (head : Option ℕ) (xs : List Span) → IsToDeal (lists_of self.old) joined whole
             → AllByRecursion (λ x. test x ≡ true) whole → AllByRecursion (λ x. test x ≡ false) xs
             → Linked self.old.spans.items self.old.links.items head xs → Linked self.new.spans.items self.new.links.items head xs }

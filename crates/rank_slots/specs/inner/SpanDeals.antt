@@ -30,6 +30,12 @@ pub record IsDealing (a : SpanLists) (s : Swap) (recede rise : ℕ) (next : Opti
   pub count_is : length a.spans + length (spans_dealt s left rest) + length whole ≡ start + length (spans_dealt s cents whole) + length rest
   pub pass : (test : Span → Bool) → AllByRecursion (λ x. test x ≡ true) whole → AllByRecursion (λ x. test x ≡ true) rest
 
+-- All of the chain is dealt.
+pub record IsDealt (a : SpanLists) (s : Swap) (recede rise start cents : ℕ) (whole : List Span) : Type 0 where
+  pub recede_chain : Linked a.spans a.links (link_at a.heads recede) (last_first (is_span_of s.recede) [] (spans_dealt s cents whole))
+  pub rise_chain : Linked a.spans a.links (link_at a.heads rise) (last_first (is_span_of s.rise) [] (spans_dealt s cents whole))
+  pub count_is : length a.spans + length whole ≡ start + length (spans_dealt s cents whole)
+
 -- how far it is from the first span of a chain to the last cent that a line may have
 abbrev pub gap : List Span → Option ℕ → ℕ
 gap spans None = 0
