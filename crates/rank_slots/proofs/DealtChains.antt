@@ -3,7 +3,7 @@ use Rattle.std.proofs.Common.{◌≡◌, ◌≢◌, ℕ, ◌+◌, ◌-◌, ◌<�
 use Rattle.std.specs.List.{AllByRecursion}
 use Rattle.std.proofs.lemmas.Bool.{eq-eqb, ne_eqb}
 use Rattle.std.proofs.lemmas.Bool.Decides.{nat_tests}
-use Rattle.std.proofs.lemmas.List.{get_or-set_other, get_or-set_same, length-append, length-set}
+use Rattle.std.proofs.lemmas.List.{get_or-set_other, get_or-set_same, get_or_default, length-append, length-set}
 use Rattle.std.proofs.Math.Seq.{get_or-append_seam}
 use Rattle.gb_base.specs.Limits.{most_sum}
 use Rattle.gb_base.specs.RightNo.{RightNo, same_right}
@@ -361,3 +361,36 @@ to_deal a s recede rise cents joined whole one other chain = record {
   count_is = refl;
   pass = λ test all. all;
 }
+
+-- ---- of what the calls of a step gave
+
+pub deals_step : (a b : SpanLists) (s : Swap) (recede rise number left new_left start cents : ℕ) (next link : Option ℕ) (whole : List Span) → same_right s.recede s.rise ≡ false → recede ≢ rise
+    → recede < length a.heads → rise < length a.heads → length a.links ≡ length a.spans → next ≡ Some number → link ≡ get_or a.links number link → new_left ≡ left - (span_at a.spans number).cents
+    → b ≡ span_dealt a s recede rise number left → IsDealing a s recede rise next left start cents whole → IsDealing b s recede rise link new_left start cents whole
+deals_step a b s recede rise number left new_left start cents next link whole differ two recede_within rise_within as_many some read leaves becomes d =
+    let here = subst (λ h. IsDealing a s recede rise h left start cents whole) some d in
+    let within = (next_span a s recede rise number left start cents whole here).within in
+    let linked : link ≡ link_at a.links number = read ∙ get_or_default a.links number link None (omega (arith, within, as_many)) in
+    subst (λ c. IsDealing c s recede rise link new_left start cents whole) (sym becomes)
+    (subst (λ h. IsDealing (span_dealt a s recede rise number left) s recede rise h new_left start cents whole) (sym linked)
+    (subst (λ n. IsDealing (span_dealt a s recede rise number left) s recede rise (link_at a.links number) n start cents whole) (sym leaves)
+    (deals_on a s recede rise number left start cents whole differ two recede_within rise_within as_many here)))
+
+pub leaves_step : (a b : SpanLists) (s : Swap) (recede rise number left start cents : ℕ) (next : Option ℕ) (whole : List Span) → length a.links ≡ length a.spans → next ≡ Some number
+    → b ≡ span_dealt a s recede rise number left → IsDealing a s recede rise next left start cents whole
+    → (test : Span → Bool) (head : Option ℕ) (xs : List Span) → AllByRecursion (λ x. test x ≡ true) whole → AllByRecursion (λ x. test x ≡ false) xs
+    → Linked a.spans a.links head xs → Linked b.spans b.links head xs
+leaves_step a b s recede rise number left start cents next whole as_many some becomes d test head xs own none chain =
+    let here = subst (λ h. IsDealing a s recede rise h left start cents whole) some d in
+    let passes = (next_span a s recede rise number left start cents whole here).passes test own in
+    subst (λ (c : SpanLists). Linked c.spans c.links head xs) (sym becomes) (dealt_leaves test a s recede rise number left as_many passes head xs none chain)
+
+pub nearer_step : (a b : SpanLists) (s : Swap) (recede rise number left start cents : ℕ) (next link : Option ℕ) (whole : List Span) → length a.links ≡ length a.spans → next ≡ Some number
+    → link ≡ get_or a.links number link → b ≡ span_dealt a s recede rise number left → IsDealing a s recede rise next left start cents whole → gap b.spans link < gap a.spans next
+nearer_step a b s recede rise number left start cents next link whole as_many some read becomes d =
+    let here = subst (λ h. IsDealing a s recede rise h left start cents whole) some d in
+    let within = (next_span a s recede rise number left start cents whole here).within in
+    let linked : link ≡ link_at a.links number = read ∙ get_or_default a.links number link None (omega (arith, within, as_many)) in
+    subst (λ h. gap b.spans link < gap a.spans h) (sym some)
+    (nearer a b s recede rise number left 0 start cents link whole here linked
+    (λ test passes xs none chain. subst (λ (c : SpanLists). Linked c.spans c.links link xs) (sym becomes) (dealt_leaves test a s recede rise number left as_many passes link xs none chain)))
