@@ -1,7 +1,7 @@
 -- A chain of spans is dealt to two places, span by span.
-use Rattle.std.proofs.Common.{◌≡◌, ◌≢◌, ℕ, ◌+◌, ◌-◌, ◌<◌, ◌≤◌, Bool, true, false, cond, eqb, nat_le, List, [], ◌∷◌, ◌++◌, get_or, length, set, Option, Some, None, refl, subst, sym, ap, arith, ◌∙◌}
+use Rattle.std.proofs.Common.{◌≡◌, ◌≢◌, ℕ, ◌+◌, ◌-◌, ◌<◌, ◌≤◌, Bool, true, false, cond, eqb, nat_le, List, [], ◌∷◌, ◌++◌, get_or, length, set, Option, Some, None, refl, subst, sym, ap, arith, inl, inr, ◌∙◌}
 use Rattle.std.specs.List.{AllByRecursion}
-use Rattle.std.proofs.lemmas.Bool.{eq-eqb, ne_eqb}
+use Rattle.std.proofs.lemmas.Bool.{cases_eq, eq-eqb, ne_eqb}
 use Rattle.std.proofs.lemmas.Bool.Decides.{nat_tests}
 use Rattle.std.proofs.lemmas.List.{get_or-set_other, get_or-set_same, get_or_default, length-append, length-set}
 use Rattle.std.proofs.Math.Seq.{get_or-append_seam}
@@ -394,3 +394,10 @@ nearer_step a b s recede rise number left start cents next link whole as_many so
     subst (λ h. gap b.spans link < gap a.spans h) (sym some)
     (nearer a b s recede rise number left 0 start cents link whole here linked
     (λ test passes xs none chain. subst (λ (c : SpanLists). Linked c.spans c.links link xs) (sym becomes) (dealt_leaves test a s recede rise number left as_many passes link xs none chain)))
+
+-- one span more at most: while cents are left to rise, none was split
+pub few_step : (left old new start : ℕ) → old ≤ start + 1 → (0 < left → old ≡ start) → new ≤ old + 1 → (left ≡ 0 → new ≡ old) → new ≤ start + 1
+few_step left old new start few unsplit more same = elim (cases_eq left 0) [
+  | inl none ↦ let kept = same none in omega (arith, kept, few)
+  | inr some ↦ let kept = unsplit (omega arith) in omega (arith, kept, more)
+]

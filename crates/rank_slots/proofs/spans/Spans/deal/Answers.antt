@@ -2,7 +2,7 @@
 use Rattle.std.proofs.Common.{◌≡◌, ◌<◌, ◌≤◌, ◌+◌, ap, arith, length, refl, subst, sym, ◌∙◌}
 use Rattle.rank_slots.specs.inner.SpanLists.{lists_of}
 use Rattle.rank_slots.specs.inner.Spans.{link_at}
-use Rattle.rank_slots.proofs.DealtChains.{deals_step, dealt_heads, leaves_step, nearer_step, to_deal}
+use Rattle.rank_slots.proofs.DealtChains.{deals_step, dealt_heads, few_step, leaves_step, nearer_step, to_deal}
 use Rattle.rank_slots.proofs.spans.Spans.deal.Goals as goal
 
 pub loop-next-init : goal.loop-next-init
@@ -41,8 +41,8 @@ loop-next-preserved c =
           leaves_step a b s c.args.recede c.args.rise c.in-Some.number c.loop-next.left _ _ c.loop-next.next whole before.as_many c.in-Some.is c.deal_span-left.ensures.lists (before.dealing whole deal) test head xs own none
           (before.thirds whole test head xs deal own none chain);
       heads = λ place one other. ap (λ d. link_at d.heads place) c.deal_span-left.ensures.lists ∙ dealt_heads a s c.args.recede c.args.rise c.in-Some.number c.loop-next.left place one other ∙ before.heads place one other;
-      few = omega (arith, before.few, before.unsplit, c.deal_span-left.ensures.few, c.deal_span-left.ensures.unsplit);
-      unsplit = λ more. omega (arith, before.unsplit, c.deal_span-left.ensures.left, c.deal_span-left.ensures.unsplit_yet more);
+      few = few_step c.loop-next.left _ _ _ before.few before.unsplit c.deal_span-left.ensures.few c.deal_span-left.ensures.unsplit;
+      unsplit = λ more. let left = c.deal_span-left.ensures.left in c.deal_span-left.ensures.unsplit_yet more ∙ before.unsplit (omega (arith, left, more));
       as_many = c.deal_span-left.ensures.as_many;
       as_many_heads = c.deal_span-left.ensures.as_many_heads ∙ before.as_many_heads;
       capacity = c.deal_span-left.ensures.capacity ∙ before.capacity;
