@@ -1,5 +1,6 @@
 -- Lemmas.
 pub mod Ahead
+pub mod CutLines
 pub mod DealtChains
 pub mod EmptySums
 pub mod ExchangedCents
@@ -21,6 +22,7 @@ pub mod LineSwaps
 pub mod Lines
 pub mod LonePay
 pub mod PlaceLines
+pub mod PlaceNumbers
 pub mod Precedence
 pub mod SharedCents
 pub mod SpanChains

@@ -5,6 +5,7 @@ use Rattle.gb_base.specs.Limits.{most_sum}
 use Rattle.gb_base.specs.RightNo.{RightNo, same_right}
 use Rattle.rank_slots.specs.CentLine.{cents_of, is_of_either}
 use Rattle.rank_slots.specs.Groups.{is_of}
+use Rattle.rank_slots.specs.Payments.{claim_of}
 use Rattle.rank_slots.specs.declared.places.Place.{Place}
 use Rattle.rank_slots.specs.declared.places.Swap.{Swap}
 use Rattle.rank_slots.specs.declared.spans.Span.{Span}
@@ -140,11 +141,13 @@ span_dealt a s recede rise number left =
 
 -- ---- lists of spans that stand for a line
 
--- The lists have just these spans, which stand in a row, and for each place a chain of those of its right, the last one first.
-pub record AreCut (spans : List Span) (links heads : List (Option ℕ)) (places : List Place) (row : List Span) : Type 0 where
+-- The lists have just these spans, which stand in a row, and for each place a chain of those of its right, the last one first. Each
+-- right has as many cents as it claims.
+pub record AreCut (a : SpanLists) (places : List Place) (row : List Span) : Type 0 where
   pub in_row : StandInRow 0 row
-  pub as_many : length spans ≡ length row
-  pub as_many_links : length links ≡ length spans
-  pub as_many_heads : length heads ≡ length places
-  pub chains : (n : ℕ) (p : Place) → n < length places → p ≡ slice_index_or places n p → Linked spans links (link_at heads n) (last_first (is_span_of p.right) [] row)
+  pub as_many : length a.spans ≡ length row
+  pub as_many_links : length a.links ≡ length a.spans
+  pub as_many_heads : length a.heads ≡ length places
+  pub chains : (n : ℕ) (p : Place) → n < length places → p ≡ slice_index_or places n p → Linked a.spans a.links (link_at a.heads n) (last_first (is_span_of p.right) [] row)
   pub owned : AllByRecursion (λ x. list_any (is_of x.right) places ≡ true) row
+  pub claims : (right : RightNo) → cents_of right (line_of_spans row) ≡ claim_of places right
