@@ -1,11 +1,18 @@
 //! How a line is made: its claims are written, exchanged and taken out, piece by piece.
 //! Why so: docs/DECISIONS.md, "Exchanges walk the pieces of the whole line".
-ghost use Rattle.std.specs.Prelude.{◌≡◌, ◌+◌, ◌<◌, ◌≤◌, filter, length, min, not, sum_by, vec_capacity, vec_len};
+ghost use Rattle.std.specs.Prelude.{◌≡◌, ◌+◌, ◌<◌, ◌≤◌, All, List, false, filter, length, min, not, sum_by, vec_capacity, vec_len};
 ghost use Rattle.rank_slots.specs.CentLine.{cents_of, exchange, exchange_all, is_dropped, written};
+ghost use Rattle.gb_base.specs.RightNo.{same_right};
+ghost use Rattle.rank_slots.specs.CanFill.{ArePlaces, CanSwap};
+ghost use Rattle.rank_slots.specs.declared.spans.Span.{Span};
+ghost use Rattle.rank_slots.specs.inner.SpanLists.{lists_of};
+ghost use Rattle.rank_slots.specs.inner.Spans.{AreCut, claimed_spans, exchange_all_spans, exchange_spans};
 ghost use Rattle.gb_base.specs.Limits.{most_sum};
 ghost use Rattle.rank_slots.specs.inner.Pieces.{AreJoined, line_of};
 
+use crate::groups::places_ahead;
 use crate::pieces::add_cents;
+use crate::spans::Spans;
 use crate::{Piece, Place, Swap};
 use gb_base::RightId;
 use std::mem;
@@ -111,4 +118,64 @@ fn is_dropped(places: &[Place], right: RightId) -> bool
     places
         .iter()
         .any(|place| place.right == right && place.dropped)
+}
+
+impl Spans {
+    /// Makes these exchanges, one after the other. There is room for one span more of each.
+    pub fn exchange_all(&mut self, places: &[Place], swaps: &[Swap])
+        requires places { ArePlaces places.now }
+        requires swaps { All (CanSwap places.now) swaps.now }
+        requires cut { AreCut (lists_of self.old) places.now (claimed_spans 0 places.now) }
+        requires room { length places.now + length swaps.now ≤ vec_capacity self.old.spans }
+        requires link_room { length places.now + length swaps.now ≤ vec_capacity self.old.links }
+        ensures cut { AreCut (lists_of self.new) places.now (exchange_all_spans (claimed_spans 0 places.now) swaps.now) }
+        ensures capacity { vec_capacity self.new.spans ≡ vec_capacity self.old.spans }
+        ensures link_capacity { vec_capacity self.new.links ≡ vec_capacity self.old.links }
+        ensures head_capacity { vec_capacity self.new.heads ≡ vec_capacity self.old.heads }
+    {
+        for swap in swaps {
+            self.exchange(places, swap);
+        }
+    }
+
+    /// Makes an exchange; that of a right with itself changes nothing.
+    fn exchange(&mut self, places: &[Place], swap: &Swap)
+        requires places { ArePlaces places.now }
+        requires swap { CanSwap places.now swap.now }
+        requires cut { (row : List Span) × AreCut (lists_of self.old) places.now row }
+        requires room { length self.old.spans.items < vec_capacity self.old.spans }
+        requires link_room { length self.old.spans.items < vec_capacity self.old.links }
+        ensures cut { (row : List Span) → AreCut (lists_of self.old) places.now row → AreCut (lists_of self.new) places.now (exchange_spans row swap.now) }
+        ensures few { length self.new.spans.items ≤ length self.old.spans.items + 1 }
+        ensures capacity { vec_capacity self.new.spans ≡ vec_capacity self.old.spans }
+        ensures link_capacity { vec_capacity self.new.links ≡ vec_capacity self.old.links }
+        ensures head_capacity { vec_capacity self.new.heads ≡ vec_capacity self.old.heads }
+    {
+        if swap.recede != swap.rise {
+            self.exchange_two(places, swap);
+        }
+    }
+
+    /// Makes an exchange of two rights that differ.
+    fn exchange_two(&mut self, places: &[Place], swap: &Swap)
+        requires places { ArePlaces places.now }
+        requires swap { CanSwap places.now swap.now }
+        requires two { same_right swap.now.recede swap.now.rise ≡ false }
+        requires cut { (row : List Span) × AreCut (lists_of self.old) places.now row }
+        requires room { length self.old.spans.items < vec_capacity self.old.spans }
+        requires link_room { length self.old.spans.items < vec_capacity self.old.links }
+        ensures cut { (row : List Span) → AreCut (lists_of self.old) places.now row → AreCut (lists_of self.new) places.now (exchange_spans row swap.now) }
+        ensures few { length self.new.spans.items ≤ length self.old.spans.items + 1 }
+        ensures capacity { vec_capacity self.new.spans ≡ vec_capacity self.old.spans }
+        ensures link_capacity { vec_capacity self.new.links ≡ vec_capacity self.old.links }
+        ensures head_capacity { vec_capacity self.new.heads ≡ vec_capacity self.old.heads }
+    {
+        let recede = places_ahead(places, swap.recede);
+        let rise = places_ahead(places, swap.rise);
+        let joined = self.join(recede, rise);
+        self.heads[recede] = None;
+        self.heads[rise] = None;
+        let cents = places[rise].claim;
+        self.deal(joined, swap, recede, rise, cents);
+    }
 }
