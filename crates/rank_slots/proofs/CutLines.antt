@@ -2,7 +2,7 @@
 use Rattle.std.proofs.Common.{◌≡◌, ◌≢◌, ℕ, ◌+◌, ◌-◌, ◌<◌, ◌≤◌, Bool, true, false, cond, ◌||◌, List, [], ◌∷◌, ◌++◌, filter, get_or, length, set, Option, Some, None, inl, inr, refl, subst, sym, ap, arith, ◌∙◌}
 use Rattle.std.specs.List.{AllByRecursion, list_any, position_or_len}
 use Rattle.std.proofs.lemmas.Bool.{both_ways, cases_eq, false_from_ne_true, false≢true, or_left, or_parts, or_right, true_from_ne_false}
-use Rattle.std.proofs.lemmas.List.{append-nil, get_or_default}
+use Rattle.std.proofs.lemmas.List.{append-nil, get_or-set_other, get_or_default, length-set}
 use Rattle.std.proofs.lemmas.List.Sums.{passes_at_first}
 use Rattle.gb_base.specs.Limits.{most_sum}
 use Rattle.gb_base.specs.RightNo.{RightNo, same_right}
@@ -156,3 +156,33 @@ cut_behind a d places row s cents differ cut one other two claim done =
     let here : cents ≡ cents_of s.rise (line_of_spans row) = claim ∙ sym (cut.claims s.rise) in
     subst (λ b. AreCut d places (cond b row (spans_exchanged s (cents_of s.rise (line_of_spans row)) row))) (sym two)
     (cut_anew a d places row s differ cut one other (subst (λ n. IsExchanged a d places s row n) here done))
+
+-- ---- of what the calls of an exchange gave
+
+pub join_at : (a : SpanLists) (places : List Place) (row : List Span) (s : Swap) (one other : ℕ) → one ≡ position_or_len (is_of s.recede) places → other ≡ position_or_len (is_of s.rise) places → AreCut a places row
+    → list_any (is_of s.recede) places ≡ true → list_any (is_of s.rise) places ≡ true → same_right s.recede s.rise ≡ false
+    → AreToJoin a.spans a.links (link_at a.heads one) (link_at a.heads other) None (filter (is_span_of_either s) row)
+join_at a places row s one other first second cut here there two =
+    subst (λ n. AreToJoin a.spans a.links (link_at a.heads n) (link_at a.heads other) None (filter (is_span_of_either s) row)) (sym first)
+    (subst (λ n. AreToJoin a.spans a.links (link_at a.heads (position_or_len (is_of s.recede) places)) (link_at a.heads n) None (filter (is_span_of_either s) row)) (sym second) (to_join a places row s cut here there two))
+
+pub is_exchanged : (a b d : SpanLists) (places : List Place) (row : List Span) (s : Swap) (one other cents : ℕ) → one ≡ position_or_len (is_of s.recede) places → other ≡ position_or_len (is_of s.rise) places
+    → b.spans ≡ a.spans → b.heads ≡ a.heads → IsDealt d s one other (length b.spans) cents (filter (is_span_of_either s) row)
+    → ((head : Option ℕ) (xs : List Span) → AllByRecursion (λ x. is_span_of_either s x ≡ false) xs → Linked a.spans a.links head xs → Linked b.spans b.links head xs)
+    → ((head : Option ℕ) (xs : List Span) → AllByRecursion (λ x. is_span_of_either s x ≡ false) xs → Linked b.spans b.links head xs → Linked d.spans d.links head xs)
+    → ((n : ℕ) → n ≢ one → n ≢ other → link_at d.heads n ≡ link_at (set (set b.heads one None) other None) n)
+    → length d.links ≡ length d.spans → length d.heads ≡ length (set (set b.heads one None) other None)
+    → IsExchanged a d places s row cents
+is_exchanged a b d places row s one other cents first second spans heads dealt joins deals third_heads as_many as_many_heads = record {
+  dealt =
+      subst (λ n. IsDealt d s n (position_or_len (is_of s.rise) places) (length a.spans) cents (filter (is_span_of_either s) row)) first
+      (subst (λ n. IsDealt d s one n (length a.spans) cents (filter (is_span_of_either s) row)) second
+      (subst (λ (xs : List Span). IsDealt d s one other (length xs) cents (filter (is_span_of_either s) row)) spans dealt));
+  thirds = λ head xs none chain. deals head xs none (joins head xs none chain);
+  third_heads = λ n not_one not_other.
+      let away : n ≢ one = λ same. not_one (same ∙ first) in
+      let apart : n ≢ other = λ same. not_other (same ∙ second) in
+      third_heads n away apart ∙ get_or-set_other (set b.heads one None) other n None None apart ∙ get_or-set_other b.heads one n None None away ∙ ap (λ hs. link_at hs n) heads;
+  as_many_links = as_many;
+  as_many_heads = as_many_heads ∙ length-set (set b.heads one None) other None ∙ length-set b.heads one None ∙ ap length heads;
+}

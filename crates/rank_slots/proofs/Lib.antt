@@ -1,5 +1,6 @@
 -- Lemmas.
 pub mod Ahead
+pub mod ClaimedSpans
 pub mod CutLines
 pub mod DealtChains
 pub mod EmptySums

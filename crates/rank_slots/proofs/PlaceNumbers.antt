@@ -4,6 +4,8 @@ use Rattle.std.specs.List.{list_any, position_or_len}
 use Rattle.std.specs.Option.{option_map_or}
 use Rattle.std.proofs.lemmas.Bool.{false≢true, or_left, or_right}
 use Rattle.gb_base.specs.RightNo.{RightNo, same_right}
+use Rattle.std.proofs.lemmas.List.Sums.{passes_at_first}
+use Rattle.gb_base.proofs.SameRights.{right_from, right_is}
 use Rattle.rank_slots.specs.Groups.{is_of}
 use Rattle.rank_slots.specs.Payments.{claim_of}
 use Rattle.rank_slots.specs.declared.places.Place.{Place}
@@ -46,3 +48,16 @@ claim_at (x ∷ xs) r d there =
           let next : suc (position_or_len (is_of r) xs) ≡ 1 + position_or_len (is_of r) xs = omega arith in
           claim_at xs r d more ∙ ap (λ n. (get_or (x ∷ xs) n d).claim) next
     ] there
+
+-- two rights that differ have two places
+pub numbers_differ : (places : List Place) (a b : RightNo) → list_any (is_of a) places ≡ true → list_any (is_of b) places ≡ true → same_right a b ≡ false → position_or_len (is_of a) places ≡ position_or_len (is_of b) places → ⊥
+numbers_differ [] a b first second differ same = false≢true first
+numbers_differ (p ∷ ps) a b first second differ same =
+    let places = p ∷ ps in
+    let one = passes_at_first (is_of a) places p (first_within (is_of a) places first) in
+    let other = subst (λ n. is_of b (get_or places n p) ≡ true) (sym same) (passes_at_first (is_of b) places p (first_within (is_of b) places second)) in
+    let it = get_or places (position_or_len (is_of a) places) p in
+    false≢true (sym differ ∙ right_from a b (sym (right_is it.right a one) ∙ right_is it.right b other))
+
+pub claim_read : (places : List Place) (r : RightNo) (n : ℕ) (p : Place) → list_any (is_of r) places ≡ true → n ≡ position_or_len (is_of r) places → p ≡ get_or places n p → p.claim ≡ claim_of places r
+claim_read places r n p there at is = ap (λ (q : Place). q.claim) is ∙ ap (λ k. (get_or places k p).claim) at ∙ sym (claim_at places r p there)

@@ -2,8 +2,10 @@
 //! Why so: docs/DECISIONS.md, "Exchanges walk the pieces of the whole line".
 ghost use Rattle.std.specs.Prelude.{◌≡◌, ◌+◌, ◌<◌, ◌≤◌, All, List, false, filter, length, min, not, sum_by, vec_capacity, vec_len};
 ghost use Rattle.rank_slots.specs.CentLine.{cents_of, exchange, exchange_all, is_dropped, written};
+ghost use Rattle.std.specs.List.{position_or_len};
+ghost use Rattle.rank_slots.specs.Groups.{is_of};
 ghost use Rattle.gb_base.specs.RightNo.{same_right};
-ghost use Rattle.rank_slots.specs.CanFill.{ArePlaces, CanSwap};
+ghost use Rattle.rank_slots.specs.CanFill.{ArePlaces, CanSwap, StandsAlone};
 ghost use Rattle.rank_slots.specs.declared.spans.Span.{Span};
 ghost use Rattle.rank_slots.specs.inner.SpanLists.{lists_of};
 ghost use Rattle.rank_slots.specs.inner.Spans.{AreCut, claimed_spans, exchange_all_spans, exchange_spans};
@@ -143,6 +145,8 @@ impl Spans {
         requires places { ArePlaces places.now }
         requires swap { CanSwap places.now swap.now }
         requires cut { (row : List Span) × AreCut (lists_of self.old) places.now row }
+        requires as_many { length self.old.links.items ≡ length self.old.spans.items }
+        requires as_many_heads { length self.old.heads.items ≡ length places.now }
         requires room { length self.old.spans.items < vec_capacity self.old.spans }
         requires link_room { length self.old.spans.items < vec_capacity self.old.links }
         ensures cut { (row : List Span) → AreCut (lists_of self.old) places.now row → AreCut (lists_of self.new) places.now (exchange_spans row swap.now) }
@@ -162,6 +166,8 @@ impl Spans {
         requires swap { CanSwap places.now swap.now }
         requires two { same_right swap.now.recede swap.now.rise ≡ false }
         requires cut { (row : List Span) × AreCut (lists_of self.old) places.now row }
+        requires as_many { length self.old.links.items ≡ length self.old.spans.items }
+        requires as_many_heads { length self.old.heads.items ≡ length places.now }
         requires room { length self.old.spans.items < vec_capacity self.old.spans }
         requires link_room { length self.old.spans.items < vec_capacity self.old.links }
         ensures cut { (row : List Span) → AreCut (lists_of self.old) places.now row → AreCut (lists_of self.new) places.now (exchange_spans row swap.now) }
@@ -170,12 +176,21 @@ impl Spans {
         ensures link_capacity { vec_capacity self.new.links ≡ vec_capacity self.old.links }
         ensures head_capacity { vec_capacity self.new.heads ≡ vec_capacity self.old.heads }
     {
-        let recede = places_ahead(places, swap.recede);
-        let rise = places_ahead(places, swap.rise);
+        let recede = number_of(places, swap.recede);
+        let rise = number_of(places, swap.rise);
         let joined = self.join(recede, rise);
         self.heads[recede] = None;
         self.heads[rise] = None;
         let cents = places[rise].claim;
         self.deal(joined, swap, recede, rise, cents);
     }
+}
+
+/// The number of the right's place.
+fn number_of(places: &[Place], right: RightId) -> usize
+    requires { StandsAlone places.now right }
+    ensures value { result ≡ position_or_len (is_of right) places.now }
+    ensures within { result < length places.now }
+{
+    places_ahead(places, right)
 }
