@@ -59,5 +59,5 @@ numbers_differ (p ∷ ps) a b first second differ same =
     let it = get_or places (position_or_len (is_of a) places) p in
     false≢true (sym differ ∙ right_from a b (sym (right_is it.right a one) ∙ right_is it.right b other))
 
-pub claim_read : (places : List Place) (r : RightNo) (n : ℕ) (p : Place) → list_any (is_of r) places ≡ true → n ≡ position_or_len (is_of r) places → p ≡ get_or places n p → p.claim ≡ claim_of places r
-claim_read places r n p there at is = ap (λ (q : Place). q.claim) is ∙ ap (λ k. (get_or places k p).claim) at ∙ sym (claim_at places r p there)
+pub claim_read : (places : List Place) (r : RightNo) (n : ℕ) (d : Place) → list_any (is_of r) places ≡ true → n ≡ position_or_len (is_of r) places → (get_or places n d).claim ≡ claim_of places r
+claim_read places r n d there at = ap (λ k. (get_or places k d).claim) at ∙ sym (claim_at places r d there)

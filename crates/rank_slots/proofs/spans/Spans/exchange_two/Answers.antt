@@ -1,5 +1,5 @@
 -- The spans of both rights are joined and dealt.
-use Rattle.std.proofs.Common.{◌≡◌, ap, arith, filter, sym, ◌∙◌}
+use Rattle.std.proofs.Common.{◌≡◌, ap, arith, filter, get_or, sym, ◌∙◌}
 use Rattle.rank_slots.specs.Groups.{is_of}
 use Rattle.rank_slots.specs.inner.SpanLists.{lists_of}
 use Rattle.rank_slots.specs.inner.Spans.{SpanLists, is_span_of_either}
@@ -45,9 +45,10 @@ returns-clause-cut c = λ row cut.
     let there = alone_listed places s.rise c.requires.swap.1 in
     let join = join_at a places row s c.number_of-recede.result c.number_of-rise.result c.number_of-recede.ensures.value c.number_of-rise.ensures.value cut here there c.requires.two in
     let deal = to_deal_row a _ places row s _ cut (c.join-joined.ensures.joined whole join) in
-    let claim = claim_read places s.rise c.number_of-rise.result c.index-places-rise.result there c.number_of-rise.ensures.value c.index-places-rise.is in
-    cut_behind a d places row s c.index-places-rise.result.claim c.requires.places.distinct cut here there c.requires.two claim
-    (is_exchanged a b d places row s c.number_of-recede.result c.number_of-rise.result c.index-places-rise.result.claim c.number_of-recede.ensures.value c.number_of-rise.ensures.value
+    let cents = (get_or places c.number_of-rise.result c.index-places-rise.result).claim in
+    let claim = claim_read places s.rise c.number_of-rise.result c.index-places-rise.result there c.number_of-rise.ensures.value in
+    cut_behind a d places row s cents c.requires.places.distinct cut here there c.requires.two claim
+    (is_exchanged a b d places row s c.number_of-recede.result c.number_of-rise.result cents c.number_of-recede.ensures.value c.number_of-rise.ensures.value
     (ap (λ v. v.items) c.join-joined.ensures.spans) (ap (λ v. v.items) c.join-joined.ensures.heads) (c.deal.ensures.dealt whole deal)
     (λ head xs none chain. c.join-joined.ensures.thirds whole (is_span_of_either s) head xs join (all_pass (is_span_of_either s) row) none chain)
     (λ head xs none chain. c.deal.ensures.thirds whole (is_span_of_either s) head xs deal (all_pass (is_span_of_either s) row) none chain)
