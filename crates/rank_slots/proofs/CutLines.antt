@@ -26,7 +26,7 @@ use Rattle.rank_slots.proofs.SpanRows.{exchanged_all, exchanged_count, exchanged
 -- ---- the place of a right
 
 -- the chain of a right with a place
-own_chain : (a : SpanLists) (places : List Place) (row : List Span) (right : RightNo) → AreCut a places row → list_any (is_of right) places ≡ true
+pub own_chain : (a : SpanLists) (places : List Place) (row : List Span) (right : RightNo) → AreCut a places row → list_any (is_of right) places ≡ true
     → Linked a.spans a.links (link_at a.heads (position_or_len (is_of right) places)) (last_first (is_span_of right) [] row)
 own_chain a [] row right cut there = absurd (false≢true there)
 own_chain a (p ∷ ps) row right cut there =

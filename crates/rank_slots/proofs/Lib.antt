@@ -26,7 +26,9 @@ pub mod PlaceLines
 pub mod PlaceNumbers
 pub mod Precedence
 pub mod SharedCents
+pub mod SortedSpans
 pub mod SpanChains
+pub mod SpanLines
 pub mod SpanRows
 pub mod TakenOut
 pub mod ThirdRights
