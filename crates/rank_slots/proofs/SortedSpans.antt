@@ -1,7 +1,9 @@
 -- The spans of a line, sorted by where they begin, stand in a row.
-use Rattle.std.proofs.Common.{◌≡◌, ℕ, zero, suc, ◌+◌, ◌<◌, ◌≤◌, Bool, true, false, cond, nat_lt, All, List, [], ◌∷◌, get_or, length, Option, Some, None, inl, inr, refl, sym, ap, subst, ◌∙◌, ⊎_elim, arith, suc-le-suc, zero-le}
+use Rattle.std.proofs.Common.{◌≡◌, ℕ, zero, suc, ◌+◌, ◌<◌, ◌≤◌, Bool, true, false, cond, eqb, nat_lt, All, List, [], ◌∷◌, get_or, length, Option, Some, None, inl, inr, refl, sym, ap, subst, ◌∙◌, ⊎_elim, arith, suc-le-suc, zero-le}
 use Rattle.std.specs.List.{AllByRecursion, list_any}
 use Rattle.std.specs.List.Sorted.{IsPermutation, IsSortedBy}
+use Rattle.std.specs.Ordering.{is_lt, nat_cmp}
+use Rattle.std.specs.declared.cmp.Ordering.TheVariants.{Less, Equal, Greater}
 use Rattle.std.proofs.lemmas.Bool.Decides.{nat_tests}
 use Rattle.std.proofs.lemmas.List.Elements.{All-from_recursion, recursion_from_All}
 use Rattle.std.proofs.lemmas.List.Sorted.{All-permutation, IsPermutation-sym, length_permutation}
@@ -134,3 +136,14 @@ sorted_row a places row sorted cut permutation up =
     row_is sorted row (sorted_rises sorted up) (row_ascends 0 row cut.in_row)
     (each_weaker (λ x. In x a.spans) (λ x. In x sorted) (λ x there. in_permutation sorted a.spans x (IsPermutation-sym a.spans sorted permutation) there) row (row_in a places row cut))
     (length_permutation a.spans sorted permutation ∙ cut.as_many)
+
+-- the order of the sort's key
+pub key_before : (x y : Span) → is_lt (nat_cmp x.from y.from) ≡ nat_lt x.from y.from
+key_before x y = by x.from y.from
+  where
+    by : (m n : ℕ) → is_lt (nat_cmp m n) ≡ nat_lt m n
+    by m n =
+        elim (nat_lt m n) as (λ b. is_lt (cond b Less (cond (eqb m n) Equal Greater)) ≡ b) [
+          | true ↦ refl
+          | false ↦ elim (eqb m n) as (λ b. is_lt (cond b Equal Greater) ≡ false) [ true ↦ refl | false ↦ refl ]
+        ]

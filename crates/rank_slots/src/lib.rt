@@ -3,6 +3,7 @@
 #![tactic(auto)]
 
 mod chains;
+mod cutting;
 mod exchanging;
 mod groups;
 pub mod laws;

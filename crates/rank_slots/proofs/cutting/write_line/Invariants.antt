@@ -3,7 +3,7 @@ use Rattle.std.proofs.Common.{◌≡◌, ◌≤◌, filter, not, sum_by, take, v
 use Rattle.rank_slots.specs.CentLine.{is_dropped}
 use Rattle.rank_slots.specs.inner.Pieces.{AreJoined, line_of}
 use Rattle.rank_slots.specs.inner.Spans.{line_of_spans}
-use Rattle.rank_slots.proofs.exchanging.write_line.Given as goal
+use Rattle.rank_slots.proofs.cutting.write_line.Given as goal
 
 abbrev pub invariant-loop-span : goal.invariant-loop-span
 invariant-loop-span l = record {
