@@ -45,6 +45,7 @@ impl Spans {
     /// Puts the spans in their order on the line; the chains are not to be read any more.
     pub fn sort(&mut self)
         ensures row { (places : List Place) (row : List Span) → AreCut (lists_of self.old) places row → self.new.spans.items ≡ row }
+        ensures len { length self.new.spans.items ≡ length self.old.spans.items }
         ensures capacity { vec_capacity self.new.spans ≡ vec_capacity self.old.spans }
         ensures link_capacity { vec_capacity self.new.links ≡ vec_capacity self.old.links }
         ensures head_capacity { vec_capacity self.new.heads ≡ vec_capacity self.old.heads }

@@ -23,6 +23,7 @@ impl Spans {
         requires room { length places.now + length swaps.now ≤ vec_capacity self.old.spans }
         requires link_room { length places.now + length swaps.now ≤ vec_capacity self.old.links }
         ensures cut { AreCut (lists_of self.new) places.now (exchange_all_spans (claimed_spans 0 places.now) swaps.now) }
+        ensures few { length self.new.spans.items ≤ length places.now + length swaps.now }
         ensures capacity { vec_capacity self.new.spans ≡ vec_capacity self.old.spans }
         ensures link_capacity { vec_capacity self.new.links ≡ vec_capacity self.old.links }
         ensures head_capacity { vec_capacity self.new.heads ≡ vec_capacity self.old.heads }
