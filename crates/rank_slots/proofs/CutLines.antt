@@ -1,12 +1,12 @@
 -- An exchange of two rights of a line that is cut into spans.
-use Rattle.std.proofs.Common.{◌≡◌, ◌≢◌, ℕ, ◌+◌, ◌-◌, ◌<◌, ◌≤◌, Bool, true, false, cond, ◌||◌, List, [], ◌∷◌, ◌++◌, filter, get_or, length, set, Option, Some, None, inl, inr, refl, subst, sym, ap, arith, ◌∙◌}
+use Rattle.std.proofs.Common.{◌≡◌, ◌≢◌, ℕ, ◌+◌, ◌<◌, true, false, cond, ◌||◌, List, [], ◌∷◌, filter, get_or, length, set, Option, None, refl, subst, sym, ap, arith, ◌∙◌}
 use Rattle.std.specs.List.{AllByRecursion, list_any, position_or_len}
-use Rattle.std.proofs.lemmas.Bool.{both_ways, cases_eq, false_from_ne_true, false≢true, or_left, or_parts, or_right, true_from_ne_false}
+use Rattle.std.proofs.lemmas.Bool.{both_ways, false_from_ne_true, false≢true, or_parts}
 use Rattle.std.proofs.lemmas.List.{append-nil, get_or-set_other, get_or_default, length-set}
 use Rattle.std.proofs.lemmas.List.Sums.{passes_at_first}
 use Rattle.gb_base.specs.Limits.{most_sum}
 use Rattle.gb_base.specs.RightNo.{RightNo, same_right}
-use Rattle.gb_base.proofs.SameRights.{others_turned, right_from, right_is, right_turned}
+use Rattle.gb_base.proofs.SameRights.{others_turned, right_from, right_is}
 use Rattle.rank_slots.specs.CentLine.{cents_of, exchange, is_of_either}
 use Rattle.rank_slots.specs.Groups.{is_of}
 use Rattle.rank_slots.specs.Payments.{claim_of}
@@ -14,13 +14,13 @@ use Rattle.rank_slots.specs.declared.places.Place.{Place}
 use Rattle.rank_slots.specs.declared.places.Swap.{Swap}
 use Rattle.rank_slots.specs.declared.spans.Span.{Span}
 use Rattle.rank_slots.specs.inner.SpanDeals.{IsDealt, IsToDeal}
-use Rattle.rank_slots.specs.inner.SpanJoins.{AreToJoin, Ascend}
+use Rattle.rank_slots.specs.inner.SpanJoins.{AreToJoin}
 use Rattle.rank_slots.specs.inner.Spans.{AreCut, Linked, SpanLists, StandInRow, exchange_spans, is_span_of, is_span_of_either, last_first, line_of_spans, link_at, spans_dealt, spans_exchanged}
-use Rattle.rank_slots.proofs.LineCents.{apart_rights, exchange_kept}
+use Rattle.rank_slots.proofs.LineCents.{exchange_kept}
 use Rattle.rank_slots.proofs.LineCounts.{counted_is}
 use Rattle.rank_slots.proofs.PlaceLines.{AreDifferent}
-use Rattle.rank_slots.proofs.PlaceNumbers.{claim_at, first_within, number_is}
-use Rattle.rank_slots.proofs.SpanChains.{all_kept, all_pass, kept_ascend, merge_from, row_ascends, turned_back}
+use Rattle.rank_slots.proofs.PlaceNumbers.{first_within, number_is}
+use Rattle.rank_slots.proofs.SpanChains.{all_kept, kept_ascend, merge_from, row_ascends, turned_back}
 use Rattle.rank_slots.proofs.SpanRows.{exchanged_all, exchanged_count, exchanged_line, exchanged_row, own_spans, third_spans}
 
 -- ---- the place of a right
@@ -116,8 +116,10 @@ cut_anew a d places row s differ cut one other done = record {
   where
     cents : ℕ
     cents = cents_of s.rise (line_of_spans row)
+
     inside : (right : RightNo) → ((x : RightNo) → is_of_either s x ≡ false → same_right right x ≡ false) → (x : Span) → is_span_of_either s x ≡ false → is_span_of right x ≡ false
     inside right apart x = apart x.right
+
     chain : (n : ℕ) (p : Place) → n < length places → p ≡ get_or places n p → Linked d.spans d.links (link_at d.heads n) (last_first (is_span_of p.right) [] (spans_exchanged s cents row))
     chain n p within here =
         elim (same_right p.right s.recede) as (λ b. same_right p.right s.recede ≡ b → Linked d.spans d.links (link_at d.heads n) (last_first (is_span_of p.right) [] (spans_exchanged s cents row))) [

@@ -6,7 +6,7 @@ use Rattle.std.proofs.lemmas.Bool.Decides.{nat_tests}
 use Rattle.std.proofs.lemmas.List.{get_or-set_other, get_or-set_same, get_or_default, length-append, length-set}
 use Rattle.std.proofs.Math.Seq.{get_or-append_seam}
 use Rattle.gb_base.specs.Limits.{most_sum}
-use Rattle.gb_base.specs.RightNo.{RightNo, same_right}
+use Rattle.gb_base.specs.RightNo.{same_right}
 use Rattle.gb_base.proofs.SameRights.{others_turned, right_self}
 use Rattle.rank_slots.specs.declared.places.Swap.{Swap}
 use Rattle.rank_slots.specs.declared.spans.Span.{Span}
@@ -231,8 +231,10 @@ deals_first a s recede rise number left start cents whole x xs receded risen can
   where
     dealt : List Span
     dealt = spans_dealt s (left - x.cents) xs
+
     to_recede : List Span
     to_recede = last_first (is_span_of s.recede) [] (spans_dealt s cents whole)
+
     to_rise : List Span
     to_rise = last_first (is_span_of s.rise) [] (spans_dealt s cents whole)
 
@@ -294,6 +296,7 @@ dealt_leaves test a s recede rise number left as_many passes head xs none chain 
   where
     never : Span → Bool
     never y = false
+
     at_number : (y : Span) (link : Option ℕ) → Linked (set a.spans number y) (set a.links number link) head xs
     at_number y link = carried test a.spans a.links (set a.spans number y) (set a.links number link) (write_leaves test a.spans a.links number y link passes) head xs none chain
 
@@ -318,6 +321,7 @@ nearer a b s recede rise number left further_left start cents next whole d read 
     further_on x None xs most is behind all chain = omega (arith, ap (λ (y : Span). y.from) is, most)
     further_on x (Some n) [] most is behind all chain = absurd chain
     further_on x (Some n) (y ∷ ys) most is behind all chain = omega (arith, ap (λ (z : Span). z.from) is, most, behind.0.0, all.0, ap (λ (z : Span). z.from) chain.1.0)
+
     by : (rest : List Span) → Linked a.spans a.links (Some number) rest → Ascend rest → AllByRecursion (λ y. y.from + y.cents < most_sum) rest → gap b.spans next < gap a.spans (Some number)
     by [] chain up all = absurd chain
     by (x ∷ xs) chain up all =

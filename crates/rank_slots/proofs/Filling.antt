@@ -4,7 +4,7 @@ use Rattle.std.specs.List.{IsDistinct}
 use Rattle.std.proofs.lemmas.List.Elements.{All-nil}
 use Rattle.gb_base.specs.RightNo.{RightNo}
 use Rattle.rank_slots.specs.CanFill.{CanFill, CanKnot, CanSwap, StandsAlone}
-use Rattle.rank_slots.specs.CentLine.{cent_line, exchange_all, is_dropped, written}
+use Rattle.rank_slots.specs.CentLine.{cent_line, exchange_all, is_dropped}
 use Rattle.rank_slots.specs.Filled.{empty, line}
 use Rattle.rank_slots.specs.declared.places.Place.{Place}
 use Rattle.rank_slots.specs.declared.places.Swap.{Swap}

@@ -1,5 +1,5 @@
 -- Two chains of spans become one, span by span.
-use Rattle.std.proofs.Common.{◌≡◌, ◌⊎◌, ℕ, ◌+◌, ◌<◌, ◌≤◌, Bool, true, false, cond, eqb, nat_lt, List, [], ◌∷◌, get_or, length, set, Option, Some, None, refl, subst, sym, ap, arith, inl, inr, ⊎_elim, ◌∙◌}
+use Rattle.std.proofs.Common.{◌≡◌, ℕ, ◌+◌, ◌<◌, Bool, true, false, cond, eqb, List, [], ◌∷◌, get_or, length, set, Option, Some, None, refl, subst, sym, ap, arith, ⊎_elim, ◌∙◌}
 use Rattle.std.specs.List.{AllByRecursion}
 use Rattle.std.proofs.lemmas.Bool.{eq-eqb, ne_eqb, lt-ltb, le-ltb}
 use Rattle.std.proofs.lemmas.List.{get_or-set_same, get_or_default}
@@ -54,9 +54,11 @@ next spans links n other joined whole x xs ys seconds made as_many chain others 
         second_chain = carried (same_from x) spans links spans new leaves other seconds (each_weaker (λ r. Before r x) (λ r. same_from x r ≡ false) is_ahead seconds apart.1) others;
         made_chain = (
           chain.0,
-          (chain.1.0,
-          subst (λ head. Linked spans new head made) (sym back)
-          (carried (same_from x) spans links spans new leaves joined made (each_weaker (λ r. Before x r) (λ r. same_from x r ≡ false) is_behind made behind) makes)),
+          (
+            chain.1.0,
+            subst (λ head. Linked spans new head made) (sym back)
+                (carried (same_from x) spans links spans new leaves joined made (each_weaker (λ r. Before x r) (λ r. same_from x r ≡ false) is_behind made behind) makes),
+          ),
         );
         merge = merge;
         is_whole = is;

@@ -1,5 +1,5 @@
 -- The spans of a line, sorted by where they begin, stand in a row.
-use Rattle.std.proofs.Common.{◌≡◌, ℕ, zero, suc, ◌+◌, ◌<◌, ◌≤◌, Bool, true, false, cond, eqb, nat_lt, All, List, [], ◌∷◌, get_or, length, Option, Some, None, inl, inr, refl, sym, ap, subst, ◌∙◌, ⊎_elim, arith, suc-le-suc, zero-le}
+use Rattle.std.proofs.Common.{◌≡◌, ℕ, zero, suc, ◌+◌, ◌<◌, ◌≤◌, Bool, true, false, cond, eqb, nat_lt, List, [], ◌∷◌, get_or, length, Option, Some, None, inl, inr, refl, sym, ap, subst, ◌∙◌, ⊎_elim, arith, suc-le-suc, zero-le}
 use Rattle.std.specs.List.{AllByRecursion, list_any}
 use Rattle.std.specs.List.Sorted.{IsPermutation, IsSortedBy}
 use Rattle.std.specs.Ordering.{is_lt, nat_cmp}
@@ -13,7 +13,7 @@ use Rattle.rank_slots.specs.Groups.{is_of}
 use Rattle.rank_slots.specs.declared.places.Place.{Place}
 use Rattle.rank_slots.specs.declared.spans.Span.{Span}
 use Rattle.rank_slots.specs.inner.SpanJoins.{Ascend, Before}
-use Rattle.rank_slots.specs.inner.Spans.{AreCut, Linked, SpanLists, is_span_of, last_first, link_at, no_span, span_at}
+use Rattle.rank_slots.specs.inner.Spans.{AreCut, Linked, SpanLists, is_span_of, last_first, link_at, no_span}
 use Rattle.rank_slots.proofs.CutLines.{own_chain}
 use Rattle.rank_slots.proofs.SpanChains.{each_weaker, row_ascends}
 
@@ -92,6 +92,7 @@ row_within (x ∷ xs) (y ∷ ys) up row all =
     apart v vs w [] least after all = tt
     apart v vs w (z ∷ zs) least after all =
         (⊎_elim (λ is. absurd (omega (arith, least, after.0.0, ap (λ (u : Span). u.from) is))) (λ there. there) all.0, apart v vs w zs least after.1 all.1)
+
     behind : (v : Span) (vs : List Span) (w : Span) (ws : List Span) → v.from ≡ w.from → AllByRecursion (λ z. Before w z) ws → AllByRecursion (λ z. In z (v ∷ vs)) ws → AllByRecursion (λ z. In z vs) ws
     behind v vs w ws same after all = apart v vs w ws (omega (arith, same)) after all
 

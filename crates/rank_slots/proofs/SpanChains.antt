@@ -1,8 +1,8 @@
 -- Chains of spans: what a write leaves of them, and two of them that become one.
-use Rattle.std.proofs.Common.{◌≡◌, ◌≢◌, ◌⊎◌, ℕ, ◌+◌, ◌<◌, ◌≤◌, Bool, true, false, cond, ◌||◌, List, [], ◌∷◌, ◌++◌, filter, get_or, length, set, Option, Some, None, refl, subst, sym, ap, arith, inl, inr, ⊎_elim, ◌∙◌}
+use Rattle.std.proofs.Common.{◌≡◌, ◌≢◌, ℕ, ◌+◌, ◌<◌, ◌≤◌, Bool, true, false, cond, ◌||◌, List, [], ◌∷◌, ◌++◌, filter, length, set, Option, Some, None, refl, subst, sym, ap, arith, inl, inr, ⊎_elim, ◌∙◌}
 use Rattle.std.specs.List.{AllByRecursion}
-use Rattle.std.proofs.lemmas.Bool.{both_ways, false≢true, true≢false}
-use Rattle.std.proofs.lemmas.List.{append_assoc, get_or-set_other, get_or_append_left, length-append, length-set}
+use Rattle.std.proofs.lemmas.Bool.{false≢true}
+use Rattle.std.proofs.lemmas.List.{get_or-set_other, get_or_append_left, length-append, length-set}
 use Rattle.rank_slots.specs.declared.spans.Span.{Span}
 use Rattle.rank_slots.specs.inner.SpanJoins.{Ascend, Before, Merge, turned}
 use Rattle.rank_slots.specs.inner.Spans.{Linked, StandInRow, last_first, link_at, no_span, span_at}

@@ -1,14 +1,10 @@
 -- What an exchange makes of the spans of a line, in their order.
-use Rattle.std.proofs.Common.{◌≡◌, ℕ, ◌+◌, ◌-◌, ◌<◌, ◌≤◌, ◌==◌, Bool, true, false, cond, eqb, nat_le, List, [], ◌∷◌, ◌++◌, filter, flat_map, length, min, refl, replicate, subst, sym, ap, arith, ◌∙◌}
-use Rattle.std.specs.List.{AllByRecursion, list_any}
-use Rattle.std.proofs.lemmas.Bool.{cond-true, or_parts}
+use Rattle.std.proofs.Common.{◌≡◌, ℕ, ◌+◌, ◌-◌, ◌<◌, ◌≤◌, Bool, true, false, cond, eqb, nat_le, List, [], ◌∷◌, ◌++◌, filter, length, min, refl, replicate, subst, sym, ap, arith, ◌∙◌}
+use Rattle.std.specs.List.{AllByRecursion}
 use Rattle.std.proofs.lemmas.Bool.Decides.{nat_tests}
 use Rattle.std.proofs.lemmas.List.{length-append}
-use Rattle.gb_base.specs.Limits.{most_sum}
 use Rattle.gb_base.specs.RightNo.{RightNo, same_right}
-use Rattle.rank_slots.specs.CentLine.{exchanged, is_of_either}
-use Rattle.rank_slots.specs.Groups.{is_of}
-use Rattle.rank_slots.specs.declared.places.Place.{Place}
+use Rattle.rank_slots.specs.CentLine.{exchanged}
 use Rattle.rank_slots.specs.declared.places.Swap.{Swap}
 use Rattle.rank_slots.specs.declared.spans.Span.{Span}
 use Rattle.rank_slots.specs.inner.Spans.{StandInRow, back_of, front_of, is_span_of_either, last_first, line_of_spans, parts_of, spans_dealt, spans_exchanged}

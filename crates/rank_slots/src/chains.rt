@@ -49,7 +49,14 @@ impl Spans {
 
     /// Deals such a chain out to two places, which have none: the first cents to the rising right,
     /// and all others to the receding one.
-    pub fn deal(&mut self, joined: Option<usize>, swap: &Swap, recede: usize, rise: usize, cents: u64)
+    pub fn deal(
+        &mut self,
+        joined: Option<usize>,
+        swap: &Swap,
+        recede: usize,
+        rise: usize,
+        cents: u64,
+    )
         requires recede { recede < length self.old.heads.items }
         requires rise { rise < length self.old.heads.items }
         requires two { recede ≢ rise }
@@ -82,7 +89,14 @@ impl Spans {
     }
 
     /// Deals one span out, and says how many cents are left to rise behind it.
-    fn deal_span(&mut self, swap: &Swap, recede: usize, rise: usize, number: usize, left: u64) -> u64
+    fn deal_span(
+        &mut self,
+        swap: &Swap,
+        recede: usize,
+        rise: usize,
+        number: usize,
+        left: u64,
+    ) -> u64
         requires number { number < length self.old.spans.items }
         requires recede { recede < length self.old.heads.items }
         requires rise { rise < length self.old.heads.items }

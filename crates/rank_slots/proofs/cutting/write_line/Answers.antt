@@ -4,7 +4,7 @@ use Rattle.gb_base.specs.RightNo.{RightNo}
 use Rattle.rank_slots.specs.CentLine.{is_dropped}
 use Rattle.rank_slots.specs.inner.Pieces.{AreJoined, line_of}
 use Rattle.rank_slots.specs.inner.Spans.{line_of_spans}
-use Rattle.rank_slots.proofs.SpanLines.{line_so_far, sum_so_far, sum_within}
+use Rattle.rank_slots.proofs.SpanLines.{line_so_far, sum_so_far}
 use Rattle.rank_slots.proofs.TakenOut.{goes_step, stays_step}
 use Rattle.rank_slots.proofs.cutting.write_line.Goals as goal
 use Rattle.rank_slots.proofs.cutting.write_line.Goals.{then-not-is_dropped, else-not-is_dropped}

@@ -1,5 +1,5 @@
 -- The slots stand for what they were filled with.
-use Rattle.std.proofs.Common.{◌<◌, ◌≤◌, ◌+◌, arith, ap, sym, subst, sum_by, length, vec_capacity, ◌∙◌}
+use Rattle.std.proofs.Common.{◌<◌, arith, ap, sym, subst, sum_by, length, ◌∙◌}
 use Rattle.rank_slots.specs.CanFill.{CanFill}
 use Rattle.rank_slots.specs.CentLine.{cent_line}
 use Rattle.gb_base.specs.Limits.{most_sum}

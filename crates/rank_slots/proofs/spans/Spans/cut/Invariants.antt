@@ -1,5 +1,5 @@
 -- The spans of the places so far, each the first and last of its chain.
-use Rattle.std.proofs.Common.{◌≡◌, ℕ, ◌+◌, ◌<◌, ◌++◌, None, Some, drop, length, sum_by, take, vec_capacity}
+use Rattle.std.proofs.Common.{◌≡◌, ℕ, ◌<◌, ◌++◌, None, Some, drop, length, sum_by, take, vec_capacity}
 use Rattle.rank_slots.specs.inner.Spans.{claimed_spans, link_at}
 use Rattle.rank_slots.proofs.spans.Spans.cut.Given as goal
 

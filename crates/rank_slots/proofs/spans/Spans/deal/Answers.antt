@@ -1,5 +1,5 @@
 -- The next span of the chain is dealt.
-use Rattle.std.proofs.Common.{◌≡◌, ◌<◌, ◌≤◌, ◌+◌, ap, arith, length, refl, subst, sym, ◌∙◌}
+use Rattle.std.proofs.Common.{◌<◌, ap, arith, length, refl, ◌∙◌}
 use Rattle.rank_slots.specs.inner.SpanLists.{lists_of}
 use Rattle.rank_slots.specs.inner.Spans.{link_at}
 use Rattle.rank_slots.proofs.DealtChains.{deals_step, dealt_heads, few_step, leaves_step, nearer_step, to_deal}

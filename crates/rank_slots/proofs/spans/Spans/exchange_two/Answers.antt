@@ -1,9 +1,7 @@
 -- The spans of both rights are joined and dealt.
-use Rattle.std.proofs.Common.{◌≡◌, ap, arith, filter, get_or, sym, ◌∙◌}
-use Rattle.rank_slots.specs.Groups.{is_of}
+use Rattle.std.proofs.Common.{ap, filter, get_or, sym, ◌∙◌}
 use Rattle.rank_slots.specs.inner.SpanLists.{lists_of}
-use Rattle.rank_slots.specs.inner.Spans.{SpanLists, is_span_of_either}
-use Rattle.rank_slots.specs.declared.places.Place.{Place}
+use Rattle.rank_slots.specs.inner.Spans.{is_span_of_either}
 use Rattle.rank_slots.proofs.CutLines.{cut_behind, is_exchanged, join_at, to_deal_row}
 use Rattle.rank_slots.proofs.GroupMembers.{alone_listed}
 use Rattle.rank_slots.proofs.PlaceNumbers.{claim_read, numbers_differ}
@@ -13,9 +11,11 @@ use Rattle.rank_slots.proofs.spans.Spans.exchange_two.Goals as goal
 pub join-joined-requires-clause-chains : goal.join-joined-requires-clause-chains
 join-joined-requires-clause-chains c =
     let places = c.args.places.now in
-    let s = c.args.swap.now in
-    (_, join_at (lists_of c.args.self.now) places c.requires.cut.0 s c.number_of-recede.result c.number_of-rise.result c.number_of-recede.ensures.value c.number_of-rise.ensures.value c.requires.cut.1
-    (alone_listed places s.recede c.requires.swap.0) (alone_listed places s.rise c.requires.swap.1) c.requires.two)
+    let s = c.args.swap.now in (
+      _,
+      join_at (lists_of c.args.self.now) places c.requires.cut.0 s c.number_of-recede.result c.number_of-rise.result c.number_of-recede.ensures.value c.number_of-rise.ensures.value c.requires.cut.1
+          (alone_listed places s.recede c.requires.swap.0) (alone_listed places s.rise c.requires.swap.1) c.requires.two,
+    )
 
 pub deal-requires-clause-two : goal.deal-requires-clause-two
 deal-requires-clause-two c = λ same.

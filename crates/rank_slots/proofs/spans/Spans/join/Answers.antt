@@ -1,8 +1,6 @@
 -- The later of the two first spans joins the third chain.
-use Rattle.std.proofs.Common.{◌≡◌, ◌<◌, ap, arith, get_or, length, refl, set, subst, sym, ◌∙◌, None}
-use Rattle.std.proofs.lemmas.List.{get_or_default, length-set}
-use Rattle.rank_slots.specs.inner.SpanJoins.{AreToJoin}
-use Rattle.rank_slots.specs.inner.Spans.{link_at}
+use Rattle.std.proofs.Common.{ap, arith, length, sym, ◌∙◌}
+use Rattle.std.proofs.lemmas.List.{length-set}
 use Rattle.rank_slots.proofs.JoinedChains.{chain_begins, further_of, nearer_of, next_of, others_of, whole_of}
 use Rattle.rank_slots.proofs.spans.Spans.join.Goals as goal
 

@@ -1,8 +1,6 @@
 -- The sorted spans are the row for which the lists stand.
-use Rattle.std.proofs.Common.{◌≡◌, Bool, cond, eqb, nat_lt, refl, rules, subst, true, false, List}
+use Rattle.std.proofs.Common.{rules, subst}
 use Rattle.std.specs.List.Sorted.{IsSortedBy}
-use Rattle.std.specs.Ordering.{is_lt, nat_cmp}
-use Rattle.std.specs.declared.cmp.Ordering.TheVariants.{Less, Equal, Greater}
 use Rattle.std.proofs.lemmas.List.Sorted.{answers_always}
 use Rattle.rank_slots.specs.declared.spans.Span.{Span}
 use Rattle.rank_slots.specs.inner.SpanLists.{lists_of}
