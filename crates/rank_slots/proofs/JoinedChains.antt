@@ -1,12 +1,12 @@
 -- Two chains of spans become one, span by span.
-use Rattle.std.proofs.Common.{◌≡◌, ℕ, ◌+◌, ◌<◌, Bool, true, false, cond, eqb, List, [], ◌∷◌, get_or, length, set, Option, Some, None, refl, subst, sym, ap, arith, ⊎_elim, ◌∙◌}
+use Rattle.std.proofs.Common.{◌≡◌, ℕ, ◌+◌, ◌<◌, Bool, true, false, cond, List, [], ◌∷◌, get_or, length, set, Option, Some, None, refl, subst, sym, ap, arith, ⊎_elim, ◌∙◌}
 use Rattle.std.specs.List.{AllByRecursion}
 use Rattle.std.proofs.lemmas.Bool.{eq-eqb, ne_eqb, lt-ltb, le-ltb}
 use Rattle.std.proofs.lemmas.List.{get_or-set_same, get_or_default}
 use Rattle.rank_slots.specs.declared.spans.Span.{Span}
 use Rattle.rank_slots.specs.inner.SpanJoins.{AreToJoin, Ascend, Before, Merge, reach, turned}
 use Rattle.rank_slots.specs.inner.Spans.{Begins, Linked, begins_ahead, later_first, link_at, span_at}
-use Rattle.rank_slots.proofs.SpanChains.{all_turned, carried, each_weaker, left_ahead, link_leaves, merge_all, merge_turned, parted}
+use Rattle.rank_slots.proofs.SpanChains.{all_turned, carried, each_weaker, left_ahead, link_leaves, merge_all, merge_turned, parted, same_from}
 
 pub chain_begins : (spans : List Span) (links : List (Option ℕ)) (head : Option ℕ) (xs : List Span) → Linked spans links head xs → Begins spans head
 chain_begins spans links None xs chain = tt
@@ -25,13 +25,9 @@ abbrev pub GoesOn : List Span → List (Option ℕ) → Option ℕ → Option �
 GoesOn spans links None other joined whole = Linked spans links joined whole
 GoesOn spans links (Some number) other joined whole = IsNext spans links number other joined whole
 
-same_from : Span → Span → Bool
-same_from x y = eqb y.from x.from
-
 next : (spans : List Span) (links : List (Option ℕ)) (n : ℕ) (other joined : Option ℕ) (whole : List Span) (x : Span) (xs ys seconds made : List Span)
     → length links ≡ length spans → Linked spans links (Some n) (x ∷ ys) → Linked spans links other seconds → Linked spans links joined made
     → Merge ys seconds xs → turned made (x ∷ xs) ≡ whole → Ascend whole → IsNext spans links n other joined whole
-unfolding same_from
 next spans links n other joined whole x xs ys seconds made as_many chain others makes merge is up =
     let up_now : Ascend (turned made (x ∷ xs)) = subst Ascend (sym is) up in
     let ahead = left_ahead made x xs up_now in

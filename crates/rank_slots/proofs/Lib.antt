@@ -2,6 +2,7 @@
 pub mod Ahead
 pub mod ClaimedSpans
 pub mod CutLines
+pub mod DealSteps
 pub mod DealtChains
 pub mod EmptySums
 pub mod ExchangedCents
@@ -25,6 +26,7 @@ pub mod LonePay
 pub mod PlaceLines
 pub mod PlaceNumbers
 pub mod Precedence
+pub mod PutSpans
 pub mod SharedCents
 pub mod SortedSpans
 pub mod SpanChains

@@ -74,6 +74,11 @@ Rise : List Span → Type 0
 Rise [] = Unit {0}
 Rise (x ∷ xs) = AllByRecursion (λ y. x.from ≤ y.from) xs × Rise xs
 
+-- the spans behind the first one of a row, in a list from which it is taken
+rest_in : (x : Span) (xs : List Span) (y : Span) (ys : List Span) → x.from ≤ y.from → AllByRecursion (λ z. Before y z) ys → AllByRecursion (λ z. In z (x ∷ xs)) ys → AllByRecursion (λ z. In z xs) ys
+rest_in x xs y [] least after all = tt
+rest_in x xs y (z ∷ zs) least after all = (⊎_elim (λ is. absurd (omega (arith, least, after.0.0, ap (λ (u : Span). u.from) is))) (λ there. there) all.0, rest_in x xs y zs least after.1 all.1)
+
 -- a row that stands in a list is no longer
 row_within : (xs ys : List Span) → Rise xs → Ascend ys → AllByRecursion (λ y. In y xs) ys → length ys ≤ length xs
 unfolding Rise
@@ -81,26 +86,14 @@ row_within xs [] up row all = zero-le
 row_within [] (y ∷ ys) up row all = absurd all.0
 row_within (x ∷ xs) (y ∷ ys) up row all =
     ⊎_elim
-    (λ is. let rest = row_within xs ys up.1 row.1 (behind x xs y ys (ap (λ (z : Span). z.from) is) row.0 all.1) in omega (arith, rest))
+    (λ is. let rest = row_within xs ys up.1 row.1 (rest_in x xs y ys (omega (arith, ap (λ (z : Span). z.from) is)) row.0 all.1) in omega (arith, rest))
     (λ later.
     let ahead = in_all (λ (z : Span). x.from ≤ z.from) xs y up.0 later in
-    let rest = row_within xs (y ∷ ys) up.1 row (later, apart x xs y ys ahead row.0 all.1) in
+    let rest = row_within xs (y ∷ ys) up.1 row (later, rest_in x xs y ys ahead row.0 all.1) in
     omega (arith, rest))
     all.0
-  where
-    apart : (v : Span) (vs : List Span) (w : Span) (ws : List Span) → v.from ≤ w.from → AllByRecursion (λ z. Before w z) ws → AllByRecursion (λ z. In z (v ∷ vs)) ws → AllByRecursion (λ z. In z vs) ws
-    apart v vs w [] least after all = tt
-    apart v vs w (z ∷ zs) least after all =
-        (⊎_elim (λ is. absurd (omega (arith, least, after.0.0, ap (λ (u : Span). u.from) is))) (λ there. there) all.0, apart v vs w zs least after.1 all.1)
 
-    behind : (v : Span) (vs : List Span) (w : Span) (ws : List Span) → v.from ≡ w.from → AllByRecursion (λ z. Before w z) ws → AllByRecursion (λ z. In z (v ∷ vs)) ws → AllByRecursion (λ z. In z vs) ws
-    behind v vs w ws same after all = apart v vs w ws (omega (arith, same)) after all
-
--- the spans behind the first one of a row, in a list from which it is taken
-rest_in : (x : Span) (xs : List Span) (y : Span) (ys : List Span) → x.from ≤ y.from → AllByRecursion (λ z. Before y z) ys → AllByRecursion (λ z. In z (x ∷ xs)) ys → AllByRecursion (λ z. In z xs) ys
-rest_in x xs y [] least after all = tt
-rest_in x xs y (z ∷ zs) least after all = (⊎_elim (λ is. absurd (omega (arith, least, after.0.0, ap (λ (u : Span). u.from) is))) (λ there. there) all.0, rest_in x xs y zs least after.1 all.1)
-
+-- and one that is as long is the list
 row_is : (xs ys : List Span) → Rise xs → Ascend ys → AllByRecursion (λ y. In y xs) ys → length xs ≡ length ys → xs ≡ ys
 unfolding Rise
 row_is [] [] up row all same = refl

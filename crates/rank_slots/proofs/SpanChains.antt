@@ -1,5 +1,5 @@
 -- Chains of spans: what a write leaves of them, and two of them that become one.
-use Rattle.std.proofs.Common.{◌≡◌, ◌≢◌, ℕ, ◌+◌, ◌<◌, ◌≤◌, Bool, true, false, cond, ◌||◌, List, [], ◌∷◌, ◌++◌, filter, length, set, Option, Some, None, refl, subst, sym, ap, arith, inl, inr, ⊎_elim, ◌∙◌}
+use Rattle.std.proofs.Common.{◌≡◌, ◌≢◌, ℕ, ◌+◌, ◌<◌, ◌≤◌, Bool, true, false, cond, eqb, ◌||◌, List, [], ◌∷◌, ◌++◌, filter, length, set, Option, Some, None, refl, subst, sym, ap, arith, inl, inr, ⊎_elim, ◌∙◌}
 use Rattle.std.specs.List.{AllByRecursion}
 use Rattle.std.proofs.lemmas.Bool.{false≢true}
 use Rattle.std.proofs.lemmas.List.{get_or-set_other, get_or_append_left, length-append, length-set}
@@ -47,6 +47,10 @@ push_leaves test spans links x link as_many =
     let here : m < length links = omega arith in
     let longer = length-append spans (x ∷ []) in
     (omega arith, (get_or_append_left spans (x ∷ []) no_span m within, get_or_append_left links (link ∷ []) None m here))
+
+-- a span begins at the cent of this one
+abbrev pub same_from : Span → Span → Bool
+same_from x y = eqb y.from x.from
 
 -- ---- the order of spans
 

@@ -1,9 +1,9 @@
 -- The line that spans stand for, span by span.
-use Rattle.std.proofs.Common.{◌≡◌, ℕ, ◌+◌, ◌<◌, ◌≤◌, List, [], ◌∷◌, ◌++◌, get_or, length, refl, replicate, subst, sum_by, sym, take, true, false, cond, eqb, ap, arith, ◌-◌, ◌∙◌, ⊎_elim}
+use Rattle.std.proofs.Common.{◌≡◌, ℕ, ◌+◌, ◌<◌, List, [], ◌∷◌, ◌++◌, get_or, length, refl, replicate, sum_by, sym, take, true, false, cond, eqb, ap, arith, ◌-◌, ◌∙◌, ⊎_elim}
 use Rattle.std.proofs.lemmas.Bool.{or_cases}
 use Rattle.std.proofs.lemmas.List.{append-nil, take_more}
 use Rattle.std.proofs.lemmas.List.Concat.{flat_map-append}
-use Rattle.std.proofs.lemmas.List.Sums.{sum_by-cons, sum_by_more, sum_by_more_le}
+use Rattle.std.proofs.lemmas.List.Sums.{sum_by-cons, sum_by_more}
 use Rattle.gb_base.specs.Limits.{most_sum}
 use Rattle.gb_base.specs.RightNo.{RightNo, same_right}
 use Rattle.gb_base.proofs.SameRights.{right_is}
@@ -22,9 +22,6 @@ line_so_far xs i x within is =
 
 pub sum_so_far : (xs : List Span) (i : ℕ) (x : Span) → i < length xs → x ≡ get_or xs i x → sum_by (λ y. y.cents) (take (i + 1) xs) ≡ sum_by (λ y. y.cents) (take i xs) + x.cents
 sum_so_far xs i x within is = sum_by_more (λ (y : Span). y.cents) xs i x within ∙ ap (λ (y : Span). sum_by (λ z. z.cents) (take i xs) + y.cents) (sym is)
-
-pub sum_within : (xs : List Span) (i : ℕ) (x : Span) → i < length xs → x ≡ get_or xs i x → sum_by (λ y. y.cents) (take i xs) + x.cents ≤ sum_by (λ y. y.cents) xs
-sum_within xs i x within is = subst (λ (y : Span). sum_by (λ z. z.cents) (take i xs) + y.cents ≤ sum_by (λ z. z.cents) xs) (sym is) (sum_by_more_le (λ (y : Span). y.cents) xs i x within)
 
 -- spans in a row have fewer cents than a line may have
 pub row_sum : (n : ℕ) (xs : List Span) → StandInRow n xs → n + sum_by (λ x. x.cents) xs < most_sum

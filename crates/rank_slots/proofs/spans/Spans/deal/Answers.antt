@@ -2,7 +2,7 @@
 use Rattle.std.proofs.Common.{◌<◌, ap, arith, length, refl, ◌∙◌}
 use Rattle.rank_slots.specs.inner.SpanLists.{lists_of}
 use Rattle.rank_slots.specs.inner.Spans.{link_at}
-use Rattle.rank_slots.proofs.DealtChains.{deals_step, dealt_heads, few_step, leaves_step, nearer_step, to_deal}
+use Rattle.rank_slots.proofs.DealSteps.{deals_step, dealt_heads, few_step, leaves_step, nearer_step, to_deal}
 use Rattle.rank_slots.proofs.spans.Spans.deal.Goals as goal
 
 pub loop-next-init : goal.loop-next-init
