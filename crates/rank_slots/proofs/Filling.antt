@@ -4,17 +4,23 @@ use Rattle.std.specs.List.{IsDistinct}
 use Rattle.std.proofs.lemmas.List.Elements.{All-nil}
 use Rattle.gb_base.specs.RightNo.{RightNo}
 use Rattle.rank_slots.specs.CanFill.{CanFill, CanKnot, CanSwap, StandsAlone}
-use Rattle.rank_slots.specs.CentLine.{cent_line, exchange_all, is_dropped, written}
+use Rattle.rank_slots.specs.CentLine.{cent_line, exchange_all, is_dropped}
 use Rattle.rank_slots.specs.Filled.{empty, line}
 use Rattle.rank_slots.specs.declared.places.Place.{Place}
 use Rattle.rank_slots.specs.declared.places.Swap.{Swap}
+use Rattle.rank_slots.specs.declared.spans.Span.{Span}
 use Rattle.rank_slots.specs.inner.Pieces.{line_of}
+use Rattle.rank_slots.specs.inner.Spans.{claimed_spans, exchange_all_spans, line_of_spans}
+use Rattle.rank_slots.proofs.ClaimedSpans.{claimed_line}
+use Rattle.rank_slots.proofs.SpanLines.{line_behind_all}
 
--- a line that was written, exchanged and taken out in turn
-pub made_in_turn : (places : List Place) (swaps : List Swap) (first second third : List RightNo) → first ≡ written places → second ≡ exchange_all first swaps → third ≡ filter (λ c. not (is_dropped places c)) second → third ≡ cent_line places swaps
+-- a line that was cut, exchanged and written without the cents of dropped places
+pub made_of_spans : (places : List Place) (swaps : List Swap) (row : List Span) (made : List RightNo) → row ≡ exchange_all_spans (claimed_spans 0 places) swaps
+    → made ≡ filter (λ c. not (is_dropped places c)) (line_of_spans row) → made ≡ cent_line places swaps
 unfolding cent_line
-made_in_turn places swaps first second third one two three =
-    three ∙ ap (filter (λ c. not (is_dropped places c))) (two ∙ ap (λ cs. exchange_all cs swaps) one)
+made_of_spans places swaps row made is written_of =
+    written_of
+    ∙ ap (filter (λ c. not (is_dropped places c))) (ap line_of_spans is ∙ line_behind_all (claimed_spans 0 places) swaps ∙ ap (λ cs. exchange_all cs swaps) (claimed_line 0 places))
 
 -- a line without places has no cents
 pub no_cents : line_of [] ≡ line empty

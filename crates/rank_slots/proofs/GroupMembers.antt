@@ -158,6 +158,13 @@ in_same (g ∷ gs) a r few there =
 pub alone_group : (places : List Place) (a : RightNo) → StandsAlone places a → IsAlone (group_of places a) a
 alone_group places a one = in_alone (groups places) a one
 
+-- a right that stands alone has a place
+pub alone_listed : (places : List Place) (a : RightNo) → StandsAlone places a → list_any (is_of a) places ≡ true
+alone_listed places a alone =
+    let it = alone_group places a alone in
+    true_from_ne_false (list_any (is_of a) places)
+    (λ none. false≢true (sym (in_none (groups places) a a (ap (list_any (is_of a)) (members_are places) ∙ none)) ∙ ap (list_any (is_of a)) it.all ∙ ap (λ b. b || false) it.own))
+
 pub apart_from_alone : (places : List Place) (a r : RightNo) → AreDifferent places → StandsAlone places a → same_right a r ≡ false → list_any (is_of a) (group_of places r) ≡ false
 apart_from_alone places a r differ one other =
     in_apart (groups places) a r (subst (λ ps. counted (is_of a) ps ≤ 1) (sym (members_are places)) (places_few a places differ)) one other

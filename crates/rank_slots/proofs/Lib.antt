@@ -1,5 +1,9 @@
 -- Lemmas.
 pub mod Ahead
+pub mod ClaimedSpans
+pub mod CutLines
+pub mod DealSteps
+pub mod DealtChains
 pub mod EmptySums
 pub mod ExchangedCents
 pub mod Exchanges
@@ -10,6 +14,7 @@ pub mod GroupShares
 pub mod GroupSteps
 pub mod HandedOut
 pub mod Joined
+pub mod JoinedChains
 pub mod KnotPay
 pub mod KnotRoom
 pub mod KnotTies
@@ -19,7 +24,13 @@ pub mod LineSwaps
 pub mod Lines
 pub mod LonePay
 pub mod PlaceLines
+pub mod PlaceNumbers
 pub mod Precedence
+pub mod PutSpans
 pub mod SharedCents
+pub mod SortedSpans
+pub mod SpanChains
+pub mod SpanLines
+pub mod SpanRows
 pub mod TakenOut
 pub mod ThirdRights

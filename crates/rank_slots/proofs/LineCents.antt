@@ -106,7 +106,7 @@ itself_kept s r cs one =
           counted_exchanged (same_right r) s (record { recede = others_turned s.recede r third; rise = others_turned s.rise r other }) left cs
     ] refl
 
-exchange_kept : (s : Swap) (r : RightNo) (cs : List RightNo) → counted (same_right r) (exchange cs s) ≡ counted (same_right r) cs
+pub exchange_kept : (s : Swap) (r : RightNo) (cs : List RightNo) → counted (same_right r) (exchange cs s) ≡ counted (same_right r) cs
 exchange_kept s r cs =
     elim (same_right s.recede s.rise) as (λ b. same_right s.recede s.rise ≡ b → counted (same_right r) (exchange cs s) ≡ counted (same_right r) cs) [
       | true ↦ λ one. itself_kept s r cs one

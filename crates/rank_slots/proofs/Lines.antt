@@ -4,9 +4,9 @@ use Rattle.std.proofs.lemmas.Bool.{cases_lt, lt-ltb, le-ltb}
 use Rattle.std.proofs.Math.Bool.{or-false, or_self}
 use Rattle.std.proofs.lemmas.List.Folds.{list_any-append}
 use Rattle.std.specs.List.{list_any}
-use Rattle.std.proofs.lemmas.List.{append-nil, drop-append-le, drop-replicate, drop_more, length-append, length-replicate, take-append-le, take-replicate, take_more}
+use Rattle.std.proofs.lemmas.List.{append-nil, drop-append-le, drop-replicate, drop_more, length-append, length-replicate, take-append-le, take-replicate}
 use Rattle.std.proofs.lemmas.List.Concat.{flat_map-append}
-use Rattle.std.proofs.lemmas.List.Sums.{sum_by-append, sum_by-cons, sum_by_more, sum_by_more_le}
+use Rattle.std.proofs.lemmas.List.Sums.{sum_by-append, sum_by-cons, sum_by_more}
 use Rattle.std.proofs.lemmas.List.Folds.{sum_by-replicate}
 use Rattle.std.proofs.Math.Seq.{drop-append-add, take-append-add}
 use Rattle.gb_base.specs.RightNo.{RightNo}
@@ -16,9 +16,6 @@ use Rattle.rank_slots.specs.inner.Pieces.{line_of}
 -- with one piece more
 pub line_push : (ps : List Piece) (p : Piece) → line_of (ps ++ p ∷ []) ≡ line_of ps ++ replicate p.cents p.right
 line_push ps p = flat_map-append (λ q. replicate q.cents q.right) ps (p ∷ []) ∙ ap (λ t. line_of ps ++ t) (append-nil (replicate p.cents p.right))
-
-pub line_more : (ps : List Piece) (i : ℕ) (d : Piece) → i < length ps → line_of (take (i + 1) ps) ≡ line_of (take i ps) ++ replicate (get_or ps i d).cents (get_or ps i d).right
-line_more ps i d h = ap line_of (take_more ps i d h) ∙ line_push (take i ps) (get_or ps i d)
 
 pub line_drop : (ps : List Piece) (i : ℕ) (d : Piece) → i < length ps → line_of (drop i ps) ≡ replicate (get_or ps i d).cents (get_or ps i d).right ++ line_of (drop (i + 1) ps)
 line_drop ps i d h = ap line_of (drop_more ps i d h)
@@ -91,11 +88,5 @@ any_behind test left n c cs = elim (cases_lt left n) [
 pub line_at : (ps : List Piece) (i : ℕ) (p : Piece) → i < length ps → p ≡ get_or ps i p → line_of (drop i ps) ≡ replicate p.cents p.right ++ line_of (drop (i + 1) ps)
 line_at ps i p here is = line_drop ps i p here ∙ ap (λ q. replicate q.cents q.right ++ line_of (drop (i + 1) ps)) (sym is)
 
-pub line_so_far : (ps : List Piece) (i : ℕ) (p : Piece) → i < length ps → p ≡ get_or ps i p → line_of (take (i + 1) ps) ≡ line_of (take i ps) ++ replicate p.cents p.right
-line_so_far ps i p here is = line_more ps i p here ∙ ap (λ q. line_of (take i ps) ++ replicate q.cents q.right) (sym is)
-
 pub sum_so_far : (ps : List Piece) (i : ℕ) (p : Piece) → i < length ps → p ≡ get_or ps i p → sum_by (λ q. q.cents) (take (i + 1) ps) ≡ sum_by (λ q. q.cents) (take i ps) + p.cents
 sum_so_far ps i p here is = sum_by_more (λ q. q.cents) ps i p here ∙ ap (λ q. sum_by (λ r. r.cents) (take i ps) + q.cents) (sym is)
-
-pub sum_within : (ps : List Piece) (i : ℕ) (p : Piece) → i < length ps → p ≡ get_or ps i p → sum_by (λ q. q.cents) (take i ps) + p.cents ≤ sum_by (λ q. q.cents) ps
-sum_within ps i p here is = omega (arith, sum_by_more_le (λ q. q.cents) ps i p here, ap (λ q. q.cents) is)

@@ -2,6 +2,8 @@
 //! groups of equal rank, exchanges of rank (BGB § 880) and exercised reservations (BGB § 881).
 #![tactic(auto)]
 
+mod chains;
+mod cutting;
 mod exchanging;
 mod groups;
 pub mod laws;
@@ -10,6 +12,7 @@ mod pieces;
 mod places;
 mod relations;
 mod slots;
+mod spans;
 mod thresholds;
 
 pub use groups::{group_of, is_listed_ahead};

@@ -7,14 +7,14 @@ ghost use Rattle.rank_slots.specs.Filled.{empty, line};
 ghost use Rattle.rank_slots.specs.Groups.{group_of};
 ghost use Rattle.gb_base.specs.Limits.{most_sum};
 
-use crate::exchanging::{exchange_all, take_out_dropped, write_places};
+use crate::cutting::write_line;
 use crate::groups::group_of;
 use crate::pieces::total;
+use crate::spans::Spans;
 use crate::{Knot, Piece, Place, Swap};
 use gb_base::{NoMemory, RightId};
 use std::alloc::{AllocError, Global};
 use std::marker::Model;
-use std::mem;
 
 /// The cent line of a list of places, in pieces: the claims stand one behind the other, so that a
 /// sum is paid along it. In contracts it is what it was filled with, what it has room for, and how
@@ -28,14 +28,14 @@ pub struct Slots {
     pub(crate) knots: Vec<Knot>,
     /// The pieces of the line.
     pub(crate) pieces: Vec<Piece>,
-    /// Where the pieces are written anew.
-    spare: Vec<Piece>,
+    /// Where the line is cut, exchanged and sorted.
+    spans: Spans,
 }
 
 impl Model for Slots {
     ghost use Rattle.std.specs.Prelude.{◌+◌, vec_capacity};
     ghost use Rattle.rank_slots.specs.Filled.{SlotsState};
-    ghost use Rattle.rank_slots.specs.inner.Slots.{HasRoom, IsFilled};
+    ghost use Rattle.rank_slots.specs.inner.Slots.{HasRoom, HasSpanRoom, IsFilled};
 
     ghost Value = { SlotsState };
 
@@ -43,12 +43,13 @@ impl Model for Slots {
       place_room = a.place_room;
       swap_room = a.swap_room;
       filled = record { places = a.places.items; swaps = a.swaps.items; knots = a.knots.items };
-      capacity = vec_capacity a.places + vec_capacity a.swaps + vec_capacity a.knots + vec_capacity a.pieces + vec_capacity a.spare;
+      capacity = vec_capacity a.places + vec_capacity a.swaps + vec_capacity a.knots + vec_capacity a.pieces + vec_capacity a.spans.spans + vec_capacity a.spans.links + vec_capacity a.spans.heads;
     } };
 
     ghost invariant = { λ a.
         IsFilled (record { places = a.places.items; swaps = a.swaps.items; knots = a.knots.items }) a.pieces.items
-        × HasRoom a.place_room a.swap_room (vec_capacity a.places) (vec_capacity a.swaps) (vec_capacity a.knots) (vec_capacity a.pieces) (vec_capacity a.spare) };
+        × HasRoom a.place_room a.swap_room (vec_capacity a.places) (vec_capacity a.swaps) (vec_capacity a.knots) (vec_capacity a.pieces)
+        × HasSpanRoom a.place_room a.swap_room (vec_capacity a.spans.spans) (vec_capacity a.spans.links) (vec_capacity a.spans.heads) };
 }
 
 impl Slots {
@@ -71,7 +72,11 @@ impl Slots {
             swaps: Vec::with_capacity(alloc, swaps)?,
             knots: Vec::with_capacity(alloc, places)?,
             pieces: Vec::with_capacity(alloc, pieces)?,
-            spare: Vec::with_capacity(alloc, pieces)?,
+            spans: Spans {
+                spans: Vec::with_capacity(alloc, pieces)?,
+                links: Vec::with_capacity(alloc, pieces)?,
+                heads: Vec::with_capacity(alloc, places)?,
+            },
         })
     }
 
@@ -96,10 +101,10 @@ impl Slots {
         copy_into(&mut self.places, places);
         copy_into(&mut self.swaps, swaps);
         copy_into(&mut self.knots, knots);
-        write_places(&mut self.pieces, places);
-        exchange_all(&mut self.pieces, &mut self.spare, swaps);
-        take_out_dropped(&self.pieces, &mut self.spare, places);
-        mem::swap(&mut self.pieces, &mut self.spare);
+        self.spans.cut(places);
+        self.spans.exchange_all(places, swaps);
+        self.spans.sort();
+        write_line(&mut self.pieces, &self.spans.spans, places);
     }
 
     /// How many cents the line has. Takes no memory.

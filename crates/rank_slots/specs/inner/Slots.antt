@@ -14,9 +14,14 @@ pub record IsFilled (filled : Filled) (pieces : List Piece) : Type 0 where
   pub sum : sum_by (λ p. p.cents) pieces < most_sum
 
 -- Lists of these capacities have room for so many places and exchanges.
-pub record HasRoom (place_room swap_room of_places of_swaps of_knots of_pieces of_spare : ℕ) : Type 0 where
+pub record HasRoom (place_room swap_room of_places of_swaps of_knots of_pieces : ℕ) : Type 0 where
   pub places : place_room ≤ of_places
   pub swaps : swap_room ≤ of_swaps
   pub knots : place_room ≤ of_knots
   pub pieces : place_room + swap_room ≤ of_pieces
-  pub spare : place_room + swap_room ≤ of_spare
+
+-- So have lists of a line in spans: each exchange cuts one span at most.
+pub record HasSpanRoom (place_room swap_room of_spans of_links of_heads : ℕ) : Type 0 where
+  pub spans : place_room + swap_room ≤ of_spans
+  pub links : place_room + swap_room ≤ of_links
+  pub heads : place_room ≤ of_heads

@@ -26,6 +26,10 @@ invariant_of-result c =
         swaps = c.in_ok-with_capacity-2.ensures.capacity;
         knots = c.in_ok-with_capacity-3.ensures.capacity;
         pieces = omega (arith, c.in_ok-with_capacity-4.ensures.capacity);
-        spare = omega (arith, c.in_ok-with_capacity-5.ensures.capacity);
+      },
+      record {
+        spans = omega (arith, c.in_ok-with_capacity-5.ensures.capacity);
+        links = omega (arith, c.in_ok-with_capacity-6.ensures.capacity);
+        heads = c.in_ok-with_capacity-7.ensures.capacity;
       },
     )

@@ -1,0 +1,153 @@
+-- A line that is cut into spans, with a chain of the spans of each place.
+use Rattle.std.specs.Prelude.{◌≡◌, ℕ, ◌+◌, ◌-◌, ◌<◌, ◌≤◌, Bool, true, false, ◌==◌, nat_le, nat_lt, if◌then◌else◌, List, [], ◌∷◌, ◌++◌, Option, Some, None, flat_map, fold, length, replicate, slice_index_or, slice_set}
+use Rattle.std.specs.List.{AllByRecursion, list_any}
+use Rattle.gb_base.specs.Limits.{most_sum}
+use Rattle.gb_base.specs.RightNo.{RightNo, same_right}
+use Rattle.rank_slots.specs.CentLine.{cents_of, is_of_either}
+use Rattle.rank_slots.specs.Groups.{is_of}
+use Rattle.rank_slots.specs.Payments.{claim_of}
+use Rattle.rank_slots.specs.declared.places.Place.{Place}
+use Rattle.rank_slots.specs.declared.places.Swap.{Swap}
+use Rattle.rank_slots.specs.declared.spans.Span.{Span}
+
+-- ---- spans in the order of the line
+
+-- the line that spans stand for
+abbrev pub line_of_spans : List Span → List RightNo
+line_of_spans spans = flat_map (λ x. replicate x.cents x.right) spans
+
+-- the span is this right's
+abbrev pub is_span_of : RightNo → Span → Bool
+is_span_of right x = same_right right x.right
+
+-- the span is one of the two rights'
+abbrev pub is_span_of_either : Swap → Span → Bool
+is_span_of_either s x = is_of_either s x.right
+
+-- each span begins where the one before it ends, and has cents
+abbrev pub StandInRow : ℕ → List Span → Type 0
+StandInRow n [] = n < most_sum
+StandInRow n (x ∷ xs) = (x.from ≡ n) × ((1 ≤ x.cents) × StandInRow (n + x.cents) xs)
+
+-- the claims of places as spans, of which the first begins at this cent
+abbrev pub claimed_spans : ℕ → List Place → List Span
+claimed_spans n [] = []
+claimed_spans n (p ∷ ps) = record { from = n; cents = p.claim; right = p.right } ∷ claimed_spans (n + p.claim) ps
+
+-- the first cents of a span, as this right's
+abbrev pub front_of : Span → ℕ → RightNo → Span
+front_of x cents right = record { from = x.from; cents = cents; right = right }
+
+-- its cents behind these, as this right's
+abbrev pub back_of : Span → ℕ → RightNo → Span
+back_of x cents right = record { from = x.from + cents; cents = x.cents - cents; right = right }
+
+-- what a span of one of the two rights becomes while cents are left to rise
+abbrev pub parts_of : Swap → ℕ → Span → List Span
+parts_of s left x =
+    if left == 0 then front_of x x.cents s.recede ∷ []
+    else (if nat_le x.cents left then front_of x x.cents s.rise ∷ []
+    else front_of x left s.rise ∷ back_of x left s.recede ∷ [])
+
+-- what an exchange makes of the spans while cents are left to rise
+abbrev pub spans_exchanged : Swap → ℕ → List Span → List Span
+spans_exchanged s left [] = []
+spans_exchanged s left (x ∷ xs) =
+    if is_span_of_either s x then parts_of s left x ++ spans_exchanged s (left - x.cents) xs else x ∷ spans_exchanged s left xs
+
+-- the same where all spans are of one of the two rights
+abbrev pub spans_dealt : Swap → ℕ → List Span → List Span
+spans_dealt s left [] = []
+spans_dealt s left (x ∷ xs) = parts_of s left x ++ spans_dealt s (left - x.cents) xs
+
+-- the spans behind an exchange; that of a right with itself leaves them
+abbrev pub exchange_spans : List Span → Swap → List Span
+exchange_spans spans s =
+    if same_right s.recede s.rise then spans else spans_exchanged s (cents_of s.rise (line_of_spans spans)) spans
+
+-- the spans behind these exchanges, one after the other
+abbrev pub exchange_all_spans : List Span → List Swap → List Span
+exchange_all_spans spans swaps = fold exchange_spans spans swaps
+
+-- ---- chains of spans in lists
+
+-- no span
+abbrev pub no_span : Span
+no_span = record { from = 0; cents = 0; right = record { receipt = 0; act = 0 } }
+
+-- the span of this number
+abbrev pub span_at : List Span → ℕ → Span
+span_at spans number = slice_index_or spans number no_span
+
+-- the number behind this one in its chain, or the first of this place's chain
+abbrev pub link_at : List (Option ℕ) → ℕ → Option ℕ
+link_at links number = slice_index_or links number None
+
+-- the chain from this number on has these spans
+abbrev pub Linked : List Span → List (Option ℕ) → Option ℕ → List Span → Type 0
+Linked spans links None [] = Unit {0}
+Linked spans links None (x ∷ xs) = ⊥
+Linked spans links (Some number) [] = ⊥
+Linked spans links (Some number) (x ∷ xs) = (number < length spans) × ((span_at spans number ≡ x) × Linked spans links (link_at links number) xs)
+
+-- those of these spans that pass, the last one first, and behind them others
+abbrev pub last_first : (Span → Bool) → List Span → List Span → List Span
+last_first test others [] = others
+last_first test others (x ∷ xs) = last_first test (if test x then x ∷ others else others) xs
+
+-- the chain begins with a span, or is none
+abbrev pub Begins : List Span → Option ℕ → Type 0
+Begins spans None = Unit {0}
+Begins spans (Some number) = number < length spans
+
+-- the first chain begins further ahead on the line than the second, or is none
+abbrev pub begins_ahead : List Span → Option ℕ → Option ℕ → Bool
+begins_ahead spans first None = false
+begins_ahead spans None (Some other) = true
+begins_ahead spans (Some number) (Some other) = nat_lt (span_at spans number).from (span_at spans other).from
+
+-- these two chains, the one that begins further behind first
+abbrev pub later_first : List Span → Option ℕ → Option ℕ → Option ℕ × Option ℕ
+later_first spans first second = if begins_ahead spans first second then (second, first) else (first, second)
+
+-- the lists of a line in spans
+pub record SpanLists : Type 0 where
+  pub spans : List Span
+  pub links : List (Option ℕ)
+  pub heads : List (Option ℕ)
+
+-- with a span at this number, and ahead of the chain of the place
+abbrev pub put : SpanLists → ℕ → ℕ → Span → SpanLists
+put a place number x = record {
+  spans = slice_set a.spans number x;
+  links = slice_set a.links number (link_at a.heads place);
+  heads = slice_set a.heads place (Some number);
+}
+
+-- with one span more, ahead of the chain of the place
+abbrev pub pushed : SpanLists → ℕ → Span → SpanLists
+pushed a place x = record {
+  spans = a.spans ++ x ∷ [];
+  links = a.links ++ link_at a.heads place ∷ [];
+  heads = slice_set a.heads place (Some (length a.spans));
+}
+
+-- with the parts of this span, of one of the two rights, ahead of the chains of the places to which they go
+abbrev pub span_dealt : SpanLists → Swap → ℕ → ℕ → ℕ → ℕ → SpanLists
+span_dealt a s recede rise number left =
+    if left == 0 then put a recede number (front_of (span_at a.spans number) (span_at a.spans number).cents s.recede)
+    else (if nat_le (span_at a.spans number).cents left then put a rise number (front_of (span_at a.spans number) (span_at a.spans number).cents s.rise)
+    else pushed (put a rise number (front_of (span_at a.spans number) left s.rise)) recede (back_of (span_at a.spans number) left s.recede))
+
+-- ---- lists of spans that stand for a line
+
+-- The lists have just these spans, which stand in a row, and for each place a chain of those of its right, the last one first. Each
+-- right has as many cents as it claims.
+pub record AreCut (a : SpanLists) (places : List Place) (row : List Span) : Type 0 where
+  pub in_row : StandInRow 0 row
+  pub as_many : length a.spans ≡ length row
+  pub as_many_links : length a.links ≡ length a.spans
+  pub as_many_heads : length a.heads ≡ length places
+  pub chains : (n : ℕ) (p : Place) → n < length places → p ≡ slice_index_or places n p → Linked a.spans a.links (link_at a.heads n) (last_first (is_span_of p.right) [] row)
+  pub owned : AllByRecursion (λ x. list_any (is_of x.right) places ≡ true) row
+  pub claims : (right : RightNo) → cents_of right (line_of_spans row) ≡ claim_of places right
