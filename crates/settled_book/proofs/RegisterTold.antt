@@ -1,11 +1,9 @@
 -- What the register of the one registrar tells, and the texts that are read of it.
 use Rattle.std.proofs.Common.{◌≡◌, List, None, Some, ap, option_map, refl, sym, subst, ◌∙◌}
-use Rattle.act_model.specs.Receiving.{IsJournal}
 use Rattle.act_model.specs.declared.receipts.Receipt.{Receipt}
 use Rattle.registry_http.specs.declared.routes.Route.{Route}
 use Rattle.registry_http.specs.declared.routes.Route.TheVariants as route
 use Rattle.folio_sections.specs.Entries.{at}
-use Rattle.folio_sections.specs.Held.{entries_at}
 use Rattle.kept_registers.specs.Kept.{Kept}
 use Rattle.registrar.specs.HasSettled.{IsRegisterOf, settled_first}
 use Rattle.registrar.specs.OpenFolios.{open_folios}

@@ -1,4 +1,5 @@
 //! A book with the register of its journal.
+//! Why so: docs/DECISIONS.md, "A register that is not there is made of the whole journal".
 ghost use Rattle.std.specs.Prelude.{◌≡◌, ◌↔◌, ◌+◌, ◌||◌, true, false, IsTrue, IsSomeAnd, IfOk, IfErr, OnOk, length, option_map};
 ghost use Rattle.gb_outside.specs.Faults.{Counts};
 ghost use Rattle.gb_outside.specs.Images.{Holds, Torn, Only, LeavesOnly};
