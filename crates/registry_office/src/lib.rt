@@ -11,6 +11,7 @@ mod top;
 mod words;
 
 pub use disk_settling::settle;
+pub use sample_journals::sample_journal;
 pub use statuses::Status;
 pub use taking::take;
 pub use top::run;
