@@ -17,7 +17,10 @@ PROMISES = checks.ROOT / "docs" / "promises.md"
 
 # No crate has more edits, nor have all of them together.
 MOST_OF_A_CRATE = 12
-MOST_OF_ALL = 220
+MOST_OF_ALL = 240
+
+# Libraries that stand ahead of those which will use them.
+NOT_USED_YET = ["settled_book"]
 
 # What tests are made of. No code outside tests uses it.
 MADE_FOR_TESTS = ["test_items", "test_registers"]
@@ -134,7 +137,7 @@ def check_crates(look, crates):
     of_tests = [crate for crate in crates if is_of_tests(crate)]
     used_elsewhere = {crate for user, used in uses.items() if user not in of_tests for crate in used}
     wanted = [crate for crate in crates if not is_program(crate) and crate not in [*MADE_FOR_TESTS, *of_tests]]
-    look.same("libraries that tests alone use", [crate for crate in wanted if crate not in used_elsewhere], [])
+    look.same("libraries that tests alone use", [crate for crate in wanted if crate not in used_elsewhere], NOT_USED_YET)
     for made in MADE_FOR_TESTS:
         users = [crate for crate, used in uses.items() if made in used and crate not in [*MADE_FOR_TESTS, *of_tests]]
         look.same(f"crates that use {made} and have other code than tests", users, [])
