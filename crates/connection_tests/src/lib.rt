@@ -1,0 +1,5 @@
+//! Tests of settled_book, by what it exports.
+#![tactic(auto)]
+
+#[cfg(test)]
+mod reading_tests;

@@ -1,0 +1,4 @@
+-- What contracts cite.
+pub mod SettledBookState
+pub mod Texts
+pub mod inner

@@ -1,0 +1,20 @@
+-- What is seen of a book with the register of its journal.
+use Rattle.std.specs.Prelude.{◌≤◌, List, length, Option, IfSome}
+use Rattle.act_model.specs.declared.receipts.Receipt.{Receipt}
+use Rattle.receipt_journal.specs.BookState.{BookState}
+use Rattle.registrar.specs.HasSettled.{HasSettled}
+use Rattle.registrar.specs.RegisterState.{RegisterState}
+
+-- the book, and the register of its first receipts; none where none is settled yet, or where no memory was found to go on with it
+pub record SettledBookState : Type 0 where
+  pub book : BookState
+  pub register : Option RegisterState
+
+-- The register is that of the one registrar behind the first receipts of a journal, all of them or fewer.
+pub record HasSettledFirst (journal : List Receipt) (register : RegisterState) : Type 0 where
+  pub settled : HasSettled journal register
+  pub few : length register.verdicts ≤ length journal
+
+-- the same of a register that may not be there
+abbrev pub MayHaveSettled : List Receipt → Option RegisterState → Type 0
+MayHaveSettled journal register = IfSome register (HasSettledFirst journal)

@@ -1,0 +1,2 @@
+-- Definitions that only private clauses and proofs use.
+pub mod TextsRead
