@@ -1,12 +1,13 @@
 -- What a connection writes and leaves.
-use Rattle.std.specs.Prelude.{◌≡◌, ◌⊎◌, ℕ, ◌+◌, ◌≤◌, Bool, true, false, List, [], ◌∷◌, ◌++◌, AllZip, length, map, take, Option, Some}
+use Rattle.std.specs.Prelude.{◌≡◌, ◌⊎◌, ℕ, ◌+◌, ◌≤◌, ◌==◌, ◌||◌, Bool, true, false, List, [], ◌∷◌, ◌++◌, length, map, take, Option, Some}
+use Rattle.std.specs.List.{AllZip}
 use Rattle.std.specs.Io.KnownBytes.{Appends}
 use Rattle.gb_base.specs.DayMinute.{DayMinute}
 use Rattle.intake.specs.Grown.{GrownFrom, IsFront}
 use Rattle.intake.specs.Requests.{Held}
 use Rattle.receipt_journal.specs.Standing.{StandsForJournal}
 use Rattle.connections.specs.Fates.{Answered}
-use Rattle.connections.specs.Replies.{Reply, bytes_of, out_of_memory}
+use Rattle.connections.specs.Replies.{ReplyParts, bytes_of, out_of_memory}
 use Rattle.connections.specs.Turns.{Turn, Taken, Answering, Refusing, IsOf, answer_in, held_behind, replies_in}
 
 -- the turn as it is where nothing fails in it
@@ -24,7 +25,7 @@ pub record IsLeftIn (held : Held) (turns : List Taken) (file : List ℕ) : Type 
   pub left : GrownFrom (held_behind held done).journal (held_behind held (done ++ map unfailed next)).journal file
 
 -- the connection has no more to say, as no memory was found for what comes next; or it said all
-abbrev pub IsClosing : List Reply → Type 0
+abbrev pub IsClosing : List ReplyParts → Type 0
 IsClosing closing = (closing ≡ []) ⊎ (closing ≡ out_of_memory ∷ [])
 
 -- How far the turns of a connection were taken: the first of them were replied to whole, and at most one more was taken up, of whose reply a front stands written. Where no memory was found for what comes next, one reply says so, and ends the connection.
@@ -44,5 +45,5 @@ abbrev pub held_taken : (held : Held) → {turns : List Turn} → {written0 writ
 held_taken held takes = held_behind held (takes.replied ++ takes.begun)
 
 -- the reply tells of a journal that is on the disk: what was received, or a text that was read
-abbrev pub tells_of_disk : Reply → Bool
+abbrev pub tells_of_disk : ReplyParts → Bool
 tells_of_disk reply = reply.status == 200 || reply.status == 201

@@ -3,15 +3,15 @@ use Rattle.std.specs.Prelude.{◌≡◌, ℕ, ◌-◌, ◌==◌, Bool, true, fal
 use Rattle.intake.specs.Requests.{Held}
 use Rattle.registry_http.specs.RequestParts.{RequestParts}
 use Rattle.registry_http.specs.Requests.{AtFront, Whole, Nothing, Cut, HeadFault, BodyTooLong}
-use Rattle.connections.specs.Answers.{Answer, only}
+use Rattle.connections.specs.Answers.{Answer, answer, only}
 use Rattle.connections.specs.Asking.{Asked, Asks}
 use Rattle.connections.specs.Fates.{Fate, answer_by}
-use Rattle.connections.specs.Replies.{Reply, bad_request, body_too_long}
+use Rattle.connections.specs.Replies.{ReplyParts, bad_request, body_too_long}
 
 -- what a reply is owed to: a request, or bytes that end the connection with a refusal
 pub data Turn : Type 0 where
   Request : RequestParts → Turn
-  Refusal : Reply → Turn
+  Refusal : ReplyParts → Turn
 
 -- what stands behind the last request of a link may be refused
 abbrev pub refusals : AtFront → List Turn
@@ -30,7 +30,7 @@ turns left (request ∷ requests) end =
 -- a turn that was taken: of a request, what it asks for and what became of it
 pub data Taken : Type 0 where
   Answering : RequestParts → Asked → Fate → Taken
-  Refusing : Reply → Taken
+  Refusing : ReplyParts → Taken
 
 -- it is this turn
 abbrev pub IsOf : Turn → Taken → Type 0
@@ -41,11 +41,11 @@ IsOf (Refusal reply) (Answering request asked fate) = ⊥
 
 -- the reply of a turn, and what is held after it
 abbrev pub answer_in : Held → Taken → Answer
-answer_in held (Answering request asked fate) = answer_by fate held request.body asked
+answer_in held (Answering request asked fate) = answer_by fate held (answer held request.body asked)
 answer_in held (Refusing reply) = only held reply
 
 -- the replies of turns, one after the other
-abbrev pub replies_in : Held → List Taken → List Reply
+abbrev pub replies_in : Held → List Taken → List ReplyParts
 replies_in held [] = []
 replies_in held (turn ∷ turns) = (answer_in held turn).reply ∷ replies_in (answer_in held turn).held turns
 
