@@ -23,7 +23,7 @@ use act_model::Item;
 use gb_outside::{Clock, Disk};
 use intake_requests::SenderReference;
 use receipt_journal::BookFault;
-use registry_http::{Request, Route, RouteFault, route};
+use registry_http::{Request, Route, route};
 use settled_book::SettledBook;
 use std::alloc::Global;
 use std::marker::Model;
@@ -53,6 +53,19 @@ impl Clerk {
         Clerk { book: None }
     }
 
+    /// Takes out the book that is open, if it works.
+    fn take_working(&mut self) -> Option<SettledBook>
+        ensures value { result ≡ working self.old }
+        ensures taken { self.new ≡ None }
+    {
+        let book = self.book.take()?;
+        if book.book().failed() {
+            None
+        } else {
+            Some(book)
+        }
+    }
+
     /// Takes out the book, which works; where none is open, or the one that is has failed, it is
     /// opened.
     fn take_book<D: Disk>(&mut self, alloc: Global, disk: &mut D) -> Result<SettledBook, BookFault>
@@ -68,16 +81,10 @@ impl Clerk {
         ensures journal { IsTrue D.tells → working self.old ≡ None → OnOk result ((journal : List Receipt) × StandsForJournal (D.reads disk.old) journal) }
         ensures cause { Counts (D.faults disk.old) (D.faults disk.new) (book_opening_disk_failed result) }
     {
-        match self.book.take() {
-            Some(book) => {
-                if book.book().failed() {
-                    SettledBook::open(alloc, disk)
-                } else {
-                    Ok(book)
-                }
-            }
-            None => SettledBook::open(alloc, disk),
+        if let Some(book) = self.take_working() {
+            return Ok(book);
         }
+        SettledBook::open(alloc, disk)
     }
 
     /// Answers a request that reads a text.
@@ -87,14 +94,13 @@ impl Clerk {
             → EndsBy D.reads D.images D.moment D.since disk.old disk.new held (only held (read_reply held.journal route)) result self.new known }
         ensures serves { Serves D.tells self.old self.new (D.reads disk.old) (D.reads disk.new) (D.images disk.new) (D.faults disk.old) (D.faults disk.new) result }
     {
-        match self.take_book(alloc, disk) {
-            Ok(mut book) => {
-                let text = book.text(alloc, route);
-                self.book = Some(book);
-                Reply::read(text)
-            }
-            Err(fault) => Reply::unopened(&fault),
-        }
+        let mut book = match self.take_book(alloc, disk) {
+            Ok(book) => book,
+            Err(fault) => return Reply::unopened(&fault),
+        };
+        let text = book.text(alloc, route);
+        self.book = Some(book);
+        Reply::read(text)
     }
 
     /// Answers a request that an item be received.
@@ -112,14 +118,13 @@ impl Clerk {
             → EndsBy D.reads D.images D.moment D.since disk.old disk.new held (item_answer held from item.now) result self.new (C.ticks clock.new) }
         ensures serves { Serves D.tells self.old self.new (D.reads disk.old) (D.reads disk.new) (D.images disk.new) (D.faults disk.old) (D.faults disk.new) result }
     {
-        match self.take_book(alloc, disk) {
-            Ok(mut book) => {
-                let answer = receive(&mut book, alloc, disk, clock, from, item);
-                self.book = Some(book);
-                Reply::received(alloc, answer)
-            }
-            Err(fault) => Reply::unopened(&fault),
-        }
+        let mut book = match self.take_book(alloc, disk) {
+            Ok(book) => book,
+            Err(fault) => return Reply::unopened(&fault),
+        };
+        let answer = receive(&mut book, alloc, disk, clock, from, item);
+        self.book = Some(book);
+        Reply::received(alloc, answer)
     }
 
     /// Answers a POST by its body.
@@ -136,13 +141,12 @@ impl Clerk {
             → EndsBy D.reads D.images D.moment D.since disk.old disk.new held (body_answer held (item_of body.now)) result self.new (C.ticks clock.new) }
         ensures serves { Serves D.tells self.old self.new (D.reads disk.old) (D.reads disk.new) (D.images disk.new) (D.faults disk.old) (D.faults disk.new) result }
     {
-        match read_item(alloc, body) {
-            Ok((sender, reference, item)) => {
-                let from = SenderReference { sender, reference };
-                self.post_item(alloc, disk, clock, from, &item)
-            }
-            Err(fault) => Reply::malformed(alloc, &fault),
-        }
+        let (sender, reference, item) = match read_item(alloc, body) {
+            Ok(found) => found,
+            Err(fault) => return Reply::malformed(alloc, &fault),
+        };
+        let from = SenderReference { sender, reference };
+        self.post_item(alloc, disk, clock, from, &item)
     }
 
     /// Answers a request that asks for a route.
@@ -188,11 +192,10 @@ impl Clerk {
         ensures had_none { result.status ≡ 500 → working self.old ≡ None }
         ensures not_opened { IsTrue D.tells → working self.old ≡ None → ((journal : List Receipt) → StandsForJournal (D.reads disk.old) journal → ⊥) → tells_of_journal result ≡ false }
     {
-        match route(alloc, request.method(), request.path()) {
-            Ok(route) => self.answer_route(alloc, disk, clock, route, request.body()),
-            Err(RouteFault::NotFound) => Reply::not_found(),
-            Err(RouteFault::WrongMethod) => Reply::wrong_method(),
-            Err(RouteFault::Memory) => Reply::out_of_memory(),
-        }
+        let route = match route(alloc, request.method(), request.path()) {
+            Ok(route) => route,
+            Err(fault) => return Reply::unrouted(fault),
+        };
+        self.answer_route(alloc, disk, clock, route, request.body())
     }
 }

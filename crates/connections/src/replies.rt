@@ -2,13 +2,14 @@
 ghost use Rattle.std.specs.Prelude.{◌≡◌, ◌⊎◌, ◌++◌, IfOk, OnErr, codes, option_map, string_bytes};
 ghost use Rattle.connections.specs.Answers.{malformed, text_reply};
 ghost use Rattle.connections.specs.Replies.{disk_failed, not_a_journal, not_found, out_of_memory, wrong_method};
-ghost use Rattle.connections.specs.inner.Taking.{IsReplyTo, opening_reply};
+ghost use Rattle.connections.specs.inner.Taking.{IsReplyTo, opening_reply, unrouted_reply};
 
 use crate::bodies::Body;
 use act_json::LineFault;
 use gb_base::NoMemory;
 use http::StatusCode;
 use receipt_journal::{BookFault, Received};
+use registry_http::RouteFault;
 use std::alloc::Global;
 use std::marker::Model;
 
@@ -47,14 +48,14 @@ impl Reply {
     }
 
     /// No route has the path, or nothing of that name is there.
-    pub(crate) fn not_found() -> Reply
+    fn not_found() -> Reply
         ensures { result ≡ not_found }
     {
         Reply::words(StatusCode::NOT_FOUND, "not found\n")
     }
 
     /// A route has the path, with another method.
-    pub(crate) fn wrong_method() -> Reply
+    fn wrong_method() -> Reply
         ensures { result ≡ wrong_method }
     {
         Reply::words(StatusCode::METHOD_NOT_ALLOWED, "method not allowed\n")
@@ -75,10 +76,21 @@ impl Reply {
     }
 
     /// No memory was found. This reply wants none.
-    pub(crate) fn out_of_memory() -> Reply
+    fn out_of_memory() -> Reply
         ensures { result ≡ out_of_memory }
     {
         Reply::words(StatusCode::INSUFFICIENT_STORAGE, "insufficient storage\n")
+    }
+
+    /// The reply to a request that has no route.
+    pub(crate) fn unrouted(fault: RouteFault) -> Reply
+        ensures { result ≡ unrouted_reply fault }
+    {
+        match fault {
+            RouteFault::NotFound => Reply::not_found(),
+            RouteFault::WrongMethod => Reply::wrong_method(),
+            RouteFault::Memory => Reply::out_of_memory(),
+        }
     }
 
     /// The reply to a body that is no item.

@@ -1,10 +1,9 @@
--- What is done for a reply: a book is taken, and an item is received.
-use Rattle.std.specs.Prelude.{◌≡◌, ◌⊎◌, ℕ, Bool, true, false, List, Option, Some, Result, Ok, Err, IfOk, if◌then◌else◌}
+-- What is done for a reply: a route is found, a book is taken, and an item is received.
+use Rattle.std.specs.Prelude.{◌≡◌, ◌⊎◌, ℕ, Bool, true, false, List, Option, Some, Result, Ok, Err, IfOk}
 use Rattle.gb_base.specs.DayMinute.{DayMinute}
 use Rattle.gb_outside.specs.Images.{LeavesOnly}
 use Rattle.act_model.specs.declared.items.Item.{Item}
 use Rattle.act_model.specs.declared.receipts.Receipt.{Receipt}
-use Rattle.receipt_journal.specs.Receiving.{Answers, is_received, receiving_disk_failed}
 use Rattle.receipt_journal.specs.Standing.{StandsForJournal}
 use Rattle.receipt_journal.specs.declared.faults.BookFault.{BookFault}
 use Rattle.receipt_journal.specs.declared.faults.BookFault.TheVariants as fault
@@ -13,11 +12,21 @@ use Rattle.receipt_journal.specs.declared.received.Received.TheVariants as answe
 use Rattle.intake.specs.Grown.{GrownFrom}
 use Rattle.intake.specs.Requests.{Held, is_fault}
 use Rattle.intake_requests.specs.declared.requests.SenderReference.{SenderReference}
+use Rattle.registry_http.specs.declared.finding.RouteFault.{RouteFault}
+use Rattle.registry_http.specs.declared.finding.RouteFault.TheVariants as routing
 use Rattle.settled_book.specs.SettledBookState.{SettledBookState}
 use Rattle.connections.specs.Answers.{item_answer, item_reply, received_by_clock}
 use Rattle.connections.specs.Fates.{Failure, DiskFailed, NoJournal, OutOfMemory, failure_reply}
 use Rattle.connections.specs.Holding.{IsOpenOn}
-use Rattle.connections.specs.Replies.{ReplyParts, disk_failed, out_of_memory}
+use Rattle.connections.specs.Replies.{ReplyParts, disk_failed, not_found, out_of_memory, wrong_method}
+
+-- ---- a route is found
+
+-- the reply to a request that has no route
+abbrev pub unrouted_reply : RouteFault → ReplyParts
+unrouted_reply routing.NotFound = not_found
+unrouted_reply routing.WrongMethod = wrong_method
+unrouted_reply routing.Memory = out_of_memory
 
 -- ---- a book is taken
 
@@ -40,19 +49,15 @@ pub record Finds {D : Type 0} (reads : D → List ℕ) (images : D → List ℕ 
 
 -- ---- an item is received
 
--- the journal behind an answer
-abbrev pub journal_by : Received → Held → SenderReference → Item → List Receipt
-journal_by answer held from item = if is_received answer then (item_answer held from item).held.journal else held.journal
-
 -- An item was received by a book that stood on the disk with what is held, and answered so.
 pub record Receives {D : Type 0} (reads : D → List ℕ) (images : D → List ℕ → Type 0) (moment : D → ℕ) (since : D → ℕ → List ℕ → Type 0) (old new : D) (held : Held) (from : SenderReference) (item : Item)
     (answer : Received) (settled : SettledBookState) (known : Option (List DayMinute)) : Type 0 where
-  pub expected : Answers (received_by_clock held from item) answer
-  pub refused : is_received (received_by_clock held from item) ≡ false → (item_answer held from item).held.journal ≡ held.journal
+  pub expected : is_fault answer ≡ false → answer ≡ received_by_clock held from item
   pub clock : known ≡ Some (item_answer held from item).held.ticks
   pub file : StandsForJournal (reads new) held.journal ⊎ StandsForJournal (reads new) (item_answer held from item).held.journal
   pub left : LeavesOnly moment since old new (GrownFrom held.journal (item_answer held from item).held.journal)
-  pub stands : receiving_disk_failed answer ≡ false → IsOpenOn settled (reads new) (images new) (journal_by answer held from item)
+  pub answered : is_fault answer ≡ false → IsOpenOn settled (reads new) (images new) (item_answer held from item).held.journal
+  pub unreceived : answer ≡ answers.Memory → IsOpenOn settled (reads new) (images new) held.journal
 
 -- the reply to an item by its answer
 abbrev pub received_reply : Received → ReplyParts

@@ -1,0 +1,27 @@
+-- What is held behind an answer begins with the journal that was held.
+use Rattle.std.proofs.Common.{List, ℕ, Result, Ok, Err, [], ◌∷◌, None}
+use Rattle.act_json.specs.Lines.{item_of}
+use Rattle.act_json.specs.declared.lines.LineFault.{LineFault}
+use Rattle.act_model.specs.declared.items.Item.{Item}
+use Rattle.intake.specs.Grown.{IsFront}
+use Rattle.intake.specs.Requests.{Held, OnDisk}
+use Rattle.intake.proofs.Durable.{front_refl}
+use Rattle.intake.proofs.Replies.{grows}
+use Rattle.intake_requests.specs.declared.requests.Request.TheVariants.{Receive}
+use Rattle.intake_requests.specs.declared.requests.SenderReference.{SenderReference}
+use Rattle.registry_http.specs.declared.routes.Route.TheVariants as route
+use Rattle.connections.specs.Answers.{answer, body_answer, item_answer}
+use Rattle.connections.specs.Asking.{Asked, AskedFor, NoRoute, WrongMethod}
+
+pub item_grows : (held : Held) (from : SenderReference) (item : Item) → IsFront held.journal (item_answer held from item).held.journal
+item_grows held from item = grows OnDisk held (Receive None from item ∷ [])
+
+pub body_grows : (held : Held) (read : Result (ℕ × ℕ × Item) LineFault) → IsFront held.journal (body_answer held read).held.journal
+body_grows held (Ok found) = item_grows held (record { sender = found.0; reference = found.1 }) found.2
+body_grows held (Err fault) = front_refl held.journal
+
+pub answer_grows : (held : Held) (body : List ℕ) (asked : Asked) → IsFront held.journal (answer held body asked).held.journal
+answer_grows held body (AskedFor route.Post) = body_grows held (item_of body)
+answer_grows held body (AskedFor other) = front_refl held.journal
+answer_grows held body NoRoute = front_refl held.journal
+answer_grows held body WrongMethod = front_refl held.journal
