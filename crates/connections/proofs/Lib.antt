@@ -1,6 +1,7 @@
 -- Lemmas.
-pub mod Answered
 pub mod AlwaysAsked
+pub mod Answered
+pub mod BookEnds
 pub mod EndsBy
 pub mod Grows
 pub mod ItemEnds

@@ -1,5 +1,5 @@
 -- What a reply is by the book and the disk alone.
-use Rattle.std.proofs.Common.{◌≡◌, ◌⊎◌, inl, inr, ⊎_elim, ℕ, ◌==◌, Bool, true, false, List, Option, Some, None, Err, IfErr, IfSome, refl, sym, ◌∙◌, ap, subst, IsTrue, eq-eqb}
+use Rattle.std.proofs.Common.{◌≡◌, ◌⊎◌, inl, inr, ⊎_elim, ℕ, ◌==◌, Bool, true, false, List, Option, Some, None, Err, IfErr, IfSome, refl, sym, ◌∙◌, ap, subst, IsTrue, arith, eq-eqb}
 use Rattle.gb_outside.specs.Faults.{Counts}
 use Rattle.act_model.specs.declared.receipts.Receipt.{Receipt}
 use Rattle.intake.specs.Requests.{is_fault}
@@ -33,10 +33,10 @@ counts_still count = record { never_falls = omega arith; failed_rose = λ failed
 module _ (tells : Bool) (old : Option SettledBookState) (file reads : List ℕ) (images : List ℕ → Type 0) (faults0 faults1 : ℕ) where
   unopened_by : (f : BookFault) → (IsTrue tells → BookRefuses file f) → working old ≡ None → Counts faults0 faults1 (book_opening_disk_failed {A = SettledBookState} (Err f))
       → Serves tells old None file reads images faults0 faults1 (opening_reply f)
-  unopened_by fault.Disk refuses none counts = record { stands_open = λ told. tt; disk = counts; no_journal = λ told is. absurd cc; had_none = λ is. none; not_opened = λ told was no_file. refl }
+  unopened_by fault.Disk refuses none counts = record { stands_open = λ told. tt; disk = counts; no_journal = λ told is. never_true (503 == 500) _ refl (eq-eqb 503 500 is); had_none = λ is. none; not_opened = λ told was no_file. refl }
   unopened_by fault.NotJournal refuses none counts = record { stands_open = λ told. tt; disk = counts; no_journal = λ told is. inl (refuses told); had_none = λ is. none; not_opened = λ told was no_file. refl }
   unopened_by (fault.BadRecord at) refuses none counts = record { stands_open = λ told. tt; disk = counts; no_journal = λ told is. inr (at, refuses told); had_none = λ is. none; not_opened = λ told was no_file. refl }
-  unopened_by fault.Memory refuses none counts = record { stands_open = λ told. tt; disk = counts; no_journal = λ told is. absurd cc; had_none = λ is. none; not_opened = λ told was no_file. refl }
+  unopened_by fault.Memory refuses none counts = record { stands_open = λ told. tt; disk = counts; no_journal = λ told is. never_true (507 == 500) _ refl (eq-eqb 507 500 is); had_none = λ is. none; not_opened = λ told was no_file. refl }
 
   pub unopened : (reply : ReplyParts) (new : Option SettledBookState) (f : BookFault) → reply ≡ opening_reply f → new ≡ None → (IsTrue tells → BookRefuses file f) → working old ≡ None
       → Counts faults0 faults1 (book_opening_disk_failed {A = SettledBookState} (Err f)) → Serves tells old new file reads images faults0 faults1 reply
