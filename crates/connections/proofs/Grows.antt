@@ -1,5 +1,5 @@
 -- What is held behind an answer begins with the journal that was held.
-use Rattle.std.proofs.Common.{List, ℕ, Result, Ok, Err, [], ◌∷◌, None}
+use Rattle.std.proofs.Common.{◌≡◌, refl, List, ℕ, Result, Ok, Err, [], ◌∷◌, None}
 use Rattle.act_json.specs.Lines.{item_of}
 use Rattle.act_json.specs.declared.lines.LineFault.{LineFault}
 use Rattle.act_model.specs.declared.items.Item.{Item}
@@ -9,8 +9,9 @@ use Rattle.intake.proofs.Durable.{front_refl}
 use Rattle.intake.proofs.Replies.{grows}
 use Rattle.intake_requests.specs.declared.requests.Request.TheVariants.{Receive}
 use Rattle.intake_requests.specs.declared.requests.SenderReference.{SenderReference}
+use Rattle.registry_http.specs.declared.routes.Route.{Route}
 use Rattle.registry_http.specs.declared.routes.Route.TheVariants as route
-use Rattle.connections.specs.Answers.{answer, body_answer, item_answer}
+use Rattle.connections.specs.Answers.{answer, body_answer, item_answer, only, read_reply}
 use Rattle.connections.specs.Asking.{Asked, AskedFor, NoRoute, WrongMethod}
 
 pub item_grows : (held : Held) (from : SenderReference) (item : Item) → IsFront held.journal (item_answer held from item).held.journal
@@ -25,3 +26,13 @@ answer_grows held body (AskedFor route.Post) = body_grows held (item_of body)
 answer_grows held body (AskedFor other) = front_refl held.journal
 answer_grows held body NoRoute = front_refl held.journal
 answer_grows held body WrongMethod = front_refl held.journal
+
+-- every route but that which receives reads a text
+pub answer_reads : (held : Held) (body : List ℕ) (asked : Route) → (asked ≡ route.Post → ⊥) → answer held body (AskedFor asked) ≡ only held (read_reply held.journal asked)
+answer_reads held body route.Post other = absurd (other refl)
+answer_reads held body (route.Receipt n) other = refl
+answer_reads held body (route.Folio f) other = refl
+answer_reads held body (route.Ranks f) other = refl
+answer_reads held body (route.Plan n) other = refl
+answer_reads held body (route.PlanCsv n) other = refl
+answer_reads held body route.Report other = refl

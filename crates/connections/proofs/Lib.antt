@@ -8,3 +8,4 @@ pub mod ItemEnds
 pub mod ReceivedItems
 pub mod Served
 pub mod TakenBooks
+pub mod Unbegun
