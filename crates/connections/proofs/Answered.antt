@@ -1,5 +1,5 @@
 -- A request is answered: what it asks for, and how answering it ends.
-use Rattle.std.proofs.Common.{◌≡◌, ◌⊎◌, ◌≤◌, ⊎_elim, ℕ, true, List, Option, Some, None, IsSome, IfSome, refl, sym, ◌∙◌, ap, subst}
+use Rattle.std.proofs.Common.{◌≤◌, ⊎_elim, ℕ, List, Option, Some, None, IsSome, IfSome, subst}
 use Rattle.gb_base.specs.DayMinute.{DayMinute}
 use Rattle.act_model.specs.declared.receipts.Receipt.{Receipt}
 use Rattle.intake.specs.Grown.{GrownFrom, IsFront}
@@ -10,10 +10,9 @@ use Rattle.receipt_journal.specs.Standing.{StandsForJournal}
 use Rattle.receipt_journal.proofs.Standings.{journal_once}
 use Rattle.registry_http.specs.RequestParts.{RequestParts}
 use Rattle.settled_book.specs.SettledBookState.{SettledBookState}
-use Rattle.connections.specs.Answering.{AllBegin, AnswersRequest, is_from_disk}
+use Rattle.connections.specs.Answering.{AllBegin, AnswersRequest}
 use Rattle.connections.specs.Answers.{answer}
 use Rattle.connections.specs.Asking.{Asked, Asks}
-use Rattle.connections.specs.Fates.{answer_by}
 use Rattle.connections.specs.Holding.{Begins, Holds, IsOpenOn, working}
 use Rattle.connections.specs.Replies.{ReplyParts}
 use Rattle.connections.specs.inner.Ends as ends

@@ -1,5 +1,5 @@
 -- How a request ends that takes the book: it was not opened, or a text was read of it.
-use Rattle.std.proofs.Common.{◌≡◌, ◌⊎◌, ℕ, ◌==◌, Bool, true, false, List, Option, Some, None, Result, Ok, Err, IfOk, OnErr, IsSome, option_map, refl, sym, ◌∙◌, ap, subst}
+use Rattle.std.proofs.Common.{◌≡◌, ℕ, ◌==◌, false, List, Option, Some, None, Result, Ok, Err, IfOk, OnErr, option_map, sym, ◌∙◌, ap, subst}
 use Rattle.gb_base.specs.DayMinute.{DayMinute}
 use Rattle.act_model.specs.declared.receipts.Receipt.{Receipt}
 use Rattle.intake.specs.Grown.{IsDurable, IsFront}
@@ -10,13 +10,14 @@ use Rattle.receipt_journal.specs.declared.faults.BookFault.{BookFault}
 use Rattle.registry_http.specs.declared.routes.Route.{Route}
 use Rattle.settled_book.specs.SettledBookState.{SettledBookState}
 use Rattle.settled_book.specs.Texts.{text_of}
+use Rattle.connections.specs.Answering.{is_refusal}
 use Rattle.connections.specs.Answers.{Answer, only, read_reply, text_reply}
 use Rattle.connections.specs.Fates.{OutOfMemory}
-use Rattle.connections.specs.Holding.{Holds, IsOpenOn, working}
-use Rattle.connections.specs.Replies.{ReplyParts, out_of_memory}
+use Rattle.connections.specs.Holding.{IsOpenOn}
+use Rattle.connections.specs.Replies.{ReplyParts, is_reply_status, out_of_memory}
 use Rattle.connections.specs.inner.Ends as ends
 use Rattle.connections.specs.inner.Taking.{Finds, failure_of, opening_reply}
-use Rattle.connections.proofs.EndsBy.{LeavesHeld, ends_failed, ends_only}
+use Rattle.connections.proofs.EndsBy.{ends_failed, ends_only}
 use Rattle.connections.proofs.ItemEnds.{holds_open, some_works}
 use Rattle.connections.proofs.Served.{HasStatus}
 
@@ -31,9 +32,9 @@ same_book settled before reads images journal same on = record {
 -- ---- the reply to a read
 
 pub read_status : {V E : Type 0} (items : V → List ℕ) (text : Result (Option V) E) (reply : ReplyParts) → IfOk text (λ found. reply ≡ text_reply (option_map items found)) → OnErr text (reply ≡ out_of_memory) → HasStatus reply false
-read_status items (Ok (Some v)) reply found fault = record { disk = ap (λ (r : ReplyParts). r.status == 503) found; no_journal = ap (λ (r : ReplyParts). r.status == 500) found }
-read_status items (Ok None) reply found fault = record { disk = ap (λ (r : ReplyParts). r.status == 503) found; no_journal = ap (λ (r : ReplyParts). r.status == 500) found }
-read_status items (Err e) reply found fault = record { disk = ap (λ (r : ReplyParts). r.status == 503) fault; no_journal = ap (λ (r : ReplyParts). r.status == 500) fault }
+read_status items (Ok (Some v)) reply found fault = record { disk = ap (λ (r : ReplyParts). r.status == 503) found; no_journal = ap (λ (r : ReplyParts). r.status == 500) found; known = ap (λ (r : ReplyParts). is_reply_status r.status) found; late = ap is_refusal found }
+read_status items (Ok None) reply found fault = record { disk = ap (λ (r : ReplyParts). r.status == 503) found; no_journal = ap (λ (r : ReplyParts). r.status == 500) found; known = ap (λ (r : ReplyParts). is_reply_status r.status) found; late = ap is_refusal found }
+read_status items (Err e) reply found fault = record { disk = ap (λ (r : ReplyParts). r.status == 503) fault; no_journal = ap (λ (r : ReplyParts). r.status == 500) fault; known = ap (λ (r : ReplyParts). is_reply_status r.status) fault; late = ap is_refusal fault }
 
 module _ {D : Type 0} (reads : D → List ℕ) (images : D → List ℕ → Type 0) (moment : D → ℕ) (since : D → ℕ → List ℕ → Type 0) (old new : D) (held : Held) (known : Option (List DayMinute)) (clock : known ≡ Some held.ticks) where
   pub ends_unopened : (wanted : Answer) (f : BookFault) (reply : ReplyParts) (at_hand : Option SettledBookState) → reply ≡ opening_reply f → at_hand ≡ None

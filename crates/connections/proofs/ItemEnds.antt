@@ -1,10 +1,9 @@
 -- How receiving an item ends, by its answer.
-use Rattle.std.proofs.Common.{◌≡◌, ◌⊎◌, inl, inr, ⊎_elim, ℕ, Bool, true, false, List, Option, Some, None, IsSome, IfSome, is_some, refl, sym, ◌∙◌, ap, subst}
+use Rattle.std.proofs.Common.{◌≡◌, ◌⊎◌, inl, inr, ℕ, true, false, List, Option, Some, IsSome, IfSome, is_some, refl, sym, ◌∙◌, ap, subst}
 use Rattle.gb_base.specs.DayMinute.{DayMinute}
 use Rattle.gb_outside.specs.Images.{LeavesOnly}
 use Rattle.gb_outside.proofs.Moments.{followed, weakened}
 use Rattle.act_model.specs.declared.items.Item.{Item}
-use Rattle.act_model.specs.declared.receipts.Receipt.{Receipt}
 use Rattle.intake.specs.Grown.{GrownFrom}
 use Rattle.intake.specs.Requests.{Held, holding, is_fault}
 use Rattle.intake_requests.specs.declared.requests.SenderReference.{SenderReference}
@@ -17,7 +16,7 @@ use Rattle.connections.specs.Answering.{is_from_disk}
 use Rattle.connections.specs.Answers.{item_answer, item_reply}
 use Rattle.connections.specs.Fates.{DiskFailed, OutOfMemory, Answered, Failed, Received as IsReceived, Stamped}
 use Rattle.connections.specs.Holding.{Holds, IsOpenOn, working}
-use Rattle.connections.specs.Replies.{ReplyParts, out_of_memory}
+use Rattle.connections.specs.Replies.{ReplyParts}
 use Rattle.connections.specs.inner.Ends as ends
 use Rattle.connections.specs.inner.Taking.{IsReplyTo, Receives, received_reply}
 use Rattle.connections.proofs.EndsBy.{LeavesHeld, leaves_grown, not_from_disk}

@@ -1,5 +1,5 @@
 -- What receiving an item does to what is held.
-use Rattle.std.proofs.Common.{◌≡◌, ◌⊎◌, ◌≤◌, inl, inr, ℕ, Bool, true, false, cond, List, [], ◌∷◌, ◌++◌, Option, Some, None, refl, sym, ◌∙◌, ap, subst}
+use Rattle.std.proofs.Common.{◌≡◌, ◌⊎◌, ◌≤◌, inl, inr, ℕ, Bool, true, false, cond, List, [], ◌∷◌, ◌++◌, Option, Some, refl, sym, ◌∙◌, ap, subst}
 use Rattle.gb_base.specs.DayMinute.{DayMinute}
 use Rattle.gb_outside.specs.Images.{LeavesOnly}
 use Rattle.gb_outside.specs.Ticks.{Ticks}

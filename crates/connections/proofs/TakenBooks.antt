@@ -1,6 +1,5 @@
 -- What taking the book finds, whether it is at hand or has to be opened.
-use Rattle.std.proofs.Common.{◌≡◌, ◌⊎◌, inl, inr, ⊎_elim, ℕ, Bool, true, false, cond, List, Option, Some, None, Result, Ok, Err, IfOk, IfSome, OnOk, refl, sym, ◌∙◌, ap, subst, IsTrue}
-use Rattle.gb_outside.specs.Images.{LeavesOnly}
+use Rattle.std.proofs.Common.{◌≡◌, ◌⊎◌, inl, inr, ⊎_elim, ℕ, Bool, true, false, cond, List, Option, Some, None, Result, Ok, Err, IfOk, IfSome, OnOk, refl, subst}
 use Rattle.gb_outside.proofs.Moments.{followed, weakened}
 use Rattle.act_model.specs.declared.receipts.Receipt.{Receipt}
 use Rattle.journal_disk.specs.Opening.{AnswersSynced, IsKept, SyncsFirst}
@@ -11,7 +10,7 @@ use Rattle.receipt_journal.specs.Standing.{AreRecordsTo, StandsForJournal}
 use Rattle.receipt_journal.specs.declared.faults.BookFault.{BookFault}
 use Rattle.receipt_journal.proofs.Standings.{journal_once, kept_frames, stands_by_frames}
 use Rattle.settled_book.specs.SettledBookState.{SettledBookState}
-use Rattle.connections.specs.Holding.{IsOpenOn, StandsOpen, working}
+use Rattle.connections.specs.Holding.{IsOpenOn, working}
 use Rattle.connections.specs.inner.Taking.{Finds}
 use Rattle.connections.proofs.EndsBy.{LeavesHeld, leaves_now}
 

@@ -1,5 +1,5 @@
 -- How a request ends that calls no disk: it has no route, its body is no item, or no memory was found ahead of the book.
-use Rattle.std.proofs.Common.{◌≡◌, ◌≢◌, ◌⊎◌, inl, inr, ℕ, ◌==◌, Bool, true, false, List, Option, Result, Ok, Err, refl, sym, ◌∙◌, ap, subst}
+use Rattle.std.proofs.Common.{◌≡◌, ◌≢◌, ◌⊎◌, inl, inr, ℕ, false, List, Option, Result, Err, refl, sym, ◌∙◌, ap, subst}
 use Rattle.gb_base.specs.DayMinute.{DayMinute}
 use Rattle.act_json.specs.Lines.{ReadsAs}
 use Rattle.act_json.specs.declared.lines.LineFault.{LineFault}
@@ -29,21 +29,21 @@ use Rattle.connections.proofs.Served.{IsApart}
 -- ---- such a reply tells nothing of a disk
 
 out_of_memory_apart : IsApart out_of_memory
-out_of_memory_apart = record { no_disk = refl; no_journal = refl; silent = refl }
+out_of_memory_apart = record { no_disk = refl; no_journal = refl; known = refl; silent = refl }
 
 malformed_apart : (fault : LineFault) → IsApart (malformed fault)
-malformed_apart line.NotJson = record { no_disk = refl; no_journal = refl; silent = refl }
-malformed_apart (line.NotItem path) = record { no_disk = refl; no_journal = refl; silent = refl }
-malformed_apart line.Memory = record { no_disk = refl; no_journal = refl; silent = refl }
+malformed_apart line.NotJson = record { no_disk = refl; no_journal = refl; known = refl; silent = refl }
+malformed_apart (line.NotItem path) = record { no_disk = refl; no_journal = refl; known = refl; silent = refl }
+malformed_apart line.Memory = record { no_disk = refl; no_journal = refl; known = refl; silent = refl }
 
 pub apart_by_body : (fault : LineFault) (reply : ReplyParts) → (reply ≡ malformed fault) ⊎ (reply ≡ out_of_memory) → IsApart reply
 apart_by_body fault reply (inl is) = subst IsApart (sym is) (malformed_apart fault)
 apart_by_body fault reply (inr is) = subst IsApart (sym is) out_of_memory_apart
 
 unrouted_apart : (fault : RouteFault) → IsApart (unrouted_reply fault)
-unrouted_apart routing.NotFound = record { no_disk = refl; no_journal = refl; silent = refl }
-unrouted_apart routing.WrongMethod = record { no_disk = refl; no_journal = refl; silent = refl }
-unrouted_apart routing.Memory = record { no_disk = refl; no_journal = refl; silent = refl }
+unrouted_apart routing.NotFound = record { no_disk = refl; no_journal = refl; known = refl; silent = refl }
+unrouted_apart routing.WrongMethod = record { no_disk = refl; no_journal = refl; known = refl; silent = refl }
+unrouted_apart routing.Memory = record { no_disk = refl; no_journal = refl; known = refl; silent = refl }
 
 pub apart_by_route : (fault : RouteFault) (reply : ReplyParts) → reply ≡ unrouted_reply fault → IsApart reply
 apart_by_route fault reply is = subst IsApart (sym is) (unrouted_apart fault)

@@ -1,20 +1,23 @@
 -- What answering a request does.
-use Rattle.std.specs.Prelude.{◌≡◌, ◌⊎◌, ℕ, ◌==◌, ◌||◌, Bool, true, false, List, Option, IsTrue}
+use Rattle.std.specs.Prelude.{◌≡◌, ◌⊎◌, ℕ, ◌==◌, ◌||◌, Bool, true, List}
 use Rattle.gb_outside.specs.Images.{LeavesOnly}
-use Rattle.act_json.specs.Lines.{item_of}
 use Rattle.act_model.specs.declared.receipts.Receipt.{Receipt}
 use Rattle.intake.specs.Grown.{GrownFrom}
 use Rattle.intake.specs.Requests.{Held}
 use Rattle.registry_http.specs.RequestParts.{RequestParts}
 use Rattle.connections.specs.Answers.{answer}
 use Rattle.connections.specs.Asking.{Asked, Asks}
-use Rattle.connections.specs.Fates.{Fate, answer_by, has_disk_failed}
+use Rattle.connections.specs.Fates.{Fate, answer_by}
 use Rattle.connections.specs.Holding.{Begins}
 use Rattle.connections.specs.Replies.{ReplyParts}
 
 -- the status says that a text was read, or that an item was received
 abbrev pub is_from_disk : ReplyParts → Bool
 is_from_disk reply = reply.status == 200 || reply.status == 201
+
+-- the status refuses a request by its method or by its body
+abbrev pub is_refusal : ReplyParts → Bool
+is_refusal reply = reply.status == 400 || reply.status == 405 || reply.status == 422
 
 -- the status speaks of a journal: of a text of it, or of how it takes an item
 abbrev pub tells_of_journal : ReplyParts → Bool

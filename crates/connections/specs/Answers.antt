@@ -12,7 +12,6 @@ use Rattle.intake_requests.specs.declared.requests.Request.TheVariants.{Receive}
 use Rattle.intake_requests.specs.declared.requests.SenderReference.{SenderReference}
 use Rattle.receipt_journal.specs.declared.received.Received.{Received}
 use Rattle.receipt_journal.specs.declared.received.Received.TheVariants as answers
-use Rattle.registry_http.specs.RequestParts.{RequestParts}
 use Rattle.registry_http.specs.declared.routes.Route.{Route}
 use Rattle.registry_http.specs.declared.routes.Route.TheVariants.{Post}
 use Rattle.settled_book.specs.Texts.{text_of}

@@ -1,5 +1,5 @@
 -- What a request asks for, by its method and its path.
-use Rattle.std.specs.Prelude.{◌≡◌, ◌≢◌, List}
+use Rattle.std.specs.Prelude.{◌≡◌, ◌≢◌}
 use Rattle.registry_http.specs.RequestParts.{RequestParts}
 use Rattle.registry_http.specs.Routes.{IsRoute, method_of, path_of}
 use Rattle.registry_http.specs.declared.routes.Route.{Route}

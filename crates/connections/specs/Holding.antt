@@ -1,8 +1,8 @@
 -- What is held between two requests.
-use Rattle.std.specs.Prelude.{◌≡◌, ◌⊎◌, ℕ, Bool, true, false, List, Option, Some, None, IfSome, if◌then◌else◌}
+use Rattle.std.specs.Prelude.{◌≡◌, ◌⊎◌, ℕ, List, Option, Some, None, IfSome, if◌then◌else◌}
 use Rattle.gb_base.specs.DayMinute.{DayMinute}
 use Rattle.act_model.specs.declared.receipts.Receipt.{Receipt}
-use Rattle.intake.specs.Grown.{GrownFrom, IsDurable, IsFront}
+use Rattle.intake.specs.Grown.{IsDurable, IsFront}
 use Rattle.intake.specs.Requests.{Held}
 use Rattle.journal_disk.specs.Standing as standing
 use Rattle.receipt_journal.specs.Standing.{HasBookStanding, Stands, StandsForJournal}

@@ -1,5 +1,5 @@
 -- Replies: a status, and a body.
-use Rattle.std.specs.Prelude.{ℕ, List, ◌++◌, codes, flat_map}
+use Rattle.std.specs.Prelude.{ℕ, ◌==◌, Bool, ◌||◌, List, ◌++◌, codes, flat_map}
 use Rattle.registry_http.specs.Replies.{reply_bytes}
 
 -- a reply
@@ -32,6 +32,11 @@ disk_failed = line_reply 503 (codes "service unavailable")
 
 abbrev pub out_of_memory : ReplyParts
 out_of_memory = line_reply 507 (codes "insufficient storage")
+
+-- the statuses that replies have
+abbrev pub is_reply_status : ℕ → Bool
+is_reply_status n =
+    n == 200 || n == 201 || n == 400 || n == 403 || n == 404 || n == 405 || n == 409 || n == 413 || n == 422 || n == 500 || n == 503 || n == 507
 
 -- the bytes of replies, one behind another
 abbrev pub bytes_of : List ReplyParts → List ℕ

@@ -1,14 +1,12 @@
 -- What a connection writes and leaves.
-use Rattle.std.specs.Prelude.{◌≡◌, ◌⊎◌, ℕ, ◌+◌, ◌≤◌, ◌==◌, ◌||◌, Bool, true, false, List, [], ◌∷◌, ◌++◌, length, map, take, Option, Some}
+use Rattle.std.specs.Prelude.{◌≡◌, ◌⊎◌, ℕ, ◌≤◌, ◌==◌, ◌||◌, Bool, List, [], ◌∷◌, ◌++◌, length, map, take, Option}
 use Rattle.std.specs.List.{AllZip}
 use Rattle.std.specs.Io.KnownBytes.{Appends}
-use Rattle.gb_base.specs.DayMinute.{DayMinute}
 use Rattle.intake.specs.Grown.{GrownFrom, IsFront}
 use Rattle.intake.specs.Requests.{Held}
-use Rattle.receipt_journal.specs.Standing.{StandsForJournal}
 use Rattle.connections.specs.Fates.{Answered}
 use Rattle.connections.specs.Replies.{ReplyParts, bytes_of, out_of_memory}
-use Rattle.connections.specs.Turns.{Turn, Taken, Answering, Refusing, IsOf, answer_in, held_behind, replies_in}
+use Rattle.connections.specs.Turns.{Turn, Taken, Answering, Refusing, IsOf, held_behind, replies_in}
 
 -- the turn as it is where nothing fails in it
 abbrev pub unfailed : Taken → Taken
@@ -34,7 +32,7 @@ pub record Takes (held : Held) (turns : List Turn) (written0 written1 : Option (
   pub begun : List Taken
   pub are : AllZip IsOf (take (length (replied ++ begun)) turns) (replied ++ begun)
   pub one : length begun ≤ 1
-  pub closing : List Reply
+  pub closing : List ReplyParts
   pub closes : IsClosing closing
   pub front : List ℕ
   pub part : IsFront front (bytes_of (replies_in (held_behind held replied) begun ++ closing))

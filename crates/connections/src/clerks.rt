@@ -9,10 +9,11 @@ ghost use Rattle.intake.specs.Requests.{Held};
 ghost use Rattle.receipt_journal.specs.Opening.{BookRefuses, book_opening_disk_failed};
 ghost use Rattle.receipt_journal.specs.Standing.{Stands, StandsForJournal};
 ghost use Rattle.settled_book.specs.Texts.{reads_register};
-ghost use Rattle.connections.specs.Answering.{AnswersRequest, tells_of_journal};
+ghost use Rattle.connections.specs.Answering.{AnswersRequest, is_refusal, tells_of_journal};
 ghost use Rattle.connections.specs.Answers.{answer, body_answer, item_answer, only, read_reply};
 ghost use Rattle.connections.specs.Asking.{AskedFor};
 ghost use Rattle.connections.specs.Holding.{Holds, IsNoJournal, IsOpenOn, StandsOpen, working};
+ghost use Rattle.connections.specs.Replies.{is_reply_status};
 ghost use Rattle.connections.specs.inner.Ends.{EndsBy, Serves};
 ghost use Rattle.connections.specs.inner.Taking.{Finds};
 
@@ -93,6 +94,7 @@ impl Clerk {
         ensures ends { IsTrue D.tells → (known : Option (List DayMinute)) (held : Held) → Holds self.old (D.reads disk.old) (D.images disk.old) known held
             → EndsBy D.reads D.images D.moment D.since disk.old disk.new held (only held (read_reply held.journal route)) result self.new known }
         ensures serves { Serves D.tells self.old self.new (D.reads disk.old) (D.reads disk.new) (D.images disk.new) (D.faults disk.old) (D.faults disk.new) result }
+        ensures late { is_refusal result ≡ false }
     {
         let mut book = match self.take_book(alloc, disk) {
             Ok(book) => book,
@@ -117,6 +119,7 @@ impl Clerk {
         ensures ends { IsTrue D.tells → (held : Held) → Holds self.old (D.reads disk.old) (D.images disk.old) (C.ticks clock.old) held
             → EndsBy D.reads D.images D.moment D.since disk.old disk.new held (item_answer held from item.now) result self.new (C.ticks clock.new) }
         ensures serves { Serves D.tells self.old self.new (D.reads disk.old) (D.reads disk.new) (D.images disk.new) (D.faults disk.old) (D.faults disk.new) result }
+        ensures late { is_refusal result ≡ false }
     {
         let mut book = match self.take_book(alloc, disk) {
             Ok(book) => book,
@@ -140,6 +143,7 @@ impl Clerk {
         ensures ends { IsTrue D.tells → (held : Held) → Holds self.old (D.reads disk.old) (D.images disk.old) (C.ticks clock.old) held
             → EndsBy D.reads D.images D.moment D.since disk.old disk.new held (body_answer held (item_of body.now)) result self.new (C.ticks clock.new) }
         ensures serves { Serves D.tells self.old self.new (D.reads disk.old) (D.reads disk.new) (D.images disk.new) (D.faults disk.old) (D.faults disk.new) result }
+        ensures apart { is_refusal result ≡ true → (self.new ≡ self.old) × (disk.new ≡ disk.old) × (clock.new ≡ clock.old) }
     {
         let (sender, reference, item) = match read_item(alloc, body) {
             Ok(found) => found,
@@ -163,6 +167,7 @@ impl Clerk {
         ensures ends { IsTrue D.tells → (held : Held) → Holds self.old (D.reads disk.old) (D.images disk.old) (C.ticks clock.old) held
             → EndsBy D.reads D.images D.moment D.since disk.old disk.new held (answer held body.now (AskedFor route)) result self.new (C.ticks clock.new) }
         ensures serves { Serves D.tells self.old self.new (D.reads disk.old) (D.reads disk.new) (D.images disk.new) (D.faults disk.old) (D.faults disk.new) result }
+        ensures apart { is_refusal result ≡ true → (self.new ≡ self.old) × (disk.new ≡ disk.old) × (clock.new ≡ clock.old) }
     {
         match &route {
             Route::Post => self.post(alloc, disk, clock, body),
@@ -186,6 +191,10 @@ impl Clerk {
             → AnswersRequest D.images D.moment D.since disk.old disk.new request.now held result (Holds self.new (D.reads disk.new) (D.images disk.new) (C.ticks clock.new)) }
         ensures stands_open { IsTrue D.tells → StandsOpen self.new (D.reads disk.new) (D.images disk.new) }
         ensures disk { Counts (D.faults disk.old) (D.faults disk.new) (result.status == 503) }
+        ensures status { IsTrue (is_reply_status result.status) }
+
+        // What is refused by its method or by its body calls neither the disk nor the clock.
+        ensures apart { is_refusal result ≡ true → (self.new ≡ self.old) × (disk.new ≡ disk.old) × (clock.new ≡ clock.old) }
 
         // Each answer about the file is by its standing, where a book had to be opened.
         ensures no_journal { IsTrue D.tells → result.status ≡ 500 → IsNoJournal (D.reads disk.old) }

@@ -1,5 +1,5 @@
 -- How answering a request ends.
-use Rattle.std.specs.Prelude.{◌≡◌, ◌⊎◌, ℕ, ◌==◌, Bool, true, false, List, Option, Some, None, IsSome, IsTrue}
+use Rattle.std.specs.Prelude.{◌≡◌, ◌⊎◌, ℕ, ◌==◌, Bool, true, false, List, Option, None, IsSome, IsTrue}
 use Rattle.gb_base.specs.DayMinute.{DayMinute}
 use Rattle.gb_outside.specs.Faults.{Counts}
 use Rattle.gb_outside.specs.Images.{LeavesOnly}
@@ -12,7 +12,7 @@ use Rattle.connections.specs.Answering.{is_from_disk, tells_of_journal}
 use Rattle.connections.specs.Answers.{Answer}
 use Rattle.connections.specs.Fates.{Fate, answer_by}
 use Rattle.connections.specs.Holding.{Holds, IsNoJournal, StandsOpen, working}
-use Rattle.connections.specs.Replies.{ReplyParts}
+use Rattle.connections.specs.Replies.{ReplyParts, is_reply_status}
 
 -- What a request came to that would be answered so where all works; a reply that was taken from the disk has a working book behind it.
 pub record EndsBy {D : Type 0} (reads : D → List ℕ) (images : D → List ℕ → Type 0) (moment : D → ℕ) (since : D → ℕ → List ℕ → Type 0) (old new : D) (held : Held) (wanted : Answer)
@@ -29,4 +29,5 @@ pub record Serves (tells : Bool) (old new : Option SettledBookState) (reads0 rea
   pub disk : Counts faults0 faults1 (reply.status == 503)
   pub no_journal : IsTrue tells → reply.status ≡ 500 → IsNoJournal reads0
   pub had_none : reply.status ≡ 500 → working old ≡ None
+  pub status : is_reply_status reply.status ≡ true
   pub not_opened : IsTrue tells → working old ≡ None → ((journal : List Receipt) → StandsForJournal reads0 journal → ⊥) → tells_of_journal reply ≡ false

@@ -36,6 +36,9 @@ returns-in-Err-clause-had_none g c = (served g c).had_none
 pub returns-in-Err-clause-not_opened : goal.returns-in-Err-clause-not_opened
 returns-in-Err-clause-not_opened g c = (served g c).not_opened
 
+pub returns-in-Err-clause-status : goal.returns-in-Err-clause-status
+returns-in-Err-clause-status g c = (served g c).status
+
 -- ---- it has one
 
 pub returns-clause-answers : goal.returns-clause-answers

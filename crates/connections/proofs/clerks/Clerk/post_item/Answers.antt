@@ -5,7 +5,7 @@ use Rattle.connections.specs.Answers.{item_answer}
 use Rattle.connections.proofs.BookEnds.{ends_unopened}
 use Rattle.connections.proofs.Grows.{item_grows}
 use Rattle.connections.proofs.ItemEnds.{item_ends}
-use Rattle.connections.proofs.Served.{counts_then, opened, stands_behind, status_of_item, unopened}
+use Rattle.connections.proofs.Served.{counts_then, opened, stands_behind, status_of_item, unopened, unopened_late}
 use Rattle.connections.proofs.clerks.Clerk.post_item.Goals as goal
 
 pub returns-in-Err-clause-ends : goal.returns-in-Err-clause-ends
@@ -37,4 +37,10 @@ returns-clause-serves g c =
     (subst (λ b. Counts (g.D.Disk.faults c.args.disk.now) (g.D.Disk.faults c.receive-answer.new.disk) b) (sym status.disk)
     (counts_then (g.D.Disk.faults c.args.disk.now) (g.D.Disk.faults c.take_book.new.disk) (g.D.Disk.faults c.receive-answer.new.disk) (receiving_disk_failed c.receive-answer.result)
     c.in-Ok.ensures.cause c.receive-answer.ensures.cause))
-    status.no_journal (λ told none. c.in-Ok.ensures.journal told none)
+    status.no_journal status.known (λ told none. c.in-Ok.ensures.journal told none)
+
+pub returns-in-Err-clause-late : goal.returns-in-Err-clause-late
+returns-in-Err-clause-late g c = unopened_late c.in-Err.fault c.unopened.result c.unopened.ensures
+
+pub returns-clause-late : goal.returns-clause-late
+returns-clause-late g c = (status_of_item c.receive-answer.result c.received.result c.receive-answer.ensures.opened c.received.ensures).late

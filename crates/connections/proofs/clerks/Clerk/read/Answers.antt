@@ -5,7 +5,7 @@ use Rattle.receipt_journal.specs.BookState.{BookState}
 use Rattle.receipt_journal.specs.Standing.{Stands}
 use Rattle.connections.specs.Answers.{only, read_reply}
 use Rattle.connections.proofs.BookEnds.{ends_read, ends_unopened, read_status}
-use Rattle.connections.proofs.Served.{opened, stands_behind, unopened}
+use Rattle.connections.proofs.Served.{opened, stands_behind, unopened, unopened_late}
 use Rattle.connections.proofs.clerks.Clerk.read.Goals as goal
 
 pub returns-in-Err-clause-ends : goal.returns-in-Err-clause-ends
@@ -35,4 +35,10 @@ returns-clause-serves g c =
     (ap (λ (b : BookState). b.log.failed) c.text-text.ensures.book ∙ c.in-Ok.ensures.works)
     (λ sound. subst (λ (b : BookState). Stands b (g.D.Disk.reads c.take_book.new.disk) (g.D.Disk.images c.take_book.new.disk)) (sym c.text-text.ensures.book) (c.in-Ok.ensures.stands told)))
     (subst (λ b. Counts (g.D.Disk.faults c.args.disk.now) (g.D.Disk.faults c.take_book.new.disk) b) (sym status.disk) c.in-Ok.ensures.cause)
-    status.no_journal (λ told none. c.in-Ok.ensures.journal told none)
+    status.no_journal status.known (λ told none. c.in-Ok.ensures.journal told none)
+
+pub returns-in-Err-clause-late : goal.returns-in-Err-clause-late
+returns-in-Err-clause-late g c = unopened_late c.in-Err.fault c.unopened.result c.unopened.ensures
+
+pub returns-clause-late : goal.returns-clause-late
+returns-clause-late g c = (read_status (λ t. t.items) c.text-text.result c.read.result c.read.ensures.found c.read.ensures.fault).late
