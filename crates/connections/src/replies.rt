@@ -100,7 +100,10 @@ impl Reply {
         match fault {
             LineFault::NotJson => Reply::words(StatusCode::BAD_REQUEST, "malformed json\n"),
             LineFault::NotItem(path) => {
-                Reply::text(StatusCode::UNPROCESSABLE_ENTITY, malformed_line(alloc, path.text()))
+                Reply::text(
+                    StatusCode::UNPROCESSABLE_ENTITY,
+                    malformed_line(alloc, path.text()),
+                )
             }
             LineFault::Memory => Reply::out_of_memory(),
         }

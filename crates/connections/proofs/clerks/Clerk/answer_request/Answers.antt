@@ -12,9 +12,9 @@ use Rattle.connections.proofs.clerks.Clerk.answer_request.Goals as goal
 pub returns-in-Err-clause-answers : goal.returns-in-Err-clause-answers
 returns-in-Err-clause-answers g c = λ tells held holds.
     let ends = ends_unrouted g.D.Disk.reads g.D.Disk.images g.D.Disk.moment g.D.Disk.since c.args.disk.now (λ file left. g.met.D.Disk.only_now c.args.disk.now file tells left)
-        c.args.self.now (g.C.Clock.ticks c.args.clock.now) held holds c.args.request.now c.in-Err.fault c.unrouted.result c.unrouted.ensures
-        (λ is. asks_none c.args.request.now c.path.result.now c.path.ensures (c.in-Err.ensures.not_found is))
-        (λ is. asks_other c.args.request.now c.path.result.now c.method.result.now c.path.ensures c.method.ensures (c.in-Err.ensures.wrong_method is)) in
+    c.args.self.now (g.C.Clock.ticks c.args.clock.now) held holds c.args.request.now c.in-Err.fault c.unrouted.result c.unrouted.ensures
+    (λ is. asks_none c.args.request.now c.path.result.now c.path.ensures (c.in-Err.ensures.not_found is))
+    (λ is. asks_other c.args.request.now c.path.result.now c.method.result.now c.path.ensures c.method.ensures (c.in-Err.ensures.wrong_method is)) in
     answers g.D.Disk.reads g.D.Disk.images g.D.Disk.moment g.D.Disk.since c.args.disk.now c.args.disk.now (g.met.D.Disk.reads_is_image c.args.disk.now tells)
     (λ t file le image. g.met.D.Disk.counts_now c.args.disk.now t file tells le image)
     c.args.request.now held c.unrouted.result c.args.self.now (g.C.Clock.ticks c.args.clock.now) ends.asked ends.asks holds.file ends.end
@@ -44,7 +44,7 @@ returns-in-Err-clause-status g c = (served g c).status
 pub returns-clause-answers : goal.returns-clause-answers
 returns-clause-answers g c = λ tells held holds.
     let end = subst (λ (body : List ℕ). EndsBy g.D.Disk.reads g.D.Disk.images g.D.Disk.moment g.D.Disk.since c.args.disk.now c.answer_route.new.disk held (answer held body (AskedFor c.in-Ok.route))
-        c.answer_route.result c.answer_route.new.self (g.C.Clock.ticks c.answer_route.new.clock)) c.body.ensures (c.answer_route.ensures.ends tells held holds) in
+    c.answer_route.result c.answer_route.new.self (g.C.Clock.ticks c.answer_route.new.clock)) c.body.ensures (c.answer_route.ensures.ends tells held holds) in
     answers g.D.Disk.reads g.D.Disk.images g.D.Disk.moment g.D.Disk.since c.args.disk.now c.answer_route.new.disk (g.met.D.Disk.reads_is_image c.args.disk.now tells)
     (λ t file le image. g.met.D.Disk.counts_now c.answer_route.new.disk t file tells le image)
     c.args.request.now held c.answer_route.result c.answer_route.new.self (g.C.Clock.ticks c.answer_route.new.clock) (AskedFor c.in-Ok.route)
