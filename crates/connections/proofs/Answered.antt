@@ -1,5 +1,5 @@
 -- A request is answered: what it asks for, and how answering it ends.
-use Rattle.std.proofs.Common.{◌≤◌, ⊎_elim, ℕ, List, Option, Some, None, IsSome, IfSome, subst}
+use Rattle.std.proofs.Common.{◌≡◌, ◌≤◌, false, ⊎_elim, ℕ, List, Option, Some, None, IsSome, IfSome, subst}
 use Rattle.gb_base.specs.DayMinute.{DayMinute}
 use Rattle.act_model.specs.declared.receipts.Receipt.{Receipt}
 use Rattle.intake.specs.Grown.{GrownFrom, IsFront}
@@ -10,7 +10,7 @@ use Rattle.receipt_journal.specs.Standing.{StandsForJournal}
 use Rattle.receipt_journal.proofs.Standings.{journal_once}
 use Rattle.registry_http.specs.RequestParts.{RequestParts}
 use Rattle.settled_book.specs.SettledBookState.{SettledBookState}
-use Rattle.connections.specs.Answering.{AllBegin, AnswersRequest}
+use Rattle.connections.specs.Answering.{AllBegin, AnswersRequest, may_call_disk}
 use Rattle.connections.specs.Answers.{answer}
 use Rattle.connections.specs.Asking.{Asked, Asks}
 use Rattle.connections.specs.Holding.{Begins, Holds, IsOpenOn, working}
@@ -32,15 +32,16 @@ module _ {D : Type 0} (reads : D → List ℕ) (images : D → List ℕ → Type
   begins_by : (front from to : List Receipt) (file : List ℕ) → IsFront front from → GrownFrom from to file → Begins front file
   begins_by front from to file is grown = record { journal = grown.journal; stands = grown.stands; begins = front_trans front from grown.journal is grown.begins }
 
-  pub answers : (request : RequestParts) (held : Held) (reply : ReplyParts) (at_hand : Option SettledBookState) (known : Option (List DayMinute)) (asked : Asked) → Asks request asked
+  pub answers : (request : RequestParts) (held : Held) (reply : ReplyParts) (at_hand : Option SettledBookState) (known : Option (List DayMinute)) (asked : Asked) → Asks request asked → (may_call_disk asked request.body ≡ false → new ≡ old)
       → StandsForJournal (reads old) held.journal → ends.EndsBy reads images moment since old new held (answer held request.body asked) reply at_hand known
       → AnswersRequest images moment since old new request held reply (λ h. Holds at_hand (reads new) (images new) known h)
-  answers request held reply at_hand known asked asks stands end = record {
+  answers request held reply at_hand known asked asks uncalled stands end = record {
     asked = asked;
     fate = end.fate;
     asks = asks;
     reply_is = end.reply_is;
     holds = end.holds;
+    uncalled = uncalled;
     left = end.left;
     kept = λ front all file now.
         ⊎_elim (λ before. all file before)

@@ -1,5 +1,5 @@
 -- What is held behind an answer begins with the journal that was held.
-use Rattle.std.proofs.Common.{◌≡◌, refl, List, ℕ, Result, Ok, Err, [], ◌∷◌, None}
+use Rattle.std.proofs.Common.{◌≡◌, true, refl, List, ℕ, Result, Ok, Err, [], ◌∷◌, None}
 use Rattle.act_json.specs.Lines.{item_of}
 use Rattle.act_json.specs.declared.lines.LineFault.{LineFault}
 use Rattle.act_model.specs.declared.items.Item.{Item}
@@ -11,6 +11,7 @@ use Rattle.intake_requests.specs.declared.requests.Request.TheVariants.{Receive}
 use Rattle.intake_requests.specs.declared.requests.SenderReference.{SenderReference}
 use Rattle.registry_http.specs.declared.routes.Route.{Route}
 use Rattle.registry_http.specs.declared.routes.Route.TheVariants as route
+use Rattle.connections.specs.Answering.{may_call_disk}
 use Rattle.connections.specs.Answers.{answer, body_answer, item_answer, only, read_reply}
 use Rattle.connections.specs.Asking.{Asked, AskedFor, NoRoute, WrongMethod}
 
@@ -36,3 +37,12 @@ answer_reads held body (route.Ranks f) other = refl
 answer_reads held body (route.Plan n) other = refl
 answer_reads held body (route.PlanCsv n) other = refl
 answer_reads held body route.Report other = refl
+
+pub reading_calls : (body : List ℕ) (asked : Route) → (asked ≡ route.Post → ⊥) → may_call_disk (AskedFor asked) body ≡ true
+reading_calls body route.Post other = absurd (other refl)
+reading_calls body (route.Receipt n) other = refl
+reading_calls body (route.Folio f) other = refl
+reading_calls body (route.Ranks f) other = refl
+reading_calls body (route.Plan n) other = refl
+reading_calls body (route.PlanCsv n) other = refl
+reading_calls body route.Report other = refl

@@ -1,5 +1,5 @@
 //! The clerk, who answers requests and keeps the open book between them.
-ghost use Rattle.std.specs.Prelude.{◌≡◌, ◌≤◌, ◌==◌, ℕ, List, Option, Some, None, length, IfOk, IfErr, IfSome, OnErr, OnOk, IsTrue, true, false};
+ghost use Rattle.std.specs.Prelude.{◌≡◌, ◌≤◌, ◌==◌, ℕ, List, Option, Some, None, length, IfOk, IfErr, IfSome, OnErr, OnOk, IsTrue, is_ok, true, false};
 ghost use Rattle.gb_base.specs.DayMinute.{DayMinute};
 ghost use Rattle.gb_outside.specs.Faults.{Counts};
 ghost use Rattle.act_json.specs.Lines.{item_of, longest_line};
@@ -9,7 +9,7 @@ ghost use Rattle.intake.specs.Requests.{Held};
 ghost use Rattle.receipt_journal.specs.Opening.{BookRefuses, book_opening_disk_failed};
 ghost use Rattle.receipt_journal.specs.Standing.{Stands, StandsForJournal};
 ghost use Rattle.settled_book.specs.Texts.{reads_register};
-ghost use Rattle.connections.specs.Answering.{AnswersRequest, is_refusal, tells_of_journal};
+ghost use Rattle.connections.specs.Answering.{AnswersRequest, is_refusal, may_call_disk, tells_of_journal};
 ghost use Rattle.connections.specs.Answers.{answer, body_answer, item_answer, only, read_reply};
 ghost use Rattle.connections.specs.Asking.{AskedFor};
 ghost use Rattle.connections.specs.Holding.{Holds, IsNoJournal, IsOpenOn, StandsOpen, working};
@@ -144,6 +144,7 @@ impl Clerk {
             → EndsBy D.reads D.images D.moment D.since disk.old disk.new held (body_answer held (item_of body.now)) result self.new (C.ticks clock.new) }
         ensures serves { Serves D.tells self.old self.new (D.reads disk.old) (D.reads disk.new) (D.images disk.new) (D.faults disk.old) (D.faults disk.new) result }
         ensures apart { is_refusal result ≡ true → (self.new ≡ self.old) × (disk.new ≡ disk.old) × (clock.new ≡ clock.old) }
+        ensures uncalled { is_ok (item_of body.now) ≡ false → disk.new ≡ disk.old }
     {
         let (sender, reference, item) = match read_item(alloc, body) {
             Ok(found) => found,
@@ -168,6 +169,7 @@ impl Clerk {
             → EndsBy D.reads D.images D.moment D.since disk.old disk.new held (answer held body.now (AskedFor route)) result self.new (C.ticks clock.new) }
         ensures serves { Serves D.tells self.old self.new (D.reads disk.old) (D.reads disk.new) (D.images disk.new) (D.faults disk.old) (D.faults disk.new) result }
         ensures apart { is_refusal result ≡ true → (self.new ≡ self.old) × (disk.new ≡ disk.old) × (clock.new ≡ clock.old) }
+        ensures uncalled { may_call_disk (AskedFor route) body.now ≡ false → disk.new ≡ disk.old }
     {
         match &route {
             Route::Post => self.post(alloc, disk, clock, body),

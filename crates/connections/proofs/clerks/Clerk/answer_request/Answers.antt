@@ -1,4 +1,5 @@
-use Rattle.std.proofs.Common.{◌∙◌, List, ℕ, sym, subst}
+use Rattle.std.proofs.Common.{◌∙◌, List, ℕ, ap, refl, sym, subst}
+use Rattle.connections.specs.Answering.{may_call_disk}
 use Rattle.connections.specs.Answers.{answer}
 use Rattle.connections.specs.Asking.{AskedFor}
 use Rattle.connections.specs.inner.Ends.{EndsBy, Serves}
@@ -17,7 +18,7 @@ returns-in-Err-clause-answers g c = λ tells held holds.
     (λ is. asks_other c.args.request.now c.path.result.now c.method.result.now c.path.ensures c.method.ensures (c.in-Err.ensures.wrong_method is)) in
     answers g.D.Disk.reads g.D.Disk.images g.D.Disk.moment g.D.Disk.since c.args.disk.now c.args.disk.now (g.met.D.Disk.reads_is_image c.args.disk.now tells)
     (λ t file le image. g.met.D.Disk.counts_now c.args.disk.now t file tells le image)
-    c.args.request.now held c.unrouted.result c.args.self.now (g.C.Clock.ticks c.args.clock.now) ends.asked ends.asks holds.file ends.end
+    c.args.request.now held c.unrouted.result c.args.self.now (g.C.Clock.ticks c.args.clock.now) ends.asked ends.asks (λ none. refl) holds.file ends.end
 
 served : (g : _) (c : goal.After-unrouted g) → Serves g.D.Disk.tells c.args.self.now c.args.self.now (g.D.Disk.reads c.args.disk.now) (g.D.Disk.reads c.args.disk.now) (g.D.Disk.images c.args.disk.now)
     (g.D.Disk.faults c.args.disk.now) (g.D.Disk.faults c.args.disk.now) c.unrouted.result
@@ -48,4 +49,5 @@ returns-clause-answers g c = λ tells held holds.
     answers g.D.Disk.reads g.D.Disk.images g.D.Disk.moment g.D.Disk.since c.args.disk.now c.answer_route.new.disk (g.met.D.Disk.reads_is_image c.args.disk.now tells)
     (λ t file le image. g.met.D.Disk.counts_now c.answer_route.new.disk t file tells le image)
     c.args.request.now held c.answer_route.result c.answer_route.new.self (g.C.Clock.ticks c.answer_route.new.clock) (AskedFor c.in-Ok.route)
-    (c.in-Ok.ensures.found.0, sym c.path.ensures ∙ c.in-Ok.ensures.found.1, sym c.method.ensures ∙ c.in-Ok.ensures.found.2) holds.file end
+    (c.in-Ok.ensures.found.0, sym c.path.ensures ∙ c.in-Ok.ensures.found.1, sym c.method.ensures ∙ c.in-Ok.ensures.found.2)
+    (λ none. c.answer_route.ensures.uncalled (ap (λ (body : List ℕ). may_call_disk (AskedFor c.in-Ok.route) body) c.body.ensures ∙ none)) holds.file end
