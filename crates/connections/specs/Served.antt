@@ -1,7 +1,6 @@
 -- What a connection writes and leaves.
-use Rattle.std.specs.Prelude.{◌≡◌, ◌⊎◌, ℕ, ◌≤◌, ◌==◌, ◌||◌, Bool, List, [], ◌∷◌, ◌++◌, length, map, take, Option}
+use Rattle.std.specs.Prelude.{◌≡◌, ◌⊎◌, ℕ, ◌+◌, ◌≤◌, List, [], ◌∷◌, ◌++◌, length, map, take}
 use Rattle.std.specs.List.{AllZip}
-use Rattle.std.specs.Io.KnownBytes.{Appends}
 use Rattle.intake.specs.Grown.{GrownFrom, IsFront}
 use Rattle.intake.specs.Requests.{Held}
 use Rattle.connections.specs.Fates.{Answered}
@@ -26,22 +25,38 @@ pub record IsLeftIn (held : Held) (turns : List Taken) (file : List ℕ) : Type 
 abbrev pub IsClosing : List ReplyParts → Type 0
 IsClosing closing = (closing ≡ []) ⊎ (closing ≡ out_of_memory ∷ [])
 
--- How far the turns of a connection were taken: the first of them were replied to whole, and at most one more was taken up, of whose reply a front stands written. Where no memory was found for what comes next, one reply says so, and ends the connection.
-pub record Takes (held : Held) (turns : List Turn) (written0 written1 : Option (List ℕ)) : Type 0 where
+-- What became of a connection: the turns that were replied to whole, the one that was taken up behind them if any, the reply that ends it where no memory was found for what comes next, and the bytes that stand written of a reply that is not whole.
+pub record Connection : Type 0 where
   pub replied : List Taken
   pub begun : List Taken
-  pub are : AllZip IsOf (take (length (replied ++ begun)) turns) (replied ++ begun)
-  pub one : length begun ≤ 1
   pub closing : List ReplyParts
-  pub closes : IsClosing closing
   pub front : List ℕ
-  pub part : IsFront front (bytes_of (replies_in (held_behind held replied) begun ++ closing))
-  pub wrote : Appends written0 written1 (bytes_of (replies_in held replied) ++ front)
 
--- what is held behind the turns that were taken up
-abbrev pub held_taken : (held : Held) → {turns : List Turn} → {written0 written1 : Option (List ℕ)} → Takes held turns written0 written1 → Held
-held_taken held takes = held_behind held (takes.replied ++ takes.begun)
+-- the turns that were taken up
+abbrev pub taken_of : Connection → List Taken
+taken_of c = c.replied ++ c.begun
 
--- the reply tells of a journal that is on the disk: what was received, or a text that was read
-abbrev pub tells_of_disk : ReplyParts → Bool
-tells_of_disk reply = reply.status == 200 || reply.status == 201
+-- the bytes that were written, where this was held at first
+abbrev pub written_by : Held → Connection → List ℕ
+written_by held c = bytes_of (replies_in held c.replied) ++ c.front
+
+-- what is held behind it
+abbrev pub held_by : Held → Connection → Held
+held_by held c = held_behind held (taken_of c)
+
+-- It is a connection of these turns: the first of them were taken, at most one of them is not replied to whole, and what stands written behind the whole replies is a front of its reply, or of the one that closes.
+pub record IsOfTurns (held : Held) (turns : List Turn) (c : Connection) : Type 0 where
+  pub are : AllZip IsOf (take (length (taken_of c)) turns) (taken_of c)
+  pub one : length c.begun ≤ 1
+  pub closes : IsClosing c.closing
+  pub part : IsFront c.front (bytes_of (replies_in (held_behind held c.replied) c.begun ++ c.closing))
+
+-- It is whole: all turns were replied to, or the reply that closes stands written whole.
+pub record IsWhole (turns : List Turn) (c : Connection) : Type 0 where
+  pub none_begun : c.begun ≡ []
+  pub written : c.front ≡ bytes_of c.closing
+  pub all : c.closing ≡ [] → length c.replied ≡ length turns
+
+-- how many whole replies were written of one that is whole
+abbrev pub replies_of : Connection → ℕ
+replies_of c = length c.replied + length c.closing
