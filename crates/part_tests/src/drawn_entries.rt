@@ -43,7 +43,7 @@ fn content_of_waiting(draws: &mut Draws) -> What {
     }
 }
 
-fn content_of_title(draws: &mut Draws) -> What {
+pub fn content_of_title(draws: &mut Draws) -> What {
     let named = 1 + draws.below(9);
     match draws.below(5) {
         0 => What::Placed {
@@ -64,7 +64,7 @@ fn content_of_title(draws: &mut Draws) -> What {
     }
 }
 
-fn content_of_right(draws: &mut Draws) -> What {
+pub fn content_of_right(draws: &mut Draws) -> What {
     match draws.below(10) {
         0 => What::Converted,
         1 => What::Cancelled {
@@ -100,7 +100,7 @@ fn creation(draws: &mut Draws) -> What {
     })
 }
 
-fn content_of_case(draws: &mut Draws) -> What {
+pub fn content_of_case(draws: &mut Draws) -> What {
     match draws.below(6) {
         0 => What::Registered,
         1 => What::Bids { costs: cents(5) },

@@ -80,6 +80,7 @@ fn is_read_so_at_right(part: &RightPart) -> bool {
         && part.created() == plain::created(entries)
         && part.full() == plain::full(entries)
         && part.spent() == plain::spent(entries)
+        && part.exchanges() == plain::exchanges(entries)
         && part.holder() == plain::holder(entries)
         && part.capital() == plain::capital(entries)
         && (1..=9).all(|n| is_held_so_for(part, n))

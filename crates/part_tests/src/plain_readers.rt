@@ -165,6 +165,20 @@ fn is_exercise(entry: &Entry) -> bool {
     }
 }
 
+pub fn exchanges(entries: &[Entry]) -> usize {
+    entries
+        .iter()
+        .filter(|entry| is_exchange(&entry.what))
+        .count()
+}
+
+fn is_exchange(what: &What) -> bool {
+    match what {
+        What::Exchanged { .. } => true,
+        _ => false,
+    }
+}
+
 pub fn holder(entries: &[Entry]) -> Option<Person> {
     entries
         .iter()

@@ -1,0 +1,48 @@
+-- What is held behind an answer begins with the journal that was held.
+use Rattle.std.proofs.Common.{◌≡◌, true, refl, List, ℕ, Result, Ok, Err, [], ◌∷◌, None}
+use Rattle.act_json.specs.Lines.{item_of}
+use Rattle.act_json.specs.declared.lines.LineFault.{LineFault}
+use Rattle.act_model.specs.declared.items.Item.{Item}
+use Rattle.intake.specs.Grown.{IsFront}
+use Rattle.intake.specs.Requests.{Held, OnDisk}
+use Rattle.intake.proofs.Durable.{front_refl}
+use Rattle.intake.proofs.Replies.{grows}
+use Rattle.intake_requests.specs.declared.requests.Request.TheVariants.{Receive}
+use Rattle.intake_requests.specs.declared.requests.SenderReference.{SenderReference}
+use Rattle.registry_http.specs.declared.routes.Route.{Route}
+use Rattle.registry_http.specs.declared.routes.Route.TheVariants as route
+use Rattle.connections.specs.Answering.{may_call_disk}
+use Rattle.connections.specs.Answers.{answer, body_answer, item_answer, only, read_reply}
+use Rattle.connections.specs.Asking.{Asked, AskedFor, NoRoute, WrongMethod}
+
+pub item_grows : (held : Held) (from : SenderReference) (item : Item) → IsFront held.journal (item_answer held from item).held.journal
+item_grows held from item = grows OnDisk held (Receive None from item ∷ [])
+
+pub body_grows : (held : Held) (read : Result (ℕ × ℕ × Item) LineFault) → IsFront held.journal (body_answer held read).held.journal
+body_grows held (Ok found) = item_grows held (record { sender = found.0; reference = found.1 }) found.2
+body_grows held (Err fault) = front_refl held.journal
+
+pub answer_grows : (held : Held) (body : List ℕ) (asked : Asked) → IsFront held.journal (answer held body asked).held.journal
+answer_grows held body (AskedFor route.Post) = body_grows held (item_of body)
+answer_grows held body (AskedFor other) = front_refl held.journal
+answer_grows held body NoRoute = front_refl held.journal
+answer_grows held body WrongMethod = front_refl held.journal
+
+-- every route but that which receives reads a text
+pub answer_reads : (held : Held) (body : List ℕ) (asked : Route) → (asked ≡ route.Post → ⊥) → answer held body (AskedFor asked) ≡ only held (read_reply held.journal asked)
+answer_reads held body route.Post other = absurd (other refl)
+answer_reads held body (route.Receipt n) other = refl
+answer_reads held body (route.Folio f) other = refl
+answer_reads held body (route.Ranks f) other = refl
+answer_reads held body (route.Plan n) other = refl
+answer_reads held body (route.PlanCsv n) other = refl
+answer_reads held body route.Report other = refl
+
+pub reading_calls : (body : List ℕ) (asked : Route) → (asked ≡ route.Post → ⊥) → may_call_disk (AskedFor asked) body ≡ true
+reading_calls body route.Post other = absurd (other refl)
+reading_calls body (route.Receipt n) other = refl
+reading_calls body (route.Folio f) other = refl
+reading_calls body (route.Ranks f) other = refl
+reading_calls body (route.Plan n) other = refl
+reading_calls body (route.PlanCsv n) other = refl
+reading_calls body route.Report other = refl

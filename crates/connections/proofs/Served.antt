@@ -1,0 +1,123 @@
+-- What a reply is by the book and the disk alone.
+use Rattle.std.proofs.Common.{◌≡◌, inl, inr, ℕ, ◌==◌, Bool, true, false, List, Option, Some, None, Err, IfSome, refl, sym, ◌∙◌, ap, subst, IsTrue, arith, eq-eqb}
+use Rattle.gb_outside.specs.Faults.{Counts}
+use Rattle.act_model.specs.declared.receipts.Receipt.{Receipt}
+use Rattle.intake.specs.Requests.{is_fault}
+use Rattle.receipt_journal.specs.Opening.{BookRefuses, book_opening_disk_failed}
+use Rattle.receipt_journal.specs.Receiving.{receiving_disk_failed}
+use Rattle.receipt_journal.specs.Standing.{Stands, StandsForJournal}
+use Rattle.receipt_journal.specs.declared.faults.BookFault.{BookFault}
+use Rattle.receipt_journal.specs.declared.faults.BookFault.TheVariants as fault
+use Rattle.receipt_journal.specs.declared.received.Received.{Received}
+use Rattle.receipt_journal.specs.declared.received.Received.TheVariants as answers
+use Rattle.settled_book.specs.SettledBookState.{SettledBookState}
+use Rattle.connections.specs.Answering.{is_refusal, tells_of_journal}
+use Rattle.connections.specs.Holding.{StandsOpen, working}
+use Rattle.connections.specs.Replies.{ReplyParts, is_reply_status, out_of_memory}
+use Rattle.connections.specs.inner.Ends.{Serves}
+use Rattle.connections.specs.inner.Taking.{IsReplyTo, opening_reply, received_reply}
+use Rattle.connections.proofs.TakenBooks.{failed_is, to_working}
+
+never_true : (b : Bool) (P : Type 0) → b ≡ false → b ≡ true → P
+never_true b P fails passes = let never : true ≡ false = sym passes ∙ fails in absurd cc
+
+-- a count that one call left and another goes on with
+pub counts_then : (before mid now : ℕ) (failed : Bool) → Counts before mid false → Counts mid now failed → Counts before now failed
+counts_then before mid now failed first second = subst (λ n. Counts n now failed) (first.else_same refl) second
+
+counts_still : (count : ℕ) → Counts count count false
+counts_still count = record { never_falls = omega arith; failed_rose = λ failed. absurd cc; else_same = λ sound. refl }
+
+-- ---- no book was opened
+
+module _ (tells : Bool) (old : Option SettledBookState) (file reads : List ℕ) (images : List ℕ → Type 0) (faults0 faults1 : ℕ) where
+  unopened_by : (f : BookFault) → (IsTrue tells → BookRefuses file f) → working old ≡ None → Counts faults0 faults1 (book_opening_disk_failed {A = SettledBookState} (Err f))
+      → Serves tells old None file reads images faults0 faults1 (opening_reply f)
+  unopened_by fault.Disk refuses none counts = record { stands_open = λ told. tt; disk = counts; no_journal = λ told is. never_true (503 == 500) _ refl (eq-eqb 503 500 is); had_none = λ is. none; status = refl; not_opened = λ told was no_file. refl }
+  unopened_by fault.NotJournal refuses none counts = record { stands_open = λ told. tt; disk = counts; no_journal = λ told is. inl (refuses told); had_none = λ is. none; status = refl; not_opened = λ told was no_file. refl }
+  unopened_by (fault.BadRecord at) refuses none counts = record { stands_open = λ told. tt; disk = counts; no_journal = λ told is. inr (at, refuses told); had_none = λ is. none; status = refl; not_opened = λ told was no_file. refl }
+  unopened_by fault.Memory refuses none counts = record { stands_open = λ told. tt; disk = counts; no_journal = λ told is. never_true (507 == 500) _ refl (eq-eqb 507 500 is); had_none = λ is. none; status = refl; not_opened = λ told was no_file. refl }
+
+  pub unopened : (reply : ReplyParts) (new : Option SettledBookState) (f : BookFault) → reply ≡ opening_reply f → new ≡ None → (IsTrue tells → BookRefuses file f) → working old ≡ None
+      → Counts faults0 faults1 (book_opening_disk_failed {A = SettledBookState} (Err f)) → Serves tells old new file reads images faults0 faults1 reply
+  unopened reply new f is empty refuses none counts =
+      subst (λ r. Serves tells old new file reads images faults0 faults1 r) (sym is)
+      (subst (λ (o : Option SettledBookState). Serves tells old o file reads images faults0 faults1 (opening_reply f)) (sym empty) (unopened_by f refuses none counts))
+
+  -- a book was taken
+  pub opened : (reply : ReplyParts) (settled : SettledBookState) → (IsTrue tells → StandsOpen (Some settled) reads images) → Counts faults0 faults1 (reply.status == 503) → (reply.status == 500) ≡ false → is_reply_status reply.status ≡ true
+      → (IsTrue tells → working old ≡ None → (journal : List Receipt) × StandsForJournal file journal) → Serves tells old (Some settled) file reads images faults0 faults1 reply
+  opened reply settled stands counts other known journal = record {
+    stands_open = stands;
+    disk = counts;
+    no_journal = λ told is. never_true (reply.status == 500) _ other (eq-eqb reply.status 500 is);
+    had_none = λ is. never_true (reply.status == 500) _ other (eq-eqb reply.status 500 is);
+    status = known;
+    not_opened = λ told was no_file. let found = journal told was in absurd (no_file found.0 found.1);
+  }
+
+-- a request for which no book was opened is not refused
+late_by : (f : BookFault) → is_refusal (opening_reply f) ≡ false
+late_by fault.Disk = refl
+late_by fault.NotJournal = refl
+late_by (fault.BadRecord at) = refl
+late_by fault.Memory = refl
+
+pub unopened_late : (f : BookFault) (reply : ReplyParts) → reply ≡ opening_reply f → is_refusal reply ≡ false
+unopened_late f reply is = ap is_refusal is ∙ late_by f
+
+-- ---- the disk was not called
+
+-- the reply tells nothing of a disk
+pub record IsApart (reply : ReplyParts) : Type 0 where
+  pub no_disk : (reply.status == 503) ≡ false
+  pub no_journal : (reply.status == 500) ≡ false
+  pub known : is_reply_status reply.status ≡ true
+  pub silent : tells_of_journal reply ≡ false
+
+pub still : (tells : Bool) (at_hand : Option SettledBookState) (reads : List ℕ) (images : List ℕ → Type 0) (faults : ℕ) (reply : ReplyParts) → (IsTrue tells → StandsOpen at_hand reads images) → IsApart reply
+    → Serves tells at_hand at_hand reads reads images faults faults reply
+still tells at_hand reads images faults reply stands apart = record {
+  stands_open = stands;
+  disk = subst (λ b. Counts faults faults b) (sym apart.no_disk) (counts_still faults);
+  no_journal = λ told is. never_true (reply.status == 500) _ apart.no_journal (eq-eqb reply.status 500 is);
+  had_none = λ is. never_true (reply.status == 500) _ apart.no_journal (eq-eqb reply.status 500 is);
+  status = apart.known;
+  not_opened = λ told was no_file. apart.silent;
+}
+
+-- ---- the status of a reply
+
+-- the status is 503 where the disk failed, and neither 500 nor one of a refusal
+pub record HasStatus (reply : ReplyParts) (failed : Bool) : Type 0 where
+  pub disk : (reply.status == 503) ≡ failed
+  pub no_journal : (reply.status == 500) ≡ false
+  pub known : is_reply_status reply.status ≡ true
+  pub late : is_refusal reply ≡ false
+
+status_by : (answer : Received) → (answer ≡ answers.MustReopen → ⊥) → HasStatus (received_reply answer) (receiving_disk_failed answer)
+status_by (answers.Accepted n) opened = record { disk = refl; no_journal = refl; known = refl; late = refl }
+status_by (answers.Repeated n) opened = record { disk = refl; no_journal = refl; known = refl; late = refl }
+status_by (answers.Differs n) opened = record { disk = refl; no_journal = refl; known = refl; late = refl }
+status_by answers.Full opened = record { disk = refl; no_journal = refl; known = refl; late = refl }
+status_by answers.Disk opened = record { disk = refl; no_journal = refl; known = refl; late = refl }
+status_by answers.MustReopen opened = absurd (opened refl)
+status_by answers.Memory opened = record { disk = refl; no_journal = refl; known = refl; late = refl }
+
+no_disk : (answer : Received) → is_fault answer ≡ false → HasStatus out_of_memory (receiving_disk_failed answer)
+no_disk (answers.Accepted n) sound = record { disk = refl; no_journal = refl; known = refl; late = refl }
+no_disk (answers.Repeated n) sound = record { disk = refl; no_journal = refl; known = refl; late = refl }
+no_disk (answers.Differs n) sound = record { disk = refl; no_journal = refl; known = refl; late = refl }
+no_disk answers.Full sound = record { disk = refl; no_journal = refl; known = refl; late = refl }
+no_disk answers.Disk sound = absurd cc
+no_disk answers.MustReopen sound = absurd cc
+no_disk answers.Memory sound = record { disk = refl; no_journal = refl; known = refl; late = refl }
+
+pub status_of_item : (answer : Received) (reply : ReplyParts) → (answer ≡ answers.MustReopen → ⊥) → IsReplyTo answer reply → HasStatus reply (receiving_disk_failed answer)
+status_of_item answer reply opened (inl is) = subst (λ r. HasStatus r (receiving_disk_failed answer)) (sym is) (status_by answer opened)
+status_of_item answer reply opened (inr (sound, is)) = subst (λ r. HasStatus r (receiving_disk_failed answer)) (sym is) (no_disk answer sound)
+
+-- the book that received stands on the disk unless it failed
+pub stands_behind : (settled : SettledBookState) (reads : List ℕ) (images : List ℕ → Type 0) (failed : Bool) → settled.book.log.failed ≡ failed → (failed ≡ false → Stands settled.book reads images) → StandsOpen (Some settled) reads images
+stands_behind settled reads images true is stands = subst (λ (o : Option SettledBookState). IfSome o (λ s. Stands s.book reads images)) (sym (failed_is settled is)) tt
+stands_behind settled reads images false is stands = to_working settled (λ s. Stands s.book reads images) (stands refl)

@@ -1,0 +1,113 @@
+-- How a request ends that calls no disk: it has no route, its body is no item, or no memory was found ahead of the book.
+use Rattle.std.proofs.Common.{◌≡◌, ◌≢◌, ◌⊎◌, inl, inr, ℕ, false, List, Option, Result, Err, refl, sym, ◌∙◌, ap, subst}
+use Rattle.gb_base.specs.DayMinute.{DayMinute}
+use Rattle.act_json.specs.Lines.{ReadsAs}
+use Rattle.act_json.specs.declared.lines.LineFault.{LineFault}
+use Rattle.act_json.specs.declared.lines.LineFault.TheVariants as line
+use Rattle.act_model.specs.declared.items.Item.{Item}
+use Rattle.intake.specs.Grown.{IsFront}
+use Rattle.intake.specs.Requests.{Held}
+use Rattle.registry_http.specs.RequestParts.{RequestParts}
+use Rattle.registry_http.specs.Routes.{IsRoute, method_of, path_of}
+use Rattle.registry_http.specs.declared.finding.RouteFault.{RouteFault}
+use Rattle.registry_http.specs.declared.finding.RouteFault.TheVariants as routing
+use Rattle.registry_http.specs.declared.routes.Route.{Route}
+use Rattle.settled_book.specs.SettledBookState.{SettledBookState}
+use Rattle.connections.specs.Answering.{is_from_disk}
+use Rattle.connections.specs.Answers.{Answer, answer, body_answer, malformed, only}
+use Rattle.connections.specs.Asking.{Asked, Asks, NoRoute, WrongMethod}
+use Rattle.connections.specs.Fates.{OutOfMemory}
+use Rattle.connections.specs.Holding.{Holds}
+use Rattle.connections.specs.Replies.{ReplyParts, not_found, out_of_memory, wrong_method}
+use Rattle.connections.specs.inner.Ends as ends
+use Rattle.connections.specs.inner.Taking.{unrouted_reply}
+use Rattle.connections.proofs.AlwaysAsked.{always_asked}
+use Rattle.connections.proofs.EndsBy.{ends_failed, ends_only, leaves_now, not_from_disk}
+use Rattle.connections.proofs.Grows.{answer_grows, body_grows}
+use Rattle.connections.proofs.Served.{IsApart}
+
+-- ---- such a reply tells nothing of a disk
+
+out_of_memory_apart : IsApart out_of_memory
+out_of_memory_apart = record { no_disk = refl; no_journal = refl; known = refl; silent = refl }
+
+malformed_apart : (fault : LineFault) → IsApart (malformed fault)
+malformed_apart line.NotJson = record { no_disk = refl; no_journal = refl; known = refl; silent = refl }
+malformed_apart (line.NotItem path) = record { no_disk = refl; no_journal = refl; known = refl; silent = refl }
+malformed_apart line.Memory = record { no_disk = refl; no_journal = refl; known = refl; silent = refl }
+
+pub apart_by_body : (fault : LineFault) (reply : ReplyParts) → (reply ≡ malformed fault) ⊎ (reply ≡ out_of_memory) → IsApart reply
+apart_by_body fault reply (inl is) = subst IsApart (sym is) (malformed_apart fault)
+apart_by_body fault reply (inr is) = subst IsApart (sym is) out_of_memory_apart
+
+unrouted_apart : (fault : RouteFault) → IsApart (unrouted_reply fault)
+unrouted_apart routing.NotFound = record { no_disk = refl; no_journal = refl; known = refl; silent = refl }
+unrouted_apart routing.WrongMethod = record { no_disk = refl; no_journal = refl; known = refl; silent = refl }
+unrouted_apart routing.Memory = record { no_disk = refl; no_journal = refl; known = refl; silent = refl }
+
+pub apart_by_route : (fault : RouteFault) (reply : ReplyParts) → reply ≡ unrouted_reply fault → IsApart reply
+apart_by_route fault reply is = subst IsApart (sym is) (unrouted_apart fault)
+
+malformed_tells_none : (fault : LineFault) → is_from_disk (malformed fault) ≡ false
+malformed_tells_none line.NotJson = refl
+malformed_tells_none (line.NotItem path) = refl
+malformed_tells_none line.Memory = refl
+
+-- what was found of a request that has no route
+abbrev pub unfound : RouteFault → Result Route RouteFault
+unfound fault = Err fault
+
+-- what finding no route says of the request's path, and of its method
+pub asks_none : (request : RequestParts) (path : List ℕ) → path ≡ request.path → ((r : Route) → IsRoute r → path ≢ path_of r) → Asks request NoRoute
+asks_none request path is none = λ r good same. none r good (is ∙ same)
+
+pub asks_other : (request : RequestParts) (path method : List ℕ) → path ≡ request.path → method ≡ request.method
+    → (r : Route) × IsRoute r × (path ≡ path_of r) × (method ≢ method_of r) → Asks request WrongMethod
+asks_other request path method is by other = (other.0, other.1, sym is ∙ other.2, λ same. other.3 (by ∙ same))
+
+-- ---- how it ends
+
+module _ {D : Type 0} (reads : D → List ℕ) (images : D → List ℕ → Type 0) (moment : D → ℕ) (since : D → ℕ → List ℕ → Type 0) (disk : D)
+    (only_now : (file : List ℕ) → since disk (moment disk) file → images disk file) (at_hand : Option SettledBookState) (known : Option (List DayMinute)) (held : Held)
+    (holds : Holds at_hand (reads disk) (images disk) known held) where
+  abbrev IsEnd : Answer → ReplyParts → Type 0
+  IsEnd wanted reply = ends.EndsBy reads images moment since disk disk held wanted reply at_hand known
+
+  pub silent_end : (reply : ReplyParts) → is_from_disk reply ≡ false → IsEnd (only held reply) reply
+  silent_end reply silent = ends_only reads images moment since disk disk held reply at_hand known holds (leaves_now reads images moment since disk held.journal only_now) (λ tells. not_from_disk reply _ silent tells)
+
+  pub memory_end : (wanted : Answer) (reply : ReplyParts) → reply ≡ out_of_memory → IsFront held.journal wanted.held.journal → IsEnd wanted reply
+  memory_end wanted reply is front = ends_failed reads images moment since disk disk held wanted OutOfMemory reply at_hand known is holds (leaves_now reads images moment since disk held.journal only_now) front
+
+  malformed_by : (meant : Result (ℕ × ℕ × Item) LineFault) (fault : LineFault) (reply : ReplyParts) → meant ≡ Err fault → reply ≡ malformed fault → IsEnd (body_answer held meant) reply
+  malformed_by meant fault reply same is =
+      subst (λ m. IsEnd (body_answer held m) reply) (sym same)
+      (subst (λ r. IsEnd (only held r) reply) is (silent_end reply (ap is_from_disk is ∙ malformed_tells_none fault)))
+
+  pub body_end : (meant : Result (ℕ × ℕ × Item) LineFault) (fault : LineFault) (reply : ReplyParts) → ReadsAs {A = ℕ × ℕ × Item} (Err fault) meant → (reply ≡ malformed fault) ⊎ (reply ≡ out_of_memory)
+      → IsEnd (body_answer held meant) reply
+  body_end meant line.NotJson reply same (inl is) = malformed_by meant line.NotJson reply same is
+  body_end meant (line.NotItem path) reply same (inl is) = malformed_by meant (line.NotItem path) reply same is
+  body_end meant line.Memory reply same (inl is) = memory_end (body_answer held meant) reply is (body_grows held meant)
+  body_end meant fault reply same (inr is) = memory_end (body_answer held meant) reply is (body_grows held meant)
+
+  -- a request that has no route: what it asks for, and how it ends
+  pub record EndsUnrouted (request : RequestParts) (reply : ReplyParts) : Type 0 where
+    pub asked : Asked
+    pub asks : Asks request asked
+    pub end : IsEnd (answer held request.body asked) reply
+
+  unrouted_by : (request : RequestParts) (fault : RouteFault) → (unfound fault ≡ unfound routing.NotFound → Asks request NoRoute) → (unfound fault ≡ unfound routing.WrongMethod → Asks request WrongMethod)
+      → EndsUnrouted request (unrouted_reply fault)
+  unrouted_by request routing.NotFound none other = record { asked = NoRoute; asks = none refl; end = silent_end not_found refl }
+  unrouted_by request routing.WrongMethod none other = record { asked = WrongMethod; asks = other refl; end = silent_end wrong_method refl }
+  unrouted_by request routing.Memory none other =
+      let always = always_asked request in record {
+        asked = always.asked;
+        asks = always.asks;
+        end = memory_end (answer held request.body always.asked) out_of_memory refl (answer_grows held request.body always.asked);
+      }
+
+  pub ends_unrouted : (request : RequestParts) (fault : RouteFault) (reply : ReplyParts) → reply ≡ unrouted_reply fault
+      → (unfound fault ≡ unfound routing.NotFound → Asks request NoRoute) → (unfound fault ≡ unfound routing.WrongMethod → Asks request WrongMethod) → EndsUnrouted request reply
+  ends_unrouted request fault reply is none other = subst (EndsUnrouted request) (sym is) (unrouted_by request fault none other)

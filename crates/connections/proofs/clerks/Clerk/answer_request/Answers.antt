@@ -1,0 +1,53 @@
+use Rattle.std.proofs.Common.{◌∙◌, List, ℕ, ap, refl, sym, subst}
+use Rattle.connections.specs.Answering.{may_call_disk}
+use Rattle.connections.specs.Answers.{answer}
+use Rattle.connections.specs.Asking.{AskedFor}
+use Rattle.connections.specs.inner.Ends.{EndsBy, Serves}
+use Rattle.connections.proofs.Answered.{answers}
+use Rattle.connections.proofs.Served.{still}
+use Rattle.connections.proofs.Unbegun.{apart_by_route, asks_none, asks_other, ends_unrouted}
+use Rattle.connections.proofs.clerks.Clerk.answer_request.Goals as goal
+
+-- ---- it has no route
+
+pub returns-in-Err-clause-answers : goal.returns-in-Err-clause-answers
+returns-in-Err-clause-answers g c = λ tells held holds.
+    let ends = ends_unrouted g.D.Disk.reads g.D.Disk.images g.D.Disk.moment g.D.Disk.since c.args.disk.now (λ file left. g.met.D.Disk.only_now c.args.disk.now file tells left)
+    c.args.self.now (g.C.Clock.ticks c.args.clock.now) held holds c.args.request.now c.in-Err.fault c.unrouted.result c.unrouted.ensures
+    (λ is. asks_none c.args.request.now c.path.result.now c.path.ensures (c.in-Err.ensures.not_found is))
+    (λ is. asks_other c.args.request.now c.path.result.now c.method.result.now c.path.ensures c.method.ensures (c.in-Err.ensures.wrong_method is)) in
+    answers g.D.Disk.reads g.D.Disk.images g.D.Disk.moment g.D.Disk.since c.args.disk.now c.args.disk.now (g.met.D.Disk.reads_is_image c.args.disk.now tells)
+    (λ t file le image. g.met.D.Disk.counts_now c.args.disk.now t file tells le image)
+    c.args.request.now held c.unrouted.result c.args.self.now (g.C.Clock.ticks c.args.clock.now) ends.asked ends.asks (λ none. refl) holds.file ends.end
+
+served : (g : _) (c : goal.After-unrouted g) → Serves g.D.Disk.tells c.args.self.now c.args.self.now (g.D.Disk.reads c.args.disk.now) (g.D.Disk.reads c.args.disk.now) (g.D.Disk.images c.args.disk.now)
+    (g.D.Disk.faults c.args.disk.now) (g.D.Disk.faults c.args.disk.now) c.unrouted.result
+served g c = still g.D.Disk.tells c.args.self.now (g.D.Disk.reads c.args.disk.now) (g.D.Disk.images c.args.disk.now) (g.D.Disk.faults c.args.disk.now) c.unrouted.result c.requires.stands_open
+    (apart_by_route c.in-Err.fault c.unrouted.result c.unrouted.ensures)
+
+pub returns-in-Err-clause-disk : goal.returns-in-Err-clause-disk
+returns-in-Err-clause-disk g c = (served g c).disk
+
+pub returns-in-Err-clause-no_journal : goal.returns-in-Err-clause-no_journal
+returns-in-Err-clause-no_journal g c = (served g c).no_journal
+
+pub returns-in-Err-clause-had_none : goal.returns-in-Err-clause-had_none
+returns-in-Err-clause-had_none g c = (served g c).had_none
+
+pub returns-in-Err-clause-not_opened : goal.returns-in-Err-clause-not_opened
+returns-in-Err-clause-not_opened g c = (served g c).not_opened
+
+pub returns-in-Err-clause-status : goal.returns-in-Err-clause-status
+returns-in-Err-clause-status g c = (served g c).status
+
+-- ---- it has one
+
+pub returns-clause-answers : goal.returns-clause-answers
+returns-clause-answers g c = λ tells held holds.
+    let end = subst (λ (body : List ℕ). EndsBy g.D.Disk.reads g.D.Disk.images g.D.Disk.moment g.D.Disk.since c.args.disk.now c.answer_route.new.disk held (answer held body (AskedFor c.in-Ok.route))
+    c.answer_route.result c.answer_route.new.self (g.C.Clock.ticks c.answer_route.new.clock)) c.body.ensures (c.answer_route.ensures.ends tells held holds) in
+    answers g.D.Disk.reads g.D.Disk.images g.D.Disk.moment g.D.Disk.since c.args.disk.now c.answer_route.new.disk (g.met.D.Disk.reads_is_image c.args.disk.now tells)
+    (λ t file le image. g.met.D.Disk.counts_now c.answer_route.new.disk t file tells le image)
+    c.args.request.now held c.answer_route.result c.answer_route.new.self (g.C.Clock.ticks c.answer_route.new.clock) (AskedFor c.in-Ok.route)
+    (c.in-Ok.ensures.found.0, sym c.path.ensures ∙ c.in-Ok.ensures.found.1, sym c.method.ensures ∙ c.in-Ok.ensures.found.2)
+    (λ none. c.answer_route.ensures.uncalled (ap (λ (body : List ℕ). may_call_disk (AskedFor c.in-Ok.route) body) c.body.ensures ∙ none)) holds.file end

@@ -1,0 +1,25 @@
+use Rattle.std.proofs.Common.{◌≡◌, ◌∙◌, true, false, ap, is_ok, sym, subst}
+use Rattle.act_json.specs.Lines.{item_of}
+use Rattle.connections.specs.Answers.{body_answer}
+use Rattle.connections.specs.inner.Ends.{EndsBy}
+use Rattle.connections.proofs.Served.{still}
+use Rattle.connections.proofs.Unbegun.{apart_by_body, body_end}
+use Rattle.connections.proofs.clerks.Clerk.post.Goals as goal
+
+pub returns-in-Err-clause-ends : goal.returns-in-Err-clause-ends
+returns-in-Err-clause-ends g c = λ tells held holds.
+    body_end g.D.Disk.reads g.D.Disk.images g.D.Disk.moment g.D.Disk.since c.args.disk.now (λ file left. g.met.D.Disk.only_now c.args.disk.now file tells left) c.args.self.now (g.C.Clock.ticks c.args.clock.now) held holds
+    (item_of c.args.body.now) c.in-Err.fault c.malformed.result c.in-Err.ensures.exact c.malformed.ensures
+
+pub returns-in-Err-clause-serves : goal.returns-in-Err-clause-serves
+returns-in-Err-clause-serves g c =
+    still g.D.Disk.tells c.args.self.now (g.D.Disk.reads c.args.disk.now) (g.D.Disk.images c.args.disk.now) (g.D.Disk.faults c.args.disk.now) c.malformed.result c.requires.stands_open
+    (apart_by_body c.in-Err.fault c.malformed.result c.malformed.ensures)
+
+pub returns-clause-ends : goal.returns-clause-ends
+returns-clause-ends g c = λ tells held holds.
+    subst (λ read. EndsBy g.D.Disk.reads g.D.Disk.images g.D.Disk.moment g.D.Disk.since c.args.disk.now c.post_item.new.disk held (body_answer held read) c.post_item.result c.post_item.new.self (g.C.Clock.ticks c.post_item.new.clock))
+    (sym c.in-Ok.ensures.exact) (c.post_item.ensures.ends tells held holds)
+
+pub returns-clause-uncalled : goal.returns-clause-uncalled
+returns-clause-uncalled g c = λ none. let never : true ≡ false = sym (ap is_ok c.in-Ok.ensures.exact) ∙ none in absurd cc

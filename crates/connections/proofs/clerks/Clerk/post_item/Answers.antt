@@ -1,0 +1,46 @@
+use Rattle.std.proofs.Common.{sym, subst}
+use Rattle.gb_outside.specs.Faults.{Counts}
+use Rattle.receipt_journal.specs.Receiving.{receiving_disk_failed}
+use Rattle.connections.specs.Answers.{item_answer}
+use Rattle.connections.proofs.BookEnds.{ends_unopened}
+use Rattle.connections.proofs.Grows.{item_grows}
+use Rattle.connections.proofs.ItemEnds.{item_ends}
+use Rattle.connections.proofs.Served.{counts_then, opened, stands_behind, status_of_item, unopened, unopened_late}
+use Rattle.connections.proofs.clerks.Clerk.post_item.Goals as goal
+
+pub returns-in-Err-clause-ends : goal.returns-in-Err-clause-ends
+returns-in-Err-clause-ends g c = λ tells held holds.
+    ends_unopened g.D.Disk.reads g.D.Disk.images g.D.Disk.moment g.D.Disk.since c.args.disk.now c.take_book.new.disk held (g.C.Clock.ticks c.args.clock.now) holds.clock
+    (item_answer held c.args.from c.args.item.now) c.in-Err.fault c.unopened.result c.take_book.new.self c.unopened.ensures c.take_book.ensures.taken
+    (c.in-Err.ensures.finds tells held.journal holds.file holds.book) (item_grows held c.args.from c.args.item.now)
+
+pub returns-in-Err-clause-serves : goal.returns-in-Err-clause-serves
+returns-in-Err-clause-serves g c =
+    unopened g.D.Disk.tells c.args.self.now (g.D.Disk.reads c.args.disk.now) (g.D.Disk.reads c.take_book.new.disk) (g.D.Disk.images c.take_book.new.disk)
+    (g.D.Disk.faults c.args.disk.now) (g.D.Disk.faults c.take_book.new.disk) c.unopened.result c.take_book.new.self c.in-Err.fault c.unopened.ensures c.take_book.ensures.taken
+    (λ told. c.in-Err.ensures.refused told) c.in-Err.ensures.had_none c.in-Err.ensures.cause
+
+pub returns-clause-ends : goal.returns-clause-ends
+returns-clause-ends g c = λ tells held holds.
+    let finds = c.in-Ok.ensures.finds tells held.journal holds.file holds.book in
+    item_ends g.D.Disk.reads g.D.Disk.images g.D.Disk.moment g.D.Disk.since c.args.disk.now c.take_book.new.disk c.receive-answer.new.disk (g.met.D.Disk.reads_is_image c.receive-answer.new.disk tells)
+    held c.args.from c.args.item.now c.received.result c.receive-answer.new.book (g.C.Clock.ticks c.receive-answer.new.clock) finds.left
+    c.receive-answer.result (c.receive-answer.ensures.receives tells held holds.clock finds.there) c.receive-answer.ensures.opened c.receive-answer.ensures.failed c.received.ensures
+
+pub returns-clause-serves : goal.returns-clause-serves
+returns-clause-serves g c =
+    let status = status_of_item c.receive-answer.result c.received.result c.receive-answer.ensures.opened c.received.ensures in
+    opened g.D.Disk.tells c.args.self.now (g.D.Disk.reads c.args.disk.now) (g.D.Disk.reads c.receive-answer.new.disk) (g.D.Disk.images c.receive-answer.new.disk)
+    (g.D.Disk.faults c.args.disk.now) (g.D.Disk.faults c.receive-answer.new.disk) c.received.result c.receive-answer.new.book
+    (λ told. stands_behind c.receive-answer.new.book (g.D.Disk.reads c.receive-answer.new.disk) (g.D.Disk.images c.receive-answer.new.disk) (receiving_disk_failed c.receive-answer.result)
+    c.receive-answer.ensures.failed (λ sound. c.receive-answer.ensures.stands told sound))
+    (subst (λ b. Counts (g.D.Disk.faults c.args.disk.now) (g.D.Disk.faults c.receive-answer.new.disk) b) (sym status.disk)
+    (counts_then (g.D.Disk.faults c.args.disk.now) (g.D.Disk.faults c.take_book.new.disk) (g.D.Disk.faults c.receive-answer.new.disk) (receiving_disk_failed c.receive-answer.result)
+    c.in-Ok.ensures.cause c.receive-answer.ensures.cause))
+    status.no_journal status.known (λ told none. c.in-Ok.ensures.journal told none)
+
+pub returns-in-Err-clause-late : goal.returns-in-Err-clause-late
+returns-in-Err-clause-late g c = unopened_late c.in-Err.fault c.unopened.result c.unopened.ensures
+
+pub returns-clause-late : goal.returns-clause-late
+returns-clause-late g c = (status_of_item c.receive-answer.result c.received.result c.receive-answer.ensures.opened c.received.ensures).late

@@ -1,0 +1,19 @@
+use Rattle.std.proofs.Common.{◌∙◌, sym, subst, Option, IfSome}
+use Rattle.settled_book.specs.SettledBookState.{SettledBookState}
+use Rattle.connections.specs.Holding.{IsOpenOn}
+use Rattle.connections.proofs.TakenBooks.{finds_at_hand, finds_by_opening, opened_journal}
+use Rattle.connections.proofs.clerks.Clerk.take_book.Goals as goal
+
+pub returns-in-Some-clause-finds : goal.returns-in-Some-clause-finds
+returns-in-Some-clause-finds g c = λ tells journal stands on.
+    finds_at_hand g.D.Disk.reads g.D.Disk.images g.D.Disk.moment g.D.Disk.since c.args.disk.now journal c.in-Some.book (λ file left. g.met.D.Disk.only_now c.args.disk.now file tells left) stands
+    (subst (λ (o : Option SettledBookState). IfSome o (λ settled. IsOpenOn settled (g.D.Disk.reads c.args.disk.now) (g.D.Disk.images c.args.disk.now) journal))
+    (sym c.take_working.ensures.value ∙ c.in-Some.is) on)
+
+pub returns-clause-finds : goal.returns-clause-finds
+returns-clause-finds g c = λ tells journal stands on.
+    finds_by_opening g.D.Disk.reads g.D.Disk.images g.D.Disk.moment g.D.Disk.since c.args.disk.now c.open.new.disk journal c.open.result stands (c.open.ensures.opened tells)
+    c.open.ensures.records (c.open.ensures.kept tells) (c.open.ensures.any_moment tells)
+
+pub returns-clause-journal : goal.returns-clause-journal
+returns-clause-journal g c = λ tells none. opened_journal _ _ _ c.open.result (c.open.ensures.opened tells)

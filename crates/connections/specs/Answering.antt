@@ -1,0 +1,49 @@
+-- What answering a request does.
+use Rattle.std.specs.Prelude.{◌≡◌, ◌⊎◌, ℕ, ◌==◌, ◌||◌, Bool, true, false, List, is_ok}
+use Rattle.gb_outside.specs.Images.{LeavesOnly}
+use Rattle.act_json.specs.Lines.{item_of}
+use Rattle.act_model.specs.declared.receipts.Receipt.{Receipt}
+use Rattle.intake.specs.Grown.{GrownFrom}
+use Rattle.intake.specs.Requests.{Held}
+use Rattle.registry_http.specs.RequestParts.{RequestParts}
+use Rattle.registry_http.specs.declared.routes.Route.TheVariants.{Post}
+use Rattle.connections.specs.Answers.{answer}
+use Rattle.connections.specs.Asking.{Asked, AskedFor, NoRoute, WrongMethod, Asks}
+use Rattle.connections.specs.Fates.{Fate, answer_by}
+use Rattle.connections.specs.Holding.{Begins}
+use Rattle.connections.specs.Replies.{ReplyParts}
+
+-- the status says that a text was read, or that an item was received
+abbrev pub is_from_disk : ReplyParts → Bool
+is_from_disk reply = reply.status == 200 || reply.status == 201
+
+-- the status refuses a request by its method or by its body
+abbrev pub is_refusal : ReplyParts → Bool
+is_refusal reply = reply.status == 400 || reply.status == 405 || reply.status == 422
+
+-- the status speaks of a journal: of a text of it, or of how it takes an item
+abbrev pub tells_of_journal : ReplyParts → Bool
+tells_of_journal reply = reply.status == 200 || reply.status == 201 || reply.status == 403 || reply.status == 409
+
+-- the disk may be called for it: a text is read, or the body is an item
+abbrev pub may_call_disk : Asked → List ℕ → Bool
+may_call_disk (AskedFor Post) body = is_ok (item_of body)
+may_call_disk (AskedFor route) body = true
+may_call_disk NoRoute body = false
+may_call_disk WrongMethod body = false
+
+-- Each image begins with these receipts.
+abbrev pub AllBegin : List Receipt → (List ℕ → Type 0) → Type 0
+AllBegin front images = (file : List ℕ) → images file → Begins front file
+
+-- A request was answered by what it asks for and by what became of it; that is what is held behind it. The disk is called only where it may be. At each moment since, a stop leaves what it might have left before, or the journal that was held, with the receipt of this request or without it. What every image began with each begins with still, and with all that a text was read of or an item was received into.
+pub record AnswersRequest {D : Type 0} (images : D → List ℕ → Type 0) (moment : D → ℕ) (since : D → ℕ → List ℕ → Type 0) (old new : D) (request : RequestParts) (held : Held) (reply : ReplyParts) (HoldsNow : Held → Type 0) : Type 0 where
+  pub asked : Asked
+  pub fate : Fate
+  pub asks : Asks request asked
+  pub reply_is : reply ≡ (answer_by fate held (answer held request.body asked)).reply
+  pub holds : HoldsNow (answer_by fate held (answer held request.body asked)).held
+  pub uncalled : may_call_disk asked request.body ≡ false → new ≡ old
+  pub left : LeavesOnly moment since old new (λ file. images old file ⊎ GrownFrom held.journal (answer held request.body asked).held.journal file)
+  pub kept : (front : List Receipt) → AllBegin front (images old) → AllBegin front (images new)
+  pub told : is_from_disk reply ≡ true → AllBegin (answer_by fate held (answer held request.body asked)).held.journal (images new)

@@ -1,0 +1,44 @@
+-- What becomes of a request: it is answered as it asks, or something failed in it.
+use Rattle.std.specs.Prelude.{Bool, true, false}
+use Rattle.intake.specs.Requests.{Held, holding}
+use Rattle.connections.specs.Answers.{Answer}
+use Rattle.connections.specs.Replies.{ReplyParts, disk_failed, not_a_journal, out_of_memory}
+
+-- a call of the disk failed; an opening found that its file is no journal; no memory was found
+pub data Failure : Type 0 where
+  DiskFailed NoJournal OutOfMemory : Failure
+
+-- how far its receipt came: nothing was begun; the clock was asked for its stamp; the file then reads with the receipt
+pub data Progress : Type 0 where
+  NotBegun Stamped Received : Progress
+
+pub data Fate : Type 0 where
+  Answered : Fate
+  Failed : Failure → Progress → Fate
+
+-- the reply to a request in which this failed
+abbrev pub failure_reply : Failure → ReplyParts
+failure_reply DiskFailed = disk_failed
+failure_reply NoJournal = not_a_journal
+failure_reply OutOfMemory = out_of_memory
+
+-- what is held after a request that came so far, where this would be its answer
+abbrev pub held_by : Progress → Held → Answer → Held
+held_by NotBegun held wanted = held
+held_by Stamped held wanted = holding held.journal wanted.held.ticks
+held_by Received held wanted = wanted.held
+
+-- the reply to a request of this fate, and what is held after it
+abbrev pub answer_by : Fate → Held → Answer → Answer
+answer_by Answered held wanted = wanted
+answer_by (Failed failure progress) held wanted = record {
+  reply = failure_reply failure;
+  held = held_by progress held wanted;
+}
+
+-- a call of the disk failed in it
+abbrev pub has_disk_failed : Fate → Bool
+has_disk_failed Answered = false
+has_disk_failed (Failed DiskFailed progress) = true
+has_disk_failed (Failed NoJournal progress) = false
+has_disk_failed (Failed OutOfMemory progress) = false

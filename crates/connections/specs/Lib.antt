@@ -1,0 +1,10 @@
+-- What contracts cite.
+pub mod Answering
+pub mod Answers
+pub mod Asking
+pub mod Fates
+pub mod Holding
+pub mod Replies
+pub mod Served
+pub mod Turns
+pub mod inner

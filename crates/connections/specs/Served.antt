@@ -1,0 +1,62 @@
+-- What a connection writes and leaves.
+use Rattle.std.specs.Prelude.{◌≡◌, ◌⊎◌, ℕ, ◌+◌, ◌≤◌, List, [], ◌∷◌, ◌++◌, length, map, take}
+use Rattle.std.specs.List.{AllZip}
+use Rattle.intake.specs.Grown.{GrownFrom, IsFront}
+use Rattle.intake.specs.Requests.{Held}
+use Rattle.connections.specs.Fates.{Answered}
+use Rattle.connections.specs.Replies.{ReplyParts, bytes_of, out_of_memory}
+use Rattle.connections.specs.Turns.{Turn, Taken, Answering, Refusing, IsOf, held_behind, replies_in}
+
+-- the turn as it is where nothing fails in it
+abbrev pub unfailed : Taken → Taken
+unfailed (Answering request asked fate) = Answering request asked Answered
+unfailed (Refusing reply) = Refusing reply
+
+-- A file that a stop leaves while these turns are taken: it stands for the journal behind the first of them, with the receipt of the one that follows or without it.
+pub record IsLeftIn (held : Held) (turns : List Taken) (file : List ℕ) : Type 0 where
+  pub done : List Taken
+  pub next : List Taken
+  pub rest : List Taken
+  pub all : turns ≡ done ++ (next ++ rest)
+  pub one : length next ≤ 1
+  pub left : GrownFrom (held_behind held done).journal (held_behind held (done ++ map unfailed next)).journal file
+
+-- the connection has no more to say, as no memory was found for what comes next; or it said all
+abbrev pub IsClosing : List ReplyParts → Type 0
+IsClosing closing = (closing ≡ []) ⊎ (closing ≡ out_of_memory ∷ [])
+
+-- What became of a connection: the turns that were replied to whole, the one that was taken up behind them if any, the reply that ends it where no memory was found for what comes next, and the bytes that stand written of a reply that is not whole.
+pub record Connection : Type 0 where
+  pub replied : List Taken
+  pub begun : List Taken
+  pub closing : List ReplyParts
+  pub front : List ℕ
+
+-- the turns that were taken up
+abbrev pub taken_of : Connection → List Taken
+taken_of c = c.replied ++ c.begun
+
+-- the bytes that were written, where this was held at first
+abbrev pub written_by : Held → Connection → List ℕ
+written_by held c = bytes_of (replies_in held c.replied) ++ c.front
+
+-- what is held behind it
+abbrev pub held_by : Held → Connection → Held
+held_by held c = held_behind held (taken_of c)
+
+-- It is a connection of these turns: the first of them were taken, at most one of them is not replied to whole, and what stands written behind the whole replies is a front of its reply, or of the one that closes.
+pub record IsOfTurns (held : Held) (turns : List Turn) (c : Connection) : Type 0 where
+  pub are : AllZip IsOf (take (length (taken_of c)) turns) (taken_of c)
+  pub one : length c.begun ≤ 1
+  pub closes : IsClosing c.closing
+  pub part : IsFront c.front (bytes_of (replies_in (held_behind held c.replied) c.begun ++ c.closing))
+
+-- It is whole: all turns were replied to, or the reply that closes stands written whole.
+pub record IsWhole (turns : List Turn) (c : Connection) : Type 0 where
+  pub none_begun : c.begun ≡ []
+  pub written : c.front ≡ bytes_of c.closing
+  pub all : c.closing ≡ [] → length c.replied ≡ length turns
+
+-- how many whole replies were written of one that is whole
+abbrev pub replies_of : Connection → ℕ
+replies_of c = length c.replied + length c.closing

@@ -1,0 +1,4 @@
+-- Definitions that only private clauses and proofs use.
+pub mod Ends
+pub mod ReplyBodies
+pub mod Taking

@@ -1,0 +1,74 @@
+-- What is done for a reply: a route is found, a book is taken, and an item is received.
+use Rattle.std.specs.Prelude.{◌≡◌, ◌⊎◌, ℕ, false, List, Option, Some, Result, IfOk}
+use Rattle.gb_base.specs.DayMinute.{DayMinute}
+use Rattle.gb_outside.specs.Images.{LeavesOnly}
+use Rattle.act_model.specs.declared.items.Item.{Item}
+use Rattle.act_model.specs.declared.receipts.Receipt.{Receipt}
+use Rattle.receipt_journal.specs.Standing.{StandsForJournal}
+use Rattle.receipt_journal.specs.declared.faults.BookFault.{BookFault}
+use Rattle.receipt_journal.specs.declared.faults.BookFault.TheVariants as fault
+use Rattle.receipt_journal.specs.declared.received.Received.{Received}
+use Rattle.receipt_journal.specs.declared.received.Received.TheVariants as answers
+use Rattle.intake.specs.Grown.{GrownFrom}
+use Rattle.intake.specs.Requests.{Held, is_fault}
+use Rattle.intake_requests.specs.declared.requests.SenderReference.{SenderReference}
+use Rattle.registry_http.specs.declared.finding.RouteFault.{RouteFault}
+use Rattle.registry_http.specs.declared.finding.RouteFault.TheVariants as routing
+use Rattle.settled_book.specs.SettledBookState.{SettledBookState}
+use Rattle.connections.specs.Answers.{item_answer, item_reply, received_by_clock}
+use Rattle.connections.specs.Fates.{Failure, DiskFailed, NoJournal, OutOfMemory, failure_reply}
+use Rattle.connections.specs.Holding.{IsOpenOn}
+use Rattle.connections.specs.Replies.{ReplyParts, disk_failed, not_found, out_of_memory, wrong_method}
+
+-- ---- a route is found
+
+-- the reply to a request that has no route
+abbrev pub unrouted_reply : RouteFault → ReplyParts
+unrouted_reply routing.NotFound = not_found
+unrouted_reply routing.WrongMethod = wrong_method
+unrouted_reply routing.Memory = out_of_memory
+
+-- ---- a book is taken
+
+-- what an opening that failed is for the request
+abbrev pub failure_of : BookFault → Failure
+failure_of fault.Disk = DiskFailed
+failure_of fault.NotJournal = NoJournal
+failure_of (fault.BadRecord at) = NoJournal
+failure_of fault.Memory = OutOfMemory
+
+-- its reply
+abbrev pub opening_reply : BookFault → ReplyParts
+opening_reply f = failure_reply (failure_of f)
+
+-- A book was taken, or none was opened, of a file that stood for this journal: it stands for it still, and a stop leaves what it might have left before or a file that does.
+pub record Finds {D : Type 0} (reads : D → List ℕ) (images : D → List ℕ → Type 0) (moment : D → ℕ) (since : D → ℕ → List ℕ → Type 0) (old new : D) (journal : List Receipt) (taken : Result SettledBookState BookFault) : Type 0 where
+  pub file : StandsForJournal (reads new) journal
+  pub left : LeavesOnly moment since old new (λ file. images old file ⊎ StandsForJournal file journal)
+  pub there : IfOk taken (λ settled. IsOpenOn settled (reads new) (images new) journal)
+
+-- ---- an item is received
+
+-- An item was received by a book that stood on the disk with what is held, and answered so.
+pub record Receives {D : Type 0} (reads : D → List ℕ) (images : D → List ℕ → Type 0) (moment : D → ℕ) (since : D → ℕ → List ℕ → Type 0) (old new : D) (held : Held) (from : SenderReference) (item : Item)
+    (answer : Received) (settled : SettledBookState) (known : Option (List DayMinute)) : Type 0 where
+  pub expected : is_fault answer ≡ false → answer ≡ received_by_clock held from item
+  pub clock : known ≡ Some (item_answer held from item).held.ticks
+  pub file : StandsForJournal (reads new) held.journal ⊎ StandsForJournal (reads new) (item_answer held from item).held.journal
+  pub left : LeavesOnly moment since old new (GrownFrom held.journal (item_answer held from item).held.journal)
+  pub answered : is_fault answer ≡ false → IsOpenOn settled (reads new) (images new) (item_answer held from item).held.journal
+  pub unreceived : answer ≡ answers.Memory → IsOpenOn settled (reads new) (images new) held.journal
+
+-- the reply to an item by its answer
+abbrev pub received_reply : Received → ReplyParts
+received_reply (answers.Accepted n) = item_reply (answers.Accepted n)
+received_reply (answers.Repeated n) = item_reply (answers.Repeated n)
+received_reply (answers.Differs n) = item_reply (answers.Differs n)
+received_reply answers.Full = item_reply answers.Full
+received_reply answers.Disk = disk_failed
+received_reply answers.MustReopen = disk_failed
+received_reply answers.Memory = out_of_memory
+
+-- the reply is that of the answer, or says that no memory was found for its words
+abbrev pub IsReplyTo : Received → ReplyParts → Type 0
+IsReplyTo answer reply = (reply ≡ received_reply answer) ⊎ ((is_fault answer ≡ false) × (reply ≡ out_of_memory))

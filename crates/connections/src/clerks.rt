@@ -1,0 +1,212 @@
+//! The clerk, who answers requests and keeps the open book between them.
+ghost use Rattle.std.specs.Prelude.{◌≡◌, ◌≤◌, ◌==◌, ℕ, List, Option, Some, None, length, IfOk, IfErr, IfSome, OnErr, OnOk, IsTrue, is_ok, true, false};
+ghost use Rattle.gb_base.specs.DayMinute.{DayMinute};
+ghost use Rattle.gb_outside.specs.Faults.{Counts};
+ghost use Rattle.act_json.specs.Lines.{item_of, longest_line};
+ghost use Rattle.act_model.specs.WellFormed.{well_formed};
+ghost use Rattle.act_model.specs.declared.receipts.Receipt.{Receipt};
+ghost use Rattle.intake.specs.Requests.{Held};
+ghost use Rattle.receipt_journal.specs.Opening.{BookRefuses, book_opening_disk_failed};
+ghost use Rattle.receipt_journal.specs.Standing.{Stands, StandsForJournal};
+ghost use Rattle.settled_book.specs.Texts.{reads_register};
+ghost use Rattle.connections.specs.Answering.{AnswersRequest, is_refusal, may_call_disk, tells_of_journal};
+ghost use Rattle.connections.specs.Answers.{answer, body_answer, item_answer, only, read_reply};
+ghost use Rattle.connections.specs.Asking.{AskedFor};
+ghost use Rattle.connections.specs.Holding.{Holds, IsNoJournal, IsOpenOn, StandsOpen, working};
+ghost use Rattle.connections.specs.Replies.{is_reply_status};
+ghost use Rattle.connections.specs.inner.Ends.{EndsBy, Serves};
+ghost use Rattle.connections.specs.inner.Taking.{Finds};
+
+use crate::receiving::receive;
+use crate::replies::Reply;
+use act_json::read_item;
+use act_model::Item;
+use gb_outside::{Clock, Disk};
+use intake_requests::SenderReference;
+use receipt_journal::BookFault;
+use registry_http::{Request, Route, route};
+use settled_book::SettledBook;
+use std::alloc::Global;
+use std::marker::Model;
+
+/// Answers requests, and keeps the open book between them. The disk and the clock are lent to each
+/// call.
+#[derive(Drop)]
+pub struct Clerk {
+    /// None before the first request that wants it, and where it could not be opened.
+    book: Option<SettledBook>,
+}
+
+impl Model for Clerk {
+    ghost use Rattle.std.specs.Prelude.{Option};
+    ghost use Rattle.settled_book.specs.SettledBookState.{SettledBookState};
+
+    ghost Value = { Option SettledBookState };
+
+    ghost view = { λ a. a.book };
+}
+
+impl Clerk {
+    /// A clerk with no book open.
+    pub fn new() -> Clerk
+        ensures { result ≡ None }
+    {
+        Clerk { book: None }
+    }
+
+    /// Takes out the book that is open, if it works.
+    fn take_working(&mut self) -> Option<SettledBook>
+        ensures value { result ≡ working self.old }
+        ensures taken { self.new ≡ None }
+    {
+        let book = self.book.take()?;
+        if book.book().failed() {
+            None
+        } else {
+            Some(book)
+        }
+    }
+
+    /// Takes out the book, which works; where none is open, or the one that is has failed, it is
+    /// opened.
+    fn take_book<D: Disk>(&mut self, alloc: Global, disk: &mut D) -> Result<SettledBook, BookFault>
+        requires { IsTrue D.tells → StandsOpen self.old (D.reads disk.old) (D.images disk.old) }
+        ensures finds { IsTrue D.tells → (journal : List Receipt) → StandsForJournal (D.reads disk.old) journal
+            → IfSome (working self.old) (λ settled. IsOpenOn settled (D.reads disk.old) (D.images disk.old) journal)
+            → Finds D.reads D.images D.moment D.since disk.old disk.new journal result }
+        ensures works { IfOk result (λ settled. settled.book.log.failed ≡ false) }
+        ensures stands { IsTrue D.tells → IfOk result (λ settled. Stands settled.book (D.reads disk.new) (D.images disk.new)) }
+        ensures taken { self.new ≡ None }
+        ensures refused { IsTrue D.tells → IfErr result (BookRefuses (D.reads disk.old)) }
+        ensures had_none { OnErr result (working self.old ≡ None) }
+        ensures journal { IsTrue D.tells → working self.old ≡ None → OnOk result ((journal : List Receipt) × StandsForJournal (D.reads disk.old) journal) }
+        ensures cause { Counts (D.faults disk.old) (D.faults disk.new) (book_opening_disk_failed result) }
+    {
+        if let Some(book) = self.take_working() {
+            return Ok(book);
+        }
+        SettledBook::open(alloc, disk)
+    }
+
+    /// Answers a request that reads a text.
+    fn read<D: Disk>(&mut self, alloc: Global, disk: &mut D, route: Route) -> Reply
+        requires { IsTrue D.tells → StandsOpen self.old (D.reads disk.old) (D.images disk.old) }
+        ensures ends { IsTrue D.tells → (known : Option (List DayMinute)) (held : Held) → Holds self.old (D.reads disk.old) (D.images disk.old) known held
+            → EndsBy D.reads D.images D.moment D.since disk.old disk.new held (only held (read_reply held.journal route)) result self.new known }
+        ensures serves { Serves D.tells self.old self.new (D.reads disk.old) (D.reads disk.new) (D.images disk.new) (D.faults disk.old) (D.faults disk.new) result }
+        ensures late { is_refusal result ≡ false }
+    {
+        let mut book = match self.take_book(alloc, disk) {
+            Ok(book) => book,
+            Err(fault) => return Reply::unopened(&fault),
+        };
+        let text = book.text(alloc, route);
+        self.book = Some(book);
+        Reply::read(text)
+    }
+
+    /// Answers a request that an item be received.
+    fn post_item<D: Disk, C: Clock>(
+        &mut self,
+        alloc: Global,
+        disk: &mut D,
+        clock: &mut C,
+        from: SenderReference,
+        item: &Item,
+    ) -> Reply
+        requires item { IsTrue (well_formed item.now) }
+        requires stands_open { IsTrue D.tells → StandsOpen self.old (D.reads disk.old) (D.images disk.old) }
+        ensures ends { IsTrue D.tells → (held : Held) → Holds self.old (D.reads disk.old) (D.images disk.old) (C.ticks clock.old) held
+            → EndsBy D.reads D.images D.moment D.since disk.old disk.new held (item_answer held from item.now) result self.new (C.ticks clock.new) }
+        ensures serves { Serves D.tells self.old self.new (D.reads disk.old) (D.reads disk.new) (D.images disk.new) (D.faults disk.old) (D.faults disk.new) result }
+        ensures late { is_refusal result ≡ false }
+    {
+        let mut book = match self.take_book(alloc, disk) {
+            Ok(book) => book,
+            Err(fault) => return Reply::unopened(&fault),
+        };
+        let answer = receive(&mut book, alloc, disk, clock, from, item);
+        self.book = Some(book);
+        Reply::received(alloc, answer)
+    }
+
+    /// Answers a POST by its body.
+    fn post<D: Disk, C: Clock>(
+        &mut self,
+        alloc: Global,
+        disk: &mut D,
+        clock: &mut C,
+        body: &[u8],
+    ) -> Reply
+        requires short { length body.now ≤ longest_line }
+        requires stands_open { IsTrue D.tells → StandsOpen self.old (D.reads disk.old) (D.images disk.old) }
+        ensures ends { IsTrue D.tells → (held : Held) → Holds self.old (D.reads disk.old) (D.images disk.old) (C.ticks clock.old) held
+            → EndsBy D.reads D.images D.moment D.since disk.old disk.new held (body_answer held (item_of body.now)) result self.new (C.ticks clock.new) }
+        ensures serves { Serves D.tells self.old self.new (D.reads disk.old) (D.reads disk.new) (D.images disk.new) (D.faults disk.old) (D.faults disk.new) result }
+        ensures apart { is_refusal result ≡ true → (self.new ≡ self.old) × (disk.new ≡ disk.old) × (clock.new ≡ clock.old) }
+        ensures uncalled { is_ok (item_of body.now) ≡ false → disk.new ≡ disk.old }
+    {
+        let (sender, reference, item) = match read_item(alloc, body) {
+            Ok(found) => found,
+            Err(fault) => return Reply::malformed(alloc, &fault),
+        };
+        let from = SenderReference { sender, reference };
+        self.post_item(alloc, disk, clock, from, &item)
+    }
+
+    /// Answers a request that asks for a route.
+    fn answer_route<D: Disk, C: Clock>(
+        &mut self,
+        alloc: Global,
+        disk: &mut D,
+        clock: &mut C,
+        route: Route,
+        body: &[u8],
+    ) -> Reply
+        requires short { length body.now ≤ longest_line }
+        requires stands_open { IsTrue D.tells → StandsOpen self.old (D.reads disk.old) (D.images disk.old) }
+        ensures ends { IsTrue D.tells → (held : Held) → Holds self.old (D.reads disk.old) (D.images disk.old) (C.ticks clock.old) held
+            → EndsBy D.reads D.images D.moment D.since disk.old disk.new held (answer held body.now (AskedFor route)) result self.new (C.ticks clock.new) }
+        ensures serves { Serves D.tells self.old self.new (D.reads disk.old) (D.reads disk.new) (D.images disk.new) (D.faults disk.old) (D.faults disk.new) result }
+        ensures apart { is_refusal result ≡ true → (self.new ≡ self.old) × (disk.new ≡ disk.old) × (clock.new ≡ clock.old) }
+        ensures uncalled { may_call_disk (AskedFor route) body.now ≡ false → disk.new ≡ disk.old }
+    {
+        match &route {
+            Route::Post => self.post(alloc, disk, clock, body),
+            _ => self.read(alloc, disk, route),
+        }
+    }
+
+    /// Answers a request. Its route is found first, then a POST's body is read, and only then is the
+    /// disk called: the book is opened where none is open or the open one has failed. The clock is
+    /// asked once for each item, just before it is received. Want of memory may end it at each point.
+    pub fn answer_request<D: Disk, C: Clock>(
+        &mut self,
+        alloc: Global,
+        disk: &mut D,
+        clock: &mut C,
+        request: &Request,
+    ) -> Reply
+        requires short { length request.now.body ≤ longest_line }
+        requires stands_open { IsTrue D.tells → StandsOpen self.old (D.reads disk.old) (D.images disk.old) }
+        ensures answers { IsTrue D.tells → (held : Held) → Holds self.old (D.reads disk.old) (D.images disk.old) (C.ticks clock.old) held
+            → AnswersRequest D.images D.moment D.since disk.old disk.new request.now held result (Holds self.new (D.reads disk.new) (D.images disk.new) (C.ticks clock.new)) }
+        ensures stands_open { IsTrue D.tells → StandsOpen self.new (D.reads disk.new) (D.images disk.new) }
+        ensures disk { Counts (D.faults disk.old) (D.faults disk.new) (result.status == 503) }
+        ensures status { IsTrue (is_reply_status result.status) }
+
+        // What is refused by its method or by its body calls neither the disk nor the clock.
+        ensures apart { is_refusal result ≡ true → (self.new ≡ self.old) × (disk.new ≡ disk.old) × (clock.new ≡ clock.old) }
+
+        // Each answer about the file is by its standing, where a book had to be opened.
+        ensures no_journal { IsTrue D.tells → result.status ≡ 500 → IsNoJournal (D.reads disk.old) }
+        ensures had_none { result.status ≡ 500 → working self.old ≡ None }
+        ensures not_opened { IsTrue D.tells → working self.old ≡ None → ((journal : List Receipt) → StandsForJournal (D.reads disk.old) journal → ⊥) → tells_of_journal result ≡ false }
+    {
+        let route = match route(alloc, request.method(), request.path()) {
+            Ok(route) => route,
+            Err(fault) => return Reply::unrouted(fault),
+        };
+        self.answer_route(alloc, disk, clock, route, request.body())
+    }
+}
