@@ -13,6 +13,7 @@ use Rattle.registry_http.proofs.InTurn.{in_turn}
 use Rattle.connections.specs.Replies.{bytes_of}
 use Rattle.connections.specs.Serving.{ServesLink, TakesTurns}
 use Rattle.connections.specs.Turns.{Turn, Taken, Request, IsOf, answer_in, held_behind, refusals, replies_in, turns}
+use Rattle.connections.specs.declared.serving.Ended.TheVariants as ended
 use Rattle.connections.specs.declared.serving.Served.{Served}
 use Rattle.connections.specs.inner.Rounds.{GoesOn}
 use Rattle.connections.proofs.LinksServed.{served_later, served_none}
@@ -76,6 +77,12 @@ pub record Went {D : Type 0} (images : D → List ℕ → Type 0) (moment : D �
   pub meets : MeetsNow (held_behind held done) requests
   pub disk : TakesTurns images moment since faults old now held done
 
+length_zip : (xs : List Turn) (ys : List Taken) → AllZip IsOf xs ys → length xs ≡ length ys
+length_zip [] [] are = refl
+length_zip [] (y ∷ ys) are = absurd are
+length_zip (x ∷ xs) [] are = absurd are
+length_zip (x ∷ xs) (y ∷ ys) are = omega (arith, length_zip xs ys are.1)
+
 module _ {D : Type 0} (images : D → List ℕ → Type 0) (moment : D → ℕ) (since : D → ℕ → List ℕ → Type 0) (faults : D → ℕ) where
   pub went_none : (disk : D) (held : Held) (w : Option (List ℕ)) (most : ℕ) (requests : List RequestParts) (end : AtFront) (MeetsNow : Held → List RequestParts → Type 0)
       → ((file : List ℕ) → since disk (moment disk) file → images disk file) → MeetsNow held requests → Went images moment since faults disk disk held w w (turns most requests end) most 0 end MeetsNow
@@ -125,9 +132,18 @@ module _ {D : Type 0} (images : D → List ℕ → Type 0) (moment : D → ℕ) 
       subst (λ l. ServesLink images moment since faults old new held w0 w2 l all HoldsNow) (sym went.whole)
       (served_later images moment since faults old mid new w0 w1 w2 held went.ahead (turns (most - replies) went.requests end) went.done HoldsNow served all counts went.are
       (length_zip went.ahead went.done went.are) went.written went.disk (last (most - replies) (some_left (most - replies) (omega (arith, less)))) ends (omega (arith, adds, went.count)))
-    where
-      length_zip : (xs : List Turn) (ys : List Taken) → AllZip IsOf xs ys → length xs ≡ length ys
-      length_zip [] [] are = refl
-      length_zip [] (y ∷ ys) are = absurd are
-      length_zip (x ∷ xs) [] are = absurd are
-      length_zip (x ∷ xs) (y ∷ ys) are = omega (arith, length_zip xs ys are.1)
+
+  -- no turn is left
+  pub went_out : (old now : D) (held : Held) (w0 w1 : Option (List ℕ)) (us : List Turn) (most replies : ℕ) (end : AtFront) (MeetsNow : Held → List RequestParts → Type 0) (HoldsNow : Held → Type 0) (all : Served)
+      → ((file : List ℕ) → since now (moment now) file → images now file) → ((t : ℕ) (c : List ℕ) → t ≤ moment now → images now c → since now t c) → most ≤ replies
+      → ((h : Held) (requests : List RequestParts) → MeetsNow h requests → HoldsNow h) → Went images moment since faults old now held w0 w1 us most replies end MeetsNow
+      → all.ended ≡ ended.Finished → all.replies ≡ replies → ServesLink images moment since faults old now held w0 w1 us all HoldsNow
+  went_out old now held w0 w1 us most replies end MeetsNow HoldsNow all only_now counts over holds went is adds =
+      let none : most - replies ≡ 0 = omega (arith, over) in
+      let whole : went.ahead ++ [] ≡ us = sym (went.whole ∙ ap (λ n. went.ahead ++ turns n went.requests end) none ∙ ap (λ l. went.ahead ++ l) (no_turns went.requests end)) in
+      subst (λ l. ServesLink images moment since faults old now held w0 w1 l all HoldsNow) whole
+      (served_later images moment since faults old now now w0 w1 w1 held went.ahead [] went.done HoldsNow (record { replies = 0; ended = ended.Finished }) all counts went.are
+      (length_zip went.ahead went.done went.are) went.written went.disk
+      (served_none images moment since faults now now w1 w1 (record { replies = 0; ended = ended.Finished }) (held_behind held went.done) [] HoldsNow (holds (held_behind held went.done) went.requests went.meets)
+      (takes_none images moment since faults now (held_behind held went.done) only_now) refl (λ finished. refl) refl)
+      is (omega (arith, adds, went.count)))
