@@ -1,5 +1,5 @@
 -- Which replies say that a call of the disk failed, and which that the file is no journal.
-use Rattle.std.proofs.Common.{◌≡◌, inl, inr, ℕ, ◌==◌, Bool, true, false, cond, List, [], ◌∷◌, ◌++◌, Option, Some, None, Result, Ok, Err, refl}
+use Rattle.std.proofs.Common.{◌≡◌, inl, inr, ℕ, ◌==◌, true, false, cond, List, [], ◌∷◌, ◌++◌, Option, Some, None, Result, Ok, Err, refl}
 use Rattle.std.specs.Prelude.{nat_lt, ◌&&◌}
 use Rattle.gb_base.specs.DayMinute.{DayMinute}
 use Rattle.act_json.specs.Lines.{item_of}
@@ -18,7 +18,7 @@ use Rattle.receipt_journal.specs.Standing.{StandsForJournal}
 use Rattle.receipt_journal.specs.declared.received.Received.TheVariants as answers
 use Rattle.receipt_journal.proofs.Standings.{foreign_no_journal, not_both}
 use Rattle.registry_http.specs.declared.routes.Route.TheVariants as route
-use Rattle.connections.specs.Answers.{answer, body_answer, malformed, received_at, status_of, text_reply}
+use Rattle.connections.specs.Answers.{answer, body_answer, received_at, status_of, text_reply}
 use Rattle.connections.specs.Asking.{Asked, AskedFor, NoRoute, WrongMethod}
 use Rattle.connections.specs.Fates.{Fate, Answered, Failed, DiskFailed, NoJournal, OutOfMemory, answer_by, has_disk_failed}
 use Rattle.connections.specs.Holding.{IsNoJournal}

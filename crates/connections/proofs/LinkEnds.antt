@@ -11,7 +11,7 @@ use Rattle.connections.specs.Answering.{AnswersRequest, is_from_disk}
 use Rattle.connections.specs.Holding.{IsNoJournal}
 use Rattle.connections.specs.Replies.{ReplyParts, bytes_of, out_of_memory}
 use Rattle.connections.specs.Serving.{ServesLink}
-use Rattle.connections.specs.Turns.{Turn, Request, Refusal, Answering, Refusing, answer_in, refusals, turns}
+use Rattle.connections.specs.Turns.{Request, Refusal, Answering, Refusing, answer_in, refusals, turns}
 use Rattle.connections.specs.declared.serving.Ended.TheVariants as ended
 use Rattle.connections.specs.declared.serving.Served.{Served}
 use Rattle.connections.specs.inner.Rounds.{EndsWith, GoesOn, IsTurn}

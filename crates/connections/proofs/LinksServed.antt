@@ -3,11 +3,10 @@ use Rattle.std.proofs.Common.{◌≡◌, ◌⊎◌, inl, inr, ⊎_elim, ℕ, ◌
 use Rattle.std.proofs.KnownBytes.{Appends-nil, Appends-trans}
 use Rattle.std.specs.Io.KnownBytes.{Appends}
 use Rattle.std.specs.List.{AllZip}
-use Rattle.gb_outside.specs.Bytes.{AppendsFront}
 use Rattle.intake.specs.Grown.{IsFront}
 use Rattle.intake.specs.Requests.{Held}
 use Rattle.connections.specs.Replies.{ReplyParts, bytes_of, out_of_memory}
-use Rattle.connections.specs.Served.{Connection, IsOfTurns, IsWhole, held_by, replies_of, taken_of, written_by}
+use Rattle.connections.specs.Served.{Connection, taken_of, written_by}
 use Rattle.connections.specs.Serving as serving
 use Rattle.connections.specs.Serving.{TakesTurns}
 use Rattle.connections.specs.Turns.{Turn, Taken, IsOf, answer_in, held_behind, replies_in}

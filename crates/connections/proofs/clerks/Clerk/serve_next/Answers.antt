@@ -31,12 +31,12 @@ returns-in-End-clause-turn g c = λ tells held requests end meets.
     let comes = comes_next (g.L.Link.left c.args.link.now) (g.L.Link.left c.next_request.new.link) c.args.rest.now.items c.next_request.new.rest.items meets.input c.next_request.result requests end
     meets.left_is c.next_request.ensures.answer meets.are in
     let ends : (last : AtFront) → requests ≡ [] → end ≡ last → refusals last ≡ [] → (n : ℕ) → (n == 0) ≡ false
-        → ServesLink g.D.Disk.images g.D.Disk.moment g.D.Disk.since g.D.Disk.faults c.args.disk.now c.args.disk.now held (g.L.Link.written c.args.link.now) (g.L.Link.written c.next_request.new.link) (turns n requests end)
-        (record { replies = 0; ended = Finished }) (λ h. Holds c.args.self.now (g.D.Disk.reads c.args.disk.now) (g.D.Disk.images c.args.disk.now) (g.C.Clock.ticks c.args.clock.now) h) =
+    → ServesLink g.D.Disk.images g.D.Disk.moment g.D.Disk.since g.D.Disk.faults c.args.disk.now c.args.disk.now held (g.L.Link.written c.args.link.now) (g.L.Link.written c.next_request.new.link) (turns n requests end)
+    (record { replies = 0; ended = Finished }) (λ h. Holds c.args.self.now (g.D.Disk.reads c.args.disk.now) (g.D.Disk.images c.args.disk.now) (g.C.Clock.ticks c.args.clock.now) h) =
     λ last none is silent.
-        none_ends g.D.Disk.images g.D.Disk.moment g.D.Disk.since g.D.Disk.faults c.args.disk.now (λ file left. g.met.D.Disk.only_now c.args.disk.now file tells left) held (g.L.Link.written c.args.link.now)
-        (g.L.Link.written c.args.link.now) (g.L.Link.written c.next_request.new.link) requests end (λ h. Holds c.args.self.now (g.D.Disk.reads c.args.disk.now) (g.D.Disk.images c.args.disk.now) (g.C.Clock.ticks c.args.clock.now) h) meets.holds
-        (record { replies = 0; ended = Finished }) refl last none is silent c.next_request.ensures.written refl in
+    none_ends g.D.Disk.images g.D.Disk.moment g.D.Disk.since g.D.Disk.faults c.args.disk.now (λ file left. g.met.D.Disk.only_now c.args.disk.now file tells left) held (g.L.Link.written c.args.link.now)
+    (g.L.Link.written c.args.link.now) (g.L.Link.written c.next_request.new.link) requests end (λ h. Holds c.args.self.now (g.D.Disk.reads c.args.disk.now) (g.D.Disk.images c.args.disk.now) (g.C.Clock.ticks c.args.clock.now) h) meets.holds
+    (record { replies = 0; ended = Finished }) refl last none is silent c.next_request.ensures.written refl in
     ⊎_elim
     (λ is. let at = subst (λ (a : Next). IsNext a (c.next_request.new.rest.items ++ comes.input) requests end) is comes.is in ends Nothing at.0 at.1 refl)
     (λ is. let at = subst (λ (a : Next). IsNext a (c.next_request.new.rest.items ++ comes.input) requests end) is comes.is in ends Cut at.0 at.1 refl)
