@@ -19,7 +19,7 @@ use Rattle.connections.specs.inner.Ends as ends
 use Rattle.connections.specs.inner.Taking.{Finds, failure_of, opening_reply}
 use Rattle.connections.proofs.EndsBy.{ends_failed, ends_only}
 use Rattle.connections.proofs.ItemEnds.{holds_open, some_works}
-use Rattle.connections.proofs.Served.{HasStatus}
+use Rattle.connections.proofs.ByDiskAlone.{HasStatus}
 
 -- a book that reads a text stays on the disk as it is
 same_book : (settled before : SettledBookState) (reads : List ℕ) (images : List ℕ → Type 0) (journal : List Receipt) → settled.book ≡ before.book → IsOpenOn before reads images journal → IsOpenOn settled reads images journal

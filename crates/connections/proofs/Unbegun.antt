@@ -24,7 +24,7 @@ use Rattle.connections.specs.inner.Taking.{unrouted_reply}
 use Rattle.connections.proofs.AlwaysAsked.{always_asked}
 use Rattle.connections.proofs.EndsBy.{ends_failed, ends_only, leaves_now, not_from_disk}
 use Rattle.connections.proofs.Grows.{answer_grows, body_grows}
-use Rattle.connections.proofs.Served.{IsApart}
+use Rattle.connections.proofs.ByDiskAlone.{IsApart}
 
 -- ---- such a reply tells nothing of a disk
 

@@ -6,5 +6,6 @@ pub mod Fates
 pub mod Holding
 pub mod Replies
 pub mod Served
+pub mod Serving
 pub mod Turns
 pub mod inner

@@ -1,4 +1,5 @@
 -- Definitions that only private clauses and proofs use.
 pub mod Ends
 pub mod ReplyBodies
+pub mod Rounds
 pub mod Taking

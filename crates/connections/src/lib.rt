@@ -1,10 +1,12 @@
-//! Requests are answered by a book and its register.
+//! Connections are served: requests are answered by a book and its register.
 #![tactic(auto)]
 
 mod bodies;
 mod clerks;
 mod receiving;
 mod replies;
+mod serving;
 
 pub use clerks::Clerk;
 pub use replies::Reply;
+pub use serving::{Ended, Served};

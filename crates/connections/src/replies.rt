@@ -1,7 +1,7 @@
 //! Replies.
 ghost use Rattle.std.specs.Prelude.{◌≡◌, ◌⊎◌, ◌++◌, IfOk, OnErr, codes, option_map, string_bytes};
 ghost use Rattle.connections.specs.Answers.{malformed, text_reply};
-ghost use Rattle.connections.specs.Replies.{disk_failed, not_a_journal, not_found, out_of_memory, wrong_method};
+ghost use Rattle.connections.specs.Replies.{bad_request, body_too_long, disk_failed, not_a_journal, not_found, out_of_memory, wrong_method};
 ghost use Rattle.connections.specs.inner.Taking.{IsReplyTo, opening_reply, unrouted_reply};
 
 use crate::bodies::Body;
@@ -75,8 +75,22 @@ impl Reply {
         Reply::words(StatusCode::INTERNAL_SERVER_ERROR, "not a journal\n")
     }
 
+    /// The bytes begin no head, or one that is refused.
+    pub(crate) fn bad_request() -> Reply
+        ensures { result ≡ bad_request }
+    {
+        Reply::words(StatusCode::BAD_REQUEST, "bad request\n")
+    }
+
+    /// The head announces too long a body.
+    pub(crate) fn body_too_long() -> Reply
+        ensures { result ≡ body_too_long }
+    {
+        Reply::words(StatusCode::PAYLOAD_TOO_LARGE, "payload too large\n")
+    }
+
     /// No memory was found. This reply wants none.
-    fn out_of_memory() -> Reply
+    pub(crate) fn out_of_memory() -> Reply
         ensures { result ≡ out_of_memory }
     {
         Reply::words(StatusCode::INSUFFICIENT_STORAGE, "insufficient storage\n")

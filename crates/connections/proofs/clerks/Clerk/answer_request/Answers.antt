@@ -4,7 +4,7 @@ use Rattle.connections.specs.Answers.{answer}
 use Rattle.connections.specs.Asking.{AskedFor}
 use Rattle.connections.specs.inner.Ends.{EndsBy, Serves}
 use Rattle.connections.proofs.Answered.{answers}
-use Rattle.connections.proofs.Served.{still}
+use Rattle.connections.proofs.ByDiskAlone.{still}
 use Rattle.connections.proofs.Unbegun.{apart_by_route, asks_none, asks_other, ends_unrouted}
 use Rattle.connections.proofs.clerks.Clerk.answer_request.Goals as goal
 

@@ -2,7 +2,7 @@ use Rattle.std.proofs.Common.{◌≡◌, ◌∙◌, true, false, ap, is_ok, sym,
 use Rattle.act_json.specs.Lines.{item_of}
 use Rattle.connections.specs.Answers.{body_answer}
 use Rattle.connections.specs.inner.Ends.{EndsBy}
-use Rattle.connections.proofs.Served.{still}
+use Rattle.connections.proofs.ByDiskAlone.{still}
 use Rattle.connections.proofs.Unbegun.{apart_by_body, body_end}
 use Rattle.connections.proofs.clerks.Clerk.post.Goals as goal
 

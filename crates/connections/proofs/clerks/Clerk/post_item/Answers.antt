@@ -5,7 +5,7 @@ use Rattle.connections.specs.Answers.{item_answer}
 use Rattle.connections.proofs.BookEnds.{ends_unopened}
 use Rattle.connections.proofs.Grows.{item_grows}
 use Rattle.connections.proofs.ItemEnds.{item_ends}
-use Rattle.connections.proofs.Served.{counts_then, opened, stands_behind, status_of_item, unopened, unopened_late}
+use Rattle.connections.proofs.ByDiskAlone.{counts_then, opened, stands_behind, status_of_item, unopened, unopened_late}
 use Rattle.connections.proofs.clerks.Clerk.post_item.Goals as goal
 
 pub returns-in-Err-clause-ends : goal.returns-in-Err-clause-ends

@@ -5,7 +5,7 @@ use Rattle.receipt_journal.specs.BookState.{BookState}
 use Rattle.receipt_journal.specs.Standing.{Stands}
 use Rattle.connections.specs.Answers.{only, read_reply}
 use Rattle.connections.proofs.BookEnds.{ends_read, ends_unopened, read_status}
-use Rattle.connections.proofs.Served.{opened, stands_behind, unopened, unopened_late}
+use Rattle.connections.proofs.ByDiskAlone.{opened, stands_behind, unopened, unopened_late}
 use Rattle.connections.proofs.clerks.Clerk.read.Goals as goal
 
 pub returns-in-Err-clause-ends : goal.returns-in-Err-clause-ends

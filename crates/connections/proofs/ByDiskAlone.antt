@@ -25,7 +25,7 @@ never_true b P fails passes = let never : true ≡ false = sym passes ∙ fails 
 pub counts_then : (before mid now : ℕ) (failed : Bool) → Counts before mid false → Counts mid now failed → Counts before now failed
 counts_then before mid now failed first second = subst (λ n. Counts n now failed) (first.else_same refl) second
 
-counts_still : (count : ℕ) → Counts count count false
+pub counts_still : (count : ℕ) → Counts count count false
 counts_still count = record { never_falls = omega arith; failed_rose = λ failed. absurd cc; else_same = λ sound. refl }
 
 -- ---- no book was opened

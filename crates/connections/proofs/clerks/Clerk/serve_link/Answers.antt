@@ -1,0 +1,54 @@
+use Rattle.std.proofs.Common.{◌∙◌, ◌++◌, arith, refl, subst, sym}
+use Rattle.registry_http.specs.RequestLists.{AreRequests}
+use Rattle.connections.specs.Holding.{Holds}
+use Rattle.connections.specs.Turns.{held_behind, turns}
+use Rattle.connections.specs.inner.Rounds.{Meets}
+use Rattle.connections.proofs.LinkTurns.{went_none, went_on, went_out, went_to_end}
+use Rattle.connections.proofs.clerks.Clerk.serve_link.Goals as goal
+
+pub loop-replies-init : goal.loop-replies-init
+loop-replies-init g c = record {
+  few = omega arith;
+  stands_open = c.requires;
+  quiet = refl;
+  went = λ tells held input requests end holds left are.
+      went_none g.D.Disk.images g.D.Disk.moment g.D.Disk.since g.D.Disk.faults c.args.disk.now held (g.L.Link.written c.args.link.now) c.args.left requests end
+      (λ h others. Meets c.args.self.now (g.D.Disk.reads c.args.disk.now) (g.D.Disk.images c.args.disk.now) (g.C.Clock.ticks c.args.clock.now) (g.L.Link.left c.args.link.now) c.new-rest.result.items end h others)
+      (λ file since. g.met.D.Disk.only_now c.args.disk.now file tells since)
+      (record { holds = holds; input = input; left_is = left; are = subst (λ l. AreRequests (l ++ input) requests end) (sym c.new-rest.ensures.items) are });
+}
+
+pub loop-replies-preserved : goal.loop-replies-preserved
+loop-replies-preserved g c = record {
+  few = omega (arith, c.loop-replies-test.true);
+  stands_open = c.serve_next.ensures.stands_open;
+  quiet = c.in-None.ensures.cause.else_same refl ∙ c.loop-replies.invariant.quiet;
+  went = λ tells held input requests end holds left are.
+      let before = c.loop-replies.invariant.went tells held input requests end holds left are in
+      went_on g.D.Disk.images g.D.Disk.moment g.D.Disk.since g.D.Disk.faults c.args.disk.now c.loop-replies.disk c.serve_next.new.disk held (g.L.Link.written c.args.link.now) (g.L.Link.written c.loop-replies.link)
+      (g.L.Link.written c.serve_next.new.link) (turns c.args.left requests end) c.args.left c.loop-replies.replies end
+      (λ h others. Meets c.loop-replies.self (g.D.Disk.reads c.loop-replies.disk) (g.D.Disk.images c.loop-replies.disk) (g.C.Clock.ticks c.loop-replies.clock) (g.L.Link.left c.loop-replies.link) c.loop-replies.rest.items end h others)
+      (λ h others. Meets c.serve_next.new.self (g.D.Disk.reads c.serve_next.new.disk) (g.D.Disk.images c.serve_next.new.disk) (g.C.Clock.ticks c.serve_next.new.clock) (g.L.Link.left c.serve_next.new.link)
+      c.serve_next.new.rest.items end h others)
+      (λ t file le image. g.met.D.Disk.counts_now c.loop-replies.disk t file tells le image) c.loop-replies-test.true before
+      (c.in-None.ensures.turn tells (held_behind held before.done) before.requests end before.meets);
+}
+
+pub returns-in-Some-clause-serves : goal.returns-in-Some-clause-serves
+returns-in-Some-clause-serves g c = λ tells held input requests end holds left are.
+    let before = c.loop-replies.invariant.went tells held input requests end holds left are in
+    went_to_end g.D.Disk.images g.D.Disk.moment g.D.Disk.since g.D.Disk.faults c.args.disk.now c.loop-replies.disk c.serve_next.new.disk held (g.L.Link.written c.args.link.now) (g.L.Link.written c.loop-replies.link)
+    (g.L.Link.written c.serve_next.new.link) (turns c.args.left requests end) c.args.left c.loop-replies.replies end
+    (λ h others. Meets c.loop-replies.self (g.D.Disk.reads c.loop-replies.disk) (g.D.Disk.images c.loop-replies.disk) (g.C.Clock.ticks c.loop-replies.clock) (g.L.Link.left c.loop-replies.link) c.loop-replies.rest.items end h others)
+    (λ h. Holds c.serve_next.new.self (g.D.Disk.reads c.serve_next.new.disk) (g.D.Disk.images c.serve_next.new.disk) (g.C.Clock.ticks c.serve_next.new.clock) h)
+    c.in-Some.last _ (λ t file le image. g.met.D.Disk.counts_now c.loop-replies.disk t file tells le image) c.loop-replies-test.true before
+    (c.in-Some.ensures.turn tells (held_behind held before.done) before.requests end before.meets) refl refl
+
+pub returns-clause-serves : goal.returns-clause-serves
+returns-clause-serves g c = λ tells held input requests end holds left are.
+    went_out g.D.Disk.images g.D.Disk.moment g.D.Disk.since g.D.Disk.faults c.args.disk.now c.loop-replies.disk held (g.L.Link.written c.args.link.now) (g.L.Link.written c.loop-replies.link) (turns c.args.left requests end)
+    c.args.left c.loop-replies.replies end
+    (λ h others. Meets c.loop-replies.self (g.D.Disk.reads c.loop-replies.disk) (g.D.Disk.images c.loop-replies.disk) (g.C.Clock.ticks c.loop-replies.clock) (g.L.Link.left c.loop-replies.link) c.loop-replies.rest.items end h others)
+    (λ h. Holds c.loop-replies.self (g.D.Disk.reads c.loop-replies.disk) (g.D.Disk.images c.loop-replies.disk) (g.C.Clock.ticks c.loop-replies.clock) h)
+    _ (λ file since. g.met.D.Disk.only_now c.loop-replies.disk file tells since) (λ t file le image. g.met.D.Disk.counts_now c.loop-replies.disk t file tells le image)
+    (omega (arith, c.loop-replies-test.false)) (λ h others meets. meets.holds) (c.loop-replies.invariant.went tells held input requests end holds left are) refl refl

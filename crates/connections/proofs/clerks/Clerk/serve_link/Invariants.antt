@@ -1,0 +1,24 @@
+use Rattle.std.proofs.Common.{◌≡◌, ℕ, ◌-◌, ◌≤◌, List, Some, IsTrue}
+use Rattle.intake.specs.Requests.{Held}
+use Rattle.registry_http.specs.RequestLists.{AreRequests}
+use Rattle.registry_http.specs.RequestParts.{RequestParts}
+use Rattle.registry_http.specs.Requests.{AtFront}
+use Rattle.connections.specs.Holding.{Holds, StandsOpen}
+use Rattle.connections.specs.Turns.{turns}
+use Rattle.connections.specs.inner.Rounds.{Meets}
+use Rattle.connections.proofs.LinkTurns.{Went}
+use Rattle.connections.proofs.clerks.Clerk.serve_link.Given as goal
+
+abbrev pub decreases-loop-replies : goal.decreases-loop-replies
+decreases-loop-replies g l = l.left - l.replies
+
+abbrev pub invariant-loop-replies : goal.invariant-loop-replies
+invariant-loop-replies g l = record {
+  few : l.replies ≤ l.left;
+  stands_open : IsTrue g.D.Disk.tells → StandsOpen l.self (g.D.Disk.reads l.disk) (g.D.Disk.images l.disk);
+  quiet : g.L.Link.faults l.link ≡ g.L.Link.faults l.fn.link;
+  went : IsTrue g.D.Disk.tells → (held : Held) (input : List ℕ) (requests : List RequestParts) (end : AtFront)
+      → Holds l.fn.self (g.D.Disk.reads l.fn.disk) (g.D.Disk.images l.fn.disk) (g.C.Clock.ticks l.fn.clock) held → g.L.Link.left l.fn.link ≡ Some input → AreRequests input requests end
+      → Went g.D.Disk.images g.D.Disk.moment g.D.Disk.since g.D.Disk.faults l.fn.disk l.disk held (g.L.Link.written l.fn.link) (g.L.Link.written l.link) (turns l.left requests end) l.left l.replies end
+      (λ h others. Meets l.self (g.D.Disk.reads l.disk) (g.D.Disk.images l.disk) (g.C.Clock.ticks l.clock) (g.L.Link.left l.link) l.rest.items end h others);
+}

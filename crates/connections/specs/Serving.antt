@@ -1,0 +1,72 @@
+-- What serving a connection does.
+use Rattle.std.specs.Prelude.{◌≡◌, ◌⊎◌, ℕ, Bool, true, false, List, [], ◌∷◌, length, Option}
+use Rattle.std.specs.Io.KnownBytes.{Appends}
+use Rattle.std.specs.List.{list_all, list_any}
+use Rattle.gb_outside.specs.Faults.{Counts, Rose}
+use Rattle.gb_outside.specs.Images.{LeavesOnly}
+use Rattle.act_model.specs.declared.receipts.Receipt.{Receipt}
+use Rattle.intake.specs.Requests.{Held}
+use Rattle.connections.specs.Answering.{AllBegin, is_from_disk}
+use Rattle.connections.specs.Fates.{Fate, Answered, Failed, DiskFailed, NoJournal, OutOfMemory, has_disk_failed}
+use Rattle.connections.specs.Served.{Connection, IsLeftIn, IsOfTurns, IsWhole, held_by, replies_of, taken_of, written_by}
+use Rattle.connections.specs.Turns.{Turn, Taken, Answering, Refusing, answer_in}
+use Rattle.connections.specs.declared.serving.Ended.{Ended}
+use Rattle.connections.specs.declared.serving.Ended.TheVariants as ended
+use Rattle.connections.specs.declared.serving.Served.{Served}
+
+-- the link failed
+abbrev pub is_link_fault : Ended → Bool
+is_link_fault ended.Finished = false
+is_link_fault ended.LinkFault = true
+is_link_fault ended.Memory = false
+
+-- it was answered as it asks
+abbrev pub is_answered : Fate → Bool
+is_answered Answered = true
+is_answered (Failed failure progress) = false
+
+-- no memory was found for it
+abbrev pub lacks_memory : Fate → Bool
+lacks_memory Answered = false
+lacks_memory (Failed DiskFailed progress) = false
+lacks_memory (Failed NoJournal progress) = false
+lacks_memory (Failed OutOfMemory progress) = true
+
+-- its file was found to be no journal
+abbrev pub lacks_journal : Fate → Bool
+lacks_journal Answered = false
+lacks_journal (Failed DiskFailed progress) = false
+lacks_journal (Failed NoJournal progress) = true
+lacks_journal (Failed OutOfMemory progress) = false
+
+-- the fate of a turn; bytes that are refused are answered so
+abbrev pub fate_of : Taken → Fate
+fate_of (Answering request asked fate) = fate
+fate_of (Refusing reply) = Answered
+
+-- Each image begins with each journal that a text of these turns was read of, or an item received into.
+abbrev pub AllTold : (List ℕ → Type 0) → Held → List Taken → Type 0
+AllTold images held [] = Unit {0}
+AllTold images held (turn ∷ turns) =
+    (is_from_disk (answer_in held turn).reply ≡ true → AllBegin (answer_in held turn).held.journal images) × AllTold images (answer_in held turn).held turns
+
+-- What these turns did to the disk: what a stop leaves, what is kept of the file and told of it, and that its count of faults rose just where a call of it failed. None finds that the file is no journal.
+pub record TakesTurns {D : Type 0} (images : D → List ℕ → Type 0) (moment : D → ℕ) (since : D → ℕ → List ℕ → Type 0) (faults : D → ℕ) (old new : D) (held : Held) (taken : List Taken) : Type 0 where
+  pub left : LeavesOnly moment since old new (λ file. images old file ⊎ IsLeftIn held taken file)
+  pub kept : (front : List Receipt) → AllBegin front (images old) → AllBegin front (images new)
+  pub told : AllTold (images new) held taken
+  pub disk : Counts (faults old) (faults new) (list_any (λ turn. has_disk_failed (fate_of turn)) taken)
+  pub journal : list_any (λ turn. lacks_journal (fate_of turn)) taken ≡ false
+
+-- A connection of these turns was served: what became of it, what was written, what is held behind it, and what was done to the disk. Where it is finished it is whole; else its whole replies alone are counted. Where no count of the disk rose and no memory was wanting, each turn was answered as it asks.
+pub record ServesLink {D : Type 0} (images : D → List ℕ → Type 0) (moment : D → ℕ) (since : D → ℕ → List ℕ → Type 0) (faults : D → ℕ) (old new : D) (held : Held)
+    (written_old written_new : Option (List ℕ)) (turns : List Turn) (served : Served) (HoldsNow : Held → Type 0) : Type 0 where
+  pub became : Connection
+  pub of_turns : IsOfTurns held turns became
+  pub written : Appends written_old written_new (written_by held became)
+  pub holds : HoldsNow (held_by held became)
+  pub disk : TakesTurns images moment since faults old new held (taken_of became)
+  pub finished : served.ended ≡ ended.Finished → IsWhole turns became × (served.replies ≡ replies_of became)
+  pub unfinished : (served.ended ≡ ended.Finished → ⊥) → served.replies ≡ length became.replied
+  pub answered : (Rose (faults old) (faults new) → ⊥) → list_any (λ turn. lacks_memory (fate_of turn)) (taken_of became) ≡ false
+      → list_all (λ turn. is_answered (fate_of turn)) (taken_of became) ≡ true

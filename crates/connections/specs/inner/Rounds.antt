@@ -1,0 +1,68 @@
+-- What one turn of a connection comes to.
+use Rattle.std.specs.Prelude.{◌≡◌, ℕ, ◌==◌, Bool, false, List, [], ◌∷◌, ◌++◌, Option, Some, None, Result, Ok, Err}
+use Rattle.std.specs.Io.KnownBytes.{Appends}
+use Rattle.gb_base.specs.DayMinute.{DayMinute}
+use Rattle.gb_outside.specs.Bytes.{AppendsFront}
+use Rattle.intake.specs.Requests.{Held}
+use Rattle.registry_http.specs.RequestLists.{AreRequests}
+use Rattle.registry_http.specs.RequestParts.{RequestParts}
+use Rattle.registry_http.specs.Requests.{AtFront}
+use Rattle.registry_http.specs.declared.replies.ReplyFault.{ReplyFault}
+use Rattle.registry_http.specs.declared.replies.ReplyFault.TheVariants as fault
+use Rattle.settled_book.specs.SettledBookState.{SettledBookState}
+use Rattle.connections.specs.Holding.{Holds}
+use Rattle.connections.specs.Replies.{ReplyParts, bytes_of}
+use Rattle.connections.specs.Serving.{ServesLink, TakesTurns, is_link_fault}
+use Rattle.connections.specs.Turns.{Taken, Request, IsOf, answer_in, turns}
+use Rattle.connections.specs.declared.serving.Ended.{Ended}
+use Rattle.connections.specs.declared.serving.Ended.TheVariants as ended
+use Rattle.connections.specs.declared.serving.Served.{Served}
+
+-- how a connection ends by the fault of a reply
+abbrev pub answering_ended : ReplyFault → Ended
+answering_ended fault.LinkFault = ended.LinkFault
+answering_ended fault.Memory = ended.Memory
+
+-- the link failed under a reply
+abbrev pub sending_failed : Result (Unit {0}) Ended → Bool
+sending_failed (Ok u) = false
+sending_failed (Err e) = is_link_fault e
+
+-- the connection ended, and the link failed
+abbrev pub is_cut_off : Option Served → Bool
+is_cut_off None = false
+is_cut_off (Some served) = is_link_fault served.ended
+
+-- the reply that is the last was written whole, or a front of it
+pub record EndsWith (written_old written_new : Option (List ℕ)) (reply : ReplyParts) (served : Served) : Type 0 where
+  pub whole : served.ended ≡ ended.Finished → Appends written_old written_new (bytes_of (reply ∷ [])) × (served.replies ≡ 1)
+  pub part : (served.ended ≡ ended.Finished → ⊥) → AppendsFront written_old written_new (bytes_of (reply ∷ [])) × (served.replies ≡ 0)
+
+-- What stands at a link ahead of a turn: what is held, and these requests in the bytes that were read and those to come.
+pub record Meets (at_hand : Option SettledBookState) (reads : List ℕ) (images : List ℕ → Type 0) (known : Option (List DayMinute)) (left : Option (List ℕ)) (kept : List ℕ) (end : AtFront)
+    (held : Held) (requests : List RequestParts) : Type 0 where
+  pub holds : Holds at_hand reads images known held
+  pub input : List ℕ
+  pub left_is : left ≡ Some input
+  pub are : AreRequests (kept ++ input) requests end
+
+-- A request was replied to that is not the last.
+pub record GoesOn {D : Type 0} (images : D → List ℕ → Type 0) (moment : D → ℕ) (since : D → ℕ → List ℕ → Type 0) (faults : D → ℕ) (old new : D) (held : Held)
+    (written_old written_new : Option (List ℕ)) (requests : List RequestParts) (MeetsNow : Held → List RequestParts → Type 0) : Type 0 where
+  pub request : RequestParts
+  pub others : List RequestParts
+  pub first : requests ≡ request ∷ others
+  pub more : request.last ≡ false
+  pub taken : Taken
+  pub is : IsOf (Request request) taken
+  pub written : Appends written_old written_new (bytes_of ((answer_in held taken).reply ∷ []))
+  pub meets : MeetsNow (answer_in held taken).held others
+  pub disk : TakesTurns images moment since faults old new held (taken ∷ [])
+
+-- one turn was taken and more may follow, or the connection was served
+abbrev pub IsTurn : {D : Type 0} → (D → List ℕ → Type 0) → (D → ℕ) → (D → ℕ → List ℕ → Type 0) → (D → ℕ) → D → D → Held
+    → Option (List ℕ) → Option (List ℕ) → List RequestParts → AtFront → (Held → Type 0) → (Held → List RequestParts → Type 0) → Option Served → Type 0
+IsTurn images moment since faults old new held written_old written_new requests end HoldsNow MeetsNow None =
+    GoesOn images moment since faults old new held written_old written_new requests MeetsNow
+IsTurn images moment since faults old new held written_old written_new requests end HoldsNow MeetsNow (Some served) =
+    (n : ℕ) → (n == 0) ≡ false → ServesLink images moment since faults old new held written_old written_new (turns n requests end) served HoldsNow

@@ -1,0 +1,193 @@
+//! A connection is served: its requests are answered one after another.
+ghost use Rattle.std.specs.Prelude.{◌≡◌, ◌≤◌, ℕ, List, [], ◌∷◌, Some, OnOk, OnErr, Err, IsTrue, IfSome, length};
+ghost use Rattle.std.specs.Io.KnownBytes.{Appends};
+ghost use Rattle.gb_outside.specs.Bytes.{AppendsFront};
+ghost use Rattle.gb_outside.specs.Faults.{Counts};
+ghost use Rattle.act_json.specs.Lines.{longest_line};
+ghost use Rattle.intake.specs.Requests.{Held};
+ghost use Rattle.registry_http.specs.RequestLists.{AreRequests};
+ghost use Rattle.registry_http.specs.RequestParts.{RequestParts};
+ghost use Rattle.registry_http.specs.Requests.{AtFront};
+ghost use Rattle.connections.specs.Holding.{Holds, StandsOpen};
+ghost use Rattle.connections.specs.Replies.{bytes_of};
+ghost use Rattle.connections.specs.Serving.{ServesLink, is_link_fault};
+ghost use Rattle.connections.specs.Turns.{turns};
+ghost use Rattle.connections.specs.declared.serving.Ended.TheVariants.{Finished};
+ghost use Rattle.connections.specs.inner.Rounds.{EndsWith, IsTurn, Meets, answering_ended, is_cut_off, sending_failed};
+
+use crate::Clerk;
+use crate::replies::Reply;
+use gb_outside::{Clock, Disk, Link};
+use registry_http::{Next, ReplyFault, Request, next_request, write_reply};
+use std::alloc::Global;
+
+/// How a connection ended.
+#[derive(Clone, Copy, Debug, PartialEq, Eq)]
+pub enum Ended {
+    /// All that was owed was replied to, or a last reply says that no memory was found.
+    Finished,
+    /// The link failed.
+    LinkFault,
+    /// No memory was found to write a reply.
+    Memory,
+}
+
+/// What became of a connection.
+#[derive(Clone, Copy, Debug, PartialEq, Eq)]
+pub struct Served {
+    /// How many replies were written whole.
+    pub replies: u32,
+    /// How it ended.
+    pub ended: Ended,
+}
+
+/// How a connection ends whose reply was not written whole.
+fn ended_by(fault: ReplyFault) -> Ended
+    ensures { result ≡ answering_ended fault }
+{
+    match fault {
+        ReplyFault::LinkFault => Ended::LinkFault,
+        ReplyFault::Memory => Ended::Memory,
+    }
+}
+
+/// Writes a reply, or says how the connection ends.
+fn send<L: Link>(alloc: Global, link: &mut L, reply: &Reply) -> Result<(), Ended>
+    ensures whole { OnOk result (Appends (L.written link.old) (L.written link.new) (bytes_of (reply.now ∷ []))) }
+    ensures part { OnErr result (AppendsFront (L.written link.old) (L.written link.new) (bytes_of (reply.now ∷ []))) }
+    ensures unfinished { result ≡ Err Finished → ⊥ }
+    ensures left { L.left link.new ≡ L.left link.old }
+    ensures cause { Counts (L.faults link.old) (L.faults link.new) (sending_failed result) }
+{
+    match write_reply(alloc, link, reply.status(), reply.body()) {
+        Ok(()) => Ok(()),
+        Err(fault) => Err(ended_by(fault)),
+    }
+}
+
+/// Writes the reply that is the last, whatever comes of it.
+fn close<L: Link>(alloc: Global, link: &mut L, reply: Reply) -> Served
+    ensures ends { EndsWith (L.written link.old) (L.written link.new) reply result }
+    ensures few { result.replies ≤ 1 }
+    ensures cause { Counts (L.faults link.old) (L.faults link.new) (is_link_fault result.ended) }
+{
+    match send(alloc, link, &reply) {
+        Ok(()) => Served {
+            replies: 1,
+            ended: Ended::Finished,
+        },
+        Err(ended) => Served { replies: 0, ended },
+    }
+}
+
+impl Clerk {
+    /// Answers a request and writes its reply. None where more may follow.
+    fn serve_request<L: Link, D: Disk, C: Clock>(
+        &mut self,
+        alloc: Global,
+        link: &mut L,
+        disk: &mut D,
+        clock: &mut C,
+        request: &Request,
+    ) -> Option<Served>
+        requires short { length request.now.body ≤ longest_line }
+        requires stands_open { IsTrue D.tells → StandsOpen self.old (D.reads disk.old) (D.images disk.old) }
+        ensures turn { IsTrue D.tells → (held : Held) (requests : List RequestParts) (end : AtFront)
+            → Holds self.old (D.reads disk.old) (D.images disk.old) (C.ticks clock.old) held
+            → IsTurn D.images D.moment D.since D.faults disk.old disk.new held (L.written link.old) (L.written link.new) (request.now ∷ requests) end
+            (λ h. Holds self.new (D.reads disk.new) (D.images disk.new) (C.ticks clock.new) h)
+            (λ h others. Holds self.new (D.reads disk.new) (D.images disk.new) (C.ticks clock.new) h × (others ≡ requests)) result }
+        ensures few { IfSome result (λ served. served.replies ≤ 1) }
+        ensures stands_open { IsTrue D.tells → StandsOpen self.new (D.reads disk.new) (D.images disk.new) }
+        ensures left { L.left link.new ≡ L.left link.old }
+        ensures cause { Counts (L.faults link.old) (L.faults link.new) (is_cut_off result) }
+    {
+        let reply = self.answer_request(alloc, disk, clock, request);
+        if let Err(ended) = send(alloc, link, &reply) {
+            return Some(Served { replies: 0, ended });
+        }
+        if request.is_last() {
+            Some(Served {
+                replies: 1,
+                ended: Ended::Finished,
+            })
+        } else {
+            None
+        }
+    }
+
+    /// Takes up what comes next of a link, whose bytes that were read are in `rest`. None where it was
+    /// a request that was replied to, and more may follow.
+    fn serve_next<L: Link, D: Disk, C: Clock>(
+        &mut self,
+        alloc: Global,
+        link: &mut L,
+        disk: &mut D,
+        clock: &mut C,
+        rest: &mut Vec<u8>,
+    ) -> Option<Served>
+        requires { IsTrue D.tells → StandsOpen self.old (D.reads disk.old) (D.images disk.old) }
+        ensures turn { IsTrue D.tells → (held : Held) (requests : List RequestParts) (end : AtFront)
+            → Meets self.old (D.reads disk.old) (D.images disk.old) (C.ticks clock.old) (L.left link.old) rest.old.items end held requests
+            → IsTurn D.images D.moment D.since D.faults disk.old disk.new held (L.written link.old) (L.written link.new) requests end
+            (λ h. Holds self.new (D.reads disk.new) (D.images disk.new) (C.ticks clock.new) h)
+            (λ h others. Meets self.new (D.reads disk.new) (D.images disk.new) (C.ticks clock.new) (L.left link.new) rest.new.items end h others) result }
+        ensures few { IfSome result (λ served. served.replies ≤ 1) }
+        ensures stands_open { IsTrue D.tells → StandsOpen self.new (D.reads disk.new) (D.images disk.new) }
+        ensures cause { Counts (L.faults link.old) (L.faults link.new) (is_cut_off result) }
+    {
+        match next_request(alloc, link, rest) {
+            Next::Request(request) => self.serve_request(alloc, link, disk, clock, &request),
+            Next::End | Next::Cut => Some(Served {
+                replies: 0,
+                ended: Ended::Finished,
+            }),
+            Next::HeadFault => Some(close(alloc, link, Reply::bad_request())),
+            Next::BodyTooLong => Some(close(alloc, link, Reply::body_too_long())),
+            Next::LinkFault => Some(Served {
+                replies: 0,
+                ended: Ended::LinkFault,
+            }),
+            Next::Memory => Some(close(alloc, link, Reply::out_of_memory())),
+        }
+    }
+
+    /// Serves a connection until it has no more to say, has `left` replies, or fails. Each request is
+    /// answered and its reply written before the next is read. Bytes that are refused have the last
+    /// reply, and so has want of memory ahead of a request.
+    pub fn serve_link<L: Link, D: Disk, C: Clock>(
+        &mut self,
+        alloc: Global,
+        link: &mut L,
+        disk: &mut D,
+        clock: &mut C,
+        left: u32,
+    ) -> Served
+        requires { IsTrue D.tells → StandsOpen self.old (D.reads disk.old) (D.images disk.old) }
+        ensures serves { IsTrue D.tells → (held : Held) (input : List ℕ) (requests : List RequestParts) (end : AtFront)
+            → Holds self.old (D.reads disk.old) (D.images disk.old) (C.ticks clock.old) held → L.left link.old ≡ Some input → AreRequests input requests end
+            → ServesLink D.images D.moment D.since D.faults disk.old disk.new held (L.written link.old) (L.written link.new) (turns left requests end) result
+            (λ h. Holds self.new (D.reads disk.new) (D.images disk.new) (C.ticks clock.new) h) }
+        ensures stands_open { IsTrue D.tells → StandsOpen self.new (D.reads disk.new) (D.images disk.new) }
+        ensures few { result.replies ≤ left }
+        ensures cause { Counts (L.faults link.old) (L.faults link.new) (is_link_fault result.ended) }
+    {
+        let mut rest = Vec::new(alloc);
+        let mut replies = 0;
+        while replies < left {
+            match self.serve_next(alloc, link, disk, clock, &mut rest) {
+                None => replies += 1,
+                Some(last) => {
+                    return Served {
+                        replies: replies + last.replies,
+                        ended: last.ended,
+                    };
+                }
+            }
+        }
+        Served {
+            replies,
+            ended: Ended::Finished,
+        }
+    }
+}
