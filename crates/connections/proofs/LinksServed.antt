@@ -42,7 +42,7 @@ module _ {D : Type 0} (images : D → List ℕ → Type 0) (moment : D → ℕ) 
   pub served_none : (held : Held) (us : List Turn) (HoldsNow : Held → Type 0) → HoldsNow held → Takes held [] → w1 ≡ w0 → (served.ended ≡ ended.Finished → us ≡ []) → served.replies ≡ 0 → Serves held us HoldsNow
   served_none held us HoldsNow holds disk same all none = record {
     became = became_of [] [] [] [];
-    of_turns = record { are = tt; one = omega arith; closes = inl refl; part = ([], refl) };
+    of_turns = record { are = tt; one = omega arith; closes = inl refl; apart = inl refl; part = ([], refl) };
     written = subst (λ w. Appends w0 w []) (sym same) (Appends-nil w0);
     holds = holds;
     disk = disk;
@@ -56,7 +56,7 @@ module _ {D : Type 0} (images : D → List ℕ → Type 0) (moment : D → ℕ) 
   served_close held us HoldsNow holds disk ends =
       ⊎_elim (λ (is : served.ended ≡ ended.Finished). let whole = ends.whole is in record {
         became = became_of [] [] (out_of_memory ∷ []) (bytes_of (out_of_memory ∷ []));
-        of_turns = record { are = tt; one = omega arith; closes = inr refl; part = ([], sym (append-nil (bytes_of (out_of_memory ∷ [])))) };
+        of_turns = record { are = tt; one = omega arith; closes = inr refl; apart = inl refl; part = ([], sym (append-nil (bytes_of (out_of_memory ∷ [])))) };
         written = whole.0;
         holds = holds;
         disk = disk;
@@ -66,7 +66,7 @@ module _ {D : Type 0} (images : D → List ℕ → Type 0) (moment : D → ℕ) 
       })
       (λ (no : served.ended ≡ ended.Finished → ⊥). let part = ends.part no in record {
         became = became_of [] [] (out_of_memory ∷ []) part.0.front;
-        of_turns = record { are = tt; one = omega arith; closes = inr refl; part = (part.0.rest, part.0.whole) };
+        of_turns = record { are = tt; one = omega arith; closes = inr refl; apart = inl refl; part = (part.0.rest, part.0.whole) };
         written = part.0.added;
         holds = holds;
         disk = disk;
@@ -82,7 +82,7 @@ module _ {D : Type 0} (images : D → List ℕ → Type 0) (moment : D → ℕ) 
       let reply = bytes_of ((answer_in held t).reply ∷ []) in
       ⊎_elim (λ (is : served.ended ≡ ended.Finished). let whole = ends.whole is in record {
         became = became_of (t ∷ []) [] [] [];
-        of_turns = record { are = (is_of, tt); one = omega arith; closes = inl refl; part = ([], refl) };
+        of_turns = record { are = (is_of, tt); one = omega arith; closes = inl refl; apart = inr refl; part = ([], refl) };
         written = subst (λ bytes. Appends w0 w1 bytes) (sym (append-nil reply)) whole.0;
         holds = holds;
         disk = disk;
@@ -92,7 +92,7 @@ module _ {D : Type 0} (images : D → List ℕ → Type 0) (moment : D → ℕ) 
       })
       (λ (no : served.ended ≡ ended.Finished → ⊥). let part = ends.part no in record {
         became = became_of [] (t ∷ []) [] part.0.front;
-        of_turns = record { are = (is_of, tt); one = omega arith; closes = inl refl; part = (part.0.rest, part.0.whole) };
+        of_turns = record { are = (is_of, tt); one = omega arith; closes = inl refl; apart = inr refl; part = (part.0.rest, part.0.whole) };
         written = part.0.added;
         holds = holds;
         disk = disk;
@@ -117,6 +117,7 @@ served_later images moment since faults old mid new w0 w1 w2 held ahead us done 
         are = subst (λ l. AllZip IsOf (take (length l) (ahead ++ us)) l) taken (zip_more ahead us done (taken_of c) are is.of_turns.are);
         one = is.of_turns.one;
         closes = is.of_turns.closes;
+        apart = is.of_turns.apart;
         part = subst (λ (h : Held). IsFront c.front (bytes_of (replies_in h c.begun ++ c.closing))) (sym (held_more held done c.replied)) is.of_turns.part;
       };
       written = subst (λ bytes. Appends w0 w2 bytes)

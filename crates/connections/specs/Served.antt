@@ -49,6 +49,7 @@ pub record IsOfTurns (held : Held) (turns : List Turn) (c : Connection) : Type 0
   pub are : AllZip IsOf (take (length (taken_of c)) turns) (taken_of c)
   pub one : length c.begun ≤ 1
   pub closes : IsClosing c.closing
+  pub apart : (c.begun ≡ []) ⊎ (c.closing ≡ [])
   pub part : IsFront c.front (bytes_of (replies_in (held_behind held c.replied) c.begun ++ c.closing))
 
 -- It is whole: all turns were replied to, or the reply that closes stands written whole.
