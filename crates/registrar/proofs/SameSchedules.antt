@@ -1,8 +1,7 @@
 -- Each permitted order leaves what the one registrar leaves.
-use Rattle.std.proofs.Common.{◌≡◌, ⊎_elim, inl, inr, ℕ, ◌<◌, ◌≤◌, eqb, true, false, cond, ◌==◌, List, [], ◌∷◌, ◌++◌, length, map, flat_map, find, None, Some, option_map, refl, sym, ap, subst, ◌∙◌, arith}
+use Rattle.std.proofs.Common.{◌≡◌, ⊎_elim, inl, inr, ℕ, ◌+◌, ◌<◌, ◌≤◌, eqb, true, false, cond, ◌==◌, List, [], ◌∷◌, ◌++◌, length, map, flat_map, find, None, Some, option_map, refl, sym, ap, subst, ◌∙◌, arith}
 use Rattle.std.specs.List.{range_with_len}
-use Rattle.std.proofs.lemmas.Bool.{cases_lt, eqb-true}
-use Rattle.std.proofs.lemmas.Bool.Decides.{nat_tests}
+use Rattle.std.proofs.lemmas.Bool.{cases_lt, eqb-false, eqb-true}
 use Rattle.std.proofs.lemmas.List.{append-nil}
 use Rattle.gb_base.proofs.Members.{In, in_range, of_range}
 use Rattle.gb_base.specs.declared.keys.Key.{Key}
@@ -41,7 +40,7 @@ found_among g [] n there = absurd there
 found_among g (m ∷ ns) n there =
     elim (eqb m n) as (λ b. eqb m n ≡ b → option_map (λ (v : ℕ × Verdict). v.1) (cond b (Some (m, g m)) (find (λ v. v.0 == n) (map (λ j. (j, g j)) ns))) ≡ Some (g n)) [
       | true ↦ λ is. ap (λ j. Some (g j)) (eqb-true m n is)
-      | false ↦ λ other. found_among g ns n (⊎_elim (λ same. absurd (grind (arith, nat_tests, other, same))) (λ later. later) there)
+      | false ↦ λ other. found_among g ns n (⊎_elim (λ same. absurd (eqb-false m n other same)) (λ later. later) there)
     ] refl
 
 -- and of no other
