@@ -44,10 +44,12 @@ fn an_assignment_and_a_charge_in_either_order(rt: HostRuntime) -> Result<(), Fai
     }
     let as_received = [receipt(1), receipt(2), receipt(3), receipt(4)];
     let turned = [receipt(1), receipt(2), receipt(4), receipt(3)];
-    for order in [as_received, turned] {
-        assert!(&rt; is_permitted(&rt, &docket, &order));
-        assert_eq!(&rt; outcome(&rt, rt.alloc(), &journal, &register, &order)?, Outcome::Same);
-    }
+    assert!(&rt; is_permitted(&rt, &docket, &as_received));
+    assert!(&rt; is_permitted(&rt, &docket, &turned));
+    let first = outcome(&rt, rt.alloc(), &journal, &register, &as_received)?;
+    let second = outcome(&rt, rt.alloc(), &journal, &register, &turned)?;
+    assert_eq!(&rt; first, Outcome::Same);
+    assert_eq!(&rt; second, Outcome::Same);
     Ok(())
 }
 
@@ -59,6 +61,7 @@ fn an_assignment_ahead_of_its_charge(rt: HostRuntime) -> Result<(), Fail> {
     let register = alone(rt.alloc(), &journal)?;
     let order = [receipt(1), receipt(3), receipt(2), receipt(4)];
     assert!(&rt; !is_permitted(&rt, &docket, &order));
-    assert_eq!(&rt; outcome(&rt, rt.alloc(), &journal, &register, &order)?, Outcome::Other);
+    let came = outcome(&rt, rt.alloc(), &journal, &register, &order)?;
+    assert_eq!(&rt; came, Outcome::Other);
     Ok(())
 }
