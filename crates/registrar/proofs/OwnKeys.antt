@@ -41,9 +41,9 @@ keys_among : (keys : List Key) (es : List Entry) → ((k : Key) → has k keys �
 keys_among keys [] elsewhere = tt
 keys_among keys (e ∷ es) elsewhere = (
   ⊎_elim
-  (λ there. (has_decides e.key keys).0 there)
-  (λ lacks. absurd (first_there (same_key e.key e.key) e (at es e.key) (itself e.key) (elsewhere e.key lacks)))
-  (cases_Bool (has e.key keys)),
+      (λ there. (has_decides e.key keys).0 there)
+      (λ lacks. absurd (first_there (same_key e.key e.key) e (at es e.key) (itself e.key) (elsewhere e.key lacks)))
+      (cases_Bool (has e.key keys)),
   keys_among keys es (λ k lacks. none_behind (same_key e.key k) e (at es k) (elsewhere k lacks)),
 )
 

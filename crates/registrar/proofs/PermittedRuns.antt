@@ -1,5 +1,5 @@
 -- Each front of a permitted order leaves what its items bring in the order of receipts.
-use Rattle.std.proofs.Common.{◌≡◌, ℕ, zero, suc, ◌+◌, ◌-◌, ◌<◌, ◌≤◌, false, List, [], ◌∷◌, ◌++◌, length, map, flat_map, fold, All, Contains, inl, refl, sym, ap, subst, ◌∙◌, append_assoc, arith}
+use Rattle.std.proofs.Common.{◌≡◌, ℕ, zero, suc, ◌+◌, ◌-◌, ◌<◌, false, List, [], ◌∷◌, ◌++◌, map, flat_map, All, Contains, inl, refl, sym, ap, subst, ◌∙◌, append_assoc, arith}
 use Rattle.std.specs.List.{range_with_len}
 use Rattle.std.proofs.lemmas.List.{append-nil}
 use Rattle.std.proofs.lemmas.List.Sums.{fold-append}
@@ -109,12 +109,12 @@ finds journal done left i s stands empty permitted so_far =
     let low = (of_order journal (done ++ i ∷ left) i permitted (in_append_right done (i ∷ left) i (inl refl))).0 in
     let number : (i - 1) + 1 ≡ i = omega (arith, low) in
     let there : (k : Key) → Contains (keys_of_item journal i) k → at s.entries k ≡ at (settled_first journal (i - 1)).entries k = λ k there.
-        so_far.entries k
-        ∙ given_same (touches journal k) (λ j. at (as_first journal j).entries k) done (range_with_len 1 (i - 1)) (λ j lacks. nothing_first journal k j stands empty lacks)
-        (ahead_of journal done left i k permitted ((has_decides k (keys_of_item journal i)).1 there))
-        ∙ sym (first.entries k) in
+    so_far.entries k
+    ∙ given_same (touches journal k) (λ j. at (as_first journal j).entries k) done (range_with_len 1 (i - 1)) (λ j lacks. nothing_first journal k j stands empty lacks)
+    (ahead_of journal done left i k permitted ((has_decides k (keys_of_item journal i)).1 there))
+    ∙ sym (first.entries k) in
     let earlier : AreEarlier i (at (settled_first journal (i - 1)).entries) (keys_of_item journal i) = λ k among.
-        subst (λ m. All (λ e. e.receipt < m) (at (settled_first journal (i - 1)).entries k)) number ((left_by journal (i - 1) stands empty).settled.earlier k) in
+    subst (λ m. All (λ e. e.receipt < m) (at (settled_first journal (i - 1)).entries k)) number ((left_by journal (i - 1) stands empty).settled.earlier k) in
     record {
       earlier = λ k among. subst (All (λ e. e.receipt < i)) (sym (there k among)) (earlier k among);
       same = locality journal i (at (settled_first journal (i - 1)).entries) (at s.entries) stands first.kept so_far.kept earlier there ∙ sym (as_first_is journal i);
@@ -137,7 +137,7 @@ further journal order done [] left stands empty permitted is so_far =
 further journal order done (i ∷ more) left stands empty permitted is so_far =
     let whole : order ≡ done ++ i ∷ (more ++ left) = is ∙ append_assoc done (i ∷ more) left in
     let step : AsFirst journal (done ++ i ∷ []) (settled_next journal (settled_in_order journal done) i) =
-        next journal done (more ++ left) i (settled_in_order journal done) stands empty (subst (IsPermitted journal) whole permitted) so_far in
+    next journal done (more ++ left) i (settled_in_order journal done) stands empty (subst (IsPermitted journal) whole permitted) so_far in
     let again : (done ++ i ∷ []) ++ more ≡ done ++ i ∷ more = append_assoc done (i ∷ []) more in
     subst (λ ns. AsFirst journal ns (settled_in_order journal ns)) again
     (further journal order (done ++ i ∷ []) more left stands empty permitted (is ∙ ap (λ ns. ns ++ left) (sym again))

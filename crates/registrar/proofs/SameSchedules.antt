@@ -1,5 +1,5 @@
 -- Each permitted order leaves what the one registrar leaves.
-use Rattle.std.proofs.Common.{◌≡◌, ⊎_elim, inl, inr, ℕ, ◌+◌, ◌<◌, ◌≤◌, eqb, true, false, cond, ◌==◌, List, [], ◌∷◌, ◌++◌, length, map, flat_map, find, None, Some, option_map, refl, sym, ap, subst, ◌∙◌, arith}
+use Rattle.std.proofs.Common.{◌≡◌, ⊎_elim, inl, inr, ℕ, ◌+◌, eqb, true, false, cond, ◌==◌, List, [], ◌∷◌, length, map, find, None, Some, option_map, refl, sym, ap, subst, ◌∙◌, arith}
 use Rattle.std.specs.List.{range_with_len}
 use Rattle.std.proofs.lemmas.Bool.{cases_lt, eqb-false, eqb-true}
 use Rattle.std.proofs.lemmas.List.{append-nil}
@@ -9,13 +9,12 @@ use Rattle.act_model.specs.Receiving.{IsJournal}
 use Rattle.act_model.specs.declared.receipts.Receipt.{Receipt}
 use Rattle.conflict_queue.specs.Schedules.{IsPermitted}
 use Rattle.folio_sections.specs.Entries.{at}
-use Rattle.folio_sections.specs.declared.entries.Entry.{Entry}
 use Rattle.kept_registers.specs.Kept.{Kept}
 use Rattle.registrar.proofs.PermittedOrders.{all_ahead, given_same, in_order, of_order, touches}
 use Rattle.registrar.proofs.PermittedRuns.{AsFirst, as_first, at_front, firsts, nothing_first}
 use Rattle.registrar.proofs.Registering.{registrar_is}
 use Rattle.registrar.specs.RegisterState.{verdict_among}
-use Rattle.registrar.specs.Settling.{Settlement, registrar, settled_in_order}
+use Rattle.registrar.specs.Settling.{registrar, settled_in_order}
 use Rattle.registrar.specs.declared.verdicts.Verdict.{Verdict}
 
 -- the whole order is a front of itself

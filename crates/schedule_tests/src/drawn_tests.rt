@@ -1,7 +1,7 @@
 //! Drawn journals, settled in each permitted order and in some others.
 use crate::drawn_journals::drawn_journal;
 use crate::orders::{is_permitted, order_count, order_of};
-use crate::outcomes::{Outcome, outcome};
+use crate::outcomes::{Outcome, settle_all};
 use conflict_queue::Docket;
 use registrar::alone;
 use std::alloc::Global;
@@ -39,7 +39,7 @@ fn settle_in_orders(
         let order = order_of(alloc, journal.len(), code)?;
         let permitted = is_permitted(rt, &docket, order.as_slice());
         if permitted || others {
-            let came = outcome(rt, alloc, &journal, &register, order.as_slice())?;
+            let came = settle_all(rt, alloc, &journal, &register, order.as_slice())?;
             tally(&mut count, permitted, came);
         }
     }

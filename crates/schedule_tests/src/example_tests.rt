@@ -1,6 +1,6 @@
 //! Two items that touch different keys, in both orders.
 use crate::orders::is_permitted;
-use crate::outcomes::{Outcome, outcome};
+use crate::outcomes::{Outcome, settle_all};
 use act_model::{Item, Journal};
 use conflict_queue::Docket;
 use registrar::{Verdict, alone};
@@ -46,8 +46,8 @@ fn an_assignment_and_a_charge_in_either_order(rt: HostRuntime) -> Result<(), Fai
     let turned = [receipt(1), receipt(2), receipt(4), receipt(3)];
     assert!(&rt; is_permitted(&rt, &docket, &as_received));
     assert!(&rt; is_permitted(&rt, &docket, &turned));
-    let first = outcome(&rt, rt.alloc(), &journal, &register, &as_received)?;
-    let second = outcome(&rt, rt.alloc(), &journal, &register, &turned)?;
+    let first = settle_all(&rt, rt.alloc(), &journal, &register, &as_received)?;
+    let second = settle_all(&rt, rt.alloc(), &journal, &register, &turned)?;
     assert_eq!(&rt; first, Outcome::Same);
     assert_eq!(&rt; second, Outcome::Same);
     Ok(())
@@ -61,7 +61,7 @@ fn an_assignment_ahead_of_its_charge(rt: HostRuntime) -> Result<(), Fail> {
     let register = alone(rt.alloc(), &journal)?;
     let order = [receipt(1), receipt(3), receipt(2), receipt(4)];
     assert!(&rt; !is_permitted(&rt, &docket, &order));
-    let came = outcome(&rt, rt.alloc(), &journal, &register, &order)?;
+    let came = settle_all(&rt, rt.alloc(), &journal, &register, &order)?;
     assert_eq!(&rt; came, Outcome::Other);
     Ok(())
 }

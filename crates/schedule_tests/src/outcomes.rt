@@ -22,7 +22,7 @@ pub enum Outcome {
 
 /// Settles the items of a journal in this order, and compares what they leave with the register of
 /// the one registrar.
-pub fn outcome(
+pub fn settle_all(
     rt: &impl Abort,
     alloc: Global,
     journal: &Journal,
