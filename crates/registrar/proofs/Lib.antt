@@ -53,6 +53,9 @@ pub mod NoticedPlaces
 pub mod Numbered
 pub mod OneListOfFolios
 pub mod OpenTitles
+pub mod OwnKeys
+pub mod PermittedOrders
+pub mod PermittedRuns
 pub mod PlaceReads
 pub mod PlaceStands
 pub mod PlacesKept
@@ -70,6 +73,7 @@ pub mod SaleGroundsFail
 pub mod SalesAsBefore
 pub mod SalesKeep
 pub mod SalesLocally
+pub mod SameSchedules
 pub mod ScratchRooms
 pub mod SettledAsBefore
 pub mod StandingParts

@@ -1,5 +1,5 @@
 //! What holds of the settling of all journals.
-ghost use Rattle.std.specs.Prelude.{◌≡◌, ◌+◌, ◌<◌, ◌≤◌, ◌++◌, ◌&&◌, ℕ, nat_le, List, [], None, Some, All, Contains, is_some, length, option_map};
+ghost use Rattle.std.specs.Prelude.{◌≡◌, ◌+◌, ◌-◌, ◌∷◌, ◌<◌, ◌≤◌, ◌++◌, ◌&&◌, ℕ, nat_le, List, [], None, Some, All, Contains, is_some, length, option_map};
 ghost use Rattle.gb_base.specs.RightNo.{RightNo};
 ghost use Rattle.gb_base.specs.declared.keys.Key.{Key};
 ghost use Rattle.gb_base.specs.declared.keys.Key.TheVariants.{Right};
@@ -23,12 +23,13 @@ ghost use Rattle.interim_orders.specs.declared.states.FilingState.TheVariants.{P
 ghost use Rattle.registrar.specs.Brings.{brings};
 ghost use Rattle.registrar.specs.Enters.{enters};
 ghost use Rattle.conflict_queue.specs.ItemKeys.{keys_of_item};
+ghost use Rattle.conflict_queue.specs.Schedules.{IsPermitted};
 ghost use Rattle.registrar.specs.HasSettled.{HasSettled, settled_first};
 ghost use Rattle.registrar.specs.KeptAwards.{AwardsKept};
 ghost use Rattle.registrar.specs.KeptDistributions.{DistributionsKept, IsDistributed};
 ghost use Rattle.registrar.specs.NamesUpTo.{AllNameUpTo};
 ghost use Rattle.registrar.specs.RegisterState.{RegisterState, verdict_among};
-ghost use Rattle.registrar.specs.Settling.{registrar};
+ghost use Rattle.registrar.specs.Settling.{registrar, settled_in_order};
 ghost use Rattle.registrar.specs.declared.verdicts.Verdict.TheVariants as verdict;
 ghost use Rattle.registrar.specs.declared.verdicts.Verdict.TheVariants.{Cured, Entered};
 
@@ -103,6 +104,40 @@ pub fn locality()
         → ((k : Key) → Contains (keys_of_item journal i) k → other k ≡ register k)
         → brings journal i other ≡ brings journal i register }
 {}
+
+/// Nor does it write anywhere else: each entry that it brings to a kept register stands at a key that
+/// it touches.
+pub fn frame()
+    ensures own { (journal : List Receipt) (i : ℕ) (register : Key → List Entry) → IsJournal journal → Kept journal register
+        → All (λ e. Contains (keys_of_item journal i) e.key) (brings journal i register).entries }
+{}
+
+/// Each front of a permitted order leaves a kept register that keeps its awards; and there all that
+/// stands at the keys of the next item is by earlier ones (GBO § 17).
+pub fn permitted_runs()
+    ensures kept { (journal : List Receipt) (before after : List ℕ) → IsJournal journal → IsPermitted journal (before ++ after)
+        → Kept journal (at (settled_in_order journal before).entries) }
+    ensures awards { (journal : List Receipt) (before after : List ℕ) → IsJournal journal → IsPermitted journal (before ++ after)
+        → AwardsKept journal (at (settled_in_order journal before).entries) }
+    ensures earlier { (journal : List Receipt) (before after : List ℕ) (i : ℕ) (k : Key) → IsJournal journal → IsPermitted journal (before ++ i ∷ after)
+        → Contains (keys_of_item journal i) k → All (λ e. e.receipt < i) (at (settled_in_order journal before).entries k) }
+{
+    empty_register_is_kept();
+}
+
+/// In whatever permitted order the items are settled, each brings what it brings to the one
+/// registrar, who settles them as they came in: so the entries at each key are the same, in the same
+/// order, and each item has the same verdict (GBO § 17).
+pub fn schedules()
+    ensures brought { (journal : List Receipt) (before after : List ℕ) (i : ℕ) → IsJournal journal → IsPermitted journal (before ++ i ∷ after)
+        → brings journal i (at (settled_in_order journal before).entries) ≡ brings journal i (at (settled_first journal (i - 1)).entries) }
+    ensures entries { (journal : List Receipt) (order : List ℕ) (k : Key) → IsJournal journal → IsPermitted journal order
+        → at (settled_in_order journal order).entries k ≡ at (registrar journal).entries k }
+    ensures verdicts { (journal : List Receipt) (order : List ℕ) (n : ℕ) → IsJournal journal → IsPermitted journal order
+        → verdict_among (settled_in_order journal order).verdicts n ≡ verdict_among (registrar journal).verdicts n }
+{
+    empty_register_is_kept();
+}
 
 /// What an item brings follows from the receipts up to it: later receipts change nothing of it, on a
 /// register that names no later ones, as the register behind the first items of a journal. So one

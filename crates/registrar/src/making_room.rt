@@ -22,7 +22,7 @@ const MOST_BROUGHT: usize = 3;
 /// and an official notice for each filing that waits there. Room for as many as stand there serves
 /// these notices, since each such filing has an entry there; and so a key that grows is moved
 /// seldom.
-pub(crate) fn make_room(parts: &mut MapParts, keys: &[Key]) -> Result<(), NoMemory>
+pub fn make_room(parts: &mut MapParts, keys: &[Key]) -> Result<(), NoMemory>
     ensures entries { entries_at parts.new ≡ entries_at parts.old }
     ensures held { OnOk result ((k : Key) → is_held parts.new k ≡ (is_held parts.old k || is_given keys.now k)) }
     ensures room { OnOk result ((k : Key) → Contains keys.now k → length (entries_at parts.new k) + most_brought ≤ room_at parts.new k) }
@@ -37,7 +37,7 @@ pub(crate) fn make_room(parts: &mut MapParts, keys: &[Key]) -> Result<(), NoMemo
 
 /// Keeps the room in a scratch that an item reckons in: for the rights of the folio in which it
 /// calls to bid or awards, and for the exchanges by which they rise. Other items want none.
-pub(crate) fn make_scratch(
+pub fn make_scratch(
     alloc: Global,
     scratch: &mut Scratch,
     parts: &MapParts,
