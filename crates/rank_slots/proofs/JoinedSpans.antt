@@ -1,5 +1,5 @@
 -- Neighbouring spans that are joined by way of pieces stand for the same line.
-use Rattle.std.proofs.Common.{◌≡◌, ◌≢◌, ℕ, zero, suc, ◌+◌, ◌<◌, ◌≤◌, All, Bool, true, false, cond, not, List, [], ◌∷◌, ◌++◌, filter, get_or, length, set, Option, None, Some, refl, replicate, subst, sum_by, sym, ap, arith, ◌∙◌}
+use Rattle.std.proofs.Common.{◌≡◌, ◌≢◌, ℕ, zero, suc, ◌+◌, ◌<◌, ◌≤◌, All, true, false, cond, not, List, [], ◌∷◌, ◌++◌, filter, get_or, length, set, Option, None, Some, refl, replicate, subst, sum_by, sym, ap, arith, ◌∙◌}
 use Rattle.std.specs.List.{AllByRecursion, list_any, position_or_len}
 use Rattle.std.proofs.lemmas.Bool.{false≢true}
 use Rattle.std.proofs.lemmas.List.{get_or-set_other, get_or-set_same, length-append}

@@ -1,5 +1,5 @@
 -- Sorted spans are written as pieces, and these are cut.
-use Rattle.std.proofs.Common.{◌≡◌, ◌+◌, ◌<◌, All, ap, arith, subst, sum_by, sym, true, ◌∙◌}
+use Rattle.std.proofs.Common.{◌≡◌, ◌<◌, All, ap, arith, subst, sum_by, sym, true, ◌∙◌}
 use Rattle.std.specs.List.{list_any}
 use Rattle.gb_base.specs.Limits.{most_sum}
 use Rattle.rank_slots.specs.Groups.{is_of}
