@@ -4,23 +4,19 @@ use Rattle.std.specs.List.{IsDistinct}
 use Rattle.std.proofs.lemmas.List.Elements.{All-nil}
 use Rattle.gb_base.specs.RightNo.{RightNo}
 use Rattle.rank_slots.specs.CanFill.{CanFill, CanKnot, CanSwap, StandsAlone}
-use Rattle.rank_slots.specs.CentLine.{cent_line, exchange_all, is_dropped}
+use Rattle.rank_slots.specs.CentLine.{cent_line, exchange_all, is_dropped, written}
 use Rattle.rank_slots.specs.Filled.{empty, line}
 use Rattle.rank_slots.specs.declared.places.Place.{Place}
 use Rattle.rank_slots.specs.declared.places.Swap.{Swap}
 use Rattle.rank_slots.specs.declared.spans.Span.{Span}
 use Rattle.rank_slots.specs.inner.Pieces.{line_of}
-use Rattle.rank_slots.specs.inner.Spans.{claimed_spans, exchange_all_spans, line_of_spans}
-use Rattle.rank_slots.proofs.ClaimedSpans.{claimed_line}
-use Rattle.rank_slots.proofs.SpanLines.{line_behind_all}
+use Rattle.rank_slots.specs.inner.Spans.{line_of_spans}
 
 -- a line that was cut, exchanged and written without the cents of dropped places
-pub made_of_spans : (places : List Place) (swaps : List Swap) (row : List Span) (made : List RightNo) → row ≡ exchange_all_spans (claimed_spans 0 places) swaps
-    → made ≡ filter (λ c. not (is_dropped places c)) (line_of_spans row) → made ≡ cent_line places swaps
+pub made_of_spans : (places : List Place) (swaps : List Swap) (row sorted : List Span) (made : List RightNo) → line_of_spans row ≡ exchange_all (written places) swaps → sorted ≡ row
+    → made ≡ filter (λ c. not (is_dropped places c)) (line_of_spans sorted) → made ≡ cent_line places swaps
 unfolding cent_line
-made_of_spans places swaps row made is written_of =
-    written_of
-    ∙ ap (filter (λ c. not (is_dropped places c))) (ap line_of_spans is ∙ line_behind_all (claimed_spans 0 places) swaps ∙ ap (λ cs. exchange_all cs swaps) (claimed_line 0 places))
+made_of_spans places swaps row sorted made line is written_of = written_of ∙ ap (filter (λ c. not (is_dropped places c))) (ap line_of_spans is ∙ line)
 
 -- a line without places has no cents
 pub no_cents : line_of [] ≡ line empty

@@ -15,6 +15,7 @@ pub mod GroupSteps
 pub mod HandedOut
 pub mod Joined
 pub mod JoinedChains
+pub mod JoinedSpans
 pub mod KnotPay
 pub mod KnotRoom
 pub mod KnotTies

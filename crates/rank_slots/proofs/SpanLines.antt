@@ -7,10 +7,10 @@ use Rattle.std.proofs.lemmas.List.Sums.{sum_by-cons, sum_by_more}
 use Rattle.gb_base.specs.Limits.{most_sum}
 use Rattle.gb_base.specs.RightNo.{RightNo, same_right}
 use Rattle.gb_base.proofs.SameRights.{right_is}
-use Rattle.rank_slots.specs.CentLine.{cents_of, exchange, exchange_all, exchanged, is_of_either}
+use Rattle.rank_slots.specs.CentLine.{cents_of, exchange, exchanged, is_of_either}
 use Rattle.rank_slots.specs.declared.places.Swap.{Swap}
 use Rattle.rank_slots.specs.declared.spans.Span.{Span}
-use Rattle.rank_slots.specs.inner.Spans.{StandInRow, exchange_all_spans, exchange_spans, line_of_spans, spans_exchanged}
+use Rattle.rank_slots.specs.inner.Spans.{StandInRow, exchange_spans, line_of_spans, spans_exchanged}
 use Rattle.rank_slots.proofs.SpanRows.{exchanged_line}
 
 line_push : (xs : List Span) (x : Span) → line_of_spans (xs ++ x ∷ []) ≡ line_of_spans xs ++ replicate x.cents x.right
@@ -52,7 +52,3 @@ line_behind s row =
       | true ↦ λ one. sym (itself s one left (line_of_spans row))
       | false ↦ λ two. exchanged_line s left row
     ] refl
-
-pub line_behind_all : (row : List Span) (swaps : List Swap) → line_of_spans (exchange_all_spans row swaps) ≡ exchange_all (line_of_spans row) swaps
-line_behind_all row [] = refl
-line_behind_all row (s ∷ swaps) = line_behind_all (exchange_spans row s) swaps ∙ ap (λ line. exchange_all line swaps) (line_behind s row)

@@ -61,6 +61,7 @@ pub(crate) fn write_line(pieces: &mut Vec<Piece>, spans: &[Span], places: &[Plac
     requires sum { sum_by (λ x. x.cents) spans.now < most_sum }
     ensures line { line_of pieces.new.items ≡ filter (λ c. not (is_dropped places.now c)) (line_of_spans spans.now) }
     ensures joined { AreJoined pieces.new.items }
+    ensures few { length pieces.new.items ≤ length spans.now }
     ensures sum { sum_by (λ p. p.cents) pieces.new.items < most_sum }
     ensures capacity { vec_capacity pieces.new ≡ vec_capacity pieces.old }
 {

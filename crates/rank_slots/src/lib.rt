@@ -6,6 +6,7 @@ mod chains;
 mod cutting;
 mod exchanging;
 mod groups;
+mod joining;
 pub mod laws;
 mod paying;
 mod pieces;

@@ -102,7 +102,7 @@ impl Slots {
         copy_into(&mut self.swaps, swaps);
         copy_into(&mut self.knots, knots);
         self.spans.cut(places);
-        self.spans.exchange_all(places, swaps);
+        self.spans.exchange_all(&mut self.pieces, places, swaps);
         self.spans.sort();
         write_line(&mut self.pieces, &self.spans.spans, places);
     }

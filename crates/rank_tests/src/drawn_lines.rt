@@ -67,10 +67,20 @@ fn with_some_dropped(
     Ok(after)
 }
 
-/// Up to six exchanges.
+/// How many exchanges are tried: up to six, of about every third line up to 60. Of so many between
+/// six rights neighbours are joined in between more than once.
+fn drawn_count(draws: &mut Draws) -> u32 {
+    if draws.one_in(3) {
+        draws.below(61)
+    } else {
+        draws.below(7)
+    }
+}
+
+/// That many exchanges at most.
 fn drawn_swaps(draws: &mut Draws, alloc: Global, places: &[Place]) -> Result<Vec<Swap>, NoMemory> {
     let mut swaps = Vec::new(alloc);
-    for _ in 0..draws.below(7) {
+    for _ in 0..drawn_count(draws) {
         let swap = swap(drawn_right(draws), drawn_right(draws));
         if swap.recede != swap.rise && can_swap(places, swap) {
             swaps.push(swap)?;

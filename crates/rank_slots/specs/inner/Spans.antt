@@ -1,11 +1,12 @@
 -- A line that is cut into spans, with a chain of the spans of each place.
-use Rattle.std.specs.Prelude.{◌≡◌, ℕ, ◌+◌, ◌-◌, ◌<◌, ◌≤◌, Bool, true, false, ◌==◌, nat_le, nat_lt, if◌then◌else◌, List, [], ◌∷◌, ◌++◌, Option, Some, None, flat_map, fold, length, replicate, slice_index_or, slice_set}
+use Rattle.std.specs.Prelude.{◌≡◌, ℕ, ◌+◌, ◌-◌, ◌<◌, ◌≤◌, Bool, true, false, ◌==◌, nat_le, nat_lt, if◌then◌else◌, List, [], ◌∷◌, ◌++◌, Option, Some, None, flat_map, length, replicate, slice_index_or, slice_set}
 use Rattle.std.specs.List.{AllByRecursion, list_any}
 use Rattle.gb_base.specs.Limits.{most_sum}
 use Rattle.gb_base.specs.RightNo.{RightNo, same_right}
 use Rattle.rank_slots.specs.CentLine.{cents_of, is_of_either}
 use Rattle.rank_slots.specs.Groups.{is_of}
 use Rattle.rank_slots.specs.Payments.{claim_of}
+use Rattle.rank_slots.specs.declared.places.Piece.{Piece}
 use Rattle.rank_slots.specs.declared.places.Place.{Place}
 use Rattle.rank_slots.specs.declared.places.Swap.{Swap}
 use Rattle.rank_slots.specs.declared.spans.Span.{Span}
@@ -33,6 +34,11 @@ StandInRow n (x ∷ xs) = (x.from ≡ n) × ((1 ≤ x.cents) × StandInRow (n + 
 abbrev pub claimed_spans : ℕ → List Place → List Span
 claimed_spans n [] = []
 claimed_spans n (p ∷ ps) = record { from = n; cents = p.claim; right = p.right } ∷ claimed_spans (n + p.claim) ps
+
+-- these pieces as spans, of which the first begins at this cent
+abbrev pub spans_of : ℕ → List Piece → List Span
+spans_of n [] = []
+spans_of n (p ∷ ps) = record { from = n; cents = p.cents; right = p.right } ∷ spans_of (n + p.cents) ps
 
 -- the first cents of a span, as this right's
 abbrev pub front_of : Span → ℕ → RightNo → Span
@@ -64,10 +70,6 @@ spans_dealt s left (x ∷ xs) = parts_of s left x ++ spans_dealt s (left - x.cen
 abbrev pub exchange_spans : List Span → Swap → List Span
 exchange_spans spans s =
     if same_right s.recede s.rise then spans else spans_exchanged s (cents_of s.rise (line_of_spans spans)) spans
-
--- the spans behind these exchanges, one after the other
-abbrev pub exchange_all_spans : List Span → List Swap → List Span
-exchange_all_spans spans swaps = fold exchange_spans spans swaps
 
 -- ---- chains of spans in lists
 
@@ -141,6 +143,10 @@ span_dealt a s recede rise number left =
 
 -- ---- lists of spans that stand for a line
 
+-- the lists have for each place a chain of the spans of its right, the last one first
+abbrev pub AreChained : SpanLists → List Place → Type 0
+AreChained a places = (n : ℕ) (p : Place) → n < length places → p ≡ slice_index_or places n p → Linked a.spans a.links (link_at a.heads n) (last_first (is_span_of p.right) [] a.spans)
+
 -- The lists have just these spans, which stand in a row, and for each place a chain of those of its right, the last one first. Each
 -- right has as many cents as it claims.
 pub record AreCut (a : SpanLists) (places : List Place) (row : List Span) : Type 0 where
@@ -151,3 +157,9 @@ pub record AreCut (a : SpanLists) (places : List Place) (row : List Span) : Type
   pub chains : (n : ℕ) (p : Place) → n < length places → p ≡ slice_index_or places n p → Linked a.spans a.links (link_at a.heads n) (last_first (is_span_of p.right) [] row)
   pub owned : AllByRecursion (λ x. list_any (is_of x.right) places ≡ true) row
   pub claims : (right : RightNo) → cents_of right (line_of_spans row) ≡ claim_of places right
+
+-- Such lists of some row that stands for this line.
+pub record StandFor (a : SpanLists) (places : List Place) (line : List RightNo) : Type 0 where
+  pub row : List Span
+  pub cut : AreCut a places row
+  pub is_line : line_of_spans row ≡ line

@@ -5,7 +5,6 @@ use Rattle.rank_slots.specs.CentLine.{cent_line}
 use Rattle.gb_base.specs.Limits.{most_sum}
 use Rattle.rank_slots.specs.inner.Pieces.{line_of}
 use Rattle.rank_slots.specs.declared.spans.Span.{Span}
-use Rattle.rank_slots.specs.inner.Spans.{claimed_spans, exchange_all_spans}
 use Rattle.rank_slots.proofs.Filling.{made_of_spans}
 use Rattle.rank_slots.proofs.KnotRoom.{no_more_knots}
 use Rattle.rank_slots.proofs.SpanLines.{row_sum}
@@ -25,23 +24,22 @@ write_line-requires-clause-room c =
 
 pub write_line-requires-clause-sum : goal.write_line-requires-clause-sum
 write_line-requires-clause-sum c =
-    let places = c.args.places.now in
-    let row = exchange_all_spans (claimed_spans 0 places) c.args.swaps.now in
-    let sorted = c.deref.ensures.value ∙ c.sort.ensures.row places row c.exchange_all.ensures.cut in
-    subst (λ xs. sum_by (λ (x : Span). x.cents) xs < most_sum) (sym sorted) (omega (arith, row_sum 0 row c.exchange_all.ensures.cut.in_row))
+    let stands = c.exchange_all.ensures.cut in
+    let sorted = c.deref.ensures.value ∙ c.sort.ensures.row c.args.places.now stands.row stands.cut in
+    subst (λ xs. sum_by (λ (x : Span). x.cents) xs < most_sum) (sym sorted) (omega (arith, row_sum 0 stands.row stands.cut.in_row))
 
 pub invariant_of-self : goal.invariant_of-self
 invariant_of-self c =
     let places = c.args.places.now in
     let swaps = c.args.swaps.now in
-    let row = exchange_all_spans (claimed_spans 0 places) swaps in
-    let sorted = c.deref.ensures.value ∙ c.sort.ensures.row places row c.exchange_all.ensures.cut in
+    let stands = c.exchange_all.ensures.cut in
+    let sorted = c.deref.ensures.value ∙ c.sort.ensures.row places stands.row stands.cut in
     let few = no_more_knots places swaps c.args.knots.now c.requires.fits.knots c.requires.fits.once in
     let place_room = ap (λ s. s.place_room) c.self.view_is in
     let swap_room = ap (λ s. s.swap_room) c.self.view_is in (
       record {
         fits = subst CanFill (λ i. record { places = sym c.copy_into.ensures.items i; swaps = sym c.copy_into-2.ensures.items i; knots = sym c.copy_into-3.ensures.items i }) c.requires.fits;
-        line = made_of_spans places swaps c.deref.result.now (line_of c.write_line.new.pieces.items) sorted c.write_line.ensures.line
+        line = made_of_spans places swaps stands.row c.deref.result.now (line_of c.write_line.new.pieces.items) stands.is_line sorted c.write_line.ensures.line
             ∙ (λ i. cent_line (sym c.copy_into.ensures.items i) (sym c.copy_into-2.ensures.items i));
         joined = c.write_line.ensures.joined;
         sum = c.write_line.ensures.sum;
