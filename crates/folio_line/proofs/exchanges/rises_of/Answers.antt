@@ -1,4 +1,4 @@
-use Rattle.std.proofs.Common.{◌≡◌, ◌∙◌, ap, length}
+use Rattle.std.proofs.Common.{◌∙◌, ap, length}
 use Rattle.folio_line.proofs.exchanges.rises_of.Goals as goal
 
 pub returns : goal.returns
