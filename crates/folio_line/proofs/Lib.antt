@@ -3,6 +3,7 @@ pub mod AllRights
 pub mod CountedExchanges
 pub mod CountedExercises
 pub mod CreatedRights
+pub mod ExchangesAhead
 pub mod FiledRights
 pub mod FilingRuns
 pub mod FolioFills

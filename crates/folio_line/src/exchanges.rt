@@ -1,5 +1,5 @@
 //! The exchanges of rank of a folio that count (BGB § 880).
-ghost use Rattle.std.specs.Prelude.{◌≡◌, ◌++◌, ◌≤◌, IfOk, filter, flat_map, length, vec_capacity};
+ghost use Rattle.std.specs.Prelude.{◌≡◌, ◌++◌, ◌≤◌, IfOk, filter, filter_map, flat_map, length, vec_capacity};
 ghost use Rattle.std.specs.List.{list_any};
 ghost use Rattle.gb_base.specs.declared.keys.Key.TheVariants.{Right};
 ghost use Rattle.folio_line.specs.Exchanges.{counted_at, is_cancellation_by_consent, keeps_cents, rise_by};
@@ -8,7 +8,7 @@ ghost use Rattle.folio_line.specs.FolioReading.{CanBeRead, reads};
 ghost use Rattle.folio_line.specs.inner.Turns.{has_turn};
 
 use crate::FolioReading;
-use crate::folio_reads::{is_live, right_entries, was_created};
+use crate::folio_reads::{exchange_entries, is_live, right_entries, was_created};
 use crate::folio_rights::CreatedRight;
 use folio_sections::{Entry, Parts, What};
 use gb_base::{NoMemory, ReceiptNo, RightId};
@@ -53,7 +53,7 @@ fn add_counted<P: Parts>(list: &mut Vec<Exchange>, reading: &FolioReading<P>, ri
     ensures items { list.new.items ≡ list.old.items ++ filter has_turn (counted_at (reads P.holds P.at reading.now) reading.now.folio right.now) }
     ensures capacity { vec_capacity list.new ≡ vec_capacity list.old }
 {
-    for entry in right_entries(reading, right.id) {
+    for entry in exchange_entries(reading, right.id) {
         if let Some(exchange) = rise_by(right.id, entry) {
             if keeps_cents(reading, exchange.recede) && has_turn(&exchange) {
                 list.push_reserved(exchange);
@@ -81,7 +81,14 @@ fn rises_of<P: Parts>(reading: &FolioReading<P>, id: RightId) -> usize
     requires { CanBeRead P.holds P.at reading.now }
     ensures { result ≡ length (rises_of (reads P.holds P.at reading.now) reading.now.folio id) }
 {
-    right_entries(reading, id)
+    rises_among(id, exchange_entries(reading, id))
+}
+
+/// How many of these entries are exchanges by which the right rises.
+fn rises_among(id: RightId, entries: &[Entry]) -> usize
+    ensures { result ≡ length (filter_map (λ e. rise_by id e.receipt e.what) entries.now) }
+{
+    entries
         .iter()
         .filter_map(|entry| rise_by(id, entry))
         .count()

@@ -1,14 +1,17 @@
 //! What is read at a right of a folio; nothing where the parts do not hold it.
-ghost use Rattle.std.specs.Prelude.{◌≡◌, ◌≤◌, is_some, IfSome};
+ghost use Rattle.std.specs.Prelude.{◌≡◌, ◌≤◌, filter, filter_map, is_some, IfSome};
 ghost use Rattle.gb_base.specs.Limits.{most_cents};
 ghost use Rattle.gb_base.specs.declared.keys.Key.TheVariants.{Right};
-ghost use Rattle.folio_sections.specs.Rights.{created, is_live};
-ghost use Rattle.folio_line.specs.FolioReading.{CanBeRead, reads};
+ghost use Rattle.folio_sections.specs.Fronts.{NeverFall};
+ghost use Rattle.folio_sections.specs.Rights.{created, exchanges, is_exchange, is_live};
+ghost use Rattle.folio_line.specs.Exchanges.{rise_by};
+ghost use Rattle.folio_line.specs.FolioLine.{rises_of};
+ghost use Rattle.folio_line.specs.FolioReading.{CanBeRead, read_at, reads};
 ghost use Rattle.folio_line.specs.FolioSlots.{capital_at};
 
 use crate::FolioReading;
-use folio_sections::{Created, Entry, Parts, RightFront};
-use gb_base::RightId;
+use folio_sections::{Created, Entry, Parts, RightFront, RightPart, What};
+use gb_base::{ReceiptNo, RightId};
 
 /// The right as it is read; None where the parts do not hold it.
 pub fn right_front<'a, P: Parts>(
@@ -20,9 +23,17 @@ pub fn right_front<'a, P: Parts>(
     ensures value { IfSome result (λ front. front ≡ reads P.holds P.at reading.now (Right reading.now.folio id)) }
 {
     let part = reading.parts.right(reading.folio, id)?;
-    match reading.before {
-        Some(receipt) => Some(part.below(receipt)),
-        None => Some(part.whole()),
+    Some(front_of(part, reading.before))
+}
+
+/// The right of a part as it stood before a receipt, or as it stands.
+fn front_of(part: &RightPart, before: Option<ReceiptNo>) -> RightFront<'_>
+    requires { IfSome before (λ _. NeverFall part.now.entries) }
+    ensures { result ≡ read_at before (λ _. part.now.entries) part.now.key }
+{
+    match before {
+        Some(receipt) => part.below(receipt),
+        None => part.whole(),
     }
 }
 
@@ -35,6 +46,46 @@ pub(crate) fn right_entries<'a, P: Parts>(reading: &FolioReading<'a, P>, id: Rig
         Some(front) => front.entries(),
         None => &[],
     }
+}
+
+/// The entries at a right of the folio as far as exchanges stand among them: behind these it has
+/// none by which it rises. So no reader of exchanges walks the entries of a right that is in none.
+pub(crate) fn exchange_entries<'a, P: Parts>(
+    reading: &FolioReading<'a, P>,
+    id: RightId,
+) -> &'a [Entry]
+    requires { CanBeRead P.holds P.at reading.now }
+    ensures { filter_map (λ e. rise_by id e.receipt e.what) result.now ≡ rises_of (reads P.holds P.at reading.now) reading.now.folio id }
+{
+    match reading.parts.right(reading.folio, id) {
+        // No front has more exchanges than the whole part.
+        Some(part) => up_to_exchange(part.exchanges(), front_of(part, reading.before).entries()),
+        None => &[],
+    }
+}
+
+/// The front of these entries in which all of their exchanges stand, which are so many at most.
+fn up_to_exchange(most: usize, entries: &[Entry]) -> &[Entry]
+    requires { exchanges entries.now ≤ most }
+    ensures { filter (λ e. is_exchange e.what) result.now ≡ filter (λ e. is_exchange e.what) entries.now }
+{
+    let mut left = most;
+    for (index, entry) in entries.iter().enumerate() {
+        if left == 0 {
+            return &entries[..index];
+        }
+        if is_exchange(&entry.what) {
+            left -= 1;
+        }
+    }
+    entries
+}
+
+/// Whether a content exchanges the right's rank with that of another (BGB § 880).
+fn is_exchange(what: &What) -> bool
+    ensures { result ≡ is_exchange what.now }
+{
+    matches!(what, What::Exchanged { .. })
 }
 
 /// A right of the folio as it was created; None where it never was.
