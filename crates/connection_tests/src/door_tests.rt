@@ -18,7 +18,8 @@ const OPENING: &str = "POST /receipts HTTP/1.1\r\nContent-Length: 246\r\n\r\n\
 const ASTRAY: &str = "GET /x HTTP/1.1\r\n\r\n";
 
 /// The reply to its first receipt.
-const ACCEPTED: &str = "HTTP/1.1 201 Created\r\nContent-Type: text/plain\r\nContent-Length: 11\r\n\r\n\
+const ACCEPTED: &str =
+    "HTTP/1.1 201 Created\r\nContent-Type: text/plain\r\nContent-Length: 11\r\n\r\n\
     accepted 1\n";
 
 /// The reply to the same item again.
@@ -30,27 +31,33 @@ const EXTRACT: &str = "HTTP/1.1 200 OK\r\nContent-Type: text/plain\r\nContent-Le
     folio 7\ninventory district 12 parcel 345/6 area 800\nowners 10\n";
 
 /// The reply to a path that has no route, or nothing to read.
-const NOT_FOUND: &str = "HTTP/1.1 404 Not Found\r\nContent-Type: text/plain\r\nContent-Length: 10\r\n\r\n\
+const NOT_FOUND: &str =
+    "HTTP/1.1 404 Not Found\r\nContent-Type: text/plain\r\nContent-Length: 10\r\n\r\n\
     not found\n";
 
 /// The reply to a route that has another method.
-const WRONG_METHOD: &str = "HTTP/1.1 405 Method Not Allowed\r\nContent-Type: text/plain\r\nContent-Length: 19\r\n\r\n\
+const WRONG_METHOD: &str =
+    "HTTP/1.1 405 Method Not Allowed\r\nContent-Type: text/plain\r\nContent-Length: 19\r\n\r\n\
     method not allowed\n";
 
 /// The reply to a body of over 65,536 bytes.
-const TOO_LONG: &str = "HTTP/1.1 413 Payload Too Large\r\nContent-Type: text/plain\r\nContent-Length: 18\r\n\r\n\
+const TOO_LONG: &str =
+    "HTTP/1.1 413 Payload Too Large\r\nContent-Type: text/plain\r\nContent-Length: 18\r\n\r\n\
     payload too large\n";
 
 /// The reply to an item without a sender.
-const MALFORMED: &str = "HTTP/1.1 422 Unprocessable Entity\r\nContent-Type: text/plain\r\nContent-Length: 17\r\n\r\n\
+const MALFORMED: &str =
+    "HTTP/1.1 422 Unprocessable Entity\r\nContent-Type: text/plain\r\nContent-Length: 17\r\n\r\n\
     malformed sender\n";
 
 /// The reply where the file is no journal.
-const NOT_A_JOURNAL: &str = "HTTP/1.1 500 Internal Server Error\r\nContent-Type: text/plain\r\nContent-Length: 14\r\n\r\n\
+const NOT_A_JOURNAL: &str =
+    "HTTP/1.1 500 Internal Server Error\r\nContent-Type: text/plain\r\nContent-Length: 14\r\n\r\n\
     not a journal\n";
 
 /// The reply where the disk failed.
-const UNAVAILABLE: &str = "HTTP/1.1 503 Service Unavailable\r\nContent-Type: text/plain\r\nContent-Length: 20\r\n\r\n\
+const UNAVAILABLE: &str =
+    "HTTP/1.1 503 Service Unavailable\r\nContent-Type: text/plain\r\nContent-Length: 20\r\n\r\n\
     service unavailable\n";
 
 /// A file that was made, without a receipt. An opening of it makes four calls, and a receipt four

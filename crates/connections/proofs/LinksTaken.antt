@@ -36,7 +36,7 @@ served_more held left (a ∷ asked) (x ∷ xs) ys are sound more = (
   are.1,
   λ lacks. absurd (sound (inl lacks)),
   served_more (held_by held x.connection) (left_by left x) asked xs ys are.3 (λ lacks. sound (inr lacks))
-  (subst (λ (h : Held). AreServed h (left_behind (left_by left x) xs) (drop (length xs) asked) ys) (held_more held (taken_of x.connection) (turns_taken xs)) more),
+      (subst (λ (h : Held). AreServed h (left_behind (left_by left x) xs) (drop (length xs) asked) ys) (held_more held (taken_of x.connection) (turns_taken xs)) more),
 )
 
 -- ---- want of memory
