@@ -88,7 +88,8 @@ fn door_of_two<'a>(alloc: Global, asks: &'a str, fail: &'a [u32]) -> Result<MemL
 fn serve(alloc: Global, door: &mut MemListener, disk: &mut MemDisk, most: u32) -> DoorEnd {
     let stamps = [stamp(day(3, 1), 540)];
     let mut clock = ListClock::new(&stamps);
-    Clerk::new().serve_door(alloc, door, disk, &mut clock, most)
+    let mut clerk = Clerk::new();
+    clerk.serve_door(alloc, door, disk, &mut clock, most)
 }
 
 /// This was written to the link with this number.

@@ -72,19 +72,19 @@ returns-in-Memory-clause-turn g c = λ tells held requests end meets.
     c.close-in-Memory.result c.in-Memory.ensures.written c.out_of_memory.result c.out_of_memory.ensures c.close-in-Memory.ensures.ends
 
 pub returns-in-Request-clause-told : goal.returns-in-Request-clause-told
-returns-in-Request-clause-told g c = λ told. c.serve_request.ensures.told (same_told _ _ c.next_request.ensures.written told)
+returns-in-Request-clause-told g c = λ told. c.serve_request.ensures.told (same_told (g.L.Link.written c.args.link.now) (g.L.Link.written c.next_request.new.link) c.next_request.ensures.written told)
 
 pub returns-in-End-clause-told : goal.returns-in-End-clause-told
-returns-in-End-clause-told g c = λ told. same_told _ _ c.next_request.ensures.written told
+returns-in-End-clause-told g c = λ told. same_told (g.L.Link.written c.args.link.now) (g.L.Link.written c.next_request.new.link) c.next_request.ensures.written told
 
 pub returns-in-HeadFault-clause-told : goal.returns-in-HeadFault-clause-told
-returns-in-HeadFault-clause-told g c = λ told. c.close.ensures.told (same_told _ _ c.next_request.ensures.written told)
+returns-in-HeadFault-clause-told g c = λ told. c.close.ensures.told (same_told (g.L.Link.written c.args.link.now) (g.L.Link.written c.next_request.new.link) c.next_request.ensures.written told)
 
 pub returns-in-BodyTooLong-clause-told : goal.returns-in-BodyTooLong-clause-told
-returns-in-BodyTooLong-clause-told g c = λ told. c.close-in-BodyTooLong.ensures.told (same_told _ _ c.next_request.ensures.written told)
+returns-in-BodyTooLong-clause-told g c = λ told. c.close-in-BodyTooLong.ensures.told (same_told (g.L.Link.written c.args.link.now) (g.L.Link.written c.next_request.new.link) c.next_request.ensures.written told)
 
 pub returns-in-LinkFault-clause-told : goal.returns-in-LinkFault-clause-told
-returns-in-LinkFault-clause-told g c = λ told. same_told _ _ c.next_request.ensures.written told
+returns-in-LinkFault-clause-told g c = λ told. same_told (g.L.Link.written c.args.link.now) (g.L.Link.written c.next_request.new.link) c.next_request.ensures.written told
 
 pub returns-in-Memory-clause-told : goal.returns-in-Memory-clause-told
-returns-in-Memory-clause-told g c = λ told. c.close-in-Memory.ensures.told (same_told _ _ c.next_request.ensures.written told)
+returns-in-Memory-clause-told g c = λ told. c.close-in-Memory.ensures.told (same_told (g.L.Link.written c.args.link.now) (g.L.Link.written c.next_request.new.link) c.next_request.ensures.written told)
