@@ -1,5 +1,7 @@
-//! Tests of settled_book, by what it exports.
+//! Tests of settled_book and of connections, by what they export.
 #![tactic(auto)]
 
+#[cfg(test)]
+mod door_tests;
 #[cfg(test)]
 mod reading_tests;

@@ -15,3 +15,7 @@ pub mod TakenTurns
 pub mod LinksServed
 pub mod LinkTurns
 pub mod LinkEnds
+pub mod DoorLinks
+pub mod DoorRounds
+pub mod LinksTaken
+pub mod ToldLinks

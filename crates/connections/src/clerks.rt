@@ -6,6 +6,8 @@ ghost use Rattle.act_json.specs.Lines.{item_of, longest_line};
 ghost use Rattle.act_model.specs.WellFormed.{well_formed};
 ghost use Rattle.act_model.specs.declared.receipts.Receipt.{Receipt};
 ghost use Rattle.intake.specs.Requests.{Held};
+ghost use Rattle.journal_disk.specs.Layout.{the_heading, made_from, IsUnmade};
+ghost use Rattle.journal_disk.specs.Opening.{AnswersSynced, IsKept};
 ghost use Rattle.receipt_journal.specs.Opening.{BookRefuses, book_opening_disk_failed};
 ghost use Rattle.receipt_journal.specs.Standing.{Stands, StandsForJournal};
 ghost use Rattle.settled_book.specs.Texts.{reads_register};
@@ -52,6 +54,22 @@ impl Clerk {
         ensures { result ≡ None }
     {
         Clerk { book: None }
+    }
+
+    /// A clerk with the book of a disk open. Nothing is settled yet.
+    pub fn open<D: Disk>(alloc: Global, disk: &mut D) -> Result<Clerk, BookFault>
+        ensures holds { IsTrue D.tells → (held : Held) → StandsForJournal (D.reads disk.old) held.journal
+            → IfOk result (λ clerk. Holds clerk (D.reads disk.new) (D.images disk.new) (Some held.ticks) held) }
+        ensures stands_open { IsTrue D.tells → IfOk result (λ clerk. StandsOpen clerk (D.reads disk.new) (D.images disk.new)) }
+        ensures journal { IsTrue D.tells → OnOk result ((journal : List Receipt) × StandsForJournal (D.reads disk.old) journal) }
+        ensures refused { IsTrue D.tells → IfErr result (BookRefuses (D.reads disk.old)) }
+        ensures made { IsTrue D.tells → OnOk result (IsUnmade (D.reads disk.old) → D.reads disk.new ≡ made_from the_heading (D.reads disk.old)) }
+        ensures kept { IsTrue D.tells → IsKept (D.reads disk.old) (D.reads disk.new) }
+        ensures any_moment { IsTrue D.tells → AnswersSynced D.reads D.images D.moment D.since disk.old disk.new (book_opening_disk_failed result) }
+        ensures cause { Counts (D.faults disk.old) (D.faults disk.new) (book_opening_disk_failed result) }
+    {
+        let book = SettledBook::open(alloc, disk)?;
+        Ok(Clerk { book: Some(book) })
     }
 
     /// Takes out the book that is open, if it works.

@@ -3,10 +3,12 @@
 
 mod bodies;
 mod clerks;
+mod doors;
 mod receiving;
 mod replies;
 mod serving;
 
 pub use clerks::Clerk;
+pub use doors::DoorEnd;
 pub use replies::Reply;
 pub use serving::{Ended, Served};

@@ -1,5 +1,5 @@
 //! A connection is served: its requests are answered one after another.
-ghost use Rattle.std.specs.Prelude.{◌≡◌, ◌≤◌, ℕ, List, [], ◌∷◌, Some, OnOk, OnErr, Err, IsTrue, IfSome, length};
+ghost use Rattle.std.specs.Prelude.{◌≡◌, ◌≤◌, ℕ, List, [], ◌∷◌, Some, OnOk, OnErr, Err, IsSome, IsTrue, IfSome, length};
 ghost use Rattle.std.specs.Io.KnownBytes.{Appends};
 ghost use Rattle.gb_outside.specs.Bytes.{AppendsFront};
 ghost use Rattle.gb_outside.specs.Faults.{Counts};
@@ -69,6 +69,7 @@ fn send<L: Link>(alloc: Global, link: &mut L, reply: &Reply) -> Result<(), Ended
 fn close<L: Link>(alloc: Global, link: &mut L, reply: Reply) -> Served
     ensures ends { EndsWith (L.written link.old) (L.written link.new) reply result }
     ensures few { result.replies ≤ 1 }
+    ensures told { IsSome (L.written link.old) → IsSome (L.written link.new) }
     ensures cause { Counts (L.faults link.old) (L.faults link.new) (is_link_fault result.ended) }
 {
     match send(alloc, link, &reply) {
@@ -99,6 +100,7 @@ impl Clerk {
             (λ h others. Holds self.new (D.reads disk.new) (D.images disk.new) (C.ticks clock.new) h × (others ≡ requests)) result }
         ensures few { IfSome result (λ served. served.replies ≤ 1) }
         ensures stands_open { IsTrue D.tells → StandsOpen self.new (D.reads disk.new) (D.images disk.new) }
+        ensures told { IsSome (L.written link.old) → IsSome (L.written link.new) }
         ensures left { L.left link.new ≡ L.left link.old }
         ensures cause { Counts (L.faults link.old) (L.faults link.new) (is_cut_off result) }
     {
@@ -134,6 +136,7 @@ impl Clerk {
             (λ h others. Meets self.new (D.reads disk.new) (D.images disk.new) (C.ticks clock.new) (L.left link.new) rest.new.items end h others) result }
         ensures few { IfSome result (λ served. served.replies ≤ 1) }
         ensures stands_open { IsTrue D.tells → StandsOpen self.new (D.reads disk.new) (D.images disk.new) }
+        ensures told { IsSome (L.written link.old) → IsSome (L.written link.new) }
         ensures cause { Counts (L.faults link.old) (L.faults link.new) (is_cut_off result) }
     {
         match next_request(alloc, link, rest) {
@@ -170,6 +173,7 @@ impl Clerk {
             (λ h. Holds self.new (D.reads disk.new) (D.images disk.new) (C.ticks clock.new) h) }
         ensures stands_open { IsTrue D.tells → StandsOpen self.new (D.reads disk.new) (D.images disk.new) }
         ensures few { result.replies ≤ left }
+        ensures told { IsSome (L.written link.old) → IsSome (L.written link.new) }
         ensures cause { Counts (L.faults link.old) (L.faults link.new) (is_link_fault result.ended) }
     {
         let mut rest = Vec::new(alloc);

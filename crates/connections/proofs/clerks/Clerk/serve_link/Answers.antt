@@ -10,6 +10,7 @@ pub loop-replies-init : goal.loop-replies-init
 loop-replies-init g c = record {
   few = omega arith;
   stands_open = c.requires;
+  told = λ told. told;
   quiet = refl;
   went = λ tells held input requests end holds left are.
       went_none g.D.Disk.images g.D.Disk.moment g.D.Disk.since g.D.Disk.faults c.args.disk.now held (g.L.Link.written c.args.link.now) c.args.left requests end
@@ -22,6 +23,7 @@ pub loop-replies-preserved : goal.loop-replies-preserved
 loop-replies-preserved g c = record {
   few = omega (arith, c.loop-replies-test.true);
   stands_open = c.serve_next.ensures.stands_open;
+  told = λ told. c.serve_next.ensures.told (c.loop-replies.invariant.told told);
   quiet = c.in-None.ensures.cause.else_same refl ∙ c.loop-replies.invariant.quiet;
   went = λ tells held input requests end holds left are.
       let before = c.loop-replies.invariant.went tells held input requests end holds left are in
@@ -52,3 +54,9 @@ returns-clause-serves g c = λ tells held input requests end holds left are.
     (λ h. Holds c.loop-replies.self (g.D.Disk.reads c.loop-replies.disk) (g.D.Disk.images c.loop-replies.disk) (g.C.Clock.ticks c.loop-replies.clock) h)
     _ (λ file since. g.met.D.Disk.only_now c.loop-replies.disk file tells since) (λ t file le image. g.met.D.Disk.counts_now c.loop-replies.disk t file tells le image)
     (omega (arith, c.loop-replies-test.false)) (λ h others meets. meets.holds) (c.loop-replies.invariant.went tells held input requests end holds left are) refl refl
+
+pub returns-in-Some-clause-told : goal.returns-in-Some-clause-told
+returns-in-Some-clause-told g c = λ told. c.serve_next.ensures.told (c.loop-replies.invariant.told told)
+
+pub returns-clause-told : goal.returns-clause-told
+returns-clause-told g c = λ told. c.loop-replies.invariant.told told

@@ -11,6 +11,7 @@ use Rattle.connections.specs.declared.serving.Ended.TheVariants.{Finished}
 use Rattle.connections.specs.inner.Rounds.{Meets}
 use Rattle.connections.proofs.LinkEnds.{cut_off, memory_ends, none_ends, refusal_ends, turn_of}
 use Rattle.connections.proofs.LinkTurns.{comes_next}
+use Rattle.connections.proofs.ToldLinks.{same_told}
 use Rattle.connections.proofs.clerks.Clerk.serve_next.Goals as goal
 
 pub returns-in-Request-clause-turn : goal.returns-in-Request-clause-turn
@@ -69,3 +70,21 @@ returns-in-Memory-clause-turn g c = λ tells held requests end meets.
     memory_ends g.D.Disk.images g.D.Disk.moment g.D.Disk.since g.D.Disk.faults c.args.disk.now (λ file left. g.met.D.Disk.only_now c.args.disk.now file tells left) held (g.L.Link.written c.args.link.now)
     (g.L.Link.written c.next_request.new.link) (g.L.Link.written c.close-in-Memory.new.link) requests end (λ h. Holds c.args.self.now (g.D.Disk.reads c.args.disk.now) (g.D.Disk.images c.args.disk.now) (g.C.Clock.ticks c.args.clock.now) h) meets.holds
     c.close-in-Memory.result c.in-Memory.ensures.written c.out_of_memory.result c.out_of_memory.ensures c.close-in-Memory.ensures.ends
+
+pub returns-in-Request-clause-told : goal.returns-in-Request-clause-told
+returns-in-Request-clause-told g c = λ told. c.serve_request.ensures.told (same_told (g.L.Link.written c.args.link.now) (g.L.Link.written c.next_request.new.link) c.next_request.ensures.written told)
+
+pub returns-in-End-clause-told : goal.returns-in-End-clause-told
+returns-in-End-clause-told g c = λ told. same_told (g.L.Link.written c.args.link.now) (g.L.Link.written c.next_request.new.link) c.next_request.ensures.written told
+
+pub returns-in-HeadFault-clause-told : goal.returns-in-HeadFault-clause-told
+returns-in-HeadFault-clause-told g c = λ told. c.close.ensures.told (same_told (g.L.Link.written c.args.link.now) (g.L.Link.written c.next_request.new.link) c.next_request.ensures.written told)
+
+pub returns-in-BodyTooLong-clause-told : goal.returns-in-BodyTooLong-clause-told
+returns-in-BodyTooLong-clause-told g c = λ told. c.close-in-BodyTooLong.ensures.told (same_told (g.L.Link.written c.args.link.now) (g.L.Link.written c.next_request.new.link) c.next_request.ensures.written told)
+
+pub returns-in-LinkFault-clause-told : goal.returns-in-LinkFault-clause-told
+returns-in-LinkFault-clause-told g c = λ told. same_told (g.L.Link.written c.args.link.now) (g.L.Link.written c.next_request.new.link) c.next_request.ensures.written told
+
+pub returns-in-Memory-clause-told : goal.returns-in-Memory-clause-told
+returns-in-Memory-clause-told g c = λ told. c.close-in-Memory.ensures.told (same_told (g.L.Link.written c.args.link.now) (g.L.Link.written c.next_request.new.link) c.next_request.ensures.written told)

@@ -1,7 +1,9 @@
-use Rattle.std.proofs.Common.{◌∙◌, Err, ap, refl, sym}
+use Rattle.std.proofs.Common.{◌∙◌, [], ◌∷◌, Err, ap, refl, sym}
 use Rattle.connections.specs.declared.serving.Ended.{Ended}
 use Rattle.connections.specs.Holding.{Holds}
+use Rattle.connections.specs.Replies.{bytes_of}
 use Rattle.connections.proofs.LinkEnds.{request_ends, request_goes_on}
+use Rattle.connections.proofs.ToldLinks.{still_told}
 use Rattle.connections.proofs.clerks.Clerk.serve_request.Goals as goal
 
 pub returns-in-Err-clause-turn : goal.returns-in-Err-clause-turn
@@ -29,3 +31,12 @@ returns-clause-turn g c = λ tells held requests end holds.
     (λ h. Holds c.answer_request-reply.new.self (g.D.Disk.reads c.answer_request-reply.new.disk) (g.D.Disk.images c.answer_request-reply.new.disk) (g.C.Clock.ticks c.answer_request-reply.new.clock) h)
     (c.answer_request-reply.ensures.answers tells held holds) holds.file (c.answer_request-reply.ensures.no_journal tells) c.answer_request-reply.ensures.disk
     (sym c.is_last.ensures ∙ c.if-is_last.false) c.in_default.ensures.whole
+
+pub returns-in-Err-clause-told : goal.returns-in-Err-clause-told
+returns-in-Err-clause-told g c = λ told. still_told (g.L.Link.written c.args.link.now) (g.L.Link.written c.send.new.link) c.in-Err.ensures.part.front c.in-Err.ensures.part.added told
+
+pub returns-then-is_last-clause-told : goal.returns-then-is_last-clause-told
+returns-then-is_last-clause-told g c = λ told. still_told (g.L.Link.written c.args.link.now) (g.L.Link.written c.send.new.link) (bytes_of (c.answer_request-reply.result ∷ [])) c.in_default.ensures.whole told
+
+pub returns-clause-told : goal.returns-clause-told
+returns-clause-told g c = λ told. still_told (g.L.Link.written c.args.link.now) (g.L.Link.written c.send.new.link) (bytes_of (c.answer_request-reply.result ∷ [])) c.in_default.ensures.whole told

@@ -1,0 +1,22 @@
+use Rattle.std.proofs.Common.{◌≡◌, ℕ, ◌-◌, ◌≤◌, List, Some, IsSome, IsTrue}
+use Rattle.std.specs.List.{AllZip}
+use Rattle.intake.specs.Requests.{Held}
+use Rattle.connections.specs.Doors.{AskSo, LinkRequests}
+use Rattle.connections.specs.Holding.{Holds, StandsOpen}
+use Rattle.connections.proofs.DoorRounds.{WentLinks}
+use Rattle.connections.proofs.clerks.Clerk.serve_door.Given as goal
+
+abbrev pub decreases-loop-left : goal.decreases-loop-left
+decreases-loop-left g l = l.most - l.links
+
+abbrev pub invariant-loop-left : goal.invariant-loop-left
+invariant-loop-left g l = record {
+  few : l.links ≤ l.most;
+  stands_open : IsTrue g.D.Disk.tells → StandsOpen l.self (g.D.Disk.reads l.disk) (g.D.Disk.images l.disk);
+  handed_back : IsSome (g.L.Listener.served l.fn.door) → IsSome (g.L.Listener.served l.door) × (g.L.Listener.out l.door ≡ g.L.Listener.out l.fn.door);
+  quiet : g.L.Listener.faults l.door ≡ g.L.Listener.faults l.fn.door;
+  went : IsTrue g.D.Disk.tells → (held : Held) (waiting : List (List ℕ)) (asked : List LinkRequests)
+      → Holds l.fn.self (g.D.Disk.reads l.fn.disk) (g.D.Disk.images l.fn.disk) (g.C.Clock.ticks l.fn.clock) held → g.L.Listener.waiting l.fn.door ≡ Some waiting → AllZip AskSo waiting asked
+      → WentLinks g.D.Disk.images g.D.Disk.moment g.D.Disk.since g.D.Disk.faults l.fn.disk l.disk held l.most waiting asked (g.L.Listener.waiting l.door) (g.L.Listener.served l.fn.door) (g.L.Listener.served l.door)
+      (λ h. Holds l.self (g.D.Disk.reads l.disk) (g.D.Disk.images l.disk) (g.C.Clock.ticks l.clock) h) l.left l.links;
+}

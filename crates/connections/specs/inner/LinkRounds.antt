@@ -1,0 +1,35 @@
+-- What taking up the link that comes next through a door comes to.
+use Rattle.std.specs.Prelude.{◌≡◌, ℕ, ◌-◌, ◌≤◌, Bool, false, List, [], drop, length, Option, Result, Ok, Err}
+use Rattle.intake.specs.Requests.{Held}
+use Rattle.connections.specs.Doors.{LacksMemory, LinkRequests, LinkServed, ServesLinks, is_door_fault, left_behind}
+use Rattle.connections.specs.declared.doors.DoorEnd.{DoorEnd}
+use Rattle.connections.specs.declared.doors.DoorEnd.TheVariants as door
+use Rattle.connections.specs.declared.serving.Ended.{Ended}
+use Rattle.connections.specs.declared.serving.Ended.TheVariants as ended
+use Rattle.connections.specs.declared.serving.Served.{Served}
+
+-- how serving goes on behind a connection that ended so: by the replies that it had, or not at all
+abbrev pub behind_end : Ended → ℕ → Result ℕ DoorEnd
+behind_end ended.Finished replies = Ok replies
+behind_end ended.LinkFault replies = Ok replies
+behind_end ended.Memory replies = Err door.Memory
+
+-- how it goes on behind a link
+abbrev pub behind_link : Served → Result ℕ DoorEnd
+behind_link served = behind_end served.ended served.replies
+
+-- the listener failed
+abbrev pub has_door_failed : Result ℕ DoorEnd → Bool
+has_door_failed (Ok replies) = false
+has_door_failed (Err end) = is_door_fault end
+
+-- The link that comes next was served, with so many replies left; or none came. It goes on by the replies that the link had, or ends as no link waits or no memory was found for a reply.
+pub record IsRound {D : Type 0} (images : D → List ℕ → Type 0) (moment : D → ℕ) (since : D → ℕ → List ℕ → Type 0) (faults : D → ℕ) (old new : D) (held : Held) (left : ℕ)
+    (waiting : List (List ℕ)) (asked : List LinkRequests) (waiting_new : Option (List (List ℕ))) (served_old served_new : Option (List (List ℕ × ℕ))) (HoldsNow : Held → Type 0) (result : Result ℕ DoorEnd) : Type 0 where
+  pub links : List LinkServed
+  pub serves : ServesLinks images moment since faults old new held left waiting asked waiting_new served_old served_new HoldsNow links
+  pub few : length links ≤ 1
+  pub goes_on : (replies : ℕ) → result ≡ Ok replies → (length links ≡ 1) × (left_behind left links ≡ left - replies)
+  pub done : result ≡ Err door.Done → drop (length links) waiting ≡ []
+  pub memory : LacksMemory links → result ≡ Err door.Memory
+  pub wanting : result ≡ Err door.Memory → LacksMemory links
