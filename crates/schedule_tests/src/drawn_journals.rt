@@ -7,7 +7,7 @@ use gb_base::{Day, RightId};
 use std::alloc::Global;
 use test_items::{
     Draws, advance, agreement, assignment, award, call, cancellation, charge, clearance, consent,
-    cure, day, exchange, filed, filing, last_of_february, lapse, opening, plain_consent, received,
+    cure, day, exchange, filed, filing, lapse, last_of_february, opening, plain_consent, received,
     right, seizure_by, transfer, two,
 };
 
@@ -101,7 +101,11 @@ fn drawn_change(draws: &mut Draws) -> Item {
             let docs = [drawn_consent(draws, 1, 10), agreement(1), clearance(1)];
             filed(10, transfer(folio, 10 + draws.below(2)), &docs)
         }
-        1 => filed(20, assignment(folio, id, 21), &[drawn_consent(draws, 1, 20)]),
+        1 => filed(
+            20,
+            assignment(folio, id, 21),
+            &[drawn_consent(draws, 1, 20)],
+        ),
         2 => {
             let docs = [drawn_consent(draws, 1, 20), drawn_consent(draws, 1, 10)];
             filed(20, cancellation(folio, id), &docs)

@@ -64,7 +64,10 @@ fn each_permitted_order_leaves_the_same(rt: HostRuntime) -> Result<(), Fail> {
     let mut orders = 0u32;
     for seed in 0..600 {
         let count = settle_in_orders(&rt, rt.alloc(), seed, false)?;
-        assert!(&rt; count.permitted >= 1 && count.broken == 0, "{seed}: {count:?}");
+        assert!(&rt;
+            count.permitted >= 1 && count.broken == 0,
+            "{seed}: {count:?}"
+        );
         orders = orders.saturating_add(count.permitted);
     }
     assert!(&rt; orders > 6_000, "{orders}");

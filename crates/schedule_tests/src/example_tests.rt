@@ -7,9 +7,7 @@ use registrar::{Verdict, alone};
 use std::alloc::Global;
 use std::process::Abort;
 use std::test::Fail;
-use test_items::{
-    assignment, charge, consent, day, filed, opening, receipt, received, right,
-};
+use test_items::{assignment, charge, consent, day, filed, opening, receipt, received, right};
 
 /// Folio 7 with a land charge 2.1 of 20. Receipt 3 assigns it to 23, by consent of its holder, and
 /// receipt 4 creates another charge.

@@ -78,12 +78,7 @@ fn agree(
     Ok(true)
 }
 
-fn agree_at(
-    alloc: Global,
-    parts: &MapParts,
-    register: &Register,
-    key: Key,
-) -> Result<bool, Fail> {
+fn agree_at(alloc: Global, parts: &MapParts, register: &Register, key: Key) -> Result<bool, Fail> {
     let first = entries_of(parts, key);
     let second = entries_of(register, key);
     if first.len() != second.len() {
