@@ -83,16 +83,28 @@ value_of name pieces = option_map (λ piece. piece.1) (find (λ piece. bytes_eq 
 abbrev pub Reader : Type 0
 Reader = Bool → Option (List ℕ) → Option (List ℕ) → Option (List ℕ) → Option (List ℕ) → Option (List ℕ) → Option Command
 
+-- the option does not stand there
+abbrev pub absent : Option (List ℕ) → Bool
+absent value = not (is_some value)
+
+-- the number that the value writes, where it stands there and is in the range
+abbrev pub number : ℕ → ℕ → Option (List ℕ) → Option ℕ
+number low high value = option_and_then (number_in low high) value
+
 -- `take`
 abbrev pub take_by : Reader
-take_by false None None None None None = Some (Receive Lines)
-take_by lines desks requests seed size sender = None
+take_by lines desks requests seed size sender =
+    if not lines && (absent desks && (absent requests && (absent seed && (absent size && absent sender))))
+    then Some (Receive Lines) else None
 
 -- `settle --desks N`, and the same with `--lines`
+abbrev pub settle_of : Bool → Option ℕ → Option Command
+settle_of lines None = None
+settle_of lines (Some desks) = if lines then Some (SettleLines desks) else Some (Settle desks)
+
 abbrev pub settle_by : Reader
-settle_by false (Some desks) None None None None = option_map (λ n. Settle n) (number_in 1 64 desks)
-settle_by true (Some desks) None None None None = option_map (λ n. SettleLines n) (number_in 1 64 desks)
-settle_by lines desks requests seed size sender = None
+settle_by lines desks requests seed size sender =
+    if absent requests && (absent seed && (absent size && absent sender)) then settle_of lines (number 1 64 desks) else None
 
 -- `serve --desks N --requests R`
 abbrev pub serve_of : Option ℕ → Option ℕ → Option Command
@@ -100,9 +112,9 @@ serve_of (Some desks) (Some requests) = Some (Serve desks requests)
 serve_of desks requests = None
 
 abbrev pub serve_by : Reader
-serve_by false (Some desks) (Some requests) None None None =
-    serve_of (number_in 1 64 desks) (number_in 1 1000000 requests)
-serve_by lines desks requests seed size sender = None
+serve_by lines desks requests seed size sender =
+    if not lines && (absent seed && (absent size && absent sender))
+    then serve_of (number 1 64 desks) (number 1 1000000 requests) else None
 
 -- `sample --seed S --size Y --desks N`
 abbrev pub sample_of : Option ℕ → Option ℕ → Option ℕ → Option Command
@@ -110,15 +122,19 @@ sample_of (Some seed) (Some size) (Some desks) = Some (Sample seed size desks)
 sample_of seed size desks = None
 
 abbrev pub sample_by : Reader
-sample_by false (Some desks) None (Some seed) (Some size) None =
-    sample_of (number_in 0 9999999999 seed) (number_in 1 most_receipts size) (number_in 1 64 desks)
-sample_by lines desks requests seed size sender = None
+sample_by lines desks requests seed size sender =
+    if not lines && (absent requests && absent sender)
+    then sample_of (number 0 9999999999 seed) (number 1 most_receipts size) (number 1 64 desks) else None
 
 -- `opening --sender N`
+abbrev pub opening_of : Option ℕ → Option Command
+opening_of None = None
+opening_of (Some sender) = Some (Receive (OpeningList sender))
+
 abbrev pub opening_by : Reader
-opening_by false None None None None (Some sender) =
-    option_map (λ n. Receive (OpeningList n)) (number_in 0 4294967295 sender)
-opening_by lines desks requests seed size sender = None
+opening_by lines desks requests seed size sender =
+    if not lines && (absent desks && (absent requests && (absent seed && absent size)))
+    then opening_of (number 0 4294967295 sender) else None
 
 -- no command
 abbrev pub none_by : Reader

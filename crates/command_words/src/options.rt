@@ -1,9 +1,8 @@
 //! What the options give, and the command that is read from them.
-ghost use Rattle.std.specs.Prelude.{◌≡◌, ◌≤◌, IfSome, List, ℕ, option_and_then, option_map};
-ghost use Rattle.opening_lists.specs.Numerals.{number_in};
+ghost use Rattle.std.specs.Prelude.{◌≡◌, ◌≤◌, ◌&&◌, IfSome, not};
 ghost use Rattle.act_model.specs.Limits.{most_receipts};
-ghost use Rattle.command_words.specs.Words.{HasDesks, HasRequests, HasSize, opening_by, reader_of, sample_by, sample_of, serve_by, serve_of, settle_by, take_by};
-ghost use Rattle.command_words.specs.inner.Parsing.{by_given};
+ghost use Rattle.command_words.specs.Words.{HasDesks, HasRequests, HasSize, absent, number, opening_by, opening_of, reader_of, sample_by, sample_of, serve_by, serve_of, settle_by, settle_of, take_by};
+ghost use Rattle.command_words.specs.inner.Parsing.{by_given, text_of};
 
 use crate::commands::Command;
 use intake::Intake;
@@ -27,13 +26,18 @@ pub(crate) fn read_command(word: &str, given: &Given<'_>) -> Option<Command>
     ensures size { IfSome result HasSize }
     ensures requests { IfSome result HasRequests }
 {
-    match word {
-        "take" => take(given),
-        "settle" => settle(given),
-        "serve" => serve(given),
-        "sample" => sample(given),
-        "opening" => opening(given),
-        _ => None,
+    if word == "take" {
+        take(given)
+    } else if word == "settle" {
+        settle(given)
+    } else if word == "serve" {
+        serve(given)
+    } else if word == "sample" {
+        sample(given)
+    } else if word == "opening" {
+        opening(given)
+    } else {
+        None
     }
 }
 
@@ -43,11 +47,12 @@ fn take(given: &Given<'_>) -> Option<Command>
     ensures size { IfSome result HasSize }
     ensures requests { IfSome result HasRequests }
 {
-    match (given.lines, given.desks, given.requests, given.seed, given.size, given.sender) {
-        (false, None, None, None, None, None) => Some(Command::Receive {
+    if has_none(given) {
+        Some(Command::Receive {
             intake: Intake::Lines,
-        }),
-        _ => None,
+        })
+    } else {
+        None
     }
 }
 
@@ -57,33 +62,25 @@ fn settle(given: &Given<'_>) -> Option<Command>
     ensures size { IfSome result HasSize }
     ensures requests { IfSome result HasRequests }
 {
-    match (given.lines, given.desks, given.requests, given.seed, given.size, given.sender) {
-        (false, Some(desks), None, None, None, None) => settle_journal(desks),
-        (true, Some(desks), None, None, None, None) => settle_lines(desks),
-        _ => None,
+    if has_desks_and_lines_alone(given) {
+        settle_at(given.lines, given.desks)
+    } else {
+        None
     }
 }
 
-fn settle_journal(desks: &str) -> Option<Command>
-    ensures command { result ≡ option_map (λ n. Command.Settle n) (number_in 1 64 desks.now) }
+fn settle_at(lines: bool, desks: Option<&str>) -> Option<Command>
+    ensures command { result ≡ settle_of lines (number 1 64 (text_of desks)) }
     ensures desks { IfSome result HasDesks }
     ensures size { IfSome result HasSize }
     ensures requests { IfSome result HasRequests }
 {
-    Some(Command::Settle {
-        desks: number_of_desks(desks)?,
-    })
-}
-
-fn settle_lines(desks: &str) -> Option<Command>
-    ensures command { result ≡ option_map (λ n. Command.SettleLines n) (number_in 1 64 desks.now) }
-    ensures desks { IfSome result HasDesks }
-    ensures size { IfSome result HasSize }
-    ensures requests { IfSome result HasRequests }
-{
-    Some(Command::SettleLines {
-        desks: number_of_desks(desks)?,
-    })
+    let desks = number_of_desks(desks)?;
+    if lines {
+        Some(Command::SettleLines { desks })
+    } else {
+        Some(Command::Settle { desks })
+    }
 }
 
 fn serve(given: &Given<'_>) -> Option<Command>
@@ -92,14 +89,15 @@ fn serve(given: &Given<'_>) -> Option<Command>
     ensures size { IfSome result HasSize }
     ensures requests { IfSome result HasRequests }
 {
-    match (given.lines, given.desks, given.requests, given.seed, given.size, given.sender) {
-        (false, Some(desks), Some(requests), None, None, None) => serve_requests(desks, requests),
-        _ => None,
+    if has_desks_and_requests_alone(given) {
+        serve_at(given.desks, given.requests)
+    } else {
+        None
     }
 }
 
-fn serve_requests(desks: &str, requests: &str) -> Option<Command>
-    ensures command { result ≡ serve_of (number_in 1 64 desks.now) (number_in 1 1000000 requests.now) }
+fn serve_at(desks: Option<&str>, requests: Option<&str>) -> Option<Command>
+    ensures command { result ≡ serve_of (number 1 64 (text_of desks)) (number 1 1000000 (text_of requests)) }
     ensures desks { IfSome result HasDesks }
     ensures size { IfSome result HasSize }
     ensures requests { IfSome result HasRequests }
@@ -116,20 +114,21 @@ fn sample(given: &Given<'_>) -> Option<Command>
     ensures size { IfSome result HasSize }
     ensures requests { IfSome result HasRequests }
 {
-    match (given.lines, given.desks, given.requests, given.seed, given.size, given.sender) {
-        (false, Some(desks), None, Some(seed), Some(size), None) => sample_journal(seed, size, desks),
-        _ => None,
+    if has_no_requests_and_sender(given) {
+        sample_at(given.seed, given.size, given.desks)
+    } else {
+        None
     }
 }
 
-fn sample_journal(seed: &str, size: &str, desks: &str) -> Option<Command>
-    ensures command { result ≡ sample_of (number_in 0 9999999999 seed.now) (number_in 1 most_receipts size.now) (number_in 1 64 desks.now) }
+fn sample_at(seed: Option<&str>, size: Option<&str>, desks: Option<&str>) -> Option<Command>
+    ensures command { result ≡ sample_of (number 0 9999999999 (text_of seed)) (number 1 most_receipts (text_of size)) (number 1 64 (text_of desks)) }
     ensures desks { IfSome result HasDesks }
     ensures size { IfSome result HasSize }
     ensures requests { IfSome result HasRequests }
 {
     Some(Command::Sample {
-        seed: number_in(seed.as_bytes(), 0, 9_999_999_999)?,
+        seed: number(seed, 0, 9_999_999_999)?,
         size: number_of_receipts(size)?,
         desks: number_of_desks(desks)?,
     })
@@ -141,19 +140,20 @@ fn opening(given: &Given<'_>) -> Option<Command>
     ensures size { IfSome result HasSize }
     ensures requests { IfSome result HasRequests }
 {
-    match (given.lines, given.desks, given.requests, given.seed, given.size, given.sender) {
-        (false, None, None, None, None, Some(sender)) => open_from(sender),
-        _ => None,
+    if has_sender_alone(given) {
+        open_from(given.sender)
+    } else {
+        None
     }
 }
 
-fn open_from(sender: &str) -> Option<Command>
-    ensures command { result ≡ option_map (λ n. Command.Receive (Intake.OpeningList n)) (number_in 0 4294967295 sender.now) }
+fn open_from(sender: Option<&str>) -> Option<Command>
+    ensures command { result ≡ opening_of (number 0 4294967295 (text_of sender)) }
     ensures desks { IfSome result HasDesks }
     ensures size { IfSome result HasSize }
     ensures requests { IfSome result HasRequests }
 {
-    let sender = number_in(sender.as_bytes(), 0, u64::from(u32::MAX))?;
+    let sender = number(sender, 0, u64::from(u32::MAX))?;
     Some(Command::Receive {
         intake: Intake::OpeningList {
             sender: sender as u32,
@@ -161,26 +161,84 @@ fn open_from(sender: &str) -> Option<Command>
     })
 }
 
-fn number_of_desks(text: &str) -> Option<u16>
-    ensures value { result ≡ number_in 1 64 text.now }
+fn has_none(given: &Given<'_>) -> bool
+    ensures { result ≡ (not given.now.lines && (absent (text_of given.now.desks) && (absent (text_of given.now.requests)
+        && (absent (text_of given.now.seed) && (absent (text_of given.now.size) && absent (text_of given.now.sender)))))) }
+{
+    !given.lines
+        && absent(given.desks)
+        && absent(given.requests)
+        && absent(given.seed)
+        && absent(given.size)
+        && absent(given.sender)
+}
+
+fn has_desks_and_lines_alone(given: &Given<'_>) -> bool
+    ensures { result ≡ (absent (text_of given.now.requests) && (absent (text_of given.now.seed)
+        && (absent (text_of given.now.size) && absent (text_of given.now.sender)))) }
+{
+    absent(given.requests) && absent(given.seed) && absent(given.size) && absent(given.sender)
+}
+
+fn has_desks_and_requests_alone(given: &Given<'_>) -> bool
+    ensures { result ≡ (not given.now.lines && (absent (text_of given.now.seed)
+        && (absent (text_of given.now.size) && absent (text_of given.now.sender)))) }
+{
+    !given.lines && absent(given.seed) && absent(given.size) && absent(given.sender)
+}
+
+fn has_no_requests_and_sender(given: &Given<'_>) -> bool
+    ensures { result ≡ (not given.now.lines && (absent (text_of given.now.requests) && absent (text_of given.now.sender))) }
+{
+    !given.lines && absent(given.requests) && absent(given.sender)
+}
+
+fn has_sender_alone(given: &Given<'_>) -> bool
+    ensures { result ≡ (not given.now.lines && (absent (text_of given.now.desks) && (absent (text_of given.now.requests)
+        && (absent (text_of given.now.seed) && absent (text_of given.now.size))))) }
+{
+    !given.lines
+        && absent(given.desks)
+        && absent(given.requests)
+        && absent(given.seed)
+        && absent(given.size)
+}
+
+/// Whether the option does not stand there.
+fn absent(value: Option<&str>) -> bool
+    ensures { result ≡ absent (text_of value) }
+{
+    value.is_none()
+}
+
+fn number_of_desks(value: Option<&str>) -> Option<u16>
+    ensures value { result ≡ number 1 64 (text_of value) }
     ensures bounds { IfSome result (λ desks. (1 ≤ desks) × (desks ≤ 64)) }
 {
-    let desks = number_in(text.as_bytes(), 1, 64)?;
+    let desks = number(value, 1, 64)?;
     Some(desks as u16)
 }
 
-fn number_of_requests(text: &str) -> Option<u32>
-    ensures value { result ≡ number_in 1 1000000 text.now }
+fn number_of_requests(value: Option<&str>) -> Option<u32>
+    ensures value { result ≡ number 1 1000000 (text_of value) }
     ensures bounds { IfSome result (λ requests. (1 ≤ requests) × (requests ≤ 1000000)) }
 {
-    let requests = number_in(text.as_bytes(), 1, 1_000_000)?;
+    let requests = number(value, 1, 1_000_000)?;
     Some(requests as u32)
 }
 
-fn number_of_receipts(text: &str) -> Option<u32>
-    ensures value { result ≡ number_in 1 most_receipts text.now }
+fn number_of_receipts(value: Option<&str>) -> Option<u32>
+    ensures value { result ≡ number 1 most_receipts (text_of value) }
     ensures bounds { IfSome result (λ size. (1 ≤ size) × (size ≤ most_receipts)) }
 {
-    let size = number_in(text.as_bytes(), 1, 200_000)?;
+    let size = number(value, 1, 200_000)?;
     Some(size as u32)
+}
+
+/// The number that the value writes, where it stands there and is in the range.
+fn number(value: Option<&str>, low: u64, high: u64) -> Option<u64>
+    ensures value { result ≡ number low high (text_of value) }
+    ensures range { IfSome result (λ n. (low ≤ n) × (n ≤ high)) }
+{
+    number_in(value?.as_bytes(), low, high)
 }
