@@ -70,7 +70,7 @@ fn settle(given: &Given<'_>) -> Option<Command>
 }
 
 fn settle_at(lines: bool, desks: Option<&str>) -> Option<Command>
-    ensures command { result ≡ settle_of lines (number 1 64 (text_of desks)) }
+    ensures command { result ≡ settle_of lines (number 1 64 (text_of desks.entry)) }
     ensures desks { IfSome result HasDesks }
     ensures size { IfSome result HasSize }
     ensures requests { IfSome result HasRequests }
@@ -97,7 +97,7 @@ fn serve(given: &Given<'_>) -> Option<Command>
 }
 
 fn serve_at(desks: Option<&str>, requests: Option<&str>) -> Option<Command>
-    ensures command { result ≡ serve_of (number 1 64 (text_of desks)) (number 1 1000000 (text_of requests)) }
+    ensures command { result ≡ serve_of (number 1 64 (text_of desks.entry)) (number 1 1000000 (text_of requests.entry)) }
     ensures desks { IfSome result HasDesks }
     ensures size { IfSome result HasSize }
     ensures requests { IfSome result HasRequests }
@@ -122,7 +122,7 @@ fn sample(given: &Given<'_>) -> Option<Command>
 }
 
 fn sample_at(seed: Option<&str>, size: Option<&str>, desks: Option<&str>) -> Option<Command>
-    ensures command { result ≡ sample_of (number 0 9999999999 (text_of seed)) (number 1 most_receipts (text_of size)) (number 1 64 (text_of desks)) }
+    ensures command { result ≡ sample_of (number 0 9999999999 (text_of seed.entry)) (number 1 most_receipts (text_of size.entry)) (number 1 64 (text_of desks.entry)) }
     ensures desks { IfSome result HasDesks }
     ensures size { IfSome result HasSize }
     ensures requests { IfSome result HasRequests }
@@ -148,7 +148,7 @@ fn opening(given: &Given<'_>) -> Option<Command>
 }
 
 fn open_from(sender: Option<&str>) -> Option<Command>
-    ensures command { result ≡ opening_of (number 0 4294967295 (text_of sender)) }
+    ensures command { result ≡ opening_of (number 0 4294967295 (text_of sender.entry)) }
     ensures desks { IfSome result HasDesks }
     ensures size { IfSome result HasSize }
     ensures requests { IfSome result HasRequests }
@@ -206,13 +206,13 @@ fn has_sender_alone(given: &Given<'_>) -> bool
 
 /// Whether the option does not stand there.
 fn absent(value: Option<&str>) -> bool
-    ensures { result ≡ absent (text_of value) }
+    ensures { result ≡ absent (text_of value.entry) }
 {
     value.is_none()
 }
 
 fn number_of_desks(value: Option<&str>) -> Option<u16>
-    ensures value { result ≡ number 1 64 (text_of value) }
+    ensures value { result ≡ number 1 64 (text_of value.entry) }
     ensures bounds { IfSome result (λ desks. (1 ≤ desks) × (desks ≤ 64)) }
 {
     let desks = number(value, 1, 64)?;
@@ -220,7 +220,7 @@ fn number_of_desks(value: Option<&str>) -> Option<u16>
 }
 
 fn number_of_requests(value: Option<&str>) -> Option<u32>
-    ensures value { result ≡ number 1 1000000 (text_of value) }
+    ensures value { result ≡ number 1 1000000 (text_of value.entry) }
     ensures bounds { IfSome result (λ requests. (1 ≤ requests) × (requests ≤ 1000000)) }
 {
     let requests = number(value, 1, 1_000_000)?;
@@ -228,7 +228,7 @@ fn number_of_requests(value: Option<&str>) -> Option<u32>
 }
 
 fn number_of_receipts(value: Option<&str>) -> Option<u32>
-    ensures value { result ≡ number 1 most_receipts (text_of value) }
+    ensures value { result ≡ number 1 most_receipts (text_of value.entry) }
     ensures bounds { IfSome result (λ size. (1 ≤ size) × (size ≤ most_receipts)) }
 {
     let size = number(value, 1, 200_000)?;
@@ -237,7 +237,7 @@ fn number_of_receipts(value: Option<&str>) -> Option<u32>
 
 /// The number that the value writes, where it stands there and is in the range.
 fn number(value: Option<&str>, low: u64, high: u64) -> Option<u64>
-    ensures value { result ≡ number low high (text_of value) }
+    ensures value { result ≡ number low high (text_of value.entry) }
     ensures range { IfSome result (λ n. (low ≤ n) × (n ≤ high)) }
 {
     number_in(value?.as_bytes(), low, high)
