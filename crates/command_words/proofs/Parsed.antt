@@ -1,6 +1,6 @@
 -- The parse fails nowhere just where the words are pieces, each under a name of its own, and its
 -- entries are those pieces.
-use Rattle.std.proofs.Common.{◌≡◌, ◌∙◌, ◌⊎◌, ◌==◌, ◌&&◌, ◌||◌, ◌++◌, not, ap, refl, sym, subst, ℕ, Bool, true, false, List, [], ◌∷◌, map, codes, Option, Some, None, inl, inr, if◌then◌else◌}
+use Rattle.std.proofs.Common.{◌≡◌, ◌∙◌, ◌⊎◌, ◌||◌, ◌++◌, ap, refl, sym, subst, ℕ, Bool, true, false, List, [], ◌∷◌, map, codes, Option, Some, None, inl, inr, if◌then◌else◌}
 use Rattle.std.specs.List.{list_all}
 use Rattle.std.specs.Str.{bytes_eq}
 use Rattle.std.proofs.lemmas.List.{append-nil, append_assoc}
@@ -11,12 +11,12 @@ use Rattle.clap.specs.declared.builder.value_parser.Reading.TheVariants.{AsWritt
 use Rattle.clap.specs.declared.parser.matches.ValueSource.TheVariants.{CommandLine}
 use Rattle.clap.specs.Walk.{Row, Text, Walk, arg_by_long, has_row, settled_rows, used, walked}
 use Rattle.clap.specs.Kinds.{Kinds, or_else}
-use Rattle.clap.specs.Faults.{long_fault, react_fault, settle_fault, turn_fault, use_fault}
-use Rattle.command_words.specs.Words.{Form, Piece, flag, form_of, has_name, has_value, named, assigned, once_each, option_form, pieces_of, plain, put, valued, wrong}
-use Rattle.command_words.specs.inner.Parsing.{built_command, built_lines, built_option, is_formed, row, rules, shape}
-use Rattle.command_words.proofs.Rules.{by_id, by_long, command_by_id, goes_behind, has_row_of, lines_by_long, no_command, none_by_long, row_more}
+use Rattle.clap.specs.Faults.{settle_fault, turn_fault}
+use Rattle.command_words.specs.Words.{Form, Piece, flag, form_of, has_name, has_value, named, assigned, once_each, option_form, pieces_of, put, wrong}
+use Rattle.command_words.specs.inner.Parsing.{built_lines, built_option, is_formed, row, rules, shape}
+use Rattle.command_words.proofs.Rules.{by_id, command_by_id, goes_behind, has_row_of, lines_by_long, no_command, none_by_long, row_more}
 use Rattle.command_words.proofs.Turns.{Turns, assigned_again, assigned_turn, command_turn, command_waits, lines_again, lines_turn, name_turn, second_command, value_turn}
-use Rattle.command_words.proofs.Walking.{Waits, behind_name, between, ends, ends_end, ends_step, fails, fails_end, fails_step, first_clear, held, idle_long, lines_free, lines_taken, long_stuck, named_long, use_free, use_taken}
+use Rattle.command_words.proofs.Walking.{Waits, behind_name, between, ends, ends_end, ends_step, fails, fails_end, fails_step, first_clear, held, idle_long, long_stuck, named_long}
 use Rattle.command_words.proofs.WordForms.{IsLong, IsPlain, by_form}
 
 abbrev pub forms : List Text → List Form

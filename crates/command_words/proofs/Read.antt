@@ -1,13 +1,13 @@
 -- What `clap` answers, in the words of the grammar.
-use Rattle.std.proofs.Common.{◌≡◌, ◌∙◌, ◌⊎◌, ◌==◌, ◌&&◌, ◌||◌, ◌++◌, not, ap, refl, sym, subst, ℕ, Bool, true, false, List, [], ◌∷◌, map, codes, Option, Some, None, inl, inr, if◌then◌else◌}
-use Rattle.std.specs.Prelude.{Err, IfErr, IfOk, Ok, Result, fold, find, option_map, option_and_then, slice_get}
+use Rattle.std.proofs.Common.{◌≡◌, ◌∙◌, ◌==◌, ◌&&◌, ◌||◌, ◌++◌, ap, refl, sym, subst, Bool, true, false, List, [], ◌∷◌, map, codes, Option, Some, None, inl, inr, if◌then◌else◌}
+use Rattle.std.specs.Prelude.{Err, IfErr, IfOk, Ok, Result, fold, option_and_then}
 use Rattle.std.specs.List.{list_all, list_any}
 use Rattle.std.specs.Str.{bytes_eq}
-use Rattle.clap.specs.Walk.{Held, Row, Rule, Text, default_rows, finished, first_of, has_row, nothing_held, reading_by, rows_after, rows_of, settled, walk, walk_from, walked, with_default}
+use Rattle.clap.specs.Walk.{Held, Row, Rule, Text, finished, first_of, has_row, nothing_held, rows_after, rows_of, settled, walk, walk_from, with_default}
 use Rattle.clap.specs.Matches.{first_value, found_of}
 use Rattle.clap.specs.Kinds.{FailsBy, HasKind, Kinds, or_else}
-use Rattle.clap.specs.Faults.{built_fault, check_fault, default_fault, defaults_fault, fault_of, given_default_fault, is_simple_and_free, level_fault, settle_fault, walk_fault}
-use Rattle.clap.specs.Simple.{App, HasMatchesOf, built, is_simple as all_simple, matches_of, names_of}
+use Rattle.clap.specs.Faults.{built_fault, check_fault, defaults_fault, fault_of, given_default_fault, is_simple_and_free, settle_fault, walk_fault}
+use Rattle.clap.specs.Simple.{App, HasMatchesOf, is_simple as all_simple, matches_of, names_of}
 use Rattle.clap.specs.Values.{kind_of}
 use Rattle.clap.specs.declared.builder.value_parser.Reading.TheVariants.{AsWritten}
 use Rattle.clap.specs.declared.parser.matches.ValueSource.TheVariants.{DefaultValue}
@@ -21,9 +21,9 @@ use Rattle.clap.specs.declared.parser.matches.Found.{Found}
 use Rattle.clap.proofs.FaultLemmas.{leaf_fault}
 use Rattle.clap.proofs.WalkLemmas.{both, first_value-rows}
 use Rattle.command_words.specs.declared.commands.Command.{Command}
-use Rattle.command_words.specs.Words.{Form, Piece, assigned, flag, named, put, command_of, command_once, command_with, form_of, is_true, once_each, pieces_of, reader_of, value_of, wrong, plain}
+use Rattle.command_words.specs.Words.{Form, Piece, assigned, flag, named, put, command_of, command_once, command_with, form_of, is_true, pieces_of, reader_of, value_of, wrong, plain}
 use Rattle.command_words.specs.inner.Parsing.{built_command, built_lines, built_option, grundbuch, is_formed, row, rules, shape, with_desks}
-use Rattle.command_words.proofs.Parsed.{Accepted, Agrees, Refused, forms, main, passes}
+use Rattle.command_words.proofs.Parsed.{Accepted, Agrees, forms, main, passes}
 use Rattle.command_words.proofs.Rules.{appends, is_built, is_simple}
 use Rattle.command_words.proofs.Walking.{between, ends, fails}
 
@@ -269,8 +269,8 @@ formed_all bytes words h = sym (all_of_map bytes is_formed words) ∙ h
 pub found_is : (a : App) (words : List Text) (r : Result ArgMatches Error) → a ≡ grundbuch → (is_simple_and_free a ≡ true → FailsBy (fault_of a words) r)
     → IfOk r (HasMatchesOf a words) → IfOk r (λ m. (fault_of grundbuch words ≡ []) × (rows_of (found_of m) ≡ matches_of grundbuch words))
 found_is a words (Ok m) is kinds has = (
-    ap (λ x. fault_of x words) (sym is) ∙ kinds (ap is_simple_and_free is ∙ is_simple),
-    (has (ap all_simple is ∙ (both _ _ is_simple).0)).0 ∙ ap (λ x. matches_of x words) is,
+  ap (λ x. fault_of x words) (sym is) ∙ kinds (ap is_simple_and_free is ∙ is_simple),
+  (has (ap all_simple is ∙ (both _ _ is_simple).0)).0 ∙ ap (λ x. matches_of x words) is,
 )
 found_is a words (Err e) is kinds has = tt
 

@@ -1,15 +1,13 @@
 -- What `clap` finds in its rules under a name, and what a use of a rule comes to.
-use Rattle.std.proofs.Common.{◌≡◌, ◌∙◌, ◌⊎◌, ◌&&◌, ◌||◌, ◌++◌, ap, refl, sym, subst, ℕ, Bool, true, false, List, [], ◌∷◌, map, codes, Option, Some, None, inl, inr}
+use Rattle.std.proofs.Common.{◌≡◌, ◌||◌, ◌++◌, ap, refl, subst, Bool, true, false, List, [], ◌∷◌, map, codes, Some, None}
 use Rattle.std.specs.List.{list_any}
 use Rattle.std.specs.Str.{bytes_eq}
 use Rattle.std.proofs.lemmas.Slice.Eq.{bytes_eq-Decides}
-use Rattle.clap.specs.Walk.{Row, Rule, Text, arg_by_id, arg_by_index, arg_by_long, has_row, used, with_values, without}
-use Rattle.clap.specs.Kinds.{Kinds, or_else}
-use Rattle.clap.specs.Faults.{fault_of, use_fault, is_simple_and_free, level_fault}
-use Rattle.clap.specs.Simple.{App, built}
+use Rattle.clap.specs.Walk.{Row, Text, arg_by_id, arg_by_index, arg_by_long, has_row, with_values, without}
+use Rattle.clap.specs.Faults.{is_simple_and_free}
+use Rattle.clap.specs.Simple.{built}
 use Rattle.clap.specs.declared.builder.value_parser.Reading.{Reading}
 use Rattle.clap.specs.declared.parser.matches.ValueSource.{ValueSource}
-use Rattle.clap.specs.declared.parser.matches.ValueSource.TheVariants.{CommandLine}
 use Rattle.command_words.specs.Words.{Piece, has_name, has_value, valued}
 use Rattle.command_words.specs.inner.Parsing.{built_command, built_lines, built_option, grundbuch, row, rules, shape, with_desks}
 

@@ -1,15 +1,14 @@
 -- The turns of the parse at each form of a word.
-use Rattle.std.proofs.Common.{◌≡◌, ◌∙◌, ◌⊎◌, ◌==◌, ◌&&◌, ◌||◌, ◌++◌, not, ap, refl, sym, subst, ℕ, Bool, true, false, List, [], ◌∷◌, map, codes, Option, Some, None, inl, inr, if◌then◌else◌}
+use Rattle.std.proofs.Common.{◌≡◌, ◌&&◌, refl, ℕ, Bool, true, false, List, [], ◌∷◌, codes, Some, None}
 use Rattle.std.specs.Str.{bytes_eq}
 use Rattle.std.proofs.lemmas.Slice.Eq.{bytes_eq-Decides}
 use Rattle.clap.specs.Lexer.{long_of}
 use Rattle.clap.specs.Walk.{Row, Text, Walk, has_row, is_pending, settled_rows, used, walked}
-use Rattle.clap.specs.Kinds.{Kinds, or_else}
 use Rattle.clap.specs.Faults.{settle_fault, turn_fault}
 use Rattle.command_words.specs.Words.{has_value}
 use Rattle.command_words.specs.inner.Parsing.{built_command, built_lines, built_option, rules, shape}
-use Rattle.command_words.proofs.Rules.{by_id, by_long, first_place, lines_by_long, none_by_long, second_place}
-use Rattle.command_words.proofs.Walking.{Waits, behind_name, between, held, lines_free, use_free}
+use Rattle.command_words.proofs.Rules.{by_id, by_long, first_place, lines_by_long, second_place}
+use Rattle.command_words.proofs.Walking.{Waits, behind_name, between, held}
 use Rattle.command_words.proofs.WordForms.{IsPlain}
 
 -- what a turn does: it fails not, and the parse stands there then

@@ -1,14 +1,11 @@
 -- One turn of the parse, from where it stands between two pieces.
-use Rattle.std.proofs.Common.{◌≡◌, ◌∙◌, ◌⊎◌, ◌==◌, ◌&&◌, ◌||◌, ◌++◌, not, ap, refl, sym, subst, ℕ, Bool, true, false, List, [], ◌∷◌, map, codes, Option, Some, None, inl, inr, if◌then◌else◌}
+use Rattle.std.proofs.Common.{◌≡◌, refl, ℕ, Bool, true, false, List, [], ◌∷◌, codes, Option, Some, None}
 use Rattle.std.specs.Prelude.{fold}
-use Rattle.std.specs.Str.{bytes_eq}
-use Rattle.clap.specs.Walk.{Held, Row, Rule, Text, Walk, arg_by_id, arg_by_index, arg_by_long, has_row, idle, option, settled, settled_rows, takes_values, used, walk, walked, takes_several, is_pending}
+use Rattle.clap.specs.Walk.{Held, Row, Rule, Text, Walk, arg_by_long, has_row, idle, option, settled, takes_values, walked}
 use Rattle.clap.specs.Kinds.{Kinds, or_else}
-use Rattle.clap.specs.Faults.{long_fault, positional_fault, react_fault, settle_fault, turn_fault, use_fault, walk_fault}
-use Rattle.command_words.specs.Words.{Piece, has_name, has_value}
-use Rattle.command_words.specs.inner.Parsing.{built_command, built_lines, built_option, row, rules, shape}
-use Rattle.command_words.proofs.Rules.{by_id, by_long, command_by_id, first_place, goes_behind, has_row_of, lines_by_long, none_by_long, row_more, second_place}
-use Rattle.command_words.proofs.WordForms.{IsLong, IsPlain}
+use Rattle.clap.specs.Faults.{long_fault, settle_fault, turn_fault, use_fault, walk_fault}
+use Rattle.command_words.specs.inner.Parsing.{built_lines, built_option, rules, shape}
+use Rattle.command_words.proofs.WordForms.{IsLong}
 
 abbrev pub Waits : Type 0
 Waits = Option (Text × List Text)

@@ -1,8 +1,8 @@
 -- What a word of a known form is to the grammar and to `clap`.
-use Rattle.std.proofs.Common.{◌≡◌, ◌∙◌, ◌⊎◌, ◌==◌, ◌&&◌, ◌||◌, not, ap, refl, sym, subst, ℕ, Bool, true, false, List, [], ◌∷◌, codes, Option, Some, None, inl, inr, if◌then◌else◌}
+use Rattle.std.proofs.Common.{◌≡◌, ◌⊎◌, ◌==◌, refl, Bool, true, false, [], ◌∷◌, Option, Some, None, inl, inr}
 use Rattle.std.specs.List.{list_any, before_first, after_first}
 use Rattle.std.specs.Str.{bytes_eq}
-use Rattle.clap.specs.Lexer.{long_of, short_of, name_and_value}
+use Rattle.clap.specs.Lexer.{long_of, short_of}
 use Rattle.clap.specs.Walk.{Text}
 use Rattle.command_words.specs.Words.{form_of, plain, is_equals, option_form}
 use Rattle.command_words.specs.inner.Parsing.{is_formed}

@@ -51,9 +51,18 @@ fn values_that_are_no_number_in_range(rt: HostRuntime) -> Result<(), Fail> {
     is_refused(&rt, ["settle", "--desks", "00000000002"].as_slice())?;
     is_refused(&rt, ["serve", "--desks=2", "--requests=0"].as_slice())?;
     is_refused(&rt, ["serve", "--desks=2", "--requests=1000001"].as_slice())?;
-    is_refused(&rt, ["sample", "--seed=5", "--size=0", "--desks=2"].as_slice())?;
-    is_refused(&rt, ["sample", "--seed=5", "--size=200001", "--desks=2"].as_slice())?;
-    is_refused(&rt, ["sample", "--seed=10000000000", "--size=1", "--desks=2"].as_slice())?;
+    is_refused(
+        &rt,
+        ["sample", "--seed=5", "--size=0", "--desks=2"].as_slice(),
+    )?;
+    is_refused(
+        &rt,
+        ["sample", "--seed=5", "--size=200001", "--desks=2"].as_slice(),
+    )?;
+    is_refused(
+        &rt,
+        ["sample", "--seed=10000000000", "--size=1", "--desks=2"].as_slice(),
+    )?;
     is_refused(&rt, ["opening", "--sender=4294967296"].as_slice())
 }
 
@@ -61,7 +70,10 @@ fn values_that_are_no_number_in_range(rt: HostRuntime) -> Result<(), Fail> {
 fn options_twice_missing_or_of_another_command(rt: HostRuntime) -> Result<(), Fail> {
     is_refused(&rt, ["settle", "--desks", "2", "--desks", "2"].as_slice())?;
     is_refused(&rt, ["settle", "--desks=2", "--desks", "2"].as_slice())?;
-    is_refused(&rt, ["settle", "--lines", "--desks=2", "--lines"].as_slice())?;
+    is_refused(
+        &rt,
+        ["settle", "--lines", "--desks=2", "--lines"].as_slice(),
+    )?;
     is_refused(&rt, ["settle"].as_slice())?;
     is_refused(&rt, ["settle", "--lines"].as_slice())?;
     is_refused(&rt, ["serve", "--desks", "2"].as_slice())?;
@@ -71,7 +83,10 @@ fn options_twice_missing_or_of_another_command(rt: HostRuntime) -> Result<(), Fa
     is_refused(&rt, ["take", "--desks", "2"].as_slice())?;
     is_refused(&rt, ["take", "--lines"].as_slice())?;
     is_refused(&rt, ["settle", "--desks=2", "--seed=5"].as_slice())?;
-    is_refused(&rt, ["serve", "--desks=2", "--requests=3", "--lines"].as_slice())
+    is_refused(
+        &rt,
+        ["serve", "--desks=2", "--requests=3", "--lines"].as_slice(),
+    )
 }
 
 #[test]
