@@ -1,0 +1,2 @@
+-- What private clauses and proofs cite.
+pub mod Parsing

@@ -1,0 +1,68 @@
+//! The grammar as `clap` is told it, and the parse.
+ghost use Rattle.std.specs.Prelude.{◌≡◌, [], IfErr, IfOk, codes, false, map};
+ghost use Rattle.std.specs.Rc.{rc_str_bytes};
+ghost use Rattle.clap.specs.Words.{app_of, fault_of, found_of, kind_of, matches_of, rows_of, rule_of};
+ghost use Rattle.clap.specs.declared.error.kind.ErrorKind.TheVariants.{OutOfMemory};
+ghost use Rattle.command_words.specs.inner.Parsing.{bare, grundbuch, lines_rule, option_rule, with_desks};
+
+use clap::{Arg, ArgAction, ArgMatches, Command, Error};
+use gb_base::NoMemory;
+use std::alloc::Global;
+use std::rc::RcStr;
+
+/// What `clap` finds in the words by the grammar.
+pub(crate) fn parse<'a>(grammar: Command<'a>, words: &'a [RcStr]) -> Result<ArgMatches<'a>, Error>
+    ensures found { app_of grammar.entry ≡ grundbuch → IfOk result (λ matches. (fault_of grundbuch (map rc_str_bytes words.now) ≡ [])
+        × (rows_of (found_of matches) ≡ matches_of grundbuch (map rc_str_bytes words.now))) }
+    ensures refused { app_of grammar.entry ≡ grundbuch
+        → IfErr result (λ error. fault_of grundbuch (map rc_str_bytes words.now) ≡ [] → kind_of error ≡ OutOfMemory) }
+{
+    grammar.try_get_matches_from(words)
+}
+
+/// One word that says the command, and the options of all commands.
+pub(crate) fn grammar<'a>(alloc: Global) -> Result<Command<'a>, NoMemory>
+    ensures { IfOk result (λ command. app_of command ≡ grundbuch) }
+{
+    with_desks_and_requests(alloc)?
+        .arg(option(alloc, "seed"))?
+        .arg(option(alloc, "size"))?
+        .arg(option(alloc, "sender"))?
+        .arg(lines(alloc))
+}
+
+fn with_desks_and_requests<'a>(alloc: Global) -> Result<Command<'a>, NoMemory>
+    ensures { IfOk result (λ command. app_of command ≡ with_desks) }
+{
+    start(alloc)
+        .arg(Arg::new(alloc, "command"))?
+        .arg(option(alloc, "desks"))?
+        .arg(option(alloc, "requests"))
+}
+
+/// No word is the program's name, and none asks for help.
+fn start<'a>(alloc: Global) -> Command<'a>
+    ensures { app_of result ≡ bare }
+{
+    Command::new(alloc, "grundbuch")
+        .no_binary_name(true)
+        .disable_help_flag(true)
+}
+
+/// `--name`, with a value.
+fn option<'a>(alloc: Global, name: &'a str) -> Arg<'a>
+    ensures rule { rule_of result ≡ option_rule name.entry.now }
+    ensures local { result.global ≡ false }
+{
+    Arg::new(alloc, name).long(name)
+}
+
+/// `--lines`, with none.
+fn lines<'a>(alloc: Global) -> Arg<'a>
+    ensures rule { rule_of result ≡ lines_rule }
+    ensures local { result.global ≡ false }
+{
+    Arg::new(alloc, "lines")
+        .long("lines")
+        .action(ArgAction::SetTrue)
+}

@@ -1,0 +1,107 @@
+//! The words of a run, read.
+ghost use Rattle.std.specs.Prelude.{◌≡◌, IfErr, IfOk, IfSome, None, Some, codes};
+ghost use Rattle.std.specs.Rc.{rc_str_bytes};
+ghost use Rattle.clap.specs.Words.{first_value, found_of};
+ghost use Rattle.command_words.specs.Words.{HasDesks, HasRequests, HasSize, command_with, commanded, is_true};
+ghost use Rattle.command_words.specs.inner.Parsing.{text_of};
+
+use crate::commands::Command;
+use crate::forms::are_formed;
+use crate::grammar::{grammar, parse};
+use crate::options::{Given, read_command};
+use clap::ArgMatches;
+use clap::error::ErrorKind;
+use std::alloc::Global;
+use std::rc::RcStr;
+
+/// Why words gave no command.
+#[derive(Clone, Copy, Debug, PartialEq, Eq)]
+pub enum WordsFault {
+    /// They are no command.
+    Usage,
+    /// No memory was found to read them.
+    Memory,
+}
+
+/// The command of these words.
+///
+/// One word says the command. Its options stand in any order, before that word or behind it, each
+/// once, as `--name value` or `--name=value`.
+pub fn read_words(alloc: Global, words: &[RcStr]) -> Result<Command, WordsFault>
+    ensures command { IfOk result (λ command. commanded rc_str_bytes words.now ≡ Some command) }
+    ensures usage { IfErr result (λ fault. fault ≡ WordsFault.Usage → commanded rc_str_bytes words.now ≡ None) }
+    ensures desks { IfOk result HasDesks }
+    ensures size { IfOk result HasSize }
+    ensures requests { IfOk result HasRequests }
+{
+    if !are_formed(words) {
+        return Err(WordsFault::Usage);
+    }
+    let Ok(grammar) = grammar(alloc) else {
+        return Err(WordsFault::Memory);
+    };
+    match parse(grammar, words) {
+        Ok(matches) => command_in(&matches),
+        Err(error) => Err(fault_from(error.kind())),
+    }
+}
+
+fn fault_from(kind: ErrorKind) -> WordsFault
+    ensures { result ≡ WordsFault.Usage → kind ≡ ErrorKind.OutOfMemory → ⊥ }
+{
+    match kind {
+        ErrorKind::OutOfMemory => WordsFault::Memory,
+        _ => WordsFault::Usage,
+    }
+}
+
+/// The command that the matches are, where its options are there and no other.
+fn command_in(matches: &ArgMatches<'_>) -> Result<Command, WordsFault>
+    ensures command { IfOk result (λ command. command_with (first_value (found_of matches.now)) ≡ Some command) }
+    ensures usage { IfErr result (λ fault. command_with (first_value (found_of matches.now)) ≡ None) }
+    ensures desks { IfOk result HasDesks }
+    ensures size { IfOk result HasSize }
+    ensures requests { IfOk result HasRequests }
+{
+    match command_found(matches) {
+        Some(command) => Ok(command),
+        None => Err(WordsFault::Usage),
+    }
+}
+
+fn command_found(matches: &ArgMatches<'_>) -> Option<Command>
+    ensures command { result ≡ command_with (first_value (found_of matches.now)) }
+    ensures desks { IfSome result HasDesks }
+    ensures size { IfSome result HasSize }
+    ensures requests { IfSome result HasRequests }
+{
+    read_command(matches.get_str("command")?, &given_in(matches))
+}
+
+fn given_in<'a>(matches: &ArgMatches<'a>) -> Given<'a>
+    ensures lines { result.lines ≡ is_true (first_value (found_of matches.now) (codes "lines")) }
+    ensures desks { text_of result.desks ≡ first_value (found_of matches.now) (codes "desks") }
+    ensures requests { text_of result.requests ≡ first_value (found_of matches.now) (codes "requests") }
+    ensures seed { text_of result.seed ≡ first_value (found_of matches.now) (codes "seed") }
+    ensures size { text_of result.size ≡ first_value (found_of matches.now) (codes "size") }
+    ensures sender { text_of result.sender ≡ first_value (found_of matches.now) (codes "sender") }
+{
+    Given {
+        lines: is_set(matches),
+        desks: matches.get_str("desks"),
+        requests: matches.get_str("requests"),
+        seed: matches.get_str("seed"),
+        size: matches.get_str("size"),
+        sender: matches.get_str("sender"),
+    }
+}
+
+/// Whether `--lines` stands there.
+fn is_set(matches: &ArgMatches<'_>) -> bool
+    ensures { result ≡ is_true (first_value (found_of matches.now) (codes "lines")) }
+{
+    match matches.get_str("lines") {
+        Some(value) => value == "true",
+        None => false,
+    }
+}
