@@ -6,5 +6,5 @@ use Rattle.connections.proofs.serving.close.Goals as goal
 pub returns-in-Ok-clause-told : goal.returns-in-Ok-clause-told
 returns-in-Ok-clause-told g c = λ told. still_told (g.L.Link.written c.args.link.now) (g.L.Link.written c.send.new.link) (bytes_of (c.args.reply ∷ [])) c.in-Ok.ensures.whole told
 
-pub returns-in-Err-clause-told : goal.returns-in-Err-clause-told
-returns-in-Err-clause-told g c = λ told. still_told (g.L.Link.written c.args.link.now) (g.L.Link.written c.send.new.link) c.in-Err.ensures.part.front c.in-Err.ensures.part.added told
+pub returns-clause-told : goal.returns-clause-told
+returns-clause-told g c = λ told. still_told (g.L.Link.written c.args.link.now) (g.L.Link.written c.send.new.link) c.in-Err.ensures.part.front c.in-Err.ensures.part.added told

@@ -1,4 +1,4 @@
-use Rattle.std.proofs.Common.{◌∙◌, drop, inl, inr, length, arith, refl, sym}
+use Rattle.std.proofs.Common.{◌∙◌, drop, inl, inr, length, arith, refl}
 use Rattle.connections.specs.Doors.{turns_taken}
 use Rattle.connections.specs.Holding.{Holds}
 use Rattle.connections.specs.Turns.{held_behind}
