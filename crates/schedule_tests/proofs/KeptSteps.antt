@@ -1,7 +1,7 @@
 -- Parts stay kept behind each item that is settled on them.
-use Rattle.std.proofs.Common.{◌≡◌, ⊎_elim, ℕ, ◌<◌, ◌&&◌, nat_lt, List, [], ◌∷◌, All, Contains, true, refl, sym, ap, subst, ◌∙◌, arith}
+use Rattle.std.proofs.Common.{◌≡◌, ⊎_elim, ℕ, ◌<◌, ◌&&◌, ◌||◌, IsTrue, nat_lt, List, [], ◌∷◌, All, Contains, true, refl, sym, ap, subst, ◌∙◌, arith}
 use Rattle.std.specs.List.{AllByRecursion, list_all}
-use Rattle.std.proofs.lemmas.Bool.{and_parts}
+use Rattle.std.proofs.lemmas.Bool.{and_parts, or_right}
 use Rattle.std.proofs.lemmas.Bool.Decides.{nat_tests}
 use Rattle.std.proofs.lemmas.List.Elements.{All-from_recursion}
 use Rattle.gb_base.proofs.Members.{In}
@@ -13,12 +13,13 @@ use Rattle.conflict_queue.specs.Dockets.{keys_touched}
 use Rattle.conflict_queue.specs.ItemKeys.{keys_of_item}
 use Rattle.folio_sections.proofs.HeldParts.{nothing_at}
 use Rattle.folio_sections.specs.Adding.{AddsAll}
-use Rattle.folio_sections.specs.Held.{entries_at, is_held}
+use Rattle.folio_sections.specs.Held.{entries_at, is_given, is_held}
 use Rattle.folio_sections.specs.PartState.{PartState}
 use Rattle.folio_sections.specs.declared.entries.Entry.{Entry}
 use Rattle.kept_registers.specs.Kept.{Kept}
 use Rattle.registrar.proofs.AwardsKeep.{none_kept, step_keeps}
 use Rattle.registrar.proofs.CuresKeep.{AreEarlier}
+use Rattle.registrar.proofs.JournalKeys.{touched_is_given}
 use Rattle.registrar.proofs.RisingNumbers.{in_of_contains}
 use Rattle.registrar.proofs.StepLemmas.{step_leaves}
 use Rattle.registrar.specs.Brings.{brings}
@@ -36,6 +37,11 @@ still_kept journal before after same kept = record {
   kept = subst (Kept journal) (sym same) kept.kept;
   awards = subst (AwardsKept journal) (sym same) kept.awards;
 }
+
+-- where these keys are held beside those before, all of the item's are
+pub held_behind : (journal : List Receipt) (i : ℕ) (keys : List Key) (before after : List PartState) → keys ≡ keys_touched journal i → ((k : Key) → is_held after k ≡ (is_held before k || is_given keys k))
+    → (k : Key) → Contains (keys_of_item journal i) k → IsTrue (is_held after k)
+held_behind journal i keys before after are held k there = held k ∙ or_right (is_held before k) (is_given keys k) (touched_is_given journal i keys k are there)
 
 -- and behind a step
 pub kept_behind : (journal : List Receipt) (i : ℕ) (before after : List PartState) → IsJournal journal → AreKept journal before → AreEarlier i (entries_at before) (keys_of_item journal i)

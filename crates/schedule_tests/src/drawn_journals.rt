@@ -14,7 +14,8 @@ use test_items::{
 /// The most items of a drawn journal.
 pub const MOST_ITEMS: u32 = 7;
 
-/// The journal of this seed: folios 7 and 8 are opened first, and then come one to five drawn items.
+/// The journal of this seed: folios 7 and 8 are opened first, then up to five drawn items; one that
+/// is not well formed is left out.
 pub fn drawn_journal(alloc: Global, seed: u64) -> Journal {
     let mut draws = Draws::new(seed);
     let mut journal = Journal::new(alloc);
@@ -34,8 +35,8 @@ fn opened(folio: u32) -> Item
     filed(10, opening(folio, 10), &[consent(1, 10)])
 }
 
-/// The day of a next receipt: in the month that begins half a month behind the last one for each
-/// receipt that there is, so that deadlines end in between.
+/// Each receipt has a month of its own, from March on, so that a deadline of thirty days may end
+/// between two.
 fn drawn_day(draws: &mut Draws, journal: &Journal) -> Day
     ensures { IsStampDay result }
 {
@@ -53,7 +54,7 @@ fn drawn_item(draws: &mut Draws) -> Item {
     match draws.below(4) {
         0 => drawn_charge(draws),
         1 => drawn_change(draws),
-        2 => drawn_answer(draws),
+        2 => drawn_cure_or_lapse(draws),
         _ => drawn_sale(draws),
     }
 }
@@ -118,7 +119,7 @@ fn drawn_change(draws: &mut Draws) -> Item {
 }
 
 /// A cure or a lapse of one of the receipts from the third.
-fn drawn_answer(draws: &mut Draws) -> Item {
+fn drawn_cure_or_lapse(draws: &mut Draws) -> Item {
     let filing = 3 + draws.below(3);
     if draws.one_in(3) {
         lapse(filing)

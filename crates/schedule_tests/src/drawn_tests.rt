@@ -1,49 +1,73 @@
 //! Drawn journals, settled in each permitted order and in some others.
 use crate::drawn_journals::drawn_journal;
-use crate::orders::{is_permitted, order_count, order_of};
-use crate::outcomes::{Outcome, settle_all};
+use crate::orders::{docket_of, is_permitted, order_count, order_of};
+use crate::outcomes::{Outcome, register_of, settle_all};
+use act_model::Journal;
 use conflict_queue::Docket;
-use registrar::alone;
+use registrar::Register;
 use std::alloc::Global;
 use std::process::Abort;
-use std::test::Fail;
 
 /// How many orders came to what.
 #[derive(Clone, Copy, Debug, PartialEq, Eq)]
 struct Count {
-    /// Permitted ones, each of which leaves the same.
+    /// Permitted ones.
     permitted: u32,
-    /// Permitted ones that leave something else.
+    /// Of these, those that leave something else.
     broken: u32,
     /// Others that leave something else.
     other: u32,
 }
 
-/// Settles the journal of this seed in each permitted order; where asked, also in each other one
-/// whose items find nothing by later ones.
-fn settle_in_orders(
-    rt: &impl Abort,
-    alloc: Global,
-    seed: u64,
-    others: bool,
-) -> Result<Count, Fail> {
+/// A drawn journal, its docket, and the register that the one registrar leaves of it.
+#[derive(Drop)]
+struct Drawn {
+    journal: Journal,
+    docket: Docket,
+    register: Register,
+}
+
+fn draw(rt: &impl Abort, alloc: Global, seed: u64) -> Drawn {
     let journal = drawn_journal(alloc, seed);
-    let docket = Docket::build(alloc, &journal)?;
-    let register = alone(alloc, &journal)?;
+    let docket = docket_of(rt, alloc, &journal);
+    let register = register_of(rt, alloc, &journal);
+    Drawn {
+        journal,
+        docket,
+        register,
+    }
+}
+
+/// Settles the journal of this seed in each permitted order; where asked, in each other one too.
+fn settle_in_orders(rt: &impl Abort, alloc: Global, seed: u64, others: bool) -> Count {
+    let drawn = draw(rt, alloc, seed);
     let mut count = Count {
         permitted: 0,
         broken: 0,
         other: 0,
     };
-    for code in 0..order_count(journal.len()) {
-        let order = order_of(alloc, journal.len(), code)?;
-        let permitted = is_permitted(rt, &docket, order.as_slice());
-        if permitted || others {
-            let came = settle_all(rt, alloc, &journal, &register, order.as_slice())?;
-            tally(&mut count, permitted, came);
-        }
+    for code in 0..order_count(drawn.journal.len()) {
+        settle_in_order(rt, alloc, &drawn, code, others, &mut count);
     }
-    Ok(count)
+    count
+}
+
+fn settle_in_order(
+    rt: &impl Abort,
+    alloc: Global,
+    drawn: &Drawn,
+    code: u32,
+    others: bool,
+    count: &mut Count,
+) {
+    let order = order_of(alloc, drawn.journal.len(), code)
+        .ok()
+        .expect(rt, "memory");
+    let permitted = is_permitted(rt, &drawn.docket, order.as_slice());
+    if permitted || others {
+        let came = settle_all(rt, alloc, &drawn.journal, &drawn.register, order.as_slice());
+        tally(count, permitted, came);
+    }
 }
 
 fn tally(count: &mut Count, permitted: bool, came: Outcome) {
@@ -60,10 +84,10 @@ fn tally(count: &mut Count, permitted: bool, came: Outcome) {
 
 /// Whatever the permitted order, the same stands at each key and the same is said of each item.
 #[test]
-fn each_permitted_order_leaves_the_same(rt: HostRuntime) -> Result<(), Fail> {
+fn each_permitted_order_leaves_the_same(rt: HostRuntime) {
     let mut orders = 0u32;
     for seed in 0..600 {
-        let count = settle_in_orders(&rt, rt.alloc(), seed, false)?;
+        let count = settle_in_orders(&rt, rt.alloc(), seed, false);
         assert!(&rt;
             count.permitted >= 1 && count.broken == 0,
             "{seed}: {count:?}"
@@ -71,20 +95,18 @@ fn each_permitted_order_leaves_the_same(rt: HostRuntime) -> Result<(), Fail> {
         orders = orders.saturating_add(count.permitted);
     }
     assert!(&rt; orders > 6_000, "{orders}");
-    Ok(())
 }
 
 /// Orders that are not permitted leave something else for many of these journals, so the comparison
 /// above tells them apart.
 #[test]
-fn other_orders_differ(rt: HostRuntime) -> Result<(), Fail> {
+fn other_orders_differ(rt: HostRuntime) {
     let mut differ = 0u32;
     for seed in 0..60 {
-        let count = settle_in_orders(&rt, rt.alloc(), seed, true)?;
+        let count = settle_in_orders(&rt, rt.alloc(), seed, true);
         if count.other > 0 {
             differ = differ.saturating_add(1);
         }
     }
     assert!(&rt; differ > 20, "{differ}");
-    Ok(())
 }

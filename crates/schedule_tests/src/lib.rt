@@ -3,8 +3,6 @@
 #![tactic(auto)]
 
 #[cfg(test)]
-mod desks;
-#[cfg(test)]
 mod drawn_journals;
 #[cfg(test)]
 mod drawn_tests;
@@ -14,3 +12,5 @@ mod example_tests;
 mod orders;
 #[cfg(test)]
 mod outcomes;
+#[cfg(test)]
+mod stepping;

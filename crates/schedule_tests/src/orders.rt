@@ -1,5 +1,6 @@
 //! The orders of the numbers of a journal, and which of them are permitted.
 
+use act_model::Journal;
 use conflict_queue::Docket;
 use gb_base::{Key, NoMemory, ReceiptNo};
 use std::alloc::Global;
@@ -18,8 +19,8 @@ pub fn order_count(numbers: u32) -> u32 {
     }
 }
 
-/// The order of this code, of the numbers from 1: each code below `order_count` is another order.
-/// Code 0 is the order of receipts.
+/// The numbers from 1 in the order with this code. Each code below `order_count(numbers)` gives
+/// another order; code 0 gives the order of receipts.
 pub fn order_of(alloc: Global, numbers: u32, code: u32) -> Result<Vec<ReceiptNo>, NoMemory> {
     let mut left: Vec<ReceiptNo> = Vec::new(alloc);
     for index in 0..numbers {
@@ -37,6 +38,11 @@ pub fn order_of(alloc: Global, numbers: u32, code: u32) -> Result<Vec<ReceiptNo>
         }
     }
     Ok(order)
+}
+
+/// The docket of a journal.
+pub fn docket_of(rt: &impl Abort, alloc: Global, journal: &Journal) -> Docket {
+    Docket::build(alloc, journal).ok().expect(rt, "memory")
 }
 
 /// Whether each item comes behind those that stood at its keys before it, so that of two with a key

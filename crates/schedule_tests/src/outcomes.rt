@@ -1,13 +1,15 @@
 //! What settling in some order comes to, beside what the one registrar leaves.
-use crate::desks::{empty_parts, settle};
+ghost use Rattle.std.specs.Prelude.{◌≤◌, length};
+ghost use Rattle.schedule_tests.specs.KeptParts.{AreKept};
+
+use crate::stepping::{empty_parts, entries_of, settle};
 use act_model::Journal;
 use conflict_queue::touches;
-use folio_sections::{Entry, MapParts, Parts};
+use folio_sections::{Entry, MapParts};
 use gb_base::{Key, ReceiptNo};
-use registrar::{Register, Scratch, Verdict};
+use registrar::{Register, Scratch, Verdict, alone};
 use std::alloc::Global;
 use std::process::Abort;
-use std::test::Fail;
 
 /// What settling in some order comes to.
 #[derive(Clone, Copy, Debug, PartialEq, Eq)]
@@ -20,6 +22,11 @@ pub enum Outcome {
     TooLate,
 }
 
+/// The register that the one registrar leaves of a journal.
+pub fn register_of(rt: &impl Abort, alloc: Global, journal: &Journal) -> Register {
+    alone(alloc, journal).ok().expect(rt, "memory")
+}
+
 /// Settles the items of a journal in this order, and compares what they leave with the register of
 /// the one registrar.
 pub fn settle_all(
@@ -28,33 +35,93 @@ pub fn settle_all(
     journal: &Journal,
     register: &Register,
     order: &[ReceiptNo],
-) -> Result<Outcome, Fail> {
-    let mut parts = empty_parts(alloc, journal)?;
-    let mut scratch = Scratch::with_room(alloc, 0, 0)?;
-    let mut same = true;
-    for item in order {
-        match settle(rt, alloc, &mut parts, &mut scratch, journal, *item)? {
-            Some(verdict) => {
-                let said = register.verdict(*item).expect(rt, "a verdict");
-                if !say_the_same(alloc, &verdict, said)? {
-                    same = false;
-                }
-            }
-            None => return Ok(Outcome::TooLate),
-        }
-    }
-    if same && agree(rt, alloc, journal, &parts, register)? {
-        Ok(Outcome::Same)
-    } else {
-        Ok(Outcome::Other)
+) -> Outcome {
+    match empty_parts(alloc, journal) {
+        Ok(mut parts) => settle_on(rt, alloc, &mut parts, journal, register, order),
+        Err(_) => panic!(rt; "no memory"),
     }
 }
 
-/// Whether two verdicts are the same, by all that is printed of them.
-fn say_the_same(alloc: Global, verdict: &Verdict, other: &Verdict) -> Result<bool, Fail> {
-    let first = format!(in alloc; "{verdict:?}")?;
-    let second = format!(in alloc; "{other:?}")?;
-    Ok(first.as_str() == second.as_str())
+/// The same on these parts, at which nothing is entered yet.
+fn settle_on(
+    rt: &impl Abort,
+    alloc: Global,
+    parts: &mut MapParts,
+    journal: &Journal,
+    register: &Register,
+    order: &[ReceiptNo],
+) -> Outcome
+    requires { AreKept journal.now.receipts parts.old }
+{
+    match settle_each(rt, alloc, parts, journal, register, order) {
+        Outcome::Same => agree(rt, alloc, journal, parts, register),
+        other => other,
+    }
+}
+
+/// Settles the items in this order, and compares what is said of them.
+fn settle_each(
+    rt: &impl Abort,
+    alloc: Global,
+    parts: &mut MapParts,
+    journal: &Journal,
+    register: &Register,
+    order: &[ReceiptNo],
+) -> Outcome
+    requires { AreKept journal.now.receipts parts.old }
+{
+    let mut came = Outcome::Same;
+    for item in order {
+        match settle_one(rt, alloc, parts, journal, register, *item) {
+            Outcome::Same => {}
+            Outcome::Other => came = Outcome::Other,
+            Outcome::TooLate => return Outcome::TooLate,
+        }
+    }
+    came
+}
+
+/// Settles an item, and compares what is said of it.
+fn settle_one(
+    rt: &impl Abort,
+    alloc: Global,
+    parts: &mut MapParts,
+    journal: &Journal,
+    register: &Register,
+    item: ReceiptNo,
+) -> Outcome
+    requires { AreKept journal.now.receipts parts.old }
+    ensures { AreKept journal.now.receipts parts.new }
+{
+    let mut scratch = Scratch::with_room(alloc, 0, 0).ok().expect(rt, "memory");
+    match settle(rt, alloc, parts, &mut scratch, journal, item) {
+        Ok(Some(verdict)) => compare_said(rt, alloc, register, item, &verdict),
+        Ok(None) => Outcome::TooLate,
+        Err(_) => panic!(rt; "no memory"),
+    }
+}
+
+/// Whether the one registrar says the same of the item.
+fn compare_said(
+    rt: &impl Abort,
+    alloc: Global,
+    register: &Register,
+    item: ReceiptNo,
+    verdict: &Verdict,
+) -> Outcome {
+    let said = register.verdict(item).expect(rt, "a verdict");
+    let first = verdict_text(rt, alloc, verdict);
+    let second = verdict_text(rt, alloc, said);
+    if first.as_str() == second.as_str() {
+        Outcome::Same
+    } else {
+        Outcome::Other
+    }
+}
+
+/// `Verdict` has no equality, and its `Debug` text has every field.
+fn verdict_text(rt: &impl Abort, alloc: Global, verdict: &Verdict) -> String {
+    format!(in alloc; "{verdict:?}").ok().expect(rt, "memory")
 }
 
 /// Whether the same entries stand at each key of each item of the journal.
@@ -64,45 +131,46 @@ fn agree(
     journal: &Journal,
     parts: &MapParts,
     register: &Register,
-) -> Result<bool, Fail> {
+) -> Outcome {
     for n in 1..journal.len() + 1 {
-        let item = ReceiptNo::new(n).expect(rt, "a number");
-        assert!(rt; item.get() <= journal.len());
-        let keys = touches(alloc, journal, item)?;
-        for key in keys.as_slice() {
-            if !agree_at(alloc, parts, register, *key)? {
-                return Ok(false);
-            }
+        if !agree_at_item(rt, alloc, journal, parts, register, n) {
+            return Outcome::Other;
         }
     }
-    Ok(true)
+    Outcome::Same
 }
 
-fn agree_at(alloc: Global, parts: &MapParts, register: &Register, key: Key) -> Result<bool, Fail> {
-    let first = entries_of(parts, key);
-    let second = entries_of(register, key);
-    if first.len() != second.len() {
-        return Ok(false);
-    }
-    let left = format!(in alloc; "{first:?}")?;
-    let right = format!(in alloc; "{second:?}")?;
-    Ok(left.as_str() == right.as_str())
+/// Whether the same entries stand at each key of this item.
+fn agree_at_item(
+    rt: &impl Abort,
+    alloc: Global,
+    journal: &Journal,
+    parts: &MapParts,
+    register: &Register,
+    n: u32,
+) -> bool
+    requires { n ≤ length journal.now.receipts }
+{
+    let item = ReceiptNo::new(n).expect(rt, "a number");
+    let keys = touches(alloc, journal, item).ok().expect(rt, "memory");
+    keys.iter()
+        .all(|key| agree_at(rt, alloc, parts, register, key))
 }
 
-/// What stands at a key; nothing where it is not held.
-fn entries_of<P: Parts>(parts: &P, key: Key) -> &[Entry] {
-    match key {
-        Key::Title(folio) => match parts.title(folio) {
-            Some(part) => part.entries(),
-            None => &[],
-        },
-        Key::Right(folio, right) => match parts.right(folio, right) {
-            Some(part) => part.entries(),
-            None => &[],
-        },
-        Key::Case(folio) => match parts.case(folio) {
-            Some(part) => part.entries(),
-            None => &[],
-        },
-    }
+/// Whether the same entries stand at a key.
+fn agree_at(
+    rt: &impl Abort,
+    alloc: Global,
+    parts: &MapParts,
+    register: &Register,
+    key: &Key,
+) -> bool {
+    let first = entries_text(rt, alloc, entries_of(parts, key));
+    let second = entries_text(rt, alloc, entries_of(register, key));
+    first.as_str() == second.as_str()
+}
+
+/// `Entry` has no equality, and its `Debug` text has every field.
+fn entries_text(rt: &impl Abort, alloc: Global, entries: Option<&[Entry]>) -> String {
+    format!(in alloc; "{entries:?}").ok().expect(rt, "memory")
 }

@@ -1,8 +1,7 @@
 //! Items settled one by one on the same parts, in whatever order they come.
-ghost use Rattle.std.specs.Prelude.{◌≡◌, ◌≤◌, ◌&&◌, nat_lt, length, Contains, IfOk, IsTrue, OnOk};
+ghost use Rattle.std.specs.Prelude.{◌≡◌, ◌≤◌, ◌&&◌, nat_lt, length, Contains, IfOk, IfSome, IsTrue, OnOk, is_some};
 ghost use Rattle.std.specs.List.{list_all};
 ghost use Rattle.gb_base.specs.declared.keys.Key.{Key};
-ghost use Rattle.act_model.specs.Receiving.{IsJournal};
 ghost use Rattle.conflict_queue.specs.Dockets.{keys_touched};
 ghost use Rattle.conflict_queue.specs.ItemKeys.{keys_of_item};
 ghost use Rattle.folio_sections.specs.Held.{entries_at, is_held, room_at};
@@ -28,8 +27,8 @@ pub fn empty_parts(alloc: Global, journal: &Journal) -> Result<MapParts, NoMemor
     Ok(parts)
 }
 
-/// Settles an item, in room that it keeps for it first. None where an entry by a later item stands
-/// at one of its keys: then nothing is settled.
+/// Settles an item, in room that it keeps for it first. None where an entry by this item or a later
+/// one stands at one of its keys: then nothing is settled.
 pub fn settle(
     rt: &impl Abort,
     alloc: Global,
@@ -43,11 +42,7 @@ pub fn settle(
 {
     assert!(rt; item.get() <= journal.len());
     let keys = make_ready(alloc, parts, scratch, journal, item)?;
-    if are_earlier(parts, keys.as_slice(), item) {
-        Ok(Some(step(parts, scratch, journal, item)))
-    } else {
-        Ok(None)
-    }
+    Ok(step_in_turn(parts, scratch, journal, item, keys.as_slice()))
 }
 
 /// Holds the keys of an item, with the room that a step asks for.
@@ -58,8 +53,9 @@ fn make_ready(
     journal: &Journal,
     item: ReceiptNo,
 ) -> Result<Vec<Key>, NoMemory>
-    requires { item ≤ length journal.now.receipts }
-    ensures entries { entries_at parts.new ≡ entries_at parts.old }
+    requires received { item ≤ length journal.now.receipts }
+    requires kept { AreKept journal.now.receipts parts.old }
+    ensures kept { AreKept journal.now.receipts parts.new }
     ensures keys { IfOk result (λ keys. keys.items ≡ keys_touched journal.now.receipts item) }
     ensures held { OnOk result ((k : Key) → Contains (keys_of_item journal.now.receipts item) k → IsTrue (is_held parts.new k)) }
     ensures room { OnOk result (HasItsRoom journal.now.receipts item (entries_at parts.new) (room_at parts.new)) }
@@ -71,29 +67,44 @@ fn make_ready(
     Ok(keys)
 }
 
+/// Settles an item where all that stands at its keys is by earlier ones.
+fn step_in_turn(
+    parts: &mut MapParts,
+    scratch: &mut Scratch,
+    journal: &Journal,
+    item: ReceiptNo,
+    keys: &[Key],
+) -> Option<Verdict>
+    requires received { item ≤ length journal.now.receipts }
+    requires kept { AreKept journal.now.receipts parts.old }
+    requires keys { keys.now ≡ keys_touched journal.now.receipts item }
+    requires held { (k : Key) → Contains (keys_of_item journal.now.receipts item) k → IsTrue (is_held parts.old k) }
+    requires room { HasItsRoom journal.now.receipts item (entries_at parts.old) (room_at parts.old) }
+    requires scratch { HasItsScratch journal.now.receipts item (entries_at parts.old) scratch.old }
+    ensures kept { AreKept journal.now.receipts parts.new }
+{
+    // Called for its clause: the list is a journal.
+    journal.len();
+    if are_earlier(parts, keys, item) {
+        Some(step(parts, scratch, journal, item))
+    } else {
+        None
+    }
+}
+
 /// Whether these keys are held, and all that stands there is by items before this one.
 fn are_earlier(parts: &MapParts, keys: &[Key], item: ReceiptNo) -> bool
     ensures { result ≡ list_all (λ k. is_held parts.now k && list_all (λ e. nat_lt e.receipt item) (entries_at parts.now k)) keys.now }
 {
-    keys.iter().all(|key| is_earlier_at(parts, *key, item))
+    keys.iter().all(|key| is_earlier_at(parts, key, item))
 }
 
-fn is_earlier_at(parts: &MapParts, key: Key, item: ReceiptNo) -> bool
-    ensures { result ≡ (is_held parts.now key && list_all (λ e. nat_lt e.receipt item) (entries_at parts.now key)) }
+fn is_earlier_at(parts: &MapParts, key: &Key, item: ReceiptNo) -> bool
+    ensures { result ≡ (is_held parts.now key.now && list_all (λ e. nat_lt e.receipt item) (entries_at parts.now key.now)) }
 {
-    match key {
-        Key::Title(folio) => match parts.title(folio) {
-            Some(part) => all_earlier(part.entries(), item),
-            None => false,
-        },
-        Key::Right(folio, right) => match parts.right(folio, right) {
-            Some(part) => all_earlier(part.entries(), item),
-            None => false,
-        },
-        Key::Case(folio) => match parts.case(folio) {
-            Some(part) => all_earlier(part.entries(), item),
-            None => false,
-        },
+    match entries_of(parts, key) {
+        Some(entries) => all_earlier(entries, item),
+        None => false,
     }
 }
 
@@ -101,4 +112,25 @@ fn all_earlier(entries: &[Entry], item: ReceiptNo) -> bool
     ensures { result ≡ list_all (λ e. nat_lt e.receipt item) entries.now }
 {
     entries.iter().all(|entry| entry.receipt < item)
+}
+
+/// What stands at a key; None where it is not held.
+pub fn entries_of<'a, P: Parts>(parts: &'a P, key: &Key) -> Option<&'a [Entry]>
+    ensures held { is_some result ≡ P.holds parts.now key.now }
+    ensures value { IfSome result (λ entries. entries.now ≡ P.at parts.now key.now) }
+{
+    match key {
+        Key::Title(folio) => match parts.title(*folio) {
+            Some(part) => Some(part.entries()),
+            None => None,
+        },
+        Key::Right(folio, right) => match parts.right(*folio, *right) {
+            Some(part) => Some(part.entries()),
+            None => None,
+        },
+        Key::Case(folio) => match parts.case(*folio) {
+            Some(part) => Some(part.entries()),
+            None => None,
+        },
+    }
 }
