@@ -82,7 +82,9 @@ def check_glossary(look, crates):
 
 
 def edits_of(crate):
-    return {file.stem for file in (CRATES / crate / "must-fail").glob("*.edit")}
+    """The edits that the gate tries, and those that are tried by hand."""
+    folder = CRATES / crate / "must-fail"
+    return {file.stem for ending in ("*.edit", "*.md") for file in folder.glob(ending)}
 
 
 def check_rows(look, crates):
