@@ -4,6 +4,7 @@
 //!   `sales` for a forced sale. `filing_rules` and `ranges` say what is well formed.
 //! - The journal: `receipts`, `journals` and its answers `added`; `item_indexes` and `lists` are how
 //!   it finds cures, creating acts and filings, `cure_documents` and `firsts` what cures bring.
+//!   `journal_names` has names of journals, by which types speak of one.
 //! - What follows from it: `filings` finds filings, acts and rights, `touched_keys` the keys that a
 //!   filing touches, `divisions` and `groups` what it creates; `matters` is a filing with the item
 //!   with which it is judged, `filing_documents` are the documents that count then, and `sought`
@@ -22,6 +23,7 @@ mod firsts;
 mod groups;
 mod item_indexes;
 mod items;
+mod journal_names;
 mod journals;
 mod land;
 pub mod laws;
@@ -43,6 +45,7 @@ pub use filing_rules::{keeps_rules, share_group};
 pub use filings::{act_at, acts_of, applicant_of, created_before, filing_at, new_right};
 pub use groups::{has_equal, shares_its_group};
 pub use items::{Filing, Item};
+pub use journal_names::JournalName;
 pub use journals::{Journal, MOST_CREATIONS};
 pub use land::Inventory;
 pub use matters::Matter;
