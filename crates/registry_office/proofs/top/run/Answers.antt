@@ -10,7 +10,7 @@ use Rattle.intake.specs.Requests.{OnDisk, held_after}
 use Rattle.intake.specs.Sessions.{Took}
 use Rattle.registry_office.specs.Statuses.{disk_fault, tells_of_opening}
 use Rattle.intake_requests.specs.declared.requests.Request.{Request}
-use Rattle.registry_office.specs.declared.words.Command.{Command}
+use Rattle.command_words.specs.declared.commands.Command.{Command}
 use Rattle.registry_office.proofs.Takings.{cut_by_status, err_by_status, short_by_status, read_part_of_early}
 use Rattle.registry_office.proofs.top.run.Goals as goal
 
