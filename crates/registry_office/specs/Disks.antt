@@ -24,7 +24,7 @@ FindsBy file status.Memory = Unit {0}
 FindsBy file status.NotJournal = IsForeign the_heading file
 FindsBy file (status.BadRecord at) = (journal : List Receipt) × IsBadBehind file journal × (at ≡ gate_behind journal)
 FindsBy file status.InputTooLong = IsJournalFile file
-FindsBy file status.DoorFault = Unit {0}
+FindsBy file status.DoorFault = IsJournalFile file
 
 -- the files that a stop leaves; where the disk failed, but for those that it might have left before
 abbrev pub LeftAnew : Bool → (List ℕ → Type 0) → (List ℕ → Type 0) → List ℕ → Type 0
