@@ -23,7 +23,7 @@ const LAST_READS: u32 = 64;
 const LAST_BYTES: usize = 16_384;
 
 /// A connection, or any other stream, as the office's link. It does not tell the office its bytes,
-/// since a connection tells none.
+/// since a connection tells none; what a stream tells, it hands on.
 #[derive(Drop)]
 pub struct Connection<S: Read + Write + OpenStream + Drop> {
     stream: S,
@@ -34,7 +34,8 @@ impl<S: Read + Write + OpenStream + Drop> Connection<S> {
     /// The stream as a link that has not failed yet. What is written goes out at once, and no call
     /// waits for ever. A stream that cannot be set so serves as it is.
     pub fn new(stream: S) -> Connection<S>
-        ensures { result.faults ≡ 0 }
+        ensures stream { result.stream ≡ stream }
+        ensures faults { result.faults ≡ 0 }
     {
         let _ = stream.set_nodelay(true);
         let _ = stream.set_read_timeout(Some(Duration::from_secs(PATIENCE)));
@@ -59,9 +60,10 @@ impl<S: Read + Write + OpenStream + Drop> Connection<S> {
 }
 
 impl<S: Read + Write + OpenStream + Drop> Link for Connection<S> {
-    ghost use Rattle.std.specs.Prelude.{◌≡◌, ◌<◌, length, None};
+    ghost use Rattle.std.specs.Prelude.{◌≡◌, ◌<◌, ℕ, List, length, Option, None};
     ghost use Rattle.gb_outside.specs.Bytes.{IsGot, IsTaken, Reads, Writes, read_failed, write_failed};
     ghost use Rattle.gb_outside.specs.Faults.{Counts, faults_after};
+    ghost use Rattle.grundbuch.specs.Adapters.{HandsOn, PutsIn};
 
     ghost left = { λ link. None };
 
@@ -73,9 +75,10 @@ impl<S: Read + Write + OpenStream + Drop> Link for Connection<S> {
         requires { 0 < length into.old }
         ensures count { IsGot result (length into.new) }
         ensures content { Reads None None result into.new }
-        ensures written { None ≡ None }
+        ensures written { ◌≡◌ {A = Option (List ℕ)} None None }
         ensures cause { Counts self.old.faults self.new.faults (read_failed result) }
         ensures once { self.new.faults ≡ faults_after self.old.faults (read_failed result) }
+        ensures bytes { HandsOn (S.remaining self.old.stream) (S.remaining self.new.stream) result into.new }
     {
         match counted(&mut self.faults, read_some(&mut self.stream, into)) {
             Ok(0) => Got::End,
@@ -87,9 +90,10 @@ impl<S: Read + Write + OpenStream + Drop> Link for Connection<S> {
     fn write(&mut self, piece: &[u8]) -> Wrote
         ensures count { IsTaken result (length piece.now) }
         ensures content { Writes None None result piece.now }
-        ensures left { None ≡ None }
+        ensures left { ◌≡◌ {A = Option (List ℕ)} None None }
         ensures cause { Counts self.old.faults self.new.faults (write_failed result) }
         ensures once { self.new.faults ≡ faults_after self.old.faults (write_failed result) }
+        ensures bytes { PutsIn (S.contents self.old.stream) (S.contents self.new.stream) result piece.now }
     {
         match counted(&mut self.faults, write_some(&mut self.stream, piece)) {
             Ok(count) => Wrote::Took(count),

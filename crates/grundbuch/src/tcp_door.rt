@@ -41,24 +41,22 @@ impl<'a, N: Net> TcpDoor<'a, N> {
         }
     }
 
-    /// Opens the port, where it is not open.
-    fn open(&mut self) -> io::Result<&N::Listener>
-        ensures uncounted { self.new.faults ≡ self.old.faults }
-    {
-        if self.listener.is_none() {
-            self.listener = Some(TcpListener::bind(self.net, self.address)?);
-        }
-        match &self.listener {
-            Some(listener) => Ok(listener),
-            None => Err(io::Error::from(ErrorKind::Other)),
-        }
+    /// Opens the port.
+    fn open(&self) -> io::Result<N::Listener> {
+        TcpListener::bind(self.net, self.address)
     }
 
-    /// The next connection that comes.
+    /// The next connection that comes to the port, which stays open.
     fn accept_next(&mut self) -> io::Result<N::Stream>
         ensures uncounted { self.new.faults ≡ self.old.faults }
     {
-        accept_some(self.open()?)
+        let listener = match self.listener.take() {
+            Some(listener) => listener,
+            None => self.open()?,
+        };
+        let accepted = accept_some(&listener);
+        self.listener = Some(listener);
+        accepted
     }
 }
 
@@ -119,7 +117,9 @@ mod tests {
     #[test]
     fn bytes_are_carried_both_ways(rt: HostRuntime) -> Result<(), Fail> {
         let mut door = TcpDoor::at(&rt, FREE);
-        let address = door.open()?.local_addr()?;
+        let listener = door.open()?;
+        let address = listener.local_addr()?;
+        door.listener = Some(listener);
         let mut peer = TcpStream::connect(&rt, address)?;
         peer.write_all(b"who owns it?")?;
         peer.shutdown(Shutdown::Write)?;

@@ -4,4 +4,5 @@ pub mod Outcomes
 pub mod Receivings
 pub mod Servings
 pub mod Statuses
+pub mod Unread
 pub mod inner

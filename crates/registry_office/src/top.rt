@@ -22,6 +22,7 @@ ghost use Rattle.intake.specs.Sessions.{most_input, Took};
 ghost use Rattle.registry_office.specs.Receivings.{HasWritten};
 ghost use Rattle.registry_office.specs.Servings.{IsHeld, ServesOffice};
 ghost use Rattle.registry_office.specs.Statuses.{read_fault, write_fault, disk_fault, door_fault, is_no_journal, tells_of_opening};
+ghost use Rattle.registry_office.specs.Unread.{IsUnread};
 ghost use Rattle.intake_requests.specs.declared.requests.Request.{Request};
 
 use crate::disk_settling::settle_disk;
@@ -107,9 +108,10 @@ pub fn run<R: AllocGlobal, S: Source, K: Sink, D: Disk, C: Clock, L: Listener, G
     // to the disk at any moment.
     ensures early { (begun : Begins (commanded rc_str_bytes words.now) D.tells (D.reads disk.old) (S.left source.old) (C.ticks clock.old))
         → receives (commanded rc_str_bytes words.now) ≡ true → (result ≡ Status.Ok → ⊥)
-        → Took (S.left source.old) (S.left source.new) (λ read. (requests : List Request) × AreOf (requests_of (commanded rc_str_bytes words.now)) (cut_requests_of (commanded rc_str_bytes words.now)) (S.left source.new) read requests
+        → IsUnread source.old source.new sink.old sink.new disk.old disk.new clock.old clock.new door.old door.new result
+        ⊎ Took (S.left source.old) (S.left source.new) (λ read. (requests : List Request) × AreOf (requests_of (commanded rc_str_bytes words.now)) (cut_requests_of (commanded rc_str_bytes words.now)) (S.left source.new) read requests
         × EndsEarly OnDisk begun.held (C.ticks clock.new) (K.written sink.old) (K.written sink.new) (LeftAnew (disk_fault result) (D.images disk.old) (D.images disk.new)) requests
-        × (((result ≡ Status.Memory) × (disk.new ≡ disk.old)) ⊎ KeepsGrown D.reads D.images D.moment D.since disk.old disk.new (disk_fault result) begun.held.journal (held_after OnDisk begun.held requests).journal)
+        × KeepsGrown D.reads D.images D.moment D.since disk.old disk.new (disk_fault result) begun.held.journal (held_after OnDisk begun.held requests).journal
         × WritesBehind (tells_of_opening result) begun.held.journal (held_after OnDisk begun.held requests).journal (D.reads disk.old) (D.reads disk.new)) }
 
     // A stop at any moment after the first sync leaves the journal that was found, followed by the first
@@ -117,7 +119,8 @@ pub fn run<R: AllocGlobal, S: Source, K: Sink, D: Disk, C: Clock, L: Listener, G
     // whole has its receipts in every image.
     ensures any_moment { (begun : Begins (commanded rc_str_bytes words.now) D.tells (D.reads disk.old) (S.left source.old) (C.ticks clock.old))
         → uses_disk (commanded rc_str_bytes words.now) ≡ true → serves (commanded rc_str_bytes words.now) ≡ None
-        → ((result ≡ Status.Memory) × (disk.new ≡ disk.old)) ⊎ KeepsGrown D.reads D.images D.moment D.since disk.old disk.new (disk_fault result) begun.held.journal (outcome (commanded rc_str_bytes words.now) begun.held begun.input).journal }
+        → IsUnread source.old source.new sink.old sink.new disk.old disk.new clock.old clock.new door.old door.new result
+        ⊎ KeepsGrown D.reads D.images D.moment D.since disk.old disk.new (disk_fault result) begun.held.journal (outcome (commanded rc_str_bytes words.now) begun.held begun.input).journal }
     ensures frames { (begun : Begins (commanded rc_str_bytes words.now) D.tells (D.reads disk.old) (S.left source.old) (C.ticks clock.old))
         → receives (commanded rc_str_bytes words.now) ≡ true
         → WritesBehind (tells_of_opening result) begun.held.journal (outcome (commanded rc_str_bytes words.now) begun.held begun.input).journal (D.reads disk.old) (D.reads disk.new) }
@@ -135,7 +138,8 @@ pub fn run<R: AllocGlobal, S: Source, K: Sink, D: Disk, C: Clock, L: Listener, G
         → D.reads disk.new ≡ made_from the_heading (D.reads disk.old) }
     ensures kept { IsTrue D.tells → uses_disk (commanded rc_str_bytes words.now) ≡ true → ((receives (commanded rc_str_bytes words.now) ≡ false) × (serves (commanded rc_str_bytes words.now) ≡ None)) ⊎ (IsJournalFile (D.reads disk.old) → ⊥) → IsKept (D.reads disk.old) (D.reads disk.new) }
     ensures kept_any_moment { IsTrue D.tells → uses_disk (commanded rc_str_bytes words.now) ≡ true → ((receives (commanded rc_str_bytes words.now) ≡ false) × (serves (commanded rc_str_bytes words.now) ≡ None)) ⊎ (IsJournalFile (D.reads disk.old) → ⊥)
-        → ((result ≡ Status.Memory) × (disk.new ≡ disk.old)) ⊎ AnswersSynced D.reads D.images D.moment D.since disk.old disk.new (disk_fault result) }
+        → IsUnread source.old source.new sink.old sink.new disk.old disk.new clock.old clock.new door.old door.new result
+        ⊎ AnswersSynced D.reads D.images D.moment D.since disk.old disk.new (disk_fault result) }
     ensures unopened { IsTrue D.tells → uses_disk (commanded rc_str_bytes words.now) ≡ true → (IsJournalFile (D.reads disk.old) → ⊥)
         → (source.new ≡ source.old) × (sink.new ≡ sink.old) × (clock.new ≡ clock.old) × (door.new ≡ door.old) }
     ensures unopened_by { is_no_journal result ≡ true → (source.new ≡ source.old) × (sink.new ≡ sink.old) × (clock.new ≡ clock.old) × (door.new ≡ door.old) }
@@ -145,7 +149,8 @@ pub fn run<R: AllocGlobal, S: Source, K: Sink, D: Disk, C: Clock, L: Listener, G
     // answered to the request in which it failed, and ends nothing.
     ensures served { (most : ℕ) (held : Held) (waiting : List (List ℕ)) (asked : List LinkRequests) → serves (commanded rc_str_bytes words.now) ≡ Some most
         → IsTrue D.tells → IsHeld (D.reads disk.old) (C.ticks clock.old) held → L.waiting door.old ≡ Some waiting → AllZip AskSo waiting asked
-        → ServesOffice D.reads D.images D.moment D.since D.faults disk.old disk.new held most waiting asked (L.waiting door.new) (L.served door.old) (L.served door.new) (C.ticks clock.new) result }
+        → IsUnread source.old source.new sink.old sink.new disk.old disk.new clock.old clock.new door.old door.new result
+        ⊎ ServesOffice D.reads D.images D.moment D.since D.faults disk.old disk.new held most waiting asked (L.waiting door.new) (L.served door.old) (L.served door.new) (C.ticks clock.new) result }
     ensures handed_back { IsSome (L.served door.old) → IsSome (L.served door.new) × (L.out door.new ≡ L.out door.old) }
     ensures disk_at_opening { disk_fault result ≡ true → Rose (D.faults disk.old) (D.faults disk.new) × (door.new ≡ door.old) }
 
