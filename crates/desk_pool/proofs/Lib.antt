@@ -1,1 +1,11 @@
--- Lemmas.
+-- Lemmas that the answers cite.
+pub mod CountedNumbers
+pub mod CutLists
+pub mod FilingRoom
+pub mod ItemRoom
+pub mod NothingBetween
+pub mod RoomGrows
+pub mod RoomsSuffice
+pub mod SaleRoom
+pub mod WaitingBehind
+pub mod WaitingInTurn
