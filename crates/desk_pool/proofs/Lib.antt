@@ -7,5 +7,6 @@ pub mod NothingBetween
 pub mod RoomGrows
 pub mod RoomsSuffice
 pub mod SaleRoom
+pub mod StandsSince
 pub mod WaitingBehind
 pub mod WaitingInTurn

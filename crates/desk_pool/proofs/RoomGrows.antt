@@ -13,7 +13,7 @@ use Rattle.desk_pool.proofs.WaitingBehind.{Starts, less_by, more_by, nobody}
 abbrev pub FitWithNotices : List Entry → ℕ → Type 0
 FitWithNotices es room = (m : ℕ) → length es + length (waiting_unnoticed m es) ≤ room
 
--- So many more at most fit behind: of some receipts at least that are asked before.
+-- The entries behind take so much room at most: whichever receipts are asked behind them, there are some of whom it is so that were asked before.
 abbrev pub TakesAtMost : List Entry → List Entry → ℕ → Type 0
 TakesAtMost before es most = (m : ℕ) → (n : ℕ) × (length (before ++ es) + length (waiting_unnoticed m (before ++ es)) ≤ (length before + length (waiting_unnoticed n before)) + most)
 

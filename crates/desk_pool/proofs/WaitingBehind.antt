@@ -108,13 +108,15 @@ less_by i m xs es all noticed =
     let behind : length (filter (λ n. nat_lt n m) (filter q row)) ≡ length (waiting_unnoticed m (xs ++ es)) = ap length (below_is q (m + i) m (omega arith)) ∙ sym (ap length (unnoticed_is m (xs ++ es))) in
     let few = no_more (λ n. nat_lt n m) (filter q row) in
     let apart = others p q earlier row (λ n there is.
-    let waited = is_nobody n (p n) (still_unnoticed nobody n xs es all is) in
-    (waited, ⊎_elim
-    (λ less.
-    let among : In n (waiting_unnoticed i xs) = subst (In n) (sym (unnoticed_is i xs)) (in_filter p (receipts_before i) n (in_range 1 (i - 1) n (of_range 1 (m + i) n there).0 (below n i less)) waited) in
-    absurd (false≢true (sym (neither_noticed n xs es is).1 ∙ noticed n among)))
-    (λ no. no)
-    (cases_Bool (earlier n)))) in
+    let waited = is_nobody n (p n) (still_unnoticed nobody n xs es all is) in (
+      waited,
+      ⊎_elim
+          (λ less.
+          let among : In n (waiting_unnoticed i xs) = subst (In n) (sym (unnoticed_is i xs)) (in_filter p (receipts_before i) n (in_range 1 (i - 1) n (of_range 1 (m + i) n there).0 (below n i less)) waited) in
+          absurd (false≢true (sym (neither_noticed n xs es is).1 ∙ noticed n among)))
+          (λ no. no)
+          (cases_Bool (earlier n)),
+    )) in
     omega arith
   where
     below : (n i : ℕ) → nat_lt n i ≡ true → n < 1 + (i - 1)
