@@ -9,7 +9,7 @@ use Rattle.registry_http.specs.RequestParts.{RequestParts}
 use Rattle.registry_http.specs.declared.routes.Route.TheVariants.{Post}
 use Rattle.connections.specs.Answers.{answer}
 use Rattle.connections.specs.Asking.{Asked, AskedFor, NoRoute, WrongMethod, Asks}
-use Rattle.connections.specs.Fates.{Fate, answer_by}
+use Rattle.connections.specs.Fates.{Fate, answer_by, has_disk_failed}
 use Rattle.connections.specs.Holding.{Begins}
 use Rattle.connections.specs.Replies.{ReplyParts}
 
@@ -36,7 +36,7 @@ may_call_disk WrongMethod body = false
 abbrev pub AllBegin : List Receipt → (List ℕ → Type 0) → Type 0
 AllBegin front images = (file : List ℕ) → images file → Begins front file
 
--- A request was answered by what it asks for and by what became of it; that is what is held behind it. The disk is called only where it may be. At each moment since, a stop leaves what it might have left before, or the journal that was held, with the receipt of this request or without it. What every image began with each begins with still, and with all that a text was read of or an item was received into.
+-- A request was answered by what it asks for and by what became of it; that is what is held behind it. The disk is called only where it may be, and no call of it failed where it is not. At each moment since, a stop leaves what it might have left before, or the journal that was held, with the receipt of this request or without it. What every image began with each begins with still, and with all that a text was read of or an item was received into.
 pub record AnswersRequest {D : Type 0} (images : D → List ℕ → Type 0) (moment : D → ℕ) (since : D → ℕ → List ℕ → Type 0) (old new : D) (request : RequestParts) (held : Held) (reply : ReplyParts) (HoldsNow : Held → Type 0) : Type 0 where
   pub asked : Asked
   pub fate : Fate
@@ -44,6 +44,7 @@ pub record AnswersRequest {D : Type 0} (images : D → List ℕ → Type 0) (mom
   pub reply_is : reply ≡ (answer_by fate held (answer held request.body asked)).reply
   pub holds : HoldsNow (answer_by fate held (answer held request.body asked)).held
   pub uncalled : may_call_disk asked request.body ≡ false → new ≡ old
+  pub unfailed : may_call_disk asked request.body ≡ false → has_disk_failed fate ≡ false
   pub left : LeavesOnly moment since old new (λ file. images old file ⊎ GrownFrom held.journal (answer held request.body asked).held.journal file)
   pub kept : (front : List Receipt) → AllBegin front (images old) → AllBegin front (images new)
   pub told : is_from_disk reply ≡ true → AllBegin (answer_by fate held (answer held request.body asked)).held.journal (images new)

@@ -1,12 +1,13 @@
 //! The clerk, who answers requests and keeps the open book between them.
-ghost use Rattle.std.specs.Prelude.{◌≡◌, ◌≤◌, ◌==◌, ℕ, List, Option, Some, None, length, IfOk, IfErr, IfSome, OnErr, OnOk, IsTrue, is_ok, true, false};
+ghost use Rattle.std.specs.Prelude.{◌≡◌, ◌≤◌, ◌==◌, ◌+◌, ℕ, List, Option, Some, None, length, IfOk, IfErr, IfSome, IsSome, OnErr, OnOk, IsTrue, is_ok, true, false};
 ghost use Rattle.gb_base.specs.DayMinute.{DayMinute};
 ghost use Rattle.gb_outside.specs.Faults.{Counts};
+ghost use Rattle.gb_outside.specs.Images.{Only, Torn};
 ghost use Rattle.act_json.specs.Lines.{item_of, longest_line};
 ghost use Rattle.act_model.specs.WellFormed.{well_formed};
 ghost use Rattle.act_model.specs.declared.receipts.Receipt.{Receipt};
 ghost use Rattle.intake.specs.Requests.{Held};
-ghost use Rattle.journal_disk.specs.Layout.{the_heading, made_from, IsUnmade};
+ghost use Rattle.journal_disk.specs.Layout.{first_gate, the_heading, made_from, IsUnmade};
 ghost use Rattle.journal_disk.specs.Opening.{AnswersSynced, IsKept};
 ghost use Rattle.receipt_journal.specs.Opening.{BookRefuses, book_opening_disk_failed};
 ghost use Rattle.receipt_journal.specs.Standing.{Stands, StandsForJournal};
@@ -58,13 +59,16 @@ impl Clerk {
 
     /// A clerk with the book of a disk open. Nothing is settled yet.
     pub fn open<D: Disk>(alloc: Global, disk: &mut D) -> Result<Clerk, BookFault>
+        ensures opened { IfOk result (λ clerk. IsSome (working clerk)) }
         ensures holds { IsTrue D.tells → (held : Held) → StandsForJournal (D.reads disk.old) held.journal
             → IfOk result (λ clerk. Holds clerk (D.reads disk.new) (D.images disk.new) (Some held.ticks) held) }
         ensures stands_open { IsTrue D.tells → IfOk result (λ clerk. StandsOpen clerk (D.reads disk.new) (D.images disk.new)) }
         ensures journal { IsTrue D.tells → OnOk result ((journal : List Receipt) × StandsForJournal (D.reads disk.old) journal) }
         ensures refused { IsTrue D.tells → IfErr result (BookRefuses (D.reads disk.old)) }
         ensures made { IsTrue D.tells → OnOk result (IsUnmade (D.reads disk.old) → D.reads disk.new ≡ made_from the_heading (D.reads disk.old)) }
+        ensures settled { OnOk result (IsTrue D.tells → Only (D.reads disk.new) (D.images disk.new)) }
         ensures kept { IsTrue D.tells → IsKept (D.reads disk.old) (D.reads disk.new) }
+        ensures torn { IsTrue D.tells → Torn 0 (first_gate the_heading + 1) (D.reads disk.old) (D.reads disk.new) }
         ensures any_moment { IsTrue D.tells → AnswersSynced D.reads D.images D.moment D.since disk.old disk.new (book_opening_disk_failed result) }
         ensures cause { Counts (D.faults disk.old) (D.faults disk.new) (book_opening_disk_failed result) }
     {
@@ -162,7 +166,7 @@ impl Clerk {
             → EndsBy D.reads D.images D.moment D.since disk.old disk.new held (body_answer held (item_of body.now)) result self.new (C.ticks clock.new) }
         ensures serves { Serves D.tells self.old self.new (D.reads disk.old) (D.reads disk.new) (D.images disk.new) (D.faults disk.old) (D.faults disk.new) result }
         ensures apart { is_refusal result ≡ true → (self.new ≡ self.old) × (disk.new ≡ disk.old) × (clock.new ≡ clock.old) }
-        ensures uncalled { is_ok (item_of body.now) ≡ false → disk.new ≡ disk.old }
+        ensures uncalled { is_ok (item_of body.now) ≡ false → (disk.new ≡ disk.old) × ((result.status == 503) ≡ false) }
     {
         let (sender, reference, item) = match read_item(alloc, body) {
             Ok(found) => found,
@@ -187,7 +191,7 @@ impl Clerk {
             → EndsBy D.reads D.images D.moment D.since disk.old disk.new held (answer held body.now (AskedFor route)) result self.new (C.ticks clock.new) }
         ensures serves { Serves D.tells self.old self.new (D.reads disk.old) (D.reads disk.new) (D.images disk.new) (D.faults disk.old) (D.faults disk.new) result }
         ensures apart { is_refusal result ≡ true → (self.new ≡ self.old) × (disk.new ≡ disk.old) × (clock.new ≡ clock.old) }
-        ensures uncalled { may_call_disk (AskedFor route) body.now ≡ false → disk.new ≡ disk.old }
+        ensures uncalled { may_call_disk (AskedFor route) body.now ≡ false → (disk.new ≡ disk.old) × ((result.status == 503) ≡ false) }
     {
         match &route {
             Route::Post => self.post(alloc, disk, clock, body),

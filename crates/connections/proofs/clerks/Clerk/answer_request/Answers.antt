@@ -18,7 +18,7 @@ returns-in-Err-clause-answers g c = λ tells held holds.
     (λ is. asks_other c.args.request.now c.path.result.now c.method.result.now c.path.ensures c.method.ensures (c.in-Err.ensures.wrong_method is)) in
     answers g.D.Disk.reads g.D.Disk.images g.D.Disk.moment g.D.Disk.since c.args.disk.now c.args.disk.now (g.met.D.Disk.reads_is_image c.args.disk.now tells)
     (λ t file le image. g.met.D.Disk.counts_now c.args.disk.now t file tells le image)
-    c.args.request.now held c.unrouted.result c.args.self.now (g.C.Clock.ticks c.args.clock.now) ends.asked ends.asks (λ none. refl) holds.file ends.end
+    c.args.request.now held c.unrouted.result c.args.self.now (g.C.Clock.ticks c.args.clock.now) ends.asked ends.asks (λ none. (refl, (apart_by_route c.in-Err.fault c.unrouted.result c.unrouted.ensures).no_disk)) holds.file ends.end
 
 served : (g : _) (c : goal.After-unrouted g) → Serves g.D.Disk.tells c.args.self.now c.args.self.now (g.D.Disk.reads c.args.disk.now) (g.D.Disk.reads c.args.disk.now) (g.D.Disk.images c.args.disk.now)
     (g.D.Disk.faults c.args.disk.now) (g.D.Disk.faults c.args.disk.now) c.unrouted.result

@@ -1,4 +1,4 @@
-use Rattle.std.proofs.Common.{◌≡◌, ◌∙◌, true, false, ap, is_ok, sym, subst}
+use Rattle.std.proofs.Common.{◌≡◌, ◌∙◌, true, false, ap, is_ok, refl, sym, subst}
 use Rattle.act_json.specs.Lines.{item_of}
 use Rattle.connections.specs.Answers.{body_answer}
 use Rattle.connections.specs.inner.Ends.{EndsBy}
@@ -20,6 +20,9 @@ pub returns-clause-ends : goal.returns-clause-ends
 returns-clause-ends g c = λ tells held holds.
     subst (λ read. EndsBy g.D.Disk.reads g.D.Disk.images g.D.Disk.moment g.D.Disk.since c.args.disk.now c.post_item.new.disk held (body_answer held read) c.post_item.result c.post_item.new.self (g.C.Clock.ticks c.post_item.new.clock))
     (sym c.in-Ok.ensures.exact) (c.post_item.ensures.ends tells held holds)
+
+pub returns-in-Err-clause-uncalled : goal.returns-in-Err-clause-uncalled
+returns-in-Err-clause-uncalled g c = λ none. (refl, (apart_by_body c.in-Err.fault c.malformed.result c.malformed.ensures).no_disk)
 
 pub returns-clause-uncalled : goal.returns-clause-uncalled
 returns-clause-uncalled g c = λ none. let never : true ≡ false = sym (ap is_ok c.in-Ok.ensures.exact) ∙ none in absurd cc

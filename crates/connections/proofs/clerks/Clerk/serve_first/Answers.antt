@@ -30,6 +30,6 @@ returns-clause-round g c = λ tells held waiting asked holds waits ask.
     (g.L.Link.Link.left c.in-Open.link) (g.L.Link.Link.written c.in-Open.link) (g.L.Link.Link.written c.serve_link-served.new.link) (g.L.Link.Link.faults c.in-Open.link)
     (g.L.Link.Link.faults c.serve_link-served.new.link)
     (λ h. Holds c.serve_link-served.new.self (g.D.Disk.reads c.serve_link-served.new.disk) (g.D.Disk.images c.serve_link-served.new.disk) (g.C.Clock.ticks c.serve_link-served.new.clock) h) c.serve_link-served.result
-    c.requires.some_left ask waits c.in-Open.ensures.links.0 c.done.ensures.waiting c.accept.ensures.served c.in-Open.ensures.links.1 c.in-Open.ensures.links.2 c.serve_link-served.ensures.cause c.done.ensures.served
+    c.requires.some_left c.serve_link-served.ensures.few ask waits c.in-Open.ensures.links.0 c.done.ensures.waiting c.accept.ensures.served c.in-Open.ensures.links.1 c.in-Open.ensures.links.2 c.serve_link-served.ensures.cause c.done.ensures.served
     (λ input requests end left are. c.serve_link-served.ensures.serves tells held input requests end holds left are))
     c.behind.ensures
