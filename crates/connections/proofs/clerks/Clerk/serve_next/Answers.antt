@@ -9,6 +9,7 @@ use Rattle.connections.specs.Serving.{ServesLink}
 use Rattle.connections.specs.Turns.{End, last_turn, turns}
 use Rattle.connections.specs.declared.serving.Ended.TheVariants.{Finished}
 use Rattle.connections.specs.inner.Rounds.{Meets}
+use Rattle.connections.proofs.NoBook.{none_still}
 use Rattle.connections.proofs.LinkEnds.{cut_off, memory_ends, none_ends, refusal_ends, turn_of}
 use Rattle.connections.proofs.LinkTurns.{comes_next}
 use Rattle.connections.proofs.ToldLinks.{same_told}
@@ -88,3 +89,25 @@ returns-in-LinkFault-clause-told g c = λ told. same_told (g.L.Link.written c.ar
 
 pub returns-in-Memory-clause-told : goal.returns-in-Memory-clause-told
 returns-in-Memory-clause-told g c = λ told. c.close-in-Memory.ensures.told (same_told (g.L.Link.written c.args.link.now) (g.L.Link.written c.next_request.new.link) c.next_request.ensures.written told)
+
+-- ---- no request, so no call of the disk
+
+pub returns-in-End-clause-no_book : goal.returns-in-End-clause-no_book
+returns-in-End-clause-no_book g c = λ tells was none.
+    none_still g.D.Disk.reads g.D.Disk.images g.D.Disk.moment g.D.Disk.since c.args.disk.now c.args.self.now (λ file left. g.met.D.Disk.only_now c.args.disk.now file tells left) was
+
+pub returns-in-HeadFault-clause-no_book : goal.returns-in-HeadFault-clause-no_book
+returns-in-HeadFault-clause-no_book g c = λ tells was none.
+    none_still g.D.Disk.reads g.D.Disk.images g.D.Disk.moment g.D.Disk.since c.args.disk.now c.args.self.now (λ file left. g.met.D.Disk.only_now c.args.disk.now file tells left) was
+
+pub returns-in-BodyTooLong-clause-no_book : goal.returns-in-BodyTooLong-clause-no_book
+returns-in-BodyTooLong-clause-no_book g c = λ tells was none.
+    none_still g.D.Disk.reads g.D.Disk.images g.D.Disk.moment g.D.Disk.since c.args.disk.now c.args.self.now (λ file left. g.met.D.Disk.only_now c.args.disk.now file tells left) was
+
+pub returns-in-LinkFault-clause-no_book : goal.returns-in-LinkFault-clause-no_book
+returns-in-LinkFault-clause-no_book g c = λ tells was none.
+    none_still g.D.Disk.reads g.D.Disk.images g.D.Disk.moment g.D.Disk.since c.args.disk.now c.args.self.now (λ file left. g.met.D.Disk.only_now c.args.disk.now file tells left) was
+
+pub returns-in-Memory-clause-no_book : goal.returns-in-Memory-clause-no_book
+returns-in-Memory-clause-no_book g c = λ tells was none.
+    none_still g.D.Disk.reads g.D.Disk.images g.D.Disk.moment g.D.Disk.since c.args.disk.now c.args.self.now (λ file left. g.met.D.Disk.only_now c.args.disk.now file tells left) was
