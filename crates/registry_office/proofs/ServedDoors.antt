@@ -164,5 +164,7 @@ link_held images moment since faults old new held w v turns served at_hand reads
   disk = s.disk;
   finished = s.finished;
   unfinished = s.unfinished;
+  cut_off = s.cut_off;
+  unwritten = s.unwritten;
   answered = s.answered;
 }

@@ -3,6 +3,7 @@
 ghost use Rattle.std.specs.Prelude.{◌≡◌, ◌≤◌, ℕ, List, Some, IsSome, IsTrue, true, false};
 ghost use Rattle.std.specs.List.{AllZip};
 ghost use Rattle.gb_outside.specs.Faults.{Counts, Rose};
+ghost use Rattle.gb_outside.specs.Images.{LeavesOnly};
 ghost use Rattle.journal_disk.specs.Opening.{AnswersSynced, IsKept};
 ghost use Rattle.receipt_journal.specs.Standing.{StandsForJournal};
 ghost use Rattle.intake.specs.Requests.{Held};
@@ -10,6 +11,7 @@ ghost use Rattle.registry_http.specs.RequestLists.{AreRequests};
 ghost use Rattle.registry_http.specs.RequestParts.{RequestParts};
 ghost use Rattle.registry_http.specs.Requests.{AtFront};
 ghost use Rattle.connections.specs.Doors.{AskSo, LinkRequests};
+ghost use Rattle.connections.specs.Holding.{StandsForNone};
 ghost use Rattle.connections.specs.Serving.{ServesLink, is_link_fault};
 ghost use Rattle.connections.specs.Turns.{turns};
 ghost use Rattle.registry_office.specs.Disks.{FindsBy, IsJournalFile};
@@ -22,8 +24,9 @@ use connections::{Clerk, DoorEnd, Served};
 use gb_outside::{Clock, DeskGate, Disk, Link, Listener};
 
 /// Serves one connection, up to `left` replies: its requests are answered one after another, each
-/// from the journal that the one before left. The disk is opened at the first request that needs it,
-/// and settled at so many desks, 1 to 64, of which nothing that is written depends.
+/// from the journal that the one before left. The disk is opened at the first request that needs it;
+/// a file that stands for no journal stays as it is. It settles at so many desks, 1 to 64, on whose
+/// number nothing that is written depends.
 pub fn serve_connection<R: AllocGlobal, L: Link, D: Disk, C: Clock, G: DeskGate>(
     rt: &R,
     link: &mut L,
@@ -38,6 +41,7 @@ pub fn serve_connection<R: AllocGlobal, L: Link, D: Disk, C: Clock, G: DeskGate>
         → IsHeld (D.reads disk.old) (C.ticks clock.old) held → L.left link.old ≡ Some input → AreRequests input requests end
         → ServesLink D.images D.moment D.since D.faults disk.old disk.new held (L.written link.old) (L.written link.new) (turns left requests end) result
         (IsHeld (D.reads disk.new) (C.ticks clock.new)) }
+    ensures kept { IsTrue D.tells → StandsForNone (D.reads disk.old) → (D.reads disk.new ≡ D.reads disk.old) × LeavesOnly D.moment D.since disk.old disk.new (D.images disk.old) }
     ensures few { result.replies ≤ left }
     ensures cause { Counts (L.faults link.old) (L.faults link.new) (is_link_fault result.ended) }
 {

@@ -1,6 +1,6 @@
-use Rattle.std.proofs.Common.{Option, subst, sym}
+use Rattle.std.proofs.Common.{Option, ap, subst, sym}
 use Rattle.settled_book.specs.SettledBookState.{SettledBookState}
-use Rattle.connections.specs.Holding.{Holds}
+use Rattle.connections.specs.Holding.{Holds, working}
 use Rattle.connections.specs.Turns.{turns}
 use Rattle.registry_office.proofs.ServedDoors.{link_held}
 use Rattle.registry_office.proofs.serving.serve_connection.Goals as goal
@@ -12,3 +12,7 @@ returns-clause-serves g c = λ tells held input requests end is left asks.
     (c.serve_link.ensures.serves tells held input requests end
     (subst (λ (h : Option SettledBookState). Holds h (g.D.Disk.reads c.args.disk.now) (g.D.Disk.images c.args.disk.now) (g.C.Clock.ticks c.args.clock.now) held) (sym c.new-clerk.ensures)
     (record { file = is.stands; clock = is.clock; book = tt })) left asks)
+
+pub returns-clause-kept : goal.returns-clause-kept
+returns-clause-kept g c = λ tells stands_for_none.
+    let none = c.serve_link.ensures.no_book tells (ap working c.new-clerk.ensures) stands_for_none in (none.same, none.left)
