@@ -10,8 +10,10 @@ import contextlib
 import http.client
 import os
 import random
+import re
 import signal
 import socket
+import struct
 import subprocess
 import tempfile
 import time
@@ -19,9 +21,10 @@ import time
 import checks
 
 HOST, PORT = "127.0.0.1", 7117
-KILLS = 20
-CONNECTIONS = 300
-REQUESTS = 3000
+KILLS = 50
+CONNECTIONS = 1000
+REQUESTS = 10_000
+BESIDE = 50
 
 
 def is_free():
@@ -90,6 +93,16 @@ def said(sent, pieces=0):
         return all_of(link)
 
 
+def beside(sent):
+    """What the program writes to connections that all send this before one of them is read."""
+    with contextlib.ExitStack() as opened:
+        links = [opened.enter_context(connected()) for _ in range(BESIDE)]
+        for link in links:
+            link.sendall(sent)
+            link.shutdown(socket.SHUT_WR)
+        return [all_of(link) for link in links]
+
+
 def extract(folio):
     return f"folio {folio}\ninventory district 1 parcel {folio}/0 area 500\nowners 10\n".encode()
 
@@ -121,8 +134,24 @@ def check_requests(look, folder):
         look.same("a body that is no item", said(head("POST", "/receipts", b'{"reference":1}')), body)
         other = checks.plain(1).replace('"area":500', '"area":501').encode()
         look.same("another item under the number", said(head("POST", "/receipts", other)), reply(409, "Conflict", b"differs 1\n"))
+        check_routes(look)
         check_endings(look)
         look.same("the program still serves", child.poll(), None)
+
+
+def status_of(reply):
+    return reply.split(b" ")[1].decode()
+
+
+def check_routes(look):
+    """Each route of the page has one of its statuses, and another method of its path is refused."""
+    for route, statuses in checks.routes_of_page():
+        method, path = route.split(" ")
+        for number in ("1", "9"):
+            asked = re.sub(r"{\w}", number, path)
+            status = status_of(said(head(method, asked)))
+            look.same(f"{method} {asked} is answered as the page says", status in statuses and status != "405", True)
+            look.same(f"PUT {asked}", status_of(said(head("PUT", asked))), "405")
 
 
 def check_endings(look):
@@ -143,6 +172,15 @@ def check_endings(look):
     look.same("a connection that is to be closed", said(head("GET", "/x", more="Connection: Close\r\n") * 2), none)
     look.same("half a request", said(head("POST", "/receipts", b"x" * 100)[:-1]), b"")
     look.same("no byte", said(b""), b"")
+    browser = "Host: 127.0.0.1:7117\r\nUser-Agent: Mozilla/5.0\r\nAccept: text/html,*/*;q=0.8\r\nConnection: keep-alive\r\n"
+    look.same("a browser's request", said(head("GET", "/x", more=browser)), none)
+    sent = head("POST", "/receipts", more="Content-Length: 65537\r\n") + b"x" * 400_000
+    look.same("a refusal while the peer still sends", said(sent), long)
+    with connected() as gone:
+        gone.sendall(head("GET", "/x") * 100)
+        gone.setsockopt(socket.SOL_SOCKET, socket.SO_LINGER, struct.pack("ii", 1, 0))
+    look.same("a request behind a peer that went away", said(head("GET", "/x")), none)
+    look.same("connections that wait beside one another", beside(head("GET", "/x")), [none] * BESIDE)
     with connected() as silent:
         start = time.monotonic()
         look.same("a request behind a connection that says nothing", said(head("GET", "/x")), none)
