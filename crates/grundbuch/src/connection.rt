@@ -1,5 +1,7 @@
 //! A connection over TCP as the office's link.
 //! Why so: docs/DECISIONS.md, "The standard streams repeat some lines of each other".
+//! Why so: docs/DECISIONS.md, "A connection waits ten seconds for its peer".
+//! Why so: docs/DECISIONS.md, "A connection that is let go is read to its end".
 ghost use Rattle.std.specs.Prelude.{◌≡◌};
 
 use crate::faults::counted;

@@ -1,7 +1,4 @@
 //! The top call as it serves links that come through a door.
-ghost use Rattle.std.specs.Prelude.{All, IfOk};
-ghost use Rattle.gb_outside.specs.InMemory.{IsUnused};
-
 use crate::runs::disk_of;
 use gb_base::{Day, NoMemory, Stamp};
 use gb_outside::{ListClock, MemDisk, MemLink, MemListener, MemSource, OpenGate, SureSink};
@@ -30,17 +27,16 @@ const UNAVAILABLE: &[u8] = b"HTTP/1.1 503 Service Unavailable\r\nContent-Type: t
 /// more: two writes with a sync behind each.
 const MADE: &[u8] = b"\x47GBJOURN1\0";
 
-/// Two links, which give these bytes.
-fn links<'a>(
+/// A door with two links, which give these bytes; the numbered accepts fail.
+fn door_of<'a>(
     alloc: Global,
-    first: &'a [u8],
-    second: &'a [u8],
-) -> Result<Vec<MemLink<'a>>, NoMemory>
-    ensures { IfOk result (λ links. All IsUnused links.items) }
-{
-    let first = MemLink::new(alloc, first, 4_096, &[])?;
-    let second = MemLink::new(alloc, second, 4_096, &[])?;
-    vec![in alloc; first, second]
+    sent: [&'a [u8]; 2],
+    fail: &'a [u32],
+) -> Result<MemListener<'a>, Fail> {
+    let mut links = Vec::new(alloc);
+    links.push(MemLink::new(alloc, sent[0], 4_096, &[])?)?;
+    links.push(MemLink::new(alloc, sent[1], 4_096, &[])?)?;
+    Ok(MemListener::new(alloc, links, fail)?)
 }
 
 /// Serves what comes through the door.
@@ -80,7 +76,7 @@ struct Asked<'a> {
 }
 
 /// Two links that ask this, of which nothing fails.
-const fn asked<'a>(sent: [&'a [u8]; 2], requests: &'a str) -> Asked<'a> {
+const fn unfailing<'a>(sent: [&'a [u8]; 2], requests: &'a str) -> Asked<'a> {
     Asked {
         file: MADE,
         sent,
@@ -99,8 +95,7 @@ impl Asked<'_> {
         wanted: &[&[u8]],
     ) -> Result<(), Fail> {
         let mut disk = disk_of(rt, self.file, self.failing_calls)?;
-        let links = links(rt.alloc(), self.sent[0], self.sent[1])?;
-        let mut door = MemListener::new(rt.alloc(), links, self.failing_accepts)?;
+        let mut door = door_of(rt.alloc(), self.sent, self.failing_accepts)?;
         let ended = served(rt, &mut disk, &mut door, self.requests)?;
         assert_eq!(rt; ended, status);
         let links = door.served();
@@ -114,19 +109,19 @@ impl Asked<'_> {
 
 #[test]
 fn a_link_is_served_from_what_the_one_before_left(rt: HostRuntime) -> Result<(), Fail> {
-    asked([POST, READ], "9").ends(&rt, Status::Ok, &[ACCEPTED, EXTRACT])
+    unfailing([POST, READ], "9").ends(&rt, Status::Ok, &[ACCEPTED, EXTRACT])
 }
 
 #[test]
 fn no_link_is_taken_once_all_replies_are_written(rt: HostRuntime) -> Result<(), Fail> {
-    asked([READ, READ], "1").ends(&rt, Status::Ok, &[NOT_FOUND])
+    unfailing([READ, READ], "1").ends(&rt, Status::Ok, &[NOT_FOUND])
 }
 
 #[test]
 fn a_door_that_fails_ends_the_run(rt: HostRuntime) -> Result<(), Fail> {
     let second = Asked {
         failing_accepts: &[2],
-        ..asked([READ, READ], "9")
+        ..unfailing([READ, READ], "9")
     };
     second.ends(&rt, Status::DoorFault, &[NOT_FOUND])
 }
@@ -135,7 +130,7 @@ fn a_door_that_fails_ends_the_run(rt: HostRuntime) -> Result<(), Fail> {
 fn a_file_that_is_no_journal_is_met_before_the_first_link(rt: HostRuntime) -> Result<(), Fail> {
     let foreign = Asked {
         file: b"hello world",
-        ..asked([READ, READ], "9")
+        ..unfailing([READ, READ], "9")
     };
     foreign.ends(&rt, Status::NotJournal, &[])
 }
@@ -149,7 +144,7 @@ fn receives<R: AllocGlobal + Abort>(
 ) -> Result<(), Fail> {
     let failing = Asked {
         failing_calls: &[failing],
-        ..asked([POST, POST], "9")
+        ..unfailing([POST, POST], "9")
     };
     failing.ends(rt, status, wanted)
 }
