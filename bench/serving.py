@@ -2,10 +2,10 @@
 """Measures `serve` over a journal of many receipts, beside a server of python's standard library that
 answers fixed bytes: requests a second, and the slowest of a thousand.
 
-serving.py LINES [--requests N]
+serving.py [--receipts N] [--requests N]
 
-LINES has stamped lines, one a receipt, as `settle --lines` reads them; the journal's file is made of
-them. Folio 1 is read. Each kind of request is made N times, 1,000 where nothing is said, over one
+The journal has the receipts of `generate.py sample`, 190,000 where nothing is said; what is posted
+comes on top. Folio 1 is read. Each kind of request is made N times, 1,000 where nothing is said, over one
 connection:
 
     extract     GET /folios/1, with nothing written in between
@@ -29,6 +29,7 @@ ROOT = pathlib.Path(__file__).resolve().parent.parent
 sys.path.insert(0, str(ROOT / "scripts"))
 
 import checks  # noqa: E402
+import generate  # noqa: E402
 import spelling  # noqa: E402
 
 PORT = 7117
@@ -115,23 +116,21 @@ def measure(kind, client, requests, wanted):
     said(kind, times)
 
 
-def make_journal(lines, folder):
-    with open(lines, encoding="ascii") as file:
-        bodies = [spelling.receipt(json.loads(line)) for line in file]
+def make_journal(receipts, folder):
+    bodies = [spelling.receipt(json.loads(line)) for line in generate.sample(receipts, None)]
     (folder / checks.JOURNAL).write_bytes(checks.journal(bodies))
-    return len(bodies)
 
 
 def main():
     words = argparse.ArgumentParser(description=__doc__, formatter_class=argparse.RawDescriptionHelpFormatter)
-    words.add_argument("lines")
+    words.add_argument("--receipts", type=int, default=190_000)
     words.add_argument("--requests", type=int, default=1000)
     given = words.parse_args()
     count = given.requests
     with tempfile.TemporaryDirectory() as name:
         folder = pathlib.Path(name)
-        receipts = make_journal(given.lines, folder)
-        print(f"{receipts:,} receipts, {count:,} requests of each kind", flush=True)
+        make_journal(given.receipts, folder)
+        print(f"{given.receipts:,} receipts, {count:,} requests of each kind", flush=True)
         child = subprocess.Popen([checks.PROGRAM, "serve", "--desks", "1", "--requests", "1000000"], cwd=folder)
         try:
             client = Client(PORT)
