@@ -20,8 +20,10 @@ const PATIENCE: u64 = 10;
 /// go.
 const LAST_PATIENCE: u64 = 250;
 
-/// How often such a read is made at most, and for how many bytes.
+/// How often such a read is made at most.
 const LAST_READS: u32 = 64;
+
+/// For how many bytes such a read asks.
 const LAST_BYTES: usize = 16_384;
 
 /// A connection, or any other stream, as the office's link. It does not tell the office its bytes,
@@ -50,7 +52,9 @@ impl<S: Read + Write + OpenStream + Drop> Connection<S> {
     /// still sending.
     pub fn let_go(mut self) {
         let _ = self.stream.shutdown(Shutdown::Write);
-        let _ = self.stream.set_read_timeout(Some(Duration::from_millis(LAST_PATIENCE)));
+        let _ = self
+            .stream
+            .set_read_timeout(Some(Duration::from_millis(LAST_PATIENCE)));
         let mut rest = [0; LAST_BYTES];
         for _ in 0..LAST_READS {
             match read_some(&mut self.stream, &mut rest) {

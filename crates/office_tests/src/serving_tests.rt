@@ -9,19 +9,25 @@ use std::rc::RcStr;
 use std::test::Fail;
 
 /// A request that the opening of folio 7 be received.
-const POST: &[u8] = b"POST /receipts HTTP/1.1\r\nContent-Length: 246\r\n\r\n{\"sender\":1,\"reference\":1,\"item\":{\"kind\":\"filing\",\"applicant\":10,\"conditional\":false,\"acts\":[{\"act\":\"open\",\"folio\":7,\"district\":12,\"parcel\":345,\"sub\":6,\"area\":800,\"owners\":[10]}],\"docs\":[{\"doc\":\"consent\",\"act\":1,\"person\":10,\"form\":\"certified\"}]}}";
+const POST: &[u8] =
+    b"POST /receipts HTTP/1.1\r\nContent-Length: 246\r\n\r\n{\"sender\":1,\"reference\":1,\"item\":{\"kind\":\"filing\",\"applicant\":10,\"conditional\":false,\"acts\":[{\"act\":\"open\",\"folio\":7,\"district\":12,\"parcel\":345,\"sub\":6,\"area\":800,\"owners\":[10]}],\"docs\":[{\"doc\":\"consent\",\"act\":1,\"person\":10,\"form\":\"certified\"}]}}";
 
 const READ: &[u8] = b"GET /folios/7 HTTP/1.1\r\n\r\n";
 
-const ACCEPTED: &[u8] = b"HTTP/1.1 201 Created\r\nContent-Type: text/plain\r\nContent-Length: 11\r\n\r\naccepted 1\n";
+const ACCEPTED: &[u8] =
+    b"HTTP/1.1 201 Created\r\nContent-Type: text/plain\r\nContent-Length: 11\r\n\r\naccepted 1\n";
 
-const REPEATED: &[u8] = b"HTTP/1.1 200 OK\r\nContent-Type: text/plain\r\nContent-Length: 11\r\n\r\nrepeated 1\n";
+const REPEATED: &[u8] =
+    b"HTTP/1.1 200 OK\r\nContent-Type: text/plain\r\nContent-Length: 11\r\n\r\nrepeated 1\n";
 
-const EXTRACT: &[u8] = b"HTTP/1.1 200 OK\r\nContent-Type: text/plain\r\nContent-Length: 62\r\n\r\nfolio 7\ninventory district 12 parcel 345/6 area 800\nowners 10\n";
+const EXTRACT: &[u8] =
+    b"HTTP/1.1 200 OK\r\nContent-Type: text/plain\r\nContent-Length: 62\r\n\r\nfolio 7\ninventory district 12 parcel 345/6 area 800\nowners 10\n";
 
-const NOT_FOUND: &[u8] = b"HTTP/1.1 404 Not Found\r\nContent-Type: text/plain\r\nContent-Length: 10\r\n\r\nnot found\n";
+const NOT_FOUND: &[u8] =
+    b"HTTP/1.1 404 Not Found\r\nContent-Type: text/plain\r\nContent-Length: 10\r\n\r\nnot found\n";
 
-const UNAVAILABLE: &[u8] = b"HTTP/1.1 503 Service Unavailable\r\nContent-Type: text/plain\r\nContent-Length: 20\r\n\r\nservice unavailable\n";
+const UNAVAILABLE: &[u8] =
+    b"HTTP/1.1 503 Service Unavailable\r\nContent-Type: text/plain\r\nContent-Length: 20\r\n\r\nservice unavailable\n";
 
 /// A file that was made, without a receipt. An opening of it makes four calls, and a receipt four
 /// more: two writes with a sync behind each.

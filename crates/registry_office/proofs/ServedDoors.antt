@@ -76,7 +76,11 @@ module _ {D : Type 0} (reads : D → List ℕ) (images : D → List ℕ → Type
       where
         by : (e : DoorEnd) → Door mid waits served at_hand e → Office waits served (status_of_door e)
         by door.Done d = record {
-          links = d.links; are = d.serves.are; few = d.few; waits = d.serves.waits; told = d.serves.told;
+          links = d.links;
+          are = d.serves.are;
+          few = d.few;
+          waits = d.serves.waits;
+          told = d.serves.told;
           holds = record { stands = d.serves.holds.file; clock = d.serves.holds.clock };
           left = left_on old mid new held _ counts stands first d.serves.disk.left;
           kept = d.serves.disk.told;
@@ -88,7 +92,11 @@ module _ {D : Type 0} (reads : D → List ℕ) (images : D → List ℕ → Type
           answered = λ never. d.answered (rose_on (faults old) (faults mid) (faults new) quiet never);
         }
         by door.DoorFault d = record {
-          links = d.links; are = d.serves.are; few = d.few; waits = d.serves.waits; told = d.serves.told;
+          links = d.links;
+          are = d.serves.are;
+          few = d.few;
+          waits = d.serves.waits;
+          told = d.serves.told;
           holds = record { stands = d.serves.holds.file; clock = d.serves.holds.clock };
           left = left_on old mid new held _ counts stands first d.serves.disk.left;
           kept = d.serves.disk.told;
@@ -100,7 +108,11 @@ module _ {D : Type 0} (reads : D → List ℕ) (images : D → List ℕ → Type
           answered = λ never. d.answered (rose_on (faults old) (faults mid) (faults new) quiet never);
         }
         by door.Memory d = record {
-          links = d.links; are = d.serves.are; few = d.few; waits = d.serves.waits; told = d.serves.told;
+          links = d.links;
+          are = d.serves.are;
+          few = d.few;
+          waits = d.serves.waits;
+          told = d.serves.told;
           holds = record { stands = d.serves.holds.file; clock = d.serves.holds.clock };
           left = left_on old mid new held _ counts stands first d.serves.disk.left;
           kept = d.serves.disk.told;
@@ -132,24 +144,68 @@ module _ {D : Type 0} (reads : D → List ℕ) (images : D → List ℕ → Type
         by : (g : BookFault) → AnswersSynced reads images moment since old new (book_opening_disk_failed {A = BookState} (Err g)) → Counts (faults old) (faults new) (book_opening_disk_failed {A = BookState} (Err g))
             → Office waits served_old (status_of_fault g)
         by fault.Disk answers counts = record {
-          links = []; are = tt; few = omega arith; waits = stay; told = none_told served_old; holds = holds;
+          links = [];
+          are = tt;
+          few = omega arith;
+          waits = stay;
+          told = none_told served_old;
+          holds = holds;
           left = ⊎_elim (λ none. inl none) (λ first. inr (first_left first)) answers;
-          kept = tt; disk = counts; journal = refl; done = λ ok. absurd cc; memory = λ lacks. absurd lacks; wanting = λ is. inl refl; answered = λ never none. refl;
+          kept = tt;
+          disk = counts;
+          journal = refl;
+          done = λ ok. absurd cc;
+          memory = λ lacks. absurd lacks;
+          wanting = λ is. inl refl;
+          answered = λ never none. refl;
         }
         by fault.NotJournal answers counts = record {
-          links = []; are = tt; few = omega arith; waits = stay; told = none_told served_old; holds = holds;
+          links = [];
+          are = tt;
+          few = omega arith;
+          waits = stay;
+          told = none_told served_old;
+          holds = holds;
           left = first_left answers;
-          kept = tt; disk = counts; journal = refl; done = λ ok. absurd cc; memory = λ lacks. absurd lacks; wanting = λ is. inl refl; answered = λ never none. refl;
+          kept = tt;
+          disk = counts;
+          journal = refl;
+          done = λ ok. absurd cc;
+          memory = λ lacks. absurd lacks;
+          wanting = λ is. inl refl;
+          answered = λ never none. refl;
         }
         by (fault.BadRecord at) answers counts = record {
-          links = []; are = tt; few = omega arith; waits = stay; told = none_told served_old; holds = holds;
+          links = [];
+          are = tt;
+          few = omega arith;
+          waits = stay;
+          told = none_told served_old;
+          holds = holds;
           left = first_left answers;
-          kept = tt; disk = counts; journal = refl; done = λ ok. absurd cc; memory = λ lacks. absurd lacks; wanting = λ is. inl refl; answered = λ never none. refl;
+          kept = tt;
+          disk = counts;
+          journal = refl;
+          done = λ ok. absurd cc;
+          memory = λ lacks. absurd lacks;
+          wanting = λ is. inl refl;
+          answered = λ never none. refl;
         }
         by fault.Memory answers counts = record {
-          links = []; are = tt; few = omega arith; waits = stay; told = none_told served_old; holds = holds;
+          links = [];
+          are = tt;
+          few = omega arith;
+          waits = stay;
+          told = none_told served_old;
+          holds = holds;
           left = first_left answers;
-          kept = tt; disk = counts; journal = refl; done = λ ok. absurd cc; memory = λ lacks. absurd lacks; wanting = λ is. inl refl; answered = λ never none. refl;
+          kept = tt;
+          disk = counts;
+          journal = refl;
+          done = λ ok. absurd cc;
+          memory = λ lacks. absurd lacks;
+          wanting = λ is. inl refl;
+          answered = λ never none. refl;
         }
 
 -- what a served link leaves is held, whatever book is open
