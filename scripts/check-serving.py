@@ -11,6 +11,7 @@ import http.client
 import os
 import random
 import re
+import shutil
 import signal
 import socket
 import struct
@@ -227,6 +228,18 @@ def check_clients(look, folder):
         look.same(f"{REQUESTS} requests of one connection", came, REQUESTS)
 
 
+def check_story(look):
+    """The example's shell story over HTTP."""
+    story = checks.ROOT / "examples" / "over-http.sh"
+    if not shutil.which("curl"):
+        look.skip("example over-http", "this machine has no curl")
+        return
+    with tempfile.TemporaryDirectory() as folder, serving(folder):
+        connected().close()
+        told = subprocess.run([story], stdout=subprocess.PIPE, timeout=checks.LIMIT).stdout
+        look.same("example over-http", told, story.with_suffix(".txt").read_bytes())
+
+
 def acknowledged(child, after):
     """How many filings were acknowledged, in order, until the program was killed after so many seconds."""
     last = time.monotonic() + after
@@ -274,6 +287,7 @@ def main():
     check_ends(look)
     with tempfile.TemporaryDirectory() as folder:
         check_clients(look, folder)
+    check_story(look)
     check_kills(look)
     look.end()
 
