@@ -171,3 +171,31 @@ fn a_receipt_is_kept_once_whichever_call_of_the_disk_fails(rt: HostRuntime) -> R
     receives(&rt, 8, Status::Ok, &[UNAVAILABLE, REPEATED])?;
     receives(&rt, 9, Status::Ok, &[ACCEPTED, REPEATED])
 }
+
+/// Whether two links are served whole: an item is received, or repeated, and its folio is read.
+fn serves_whole<R: AllocGlobal + Abort>(rt: &R, disk: &mut MemDisk) -> Result<bool, Fail> {
+    let mut door = door_of(rt.alloc(), [POST, READ], &[])?;
+    let status = served(rt, disk, &mut door, "9")?;
+    assert!(rt; matches!(status, Status::Ok | Status::Memory));
+    let [first, second] = door.served() else {
+        return Ok(false);
+    };
+    let is_received = first.written() == ACCEPTED || first.written() == REPEATED;
+    Ok(is_received && second.written() == EXTRACT)
+}
+
+/// Where memory is refused once, the other runs over the disk are whole.
+#[test]
+fn memory_may_be_wanting(rt: HostRuntime) -> Result<(), Fail> {
+    let Ok(mut disk) = disk_of(&rt, MADE, &[]) else {
+        return Ok(());
+    };
+    let mut whole = 0;
+    for _ in 0..3 {
+        if serves_whole(&rt, &mut disk).unwrap_or(false) {
+            whole += 1;
+        }
+    }
+    assert!(rt; whole >= 2);
+    Ok(())
+}
