@@ -22,7 +22,7 @@ import time
 import checks
 
 HOST, PORT = "127.0.0.1", 7117
-KILLS = 50
+KILLS = 100
 CONNECTIONS = 1000
 REQUESTS = 10_000
 BESIDE = 50
