@@ -38,11 +38,11 @@ fn door_of<'a>(
     alloc: Global,
     sent: [&'a [u8]; 2],
     fail: &'a [u32],
-) -> Result<MemListener<'a>, Fail> {
+) -> Result<MemListener<'a>, NoMemory> {
     let mut links = Vec::new(alloc);
     links.push(MemLink::new(alloc, sent[0], 4_096, &[])?)?;
     links.push(MemLink::new(alloc, sent[1], 4_096, &[])?)?;
-    Ok(MemListener::new(alloc, links, fail)?)
+    MemListener::new(alloc, links, fail)
 }
 
 /// Serves what comes through the door.
@@ -173,7 +173,7 @@ fn a_receipt_is_kept_once_whichever_call_of_the_disk_fails(rt: HostRuntime) -> R
 }
 
 /// Whether two links are served whole: an item is received, or repeated, and its folio is read.
-fn serves_whole<R: AllocGlobal + Abort>(rt: &R, disk: &mut MemDisk) -> Result<bool, Fail> {
+fn serves_whole<R: AllocGlobal + Abort>(rt: &R, disk: &mut MemDisk) -> Result<bool, NoMemory> {
     let mut door = door_of(rt.alloc(), [POST, READ], &[])?;
     let status = served(rt, disk, &mut door, "9")?;
     assert!(rt; matches!(status, Status::Ok | Status::Memory));
