@@ -94,6 +94,24 @@ def said(sent, pieces=0):
         return all_of(link)
 
 
+def sends_on(sent, wanted):
+    """Whether a connection may send on behind the reply that ends it."""
+    with connected() as link:
+        link.setsockopt(socket.IPPROTO_TCP, socket.TCP_NODELAY, 1)
+        link.sendall(sent)
+        told = b""
+        while len(told) < len(wanted):
+            told += link.recv(len(wanted) - len(told)) or b"?"
+        try:
+            for _ in range(10):
+                link.sendall(b"x" * 1000)
+                time.sleep(0.02)
+            link.shutdown(socket.SHUT_WR)
+            return told + all_of(link) == wanted
+        except OSError:
+            return False
+
+
 def beside(sent):
     """What the program writes to connections that all send this before one of them is read."""
     with contextlib.ExitStack() as opened:
@@ -175,8 +193,9 @@ def check_endings(look):
     look.same("no byte", said(b""), b"")
     browser = "Host: 127.0.0.1:7117\r\nUser-Agent: Mozilla/5.0\r\nAccept: text/html,*/*;q=0.8\r\nConnection: keep-alive\r\n"
     look.same("a browser's request", said(head("GET", "/x", more=browser)), none)
-    sent = head("POST", "/receipts", more="Content-Length: 65537\r\n") + b"x" * 400_000
-    look.same("a refusal while the peer still sends", said(sent), long)
+    sent = head("POST", "/receipts", more="Content-Length: 65537\r\n")
+    look.same("a refusal while the peer still sends", said(sent + b"x" * 400_000), long)
+    look.same("a peer that sends on behind its refusal", sends_on(sent, long), True)
     with connected() as gone:
         gone.sendall(head("GET", "/x") * 100)
         gone.setsockopt(socket.SOL_SOCKET, socket.SO_LINGER, struct.pack("ii", 1, 0))
