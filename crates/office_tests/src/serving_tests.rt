@@ -190,12 +190,9 @@ fn memory_may_be_wanting(rt: HostRuntime) -> Result<(), Fail> {
     let Ok(mut disk) = disk_of(&rt, MADE, &[]) else {
         return Ok(());
     };
-    let mut whole = 0;
-    for _ in 0..3 {
-        if serves_whole(&rt, &mut disk).unwrap_or(false) {
-            whole += 1;
-        }
-    }
-    assert!(rt; whole >= 2);
+    let first = serves_whole(&rt, &mut disk).unwrap_or(false);
+    let second = serves_whole(&rt, &mut disk).unwrap_or(false);
+    let third = serves_whole(&rt, &mut disk).unwrap_or(false);
+    assert!(rt; first && second || first && third || second && third);
     Ok(())
 }
