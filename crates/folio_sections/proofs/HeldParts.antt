@@ -129,7 +129,7 @@ room_there n (x ∷ xs) (y ∷ ys) zero d all each within =
 room_there n (x ∷ xs) (y ∷ ys) (suc i) d all each within =
     room_there n xs ys i d all.1 (All-tail (λ (p : PartState). n ≤ p.room) x xs each) (omega arith)
 
-map_or_cond : {A B : Type 0} (f : A → B) (b : Bool) (x : A) (o : Option A) (d : B) → option_map_or f (cond b (Some x) o) d ≡ cond b (f x) (option_map_or f o d)
+pub map_or_cond : {A B : Type 0} (f : A → B) (b : Bool) (x : A) (o : Option A) (d : B) → option_map_or f (cond b (Some x) o) d ≡ cond b (f x) (option_map_or f o d)
 map_or_cond f true x o d = refl
 map_or_cond f false x o d = refl
 
@@ -143,15 +143,19 @@ held_grown [] (y ∷ ys) all k = absurd all
 held_grown (x ∷ xs) [] all k = absurd all
 held_grown (x ∷ xs) (y ∷ ys) all k = λ i. same_key (all.0.key i) k || held_grown xs ys all.1 k i
 
-index_grown : (before after : List PartState) → AllZip Grows before after → (k : Key) → position_or_len (is_at k) after ≡ position_or_len (is_at k) before
-index_grown [] [] all k = refl
-index_grown [] (y ∷ ys) all k = absurd all
-index_grown (x ∷ xs) [] all k = absurd all
-index_grown (x ∷ xs) (y ∷ ys) all k = λ i. cond (not (same_key (all.0.key i) k)) (1 + index_grown xs ys all.1 k i) 0
+index_alike : (R : PartState → PartState → Type 0) → ((x y : PartState) → R x y → y.key ≡ x.key) → (before after : List PartState) → AllZip R before after → (k : Key) → position_or_len (is_at k) after ≡ position_or_len (is_at k) before
+index_alike R keeps [] [] all k = refl
+index_alike R keeps [] (y ∷ ys) all k = absurd all
+index_alike R keeps (x ∷ xs) [] all k = absurd all
+index_alike R keeps (x ∷ xs) (y ∷ ys) all k = λ i. cond (not (same_key (keeps x y all.0 i) k)) (1 + index_alike R keeps xs ys all.1 k i) 0
+
+-- parts that keep their keys keep the place of each
+pub position_alike : (R : PartState → PartState → Type 0) → ((x y : PartState) → R x y → y.key ≡ x.key) → (before after : List PartState) → AllZip R before after → (k : Key) → position (is_at k) after ≡ position (is_at k) before
+position_alike R keeps before after all k = λ i.
+    cond (nat_lt (index_alike R keeps before after all k i) (sym (length_all_zip R before after all) i)) (Some (index_alike R keeps before after all k i)) None
 
 pub position_grown : (before after : List PartState) → AllZip Grows before after → (k : Key) → position (is_at k) after ≡ position (is_at k) before
-position_grown before after all k = λ i.
-    cond (nat_lt (index_grown before after all k i) (sym (length_all_zip Grows before after all) i)) (Some (index_grown before after all k i)) None
+position_grown before after all k = position_alike Grows (λ x y g. g.key) before after all k
 
 pub entries_grown : (before after : List PartState) → AllZip Grows before after → (k : Key) → entries_at after k ≡ entries_at before k
 entries_grown [] [] all k = refl

@@ -2,6 +2,7 @@
 pub mod Additions
 pub mod Cases
 pub mod DistinctLists
+pub mod ExchangedParts
 pub mod FilingsInOrder
 pub mod FilteredLists
 pub mod FirstAbove

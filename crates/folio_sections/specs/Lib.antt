@@ -2,6 +2,7 @@
 pub mod Adding
 pub mod Cases
 pub mod Entries
+pub mod Exchanged
 pub mod Fronts
 pub mod Held
 pub mod HeldRights

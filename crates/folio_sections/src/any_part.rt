@@ -83,6 +83,19 @@ impl AnyPart {
         }
     }
 
+    /// Takes all its entries away. Its room grows by as many; it takes no memory.
+    pub fn clear(&mut self)
+        ensures key { self.new.key ≡ self.old.key }
+        ensures entries { self.new.entries ≡ [] }
+        ensures room { self.new.room ≡ self.old.room + length self.old.entries }
+    {
+        match &mut self.kind {
+            Kind::Title(part) => part.clear(),
+            Kind::Right(part) => part.clear(),
+            Kind::Case(part) => part.clear(),
+        }
+    }
+
     /// How many entries it has.
     pub fn len(&self) -> usize
         ensures value { result ≡ length self.now.entries }

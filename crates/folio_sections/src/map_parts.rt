@@ -1,5 +1,5 @@
 //! Parts over keys that are given, found by key in logarithmic time.
-ghost use Rattle.std.specs.Prelude.{◌≡◌, ◌||◌, ◌≤◌, [], All, List, IsTrue, IfOk, IsOk, OnOk, OnErr, filter_map, length, find, position};
+ghost use Rattle.std.specs.Prelude.{◌≡◌, ◌||◌, ◌≤◌, ◌+◌, [], All, List, IsTrue, IfOk, IsOk, OnOk, OnErr, filter_map, length, find, position};
 ghost use Rattle.std.specs.BTreeMap.{IsOrdered};
 ghost use Rattle.std.specs.BTreeMap.Range.{IsEntryInRange, IsLeBy};
 ghost use Rattle.std.specs.declared.ops.Bound.TheVariants.{Included};
@@ -9,10 +9,11 @@ ghost use Rattle.gb_base.specs.Keys.{key_cmp, same_key};
 ghost use Rattle.gb_base.specs.Limits.{most_acts};
 ghost use Rattle.gb_base.specs.declared.keys.Key.{Key};
 ghost use Rattle.act_model.specs.Touches.{new_right};
+ghost use Rattle.folio_sections.specs.Exchanged.{TakesAt};
 ghost use Rattle.folio_sections.specs.Held.{is_held, entries_at, room_at, is_given};
 ghost use Rattle.folio_sections.specs.HeldRights.{held_rights, last_number};
 ghost use Rattle.folio_sections.specs.Limits.{most_at_a_key};
-ghost use Rattle.folio_sections.specs.inner.PartIndex.{Grows, IsIndexOf};
+ghost use Rattle.folio_sections.specs.inner.PartIndex.{Grows, IsIndexOf, KeepsPlaces};
 ghost use Rattle.folio_sections.specs.inner.RightsInKeys.{entries_from_to, right_in};
 
 use crate::any_part::AnyPart;
@@ -21,6 +22,7 @@ use gb_base::{FolioId, Key, NoMemory, ReceiptNo, RightId};
 use std::alloc::Global;
 use std::collections::BTreeMap;
 use std::marker::Model;
+use std::mem;
 
 /// The parts of a register at given keys. In contracts it is the list of its parts.
 #[derive(Drop)]
@@ -104,6 +106,30 @@ impl MapParts {
                 part.reserve(n)
             }
             None => Ok(()),
+        }
+    }
+
+    /// Takes all entries away. The keys stay, and at each the room grows by the entries that stood
+    /// there; it takes no memory.
+    pub fn clear(&mut self)
+        ensures held { is_held self.new ≡ is_held self.old }
+        ensures entries { (k : Key) → entries_at self.new k ≡ [] }
+        ensures room { (k : Key) → room_at self.new k ≡ room_at self.old k + length (entries_at self.old k) }
+    {
+        clear_each(&mut self.parts)
+    }
+
+    /// Exchanges the part of a key with that of the same key among other parts. It takes no memory.
+    pub fn swap_at(&mut self, other: &mut MapParts, key: &Key)
+        requires here { IsTrue (is_held self.old key.now) }
+        requires there { IsTrue (is_held other.old key.now) }
+        ensures here { TakesAt self.old self.new other.old key.now }
+        ensures there { TakesAt other.old other.new self.old key.now }
+    {
+        if let Some(here) = self.index_of(*key) {
+            if let Some(there) = other.index_of(*key) {
+                mem::swap(&mut self.parts[here], &mut other.parts[there]);
+            }
         }
     }
 
@@ -239,6 +265,16 @@ fn reserve_each(parts: &mut [AnyPart], n: usize) -> Result<(), NoMemory>
         part.reserve(n)?;
     }
     Ok(())
+}
+
+/// Takes all entries of these parts away.
+fn clear_each(parts: &mut [AnyPart])
+    ensures places { AllZip KeepsPlaces parts.old parts.new }
+    ensures empty { All (λ p. p.entries ≡ []) parts.new }
+{
+    for part in parts.iter_mut() {
+        part.clear();
+    }
 }
 
 impl Parts for MapParts {

@@ -16,7 +16,7 @@ use crate::settled::Settled;
 use crate::{Scratch, Verdict};
 use act_model::Journal;
 use folio_line::HeldRights;
-use folio_sections::{CasePart, Entry, Parts, RightPart, TitlePart};
+use folio_sections::{CasePart, Entry, MapParts, Parts, RightPart, TitlePart};
 use gb_base::{FolioId, NoMemory, ReceiptNo, RightId};
 use kept_registers::laws::empty_register_is_kept;
 use std::alloc::Global;
@@ -44,6 +44,27 @@ impl Register {
         ensures { result ≡ register_of settled }
     {
         Register { settled }
+    }
+
+    /// The register of parts that others have settled, of what became of each item, from the first
+    /// on, and of the open folios, ascending. Whether it is that of a journal is for its caller to
+    /// say.
+    pub fn of_parts(
+        alloc: Global,
+        parts: MapParts,
+        verdicts: Vec<Verdict>,
+        folios: Vec<FolioId>,
+    ) -> Register
+        ensures parts { result.parts ≡ parts }
+        ensures verdicts { result.verdicts ≡ enumerate_from 1 verdicts.items }
+        ensures folios { result.folios ≡ folios.items }
+    {
+        Register::new(Settled {
+            alloc,
+            parts,
+            verdicts,
+            folios,
+        })
     }
 
     /// Settles the next item of the journal, behind those that are settled (GBO § 17). It keeps the

@@ -18,7 +18,7 @@ use std::alloc::Global;
 /// What settling the items of a journal has come to.
 #[derive(Drop)]
 pub(crate) struct Settled {
-    alloc: Global,
+    pub alloc: Global,
     /// The parts at the keys of the items that are settled.
     pub parts: MapParts,
     /// What became of each, in the order of receipts.

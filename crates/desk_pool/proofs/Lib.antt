@@ -1,0 +1,12 @@
+-- Lemmas that the answers cite.
+pub mod CountedNumbers
+pub mod CutLists
+pub mod FilingRoom
+pub mod ItemRoom
+pub mod NothingBetween
+pub mod RoomGrows
+pub mod RoomsSuffice
+pub mod SaleRoom
+pub mod StandsSince
+pub mod WaitingBehind
+pub mod WaitingInTurn

@@ -1,0 +1,46 @@
+//! What holds of the orders in which desks take items, and of the room that a round keeps.
+ghost use Rattle.std.specs.Prelude.{◌≡◌, ◌↔◌, ◌+◌, ◌-◌, ◌<◌, ◌≤◌, ℕ, false, List, length, sum_by, Contains};
+ghost use Rattle.gb_base.specs.declared.keys.Key.{Key};
+ghost use Rattle.gb_base.specs.declared.keys.Key.TheVariants.{Right};
+ghost use Rattle.act_model.specs.Receiving.{IsJournal};
+ghost use Rattle.act_model.specs.SaleKeys.{earlier_rights};
+ghost use Rattle.act_model.specs.declared.receipts.Receipt.{Receipt};
+ghost use Rattle.conflict_queue.specs.Dockets.{has_key};
+ghost use Rattle.conflict_queue.specs.ItemKeys.{keys_of_item};
+ghost use Rattle.conflict_queue.specs.Schedules.{IsPermitted};
+ghost use Rattle.desk_pool.specs.RoundRooms.{room_of_first};
+ghost use Rattle.desk_pool.specs.Turns.{WaitsInTurn};
+ghost use Rattle.folio_line.specs.FolioLine.{all_rises};
+ghost use Rattle.folio_sections.specs.Entries.{at};
+ghost use Rattle.registrar.specs.HasSettled.{settled_first};
+ghost use Rattle.registrar.specs.Rooms.{room_wanted};
+
+use kept_registers::laws::empty_register_is_kept;
+
+/// Who lets each item wait for the item before it at each of its keys takes just the permitted
+/// orders (GBO § 17).
+pub fn waiting_in_turn()
+    ensures just { (journal : List Receipt) (order : List ℕ) → IsPermitted journal order ↔ WaitsInTurn journal order }
+{}
+
+/// What stands at a key stays until the next item that touches it is settled.
+pub fn nothing_between()
+    ensures stays { (journal : List Receipt) (n m : ℕ) (k : Key) → IsJournal journal → n ≤ m
+        → ((i : ℕ) → n < i → i ≤ m → has_key k (keys_of_item journal i) ≡ false)
+        → at (settled_first journal m).entries k ≡ at (settled_first journal n).entries k }
+{
+    empty_register_is_kept();
+}
+
+/// The room that the items up to one keep at its keys serves what the one registrar enters there,
+/// and what the item wants besides.
+pub fn rooms_suffice()
+    ensures room { (journal : List Receipt) (i : ℕ) (k : Key) → IsJournal journal → 1 ≤ i → i ≤ length journal → Contains (keys_of_item journal i) k
+        → length (at (settled_first journal (i - 1)).entries k) + room_wanted journal i (at (settled_first journal (i - 1)).entries k) ≤ room_of_first journal i k }
+    ensures exchanges { (journal : List Receipt) (i folio : ℕ) → IsJournal journal
+        → length (all_rises (at (settled_first journal (i - 1)).entries) folio (earlier_rights journal i folio))
+        ≤ sum_by (λ right. room_of_first journal (i - 1) (Right folio right)) (earlier_rights journal i folio) }
+    ensures grows { (journal : List Receipt) (n m : ℕ) (k : Key) → n ≤ m → room_of_first journal n k ≤ room_of_first journal m k }
+{
+    empty_register_is_kept();
+}

@@ -1,0 +1,4 @@
+//! Desks that settle a journal at once, and leave the register of the one registrar.
+#![tactic(auto)]
+
+pub mod laws;
