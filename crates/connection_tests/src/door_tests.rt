@@ -210,6 +210,6 @@ fn a_file_that_is_no_journal_is_said_to_be_none(rt: HostRuntime) -> Result<(), F
     let wanted = format!(in alloc; "{}{}", NOT_A_JOURNAL, NOT_FOUND)?;
     let mut disk = disk_of(alloc, b"hello world", &[])?;
     answers(&rt, alloc, &mut disk, asks, &wanted)?;
-    assert_eq!(rt; disk.bytes(), b"hello world");
+    assert_eq!(rt; disk.bytes(), b"hello world".as_slice());
     Ok(())
 }
