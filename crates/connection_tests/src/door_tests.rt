@@ -37,7 +37,8 @@ const NOT_FOUND: &str =
     not found\n";
 
 /// The same without its last byte.
-const CUT_OFF: &str = "HTTP/1.1 404 Not Found\r\nContent-Type: text/plain\r\nContent-Length: 10\r\n\r\n\
+const CUT_OFF: &str =
+    "HTTP/1.1 404 Not Found\r\nContent-Type: text/plain\r\nContent-Length: 10\r\n\r\n\
     not found";
 
 /// The reply to a route that has another method.
