@@ -1,5 +1,5 @@
 -- What a reply is by the book and the disk alone.
-use Rattle.std.proofs.Common.{◌≡◌, inl, inr, ℕ, ◌==◌, Bool, true, false, List, Option, Some, None, Err, IfSome, refl, sym, ◌∙◌, ap, subst, IsTrue, arith, eq-eqb}
+use Rattle.std.proofs.Common.{◌≡◌, inl, inr, ℕ, ◌==◌, Bool, true, false, List, Option, Some, None, Err, IfSome, IsSome, refl, sym, ◌∙◌, ap, subst, IsTrue, arith, eq-eqb}
 use Rattle.gb_outside.specs.Faults.{Counts}
 use Rattle.act_model.specs.declared.receipts.Receipt.{Receipt}
 use Rattle.intake.specs.Requests.{is_fault}
@@ -31,6 +31,9 @@ counts_still count = record { never_falls = omega arith; failed_rose = λ failed
 
 -- ---- no book was opened
 
+none_open : (at_hand : Option SettledBookState) (P : Type 0) → at_hand ≡ None → IsSome at_hand → P
+none_open at_hand P none some = let never : IsSome {T = SettledBookState} None = subst (λ (o : Option SettledBookState). IsSome o) none some in absurd cc
+
 module _ {D : Type 0} (tells : Bool) (reads : D → List ℕ) (images : D → List ℕ → Type 0) (moment : D → ℕ) (since : D → ℕ → List ℕ → Type 0) (faults : D → ℕ) (old new : D) (book : Option SettledBookState) where
   abbrev Answers : Option SettledBookState → ReplyParts → Type 0
   Answers behind reply = Serves tells reads images moment since faults old new book behind reply
@@ -39,10 +42,10 @@ module _ {D : Type 0} (tells : Bool) (reads : D → List ℕ) (images : D → Li
   FindsNone behind = IsTrue tells → working book ≡ None → StandsForNone (reads old) → OpensNone reads images moment since old new behind
 
   unopened_by : (f : BookFault) → FindsNone None → (IsTrue tells → BookRefuses (reads old) f) → working book ≡ None → Counts (faults old) (faults new) (book_opening_disk_failed {A = SettledBookState} (Err f)) → Answers None (opening_reply f)
-  unopened_by fault.Disk finds refuses none counts = record { stands_open = λ told. tt; disk = counts; no_journal = λ told is. never_true (503 == 500) _ refl (eq-eqb 503 500 is); had_none = λ is. none; status = refl; not_opened = λ told was no_file. refl; no_book = finds }
-  unopened_by fault.NotJournal finds refuses none counts = record { stands_open = λ told. tt; disk = counts; no_journal = λ told is. inl (refuses told); had_none = λ is. none; status = refl; not_opened = λ told was no_file. refl; no_book = finds }
-  unopened_by (fault.BadRecord at) finds refuses none counts = record { stands_open = λ told. tt; disk = counts; no_journal = λ told is. inr (at, refuses told); had_none = λ is. none; status = refl; not_opened = λ told was no_file. refl; no_book = finds }
-  unopened_by fault.Memory finds refuses none counts = record { stands_open = λ told. tt; disk = counts; no_journal = λ told is. never_true (507 == 500) _ refl (eq-eqb 507 500 is); had_none = λ is. none; status = refl; not_opened = λ told was no_file. refl; no_book = finds }
+  unopened_by fault.Disk finds refuses none counts = record { stands_open = λ told. tt; disk = counts; no_journal = λ told is. never_true (503 == 500) _ refl (eq-eqb 503 500 is); had_none = λ is. none; status = refl; not_opened = λ told was no_file. refl; no_book = finds; kept_open = λ some sound. none_open (working book) _ none some }
+  unopened_by fault.NotJournal finds refuses none counts = record { stands_open = λ told. tt; disk = counts; no_journal = λ told is. inl (refuses told); had_none = λ is. none; status = refl; not_opened = λ told was no_file. refl; no_book = finds; kept_open = λ some sound. none_open (working book) _ none some }
+  unopened_by (fault.BadRecord at) finds refuses none counts = record { stands_open = λ told. tt; disk = counts; no_journal = λ told is. inr (at, refuses told); had_none = λ is. none; status = refl; not_opened = λ told was no_file. refl; no_book = finds; kept_open = λ some sound. none_open (working book) _ none some }
+  unopened_by fault.Memory finds refuses none counts = record { stands_open = λ told. tt; disk = counts; no_journal = λ told is. never_true (507 == 500) _ refl (eq-eqb 507 500 is); had_none = λ is. none; status = refl; not_opened = λ told was no_file. refl; no_book = finds; kept_open = λ some sound. none_open (working book) _ none some }
 
   pub unopened : (reply : ReplyParts) (behind : Option SettledBookState) (f : BookFault) → reply ≡ opening_reply f → behind ≡ None → FindsNone behind → (IsTrue tells → BookRefuses (reads old) f) → working book ≡ None
       → Counts (faults old) (faults new) (book_opening_disk_failed {A = SettledBookState} (Err f)) → Answers behind reply
@@ -51,14 +54,15 @@ module _ {D : Type 0} (tells : Bool) (reads : D → List ℕ) (images : D → Li
       (subst (λ (o : Option SettledBookState). Answers o (opening_reply f)) (sym empty) (unopened_by f (subst (λ (o : Option SettledBookState). FindsNone o) empty finds) refuses none counts))
 
   -- a book was taken
-  pub opened : (reply : ReplyParts) (settled : SettledBookState) → (IsTrue tells → StandsOpen (Some settled) (reads new) (images new)) → Counts (faults old) (faults new) (reply.status == 503) → (reply.status == 500) ≡ false
+  pub opened : (reply : ReplyParts) (settled : SettledBookState) → ((reply.status == 503) ≡ false → IsSome (working (Some settled))) → (IsTrue tells → StandsOpen (Some settled) (reads new) (images new)) → Counts (faults old) (faults new) (reply.status == 503) → (reply.status == 500) ≡ false
       → is_reply_status reply.status ≡ true → (IsTrue tells → working book ≡ None → (journal : List Receipt) × StandsForJournal (reads old) journal) → Answers (Some settled) reply
-  opened reply settled stands counts other known journal = record {
+  opened reply settled works stands counts other known journal = record {
     stands_open = stands;
     disk = counts;
     no_journal = λ told is. never_true (reply.status == 500) _ other (eq-eqb reply.status 500 is);
     had_none = λ is. never_true (reply.status == 500) _ other (eq-eqb reply.status 500 is);
     status = known;
+    kept_open = λ some sound. works sound;
     not_opened = λ told was no_file. let found = journal told was in absurd (no_file found.0 found.1);
     no_book = λ told was no_file. let found = journal told was in absurd (no_file found.0 found.1);
   }
@@ -92,6 +96,7 @@ still tells reads images moment since faults disk at_hand reply only_now stands 
   had_none = λ is. never_true (reply.status == 500) _ apart.no_journal (eq-eqb reply.status 500 is);
   status = apart.known;
   not_opened = λ told was no_file. apart.silent;
+  kept_open = λ some sound. some;
   no_book = λ told was no_file. none_still reads images moment since disk at_hand (only_now told) was;
 }
 

@@ -1,5 +1,5 @@
 -- What is done where no book is open and the file stands for no journal: none is opened, and the file stays.
-use Rattle.std.proofs.Common.{◌≡◌, ◌⊎◌, inl, inr, ⊎_elim, ◌≤◌, ℕ, Bool, true, false, List, [], Option, None, refl, sym, ◌∙◌, ap, subst}
+use Rattle.std.proofs.Common.{◌≡◌, ◌⊎◌, inl, ⊎_elim, ◌≤◌, ℕ, Bool, true, false, List, [], Option, Some, None, refl, sym, ◌∙◌, ap, subst}
 use Rattle.gb_outside.specs.Images.{LeavesOnly}
 use Rattle.gb_outside.proofs.Moments.{followed, started, weakened}
 use Rattle.journal_disk.specs.Layout.{IsUnmade}
@@ -7,6 +7,10 @@ use Rattle.journal_disk.specs.Opening.{AnswersSynced, IsKept, SyncsFirst}
 use Rattle.settled_book.specs.SettledBookState.{SettledBookState}
 use Rattle.connections.specs.Answering as answering
 use Rattle.connections.specs.Holding.{StandsForNone, working}
+
+-- a book is open, so it is not so that none is
+pub one_open : (at_hand : Option SettledBookState) (settled : SettledBookState) (P : Type 0) → working at_hand ≡ Some settled → working at_hand ≡ None → P
+one_open at_hand settled P is none = let never : Some settled ≡ None = sym is ∙ none in absurd cc
 
 -- an unmade file stands for the empty journal
 not_unmade : (file : List ℕ) → StandsForNone file → IsUnmade file → ⊥

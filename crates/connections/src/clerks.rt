@@ -11,7 +11,6 @@ ghost use Rattle.journal_disk.specs.Layout.{first_gate, the_heading, made_from, 
 ghost use Rattle.journal_disk.specs.Opening.{AnswersSynced, IsKept};
 ghost use Rattle.receipt_journal.specs.Opening.{BookRefuses, book_opening_disk_failed};
 ghost use Rattle.receipt_journal.specs.Standing.{Stands, StandsForJournal};
-ghost use Rattle.settled_book.specs.Texts.{reads_register};
 ghost use Rattle.connections.specs.Answering.{AnswersNone, AnswersRequest, IsFailure, OpensNone, is_refusal, may_call_disk, tells_of_journal};
 ghost use Rattle.connections.specs.Answers.{answer, body_answer, item_answer, only, read_reply};
 ghost use Rattle.connections.specs.Asking.{AskedFor};
@@ -221,6 +220,7 @@ impl Clerk {
         ensures answers { IsTrue D.tells → (held : Held) → Holds self.old (D.reads disk.old) (D.images disk.old) (C.ticks clock.old) held
             → AnswersRequest D.images D.moment D.since disk.old disk.new request.now held result (Holds self.new (D.reads disk.new) (D.images disk.new) (C.ticks clock.new)) }
         ensures stands_open { IsTrue D.tells → StandsOpen self.new (D.reads disk.new) (D.images disk.new) }
+        ensures kept_open { IsSome (working self.old) → (result.status == 503) ≡ false → IsSome (working self.new) }
         ensures disk { Counts (D.faults disk.old) (D.faults disk.new) (result.status == 503) }
         ensures status { IsTrue (is_reply_status result.status) }
 

@@ -41,6 +41,9 @@ returns-in-Err-clause-not_opened g c = (served g c).not_opened
 pub returns-in-Err-clause-status : goal.returns-in-Err-clause-status
 returns-in-Err-clause-status g c = (served g c).status
 
+pub returns-in-Err-clause-kept_open : goal.returns-in-Err-clause-kept_open
+returns-in-Err-clause-kept_open g c = (served g c).kept_open
+
 pub returns-in-Err-clause-no_book : goal.returns-in-Err-clause-no_book
 returns-in-Err-clause-no_book g c = (served g c).no_book
 
@@ -71,6 +74,9 @@ returns-clause-answers_none g c = λ tells was none. record {
       subst (λ (body : List ℕ). ((held : Held) → c.answer_route.result ≡ (answer held body (AskedFor c.in-Ok.route)).reply) ⊎ (c.answer_route.result ≡ out_of_memory)) c.body.ensures
       (c.answer_route.ensures.refused (ap (λ (body : List ℕ). may_call_disk (AskedFor c.in-Ok.route) body) c.body.ensures ∙ calls_none));
 }
+
+pub returns-clause-kept_open : goal.returns-clause-kept_open
+returns-clause-kept_open g c = c.answer_route.ensures.serves.kept_open
 
 pub returns-clause-no_book : goal.returns-clause-no_book
 returns-clause-no_book g c = c.answer_route.ensures.serves.no_book

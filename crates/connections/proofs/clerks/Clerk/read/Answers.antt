@@ -6,6 +6,7 @@ use Rattle.receipt_journal.specs.Standing.{Stands}
 use Rattle.connections.specs.Answers.{only, read_reply}
 use Rattle.connections.specs.inner.Taking.{failure_of}
 use Rattle.connections.proofs.BookEnds.{ends_read, ends_unopened, read_status}
+use Rattle.connections.proofs.ItemEnds.{some_works}
 use Rattle.connections.proofs.ByDiskAlone.{opened, stands_behind, unopened, unopened_late}
 use Rattle.connections.proofs.clerks.Clerk.read.Goals as goal
 
@@ -31,6 +32,7 @@ pub returns-clause-serves : goal.returns-clause-serves
 returns-clause-serves g c =
     let status = read_status (λ t. t.items) c.text-text.result c.read.result c.read.ensures.found c.read.ensures.fault in
     opened g.D.Disk.tells g.D.Disk.reads g.D.Disk.images g.D.Disk.moment g.D.Disk.since g.D.Disk.faults c.args.disk.now c.take_book.new.disk c.args.self.now c.read.result c.text-text.new.self
+    (λ sound. some_works c.text-text.new.self (ap (λ (b : BookState). b.log.failed) c.text-text.ensures.book ∙ c.in-Ok.ensures.works))
     (λ told. stands_behind c.text-text.new.self (g.D.Disk.reads c.take_book.new.disk) (g.D.Disk.images c.take_book.new.disk) false
     (ap (λ (b : BookState). b.log.failed) c.text-text.ensures.book ∙ c.in-Ok.ensures.works)
     (λ sound. subst (λ (b : BookState). Stands b (g.D.Disk.reads c.take_book.new.disk) (g.D.Disk.images c.take_book.new.disk)) (sym c.text-text.ensures.book) (c.in-Ok.ensures.stands told)))
