@@ -74,6 +74,19 @@ fn door_of_two<'a>(alloc: Global, asks: &'a str, fail: &'a [u32]) -> Result<MemL
     Ok(MemListener::new(alloc, links, &[])?)
 }
 
+/// A door with two links, of which the first takes so many bytes and no more.
+fn door_of_narrow<'a>(
+    alloc: Global,
+    first: &'a str,
+    room: usize,
+    second: &'a str,
+) -> Result<MemListener<'a>, Fail> {
+    let mut links = Vec::new(alloc);
+    links.push(MemLink::new(alloc, first.as_bytes(), room, &[])?)?;
+    links.push(MemLink::new(alloc, second.as_bytes(), 1_024, &[])?)?;
+    Ok(MemListener::new(alloc, links, &[])?)
+}
+
 /// Serves the door over the disk, on the first of March.
 fn serve(alloc: Global, door: &mut MemListener, disk: &mut MemDisk, most: u32) -> DoorEnd {
     let stamps = [stamp(day(3, 1), 540)];
@@ -191,10 +204,7 @@ fn a_reply_without_its_last_byte_does_not_count(rt: HostRuntime) -> Result<(), F
     let asks = format!(in alloc; "{}{}", ASTRAY, ASTRAY)?;
     let both = format!(in alloc; "{}{}", NOT_FOUND, NOT_FOUND)?;
     // The first link has no room for the last byte.
-    let mut links = Vec::new(alloc);
-    links.push(MemLink::new(alloc, ASTRAY.as_bytes(), CUT_OFF.len(), &[])?)?;
-    links.push(MemLink::new(alloc, asks.as_bytes(), 1_024, &[])?)?;
-    let mut door = MemListener::new(alloc, links, &[])?;
+    let mut door = door_of_narrow(alloc, ASTRAY, CUT_OFF.len(), &asks)?;
     let mut disk = disk_of(alloc, MADE, &[])?;
     let end = serve(alloc, &mut door, &mut disk, 2);
     assert_eq!(rt; end, DoorEnd::Done);
