@@ -7,6 +7,8 @@ pub mod NothingBetween
 pub mod RoomGrows
 pub mod RoomsSuffice
 pub mod SaleRoom
+pub mod Settling
 pub mod StandsSince
+pub mod Turns
 pub mod WaitingBehind
 pub mod WaitingInTurn

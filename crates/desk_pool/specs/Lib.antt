@@ -1,3 +1,5 @@
 -- What contracts cite.
+pub mod FolioQueues
+pub mod FolioStates
 pub mod RoundRooms
 pub mod Turns

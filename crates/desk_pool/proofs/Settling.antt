@@ -1,0 +1,93 @@
+-- What a step of an item finds where its turn has come, and what it leaves.
+use Rattle.std.proofs.Common.{◌≡◌, ℕ, ◌+◌, ◌-◌, ◌<◌, ◌≤◌, Bool, true, cond, List, [], ◌∷◌, ◌++◌, All, Contains, IfSome, IsTrue, length, Some, None, refl, sym, ap, subst, ◌∙◌, length-append, arith}
+use Rattle.std.specs.List.{range_with_len}
+use Rattle.gb_base.proofs.Members.{In, in_range}
+use Rattle.gb_base.specs.Keys.{folio_of_key}
+use Rattle.gb_base.specs.declared.keys.Key.{Key}
+use Rattle.act_model.specs.Receiving.{IsJournal}
+use Rattle.act_model.specs.declared.receipts.Receipt.{Receipt}
+use Rattle.conflict_queue.specs.ItemKeys.{keys_of_item}
+use Rattle.folio_sections.specs.Adding.{AddsList}
+use Rattle.folio_sections.specs.Entries.{at}
+use Rattle.folio_sections.specs.declared.entries.Entry.{Entry}
+use Rattle.kept_registers.specs.Kept.{Kept}
+use Rattle.registrar.proofs.PermittedRuns.{AsFirst, as_first, as_first_is, firsts}
+use Rattle.registrar.proofs.Registering.{left_by, registrar_is}
+use Rattle.registrar.specs.Brings.{Brought, brings}
+use Rattle.registrar.specs.HasSettled.{settled_first}
+use Rattle.registrar.specs.RegisterState.{verdict_among}
+use Rattle.registrar.specs.Rooms.{HasItsRoom, HasItsScratch}
+use Rattle.registrar.specs.Settling.{registrar}
+use Rattle.registrar.specs.StandingAwards.{StandsForKeptAwards}
+use Rattle.registrar.specs.declared.verdicts.Verdict.{Verdict}
+use Rattle.sale_rules.specs.ScratchRoom.{ScratchRoom}
+use Rattle.desk_pool.specs.FolioQueues.{last_taken, queue_of}
+use Rattle.desk_pool.specs.FolioStates.{HasAllRoom, StandsAt}
+use Rattle.desk_pool.proofs.NothingBetween.{at_next, nothing_between}
+use Rattle.desk_pool.proofs.RoomsSuffice.{room_grows, room_suffices}
+use Rattle.desk_pool.proofs.Turns.{TurnComes, key_untouched}
+
+-- the number of an item, from the one before it
+number_back : (i : ℕ) → 1 ≤ i → (i - 1) + 1 ≡ i
+number_back i low = omega (arith, low)
+
+-- where the item's turn has come, the folio's parts say what stands ahead of the item
+pub stands_ahead : (journal : List Receipt) (folio taken i : ℕ) (holds : Key → Bool) (stands : Key → List Entry) → IsJournal journal → Kept journal (λ k. []) → TurnComes journal folio taken i
+    → ((k : Key) → IsTrue (holds k) → folio_of_key k ≡ folio) → StandsAt journal (last_taken (queue_of journal folio) taken) holds stands → StandsAt journal (i - 1) holds stands
+stands_ahead journal folio taken i holds stands numbered empty turn own before = λ k held.
+    before k held
+    ∙ sym (nothing_between journal k numbered empty (last_taken (queue_of journal folio) taken) (i - 1) turn.before
+    (λ m above within. key_untouched journal folio m k (own k held) (turn.none m above within)))
+
+-- all that a step asks of what it is lent
+pub record CanStep (journal : List Receipt) (i : ℕ) (holds : Key → Bool) (stands : Key → List Entry) (room : Key → ℕ) : Type 0 where
+  pub wide : HasItsRoom journal i stands room
+  pub kept : StandsForKeptAwards journal holds stands
+  pub earlier : (k : Key) → Contains (keys_of_item journal i) k → All (λ e. e.receipt < i) (stands k)
+
+pub can_step : (journal : List Receipt) (i : ℕ) (holds : Key → Bool) (stands : Key → List Entry) (room : Key → ℕ) → IsJournal journal → Kept journal (λ k. []) → 1 ≤ i → i ≤ length journal
+    → ((k : Key) → Contains (keys_of_item journal i) k → IsTrue (holds k)) → StandsAt journal (i - 1) holds stands → HasAllRoom journal holds stands room → CanStep journal i holds stands room
+can_step journal i holds stands room numbered empty low high held there roomy =
+    let left = left_by journal (i - 1) numbered empty in
+    record {
+      wide = λ k own.
+          let suffices = room_suffices journal k numbered empty i low own in
+          let grows = room_grows journal i (length journal) k high in
+          let place = roomy k (held k own) in
+          let same = there k (held k own) in
+          ?;
+      kept = record {
+        register = at (settled_first journal (i - 1)).entries;
+        stands = there;
+        kept = left.settled.kept;
+        awards = left.settled.awards;
+      };
+      earlier = λ k own.
+          subst (All (λ e. e.receipt < i)) (sym (there k (held k own)))
+          (subst (λ m. All (λ e. e.receipt < m) (at (settled_first journal (i - 1)).entries k)) (number_back i low) (left.settled.earlier k));
+    }
+
+-- behind the step the parts say what stands behind the item
+pub stands_behind : (journal : List Receipt) (i : ℕ) (holds : Key → Bool) (stands after : Key → List Entry) (room left : Key → ℕ) → 1 ≤ i
+    → StandsAt journal (i - 1) holds stands → AddsList stands after room left (brings journal i (at (settled_first journal (i - 1)).entries)).entries → StandsAt journal i holds after
+stands_behind journal i holds stands after room left low there added = λ k held.
+    let brought = λ n. at (brings journal n (at (settled_first journal (i - 1)).entries)).entries k in
+    added.there k
+    ∙ ap (λ es. es ++ brought i) (there k held)
+    ∙ ap (λ n. at (settled_first journal (i - 1)).entries k ++ brought n) (sym (number_back i low))
+    ∙ sym (at_next journal (i - 1) k)
+    ∙ ap (λ n. at (settled_first journal n).entries k) (number_back i low)
+
+-- and have place for as much as before
+pub room_behind : (journal : List Receipt) (holds : Key → Bool) (stands after : Key → List Entry) (room left : Key → ℕ) (entries : List Entry)
+    → HasAllRoom journal holds stands room → AddsList stands after room left entries → HasAllRoom journal holds after left
+room_behind journal holds stands after room left entries roomy added = λ k held.
+    let place = roomy k held in
+    let less = added.room k in
+    let more : length (after k) ≡ length (stands k) + length (at entries k) = ap length (added.there k) ∙ length-append (stands k) (at entries k) in
+    omega (arith, place, less, more)
+
+-- the verdict is the one registrar's
+pub verdict_said : (journal : List Receipt) (i : ℕ) (v : Verdict) → IsJournal journal → Kept journal (λ k. []) → 1 ≤ i → i ≤ length journal
+    → v ≡ (brings journal i (at (settled_first journal (i - 1)).entries)).verdict → verdict_among (registrar journal).verdicts i ≡ Some v
+verdict_said journal i v numbered empty low high is = ?
