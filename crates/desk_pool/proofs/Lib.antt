@@ -7,6 +7,7 @@ pub mod NothingBetween
 pub mod RoomGrows
 pub mod RoomsSuffice
 pub mod SaleRoom
+pub mod Saying
 pub mod Settling
 pub mod StandsSince
 pub mod Turns

@@ -1,11 +1,12 @@
 -- The items that touch a folio, in the order of their receipts (GBO § 17).
-use Rattle.std.specs.Prelude.{ℕ, Bool, ◌==◌, ◌&&◌, List, ◌∷◌, filter, length, slice_get}
+use Rattle.std.specs.Prelude.{◌≡◌, ℕ, Bool, ◌==◌, ◌&&◌, List, ◌∷◌, All, filter, length, slice_get}
 use Rattle.std.specs.List.{list_any, range_with_len}
 use Rattle.std.specs.Option.{option_map_or}
 use Rattle.gb_base.specs.Keys.{folio_of_key}
 use Rattle.gb_base.specs.declared.keys.Key.{Key}
 use Rattle.act_model.specs.declared.receipts.Receipt.{Receipt}
 use Rattle.conflict_queue.specs.ItemKeys.{keys_of_item}
+use Rattle.desk_pool.specs.declared.folio_queues.FolioQueue.{FolioQueue}
 use Rattle.folio_sections.specs.Held.{is_given}
 use Rattle.registrar.specs.HeldKeys.{keys_of_first}
 
@@ -24,3 +25,7 @@ last_taken queue taken = option_map_or (λ n. n) (slice_get (0 ∷ queue) taken)
 -- the key is one of the folio's, and an item of the journal touches it
 abbrev pub is_key_of : List Receipt → ℕ → Key → Bool
 is_key_of journal folio k = (folio_of_key k == folio) && is_given (keys_of_first journal (length journal)) k
+
+-- these are the queues of their folios
+abbrev pub AreQueues : List Receipt → List FolioQueue → Type 0
+AreQueues journal queues = All (λ q. q.items.items ≡ queue_of journal q.folio) queues

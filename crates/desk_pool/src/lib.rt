@@ -1,5 +1,9 @@
 //! Desks that settle a journal at once, and leave the register of the one registrar.
 #![tactic(auto)]
 
+mod boards;
+mod desks;
+mod folio_queues;
 pub mod laws;
 mod locked_folios;
+mod shared_rounds;
