@@ -4,9 +4,12 @@ pub mod CutLists
 pub mod FilingRoom
 pub mod ItemRoom
 pub mod NothingBetween
+pub mod PreparedRegisters
+pub mod PreparedRuns
 pub mod RoomGrows
 pub mod RoomsSuffice
 pub mod SaleRoom
+pub mod Scratches
 pub mod Settling
 pub mod StandsSince
 pub mod Turns

@@ -1,5 +1,7 @@
 -- What contracts cite.
 pub mod FolioQueues
 pub mod FolioStates
+pub mod Preparing
 pub mod RoundRooms
 pub mod Turns
+pub mod inner

@@ -3,3 +3,6 @@
 
 pub mod laws;
 mod locked_folios;
+mod open_folios;
+mod orders;
+mod prepared;
