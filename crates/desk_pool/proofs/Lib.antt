@@ -4,6 +4,7 @@ pub mod CutLists
 pub mod FilingRoom
 pub mod ItemRoom
 pub mod NothingBetween
+pub mod OrderWalks
 pub mod PreparedRegisters
 pub mod PreparedRuns
 pub mod RoomGrows

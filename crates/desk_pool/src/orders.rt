@@ -4,7 +4,7 @@ ghost use Rattle.std.specs.List.{list_all};
 ghost use Rattle.act_model.specs.declared.receipts.Receipt.{Receipt};
 ghost use Rattle.conflict_queue.specs.Dockets.{docket_of, previous_in};
 ghost use Rattle.conflict_queue.specs.Schedules.{IsPermitted};
-ghost use Rattle.desk_pool.specs.inner.OrderWalks.{has_turn, is_free, is_settled, keys_in, walks};
+ghost use Rattle.desk_pool.specs.inner.OrderWalks.{has_turn, is_free, is_item, is_settled, keys_in, walks};
 
 use conflict_queue::Docket;
 use gb_base::{Key, ReceiptNo};
@@ -30,6 +30,13 @@ fn takes_all(docket: &Docket, order: &[ReceiptNo], settled: &mut [bool]) -> bool
         }
         settled[item.get() as usize - 1] = true;
     }
+    are_all_settled(settled)
+}
+
+/// Whether every item is settled.
+fn are_all_settled(settled: &[bool]) -> bool
+    ensures { result ≡ list_all (λ one. one) settled.now }
+{
     settled.iter().all(|one| *one)
 }
 
@@ -37,9 +44,15 @@ fn takes_all(docket: &Docket, order: &[ReceiptNo], settled: &mut [bool]) -> bool
 fn has_turn(docket: &Docket, settled: &[bool], item: ReceiptNo) -> bool
     ensures { result ≡ has_turn docket.now settled.now item }
 {
+    is_item(docket, item) && !is_settled(settled, item) && waits_for_none(docket, settled, item)
+}
+
+/// Whether the docket has an item of this number.
+fn is_item(docket: &Docket, item: ReceiptNo) -> bool
+    ensures value { result ≡ is_item docket.now item }
+    ensures within { IsTrue result → item ≤ length docket.now }
+{
     item.get() as usize <= docket.len()
-        && !is_settled(settled, item)
-        && waits_for_none(docket, settled, item)
 }
 
 /// Whether, at each of the item's keys, the item before it is settled.

@@ -17,10 +17,14 @@ is_free settled before = option_map_or (is_settled settled) before true
 abbrev pub keys_in : List (List Key) → ℕ → List Key
 keys_in docket i = option_map_or (λ keys. keys) (slice_get docket (i - 1)) []
 
+-- the docket has an item of this number
+abbrev pub is_item : List (List Key) → ℕ → Bool
+is_item docket i = nat_le 1 i && nat_le i (length docket)
+
 -- item i has its turn: it is one of the docket's, is not settled, and at each of its keys the item before it is
 abbrev pub has_turn : List (List Key) → List Bool → ℕ → Bool
 has_turn docket settled i =
-    nat_le i (length docket) && (not (is_settled settled i) && list_all (λ k. is_free settled (previous_in docket i k)) (keys_in docket i))
+    is_item docket i && (not (is_settled settled i) && list_all (λ k. is_free settled (previous_in docket i k)) (keys_in docket i))
 
 -- each item of the order has its turn, and in the end all are settled
 abbrev pub walks : List (List Key) → List Bool → List ℕ → Bool
