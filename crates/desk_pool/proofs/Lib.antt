@@ -4,10 +4,14 @@ pub mod CutLists
 pub mod FilingRoom
 pub mod ItemRoom
 pub mod NothingBetween
+pub mod OrderWalks
+pub mod PreparedRegisters
+pub mod PreparedRuns
 pub mod RoomGrows
 pub mod RoomsSuffice
 pub mod SaleRoom
 pub mod Saying
+pub mod Scratches
 pub mod Settling
 pub mod StandsSince
 pub mod Turns

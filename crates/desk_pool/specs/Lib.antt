@@ -2,5 +2,7 @@
 pub mod Boards
 pub mod FolioQueues
 pub mod FolioStates
+pub mod Preparing
 pub mod RoundRooms
 pub mod Turns
+pub mod inner

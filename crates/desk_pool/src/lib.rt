@@ -6,4 +6,7 @@ mod desks;
 mod folio_queues;
 pub mod laws;
 mod locked_folios;
+mod open_folios;
+mod orders;
+mod prepared;
 mod shared_rounds;
