@@ -14,6 +14,7 @@ pub mod Saying
 pub mod Scratches
 pub mod Settling
 pub mod StandsSince
+pub mod TakingOver
 pub mod Turns
 pub mod WaitingBehind
 pub mod WaitingInTurn

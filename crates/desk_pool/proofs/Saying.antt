@@ -9,19 +9,19 @@ use Rattle.registrar.specs.declared.verdicts.Verdict.{Verdict}
 use Rattle.desk_pool.specs.Boards.{AreSaid}
 
 -- at its place a written element is found, and elsewhere what was there
-written_there : {X : Type 0} (xs : List X) (i : ℕ) (y : X) → i < length xs → slice_get (set xs i y) i ≡ Some y
+pub written_there : {X : Type 0} (xs : List X) (i : ℕ) (y : X) → i < length xs → slice_get (set xs i y) i ≡ Some y
 written_there [] i y within = absurd (omega arith)
 written_there (x ∷ xs) zero y within = refl
 written_there (x ∷ xs) (suc i) y within = written_there xs i y (omega arith)
 
-written_apart : {X : Type 0} (xs : List X) (i n : ℕ) (y : X) → (n ≡ i → ⊥) → slice_get (set xs i y) n ≡ slice_get xs n
+pub written_apart : {X : Type 0} (xs : List X) (i n : ℕ) (y : X) → (n ≡ i → ⊥) → slice_get (set xs i y) n ≡ slice_get xs n
 written_apart [] i n y apart = refl
 written_apart (x ∷ xs) zero zero y apart = absurd (apart refl)
 written_apart (x ∷ xs) zero (suc n) y apart = refl
 written_apart (x ∷ xs) (suc i) zero y apart = refl
 written_apart (x ∷ xs) (suc i) (suc n) y apart = written_apart xs i n y (λ same. apart (ap suc same))
 
-same_inside : {X : Type 0} (x y : X) → Some x ≡ Some y → x ≡ y
+pub same_inside : {X : Type 0} (x y : X) → Some x ≡ Some y → x ≡ y
 same_inside {X} x y same = ap (λ o. option_map_or (λ (z : X). z) o x) same
 
 pub said_set : (journal : List Receipt) (verdicts : List Verdict) (said : List Bool) (item i : ℕ) (v : Verdict) → item ≡ i + 1 → i < length verdicts

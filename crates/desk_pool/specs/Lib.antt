@@ -2,6 +2,7 @@
 pub mod Boards
 pub mod FolioQueues
 pub mod FolioStates
+pub mod FoliosBack
 pub mod Preparing
 pub mod RoundRooms
 pub mod Turns

@@ -1,5 +1,5 @@
 //! The items of each folio, in the order of their receipts.
-ghost use Rattle.std.specs.Prelude.{◌<◌, IfSome, length};
+ghost use Rattle.std.specs.Prelude.{◌≡◌, ◌<◌, IfSome, Some, length, option_map, slice_get};
 
 use gb_base::{FolioId, ReceiptNo};
 
@@ -12,7 +12,8 @@ pub(crate) struct FolioQueue {
 
 /// Where the folio stands among these, which are ascending; None where it is not among them.
 pub(crate) fn place_of(queues: &[FolioQueue], folio: FolioId) -> Option<usize>
-    ensures { IfSome result (λ place. place < length queues.now) }
+    ensures within { IfSome result (λ place. place < length queues.now) }
+    ensures there { IfSome result (λ place. option_map (λ q. q.folio) (slice_get queues.now place) ≡ Some folio) }
 {
     let place = queues.partition_point(|queue| queue.folio < folio);
     match queues.get(place) {

@@ -3,6 +3,7 @@
 
 mod boards;
 mod desks;
+mod folio_parts;
 mod folio_queues;
 pub mod laws;
 mod locked_folios;
@@ -10,3 +11,5 @@ mod open_folios;
 mod orders;
 mod prepared;
 mod shared_rounds;
+mod taking_over;
+mod together;
