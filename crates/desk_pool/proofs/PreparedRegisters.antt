@@ -1,8 +1,7 @@
 -- The register that prepared parts are behind the items of a whole permitted order.
-use Rattle.std.proofs.Common.{◌≡◌, ℕ, suc, ◌+◌, ◌-◌, ◌<◌, ◌≤◌, Bool, true, false, cond, List, [], ◌∷◌, AllPairs, Contains, IsTrue, Some, filter, length, map, slice_get, refl, sym, ap, subst, ◌∙◌, arith}
-use Rattle.std.specs.List.{AllByRecursion, enumerate_from, range_with_len}
+use Rattle.std.proofs.Common.{◌≡◌, ℕ, suc, ◌+◌, ◌-◌, ◌<◌, Bool, true, false, cond, List, [], ◌∷◌, IsTrue, Some, filter, length, map, slice_get, refl, sym, ap, subst, ◌∙◌, arith}
+use Rattle.std.specs.List.{enumerate_from, range_with_len}
 use Rattle.std.proofs.lemmas.List.FromFn.{length-enumerate_from}
-use Rattle.gb_base.proofs.Members.{In, in_range}
 use Rattle.gb_base.specs.declared.keys.Key.{Key}
 use Rattle.gb_base.specs.declared.keys.Key.TheVariants.{Title}
 use Rattle.act_model.specs.Receiving.{IsJournal}
@@ -12,9 +11,7 @@ use Rattle.conflict_queue.specs.Schedules.{IsPermitted}
 use Rattle.folio_sections.proofs.FilteredLists.{all_filtered, in_filter, of_filter}
 use Rattle.folio_sections.specs.Entries.{at}
 use Rattle.folio_sections.specs.Held.{entries_at, is_given, is_held, room_at}
-use Rattle.folio_sections.specs.PartState.{PartState}
 use Rattle.folio_sections.specs.Titles.{is_open}
-use Rattle.folio_sections.specs.declared.entries.Entry.{Entry}
 use Rattle.kept_registers.specs.Kept.{Kept}
 use Rattle.registrar.proofs.NoticedPlaces.{Rises}
 use Rattle.registrar.proofs.OneListOfFolios.{one_list_of_folios}
@@ -24,7 +21,7 @@ use Rattle.registrar.proofs.PermittedRuns.{as_first, as_first_is, firsts}
 use Rattle.registrar.proofs.Registering.{first_keep_awards, registrar_kept}
 use Rattle.registrar.proofs.RisingNumbers.{contains_of_in, in_of_contains, pairs_of_rises, rises_of_pairs}
 use Rattle.registrar.proofs.SameSchedules.{same_entries}
-use Rattle.registrar.specs.HasSettled.{HasSettled, IsRegisterOf, settled_first}
+use Rattle.registrar.specs.HasSettled.{IsRegisterOf, settled_first}
 use Rattle.registrar.specs.HeldKeys.{keys_of_first}
 use Rattle.registrar.specs.KeptAwards.{AwardsKept}
 use Rattle.registrar.specs.OpenFolios.{open_folios}
@@ -83,7 +80,7 @@ open_ones journal s places =
       members = λ folio. (
         λ among. (of_filter p all folio (in_of_contains (filter p all) folio among)).1,
         λ is. contains_of_in (filter p all) folio
-        (in_filter p all folio (in_of_contains all folio ((places.folios.members folio).1 (sym (places.held (Title folio)) ∙ open_is_held s.parts (Title folio) is))) is),
+            (in_filter p all folio (in_of_contains all folio ((places.folios.members folio).1 (sym (places.held (Title folio)) ∙ open_is_held s.parts (Title folio) is))) is),
       );
     }
 

@@ -16,12 +16,10 @@ use Rattle.folio_sections.proofs.Additions.{at-append}
 use Rattle.folio_sections.specs.Adding.{AddsList}
 use Rattle.folio_sections.specs.Entries.{at}
 use Rattle.folio_sections.specs.Held.{entries_at, is_held, room_at}
-use Rattle.folio_sections.specs.PartState.{PartState}
-use Rattle.folio_sections.specs.declared.entries.Entry.{Entry}
 use Rattle.kept_registers.specs.Kept.{Kept}
 use Rattle.registrar.proofs.ContainedParts.{contains_part}
 use Rattle.registrar.proofs.PermittedOrders.{ahead_of, given_same, of_order, touches}
-use Rattle.registrar.proofs.PermittedRuns.{AsFirst, FindsAsFirst, as_first, as_first_is, at_front, firsts, found_at, nothing_first}
+use Rattle.registrar.proofs.PermittedRuns.{as_first, as_first_is, at_front, firsts, found_at, nothing_first}
 use Rattle.registrar.proofs.RisingNumbers.{contains_of_in, in_of_contains}
 use Rattle.registrar.specs.Brings.{Brought, brings}
 use Rattle.registrar.specs.HasSettled.{settled_first}

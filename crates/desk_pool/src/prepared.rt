@@ -1,7 +1,8 @@
 //! A journal settled in any permitted order, where all that it wants is there beforehand.
-ghost use Rattle.std.specs.Prelude.{◌≡◌, ◌<◌, ◌+◌, length, take};
+ghost use Rattle.std.specs.Prelude.{◌≡◌, ◌<◌, ◌+◌, List, length, take};
 ghost use Rattle.gb_base.specs.declared.keys.Key.{Key};
 ghost use Rattle.act_model.specs.Receiving.{IsJournal};
+ghost use Rattle.act_model.specs.declared.receipts.Receipt.{Receipt};
 ghost use Rattle.conflict_queue.specs.Schedules.{IsPermitted};
 ghost use Rattle.desk_pool.specs.Preparing.{HasPlaces, IsPrepared};
 ghost use Rattle.desk_pool.specs.inner.PreparedRuns.{HasTaken};
@@ -83,10 +84,10 @@ impl Prepared {
         self.verdicts[item.get() as usize - 1] = verdict;
     }
 
-    /// Takes away what an earlier settlement left in the parts, so that the journal is settled anew.
-    pub fn reset(&mut self, journal: &Journal)
-        requires places { HasPlaces journal.now.receipts self.old }
-        ensures prepared { IsPrepared journal.now.receipts self.new }
+    /// Takes away what stands in the parts, so that a journal for which they have the places is
+    /// settled anew. It takes no memory.
+    pub fn reset(&mut self)
+        ensures prepared { (journal : List Receipt) → HasPlaces journal self.old → IsPrepared journal self.new }
     {
         self.parts.clear();
     }
