@@ -1,4 +1,5 @@
 -- What contracts cite.
+pub mod FolioPairs
 pub mod FolioQueues
 pub mod FolioStates
 pub mod RoundRooms
