@@ -17,17 +17,18 @@ use Rattle.folio_sections.specs.Held.{entries_at, is_given, is_held, room_at}
 use Rattle.folio_sections.specs.PartState.{PartState}
 use Rattle.kept_registers.specs.Kept.{Kept}
 use Rattle.registrar.proofs.ContainedParts.{contains_part}
-use Rattle.registrar.proofs.Registering.{left_by}
+use Rattle.registrar.proofs.Registering.{left_by, registrar_is}
 use Rattle.registrar.proofs.RisingNumbers.{contains_of_in}
 use Rattle.registrar.specs.Brings.{brings}
 use Rattle.registrar.specs.HasSettled.{settled_first}
 use Rattle.registrar.specs.HeldKeys.{keys_of_first}
 use Rattle.registrar.specs.Rooms.{HasItsScratch}
+use Rattle.registrar.specs.Settling.{Settlement, registrar}
 use Rattle.sale_rules.specs.ScratchRoom.{ScratchRoom}
 use Rattle.desk_pool.proofs.Scratches.{scratch_same}
-use Rattle.desk_pool.proofs.Settling.{CanStep, can_step, room_behind, stands_ahead, stands_behind}
-use Rattle.desk_pool.proofs.Turns.{TurnComes, next_found, turn_comes}
-use Rattle.desk_pool.specs.FolioQueues.{is_key_of, is_next, queue_of}
+use Rattle.desk_pool.proofs.Settling.{CanStep, can_step, room_behind, stands_behind, stands_on}
+use Rattle.desk_pool.proofs.Turns.{TurnComes, all_done, next_found, turn_comes}
+use Rattle.desk_pool.specs.FolioQueues.{is_key_of, is_next, last_taken, queue_of}
 use Rattle.desk_pool.specs.FolioStates.{FolioState, HasAllRoom, IsBehindLock, StandsAt}
 
 -- ---- the folio's keys
@@ -56,7 +57,15 @@ module _ (journal : List Receipt) (s : FolioState) (behind : IsBehindLock journa
   -- ---- ahead of the step
 
   pub ahead_of_step : (i : ℕ) → Kept journal (λ k. []) → TurnComes journal s.folio s.taken i → StandsAt journal (i - 1) (is_held s.parts) (entries_at s.parts)
-  ahead_of_step i empty turn = stands_ahead journal s.folio s.taken i (is_held s.parts) (entries_at s.parts) behind.numbered empty turn own_key behind.stands
+  ahead_of_step i empty turn =
+      stands_on journal s.folio (last_taken (queue_of journal s.folio) s.taken) (i - 1) (is_held s.parts) (entries_at s.parts) behind.numbered empty turn.before turn.none own_key behind.stands
+
+  -- where all of the folio's items are settled, what the one registrar leaves stands at its keys
+  pub stands_when_done : Kept journal (λ k. []) → s.taken ≡ length (queue_of journal s.folio) → (k : Key) → IsTrue (is_held s.parts k) → entries_at s.parts k ≡ at (registrar journal).entries k
+  stands_when_done empty all k held =
+      let done = all_done journal s.folio s.taken all in
+      stands_on journal s.folio (last_taken (queue_of journal s.folio) s.taken) (length journal) (is_held s.parts) (entries_at s.parts) behind.numbered empty done.within done.none own_key behind.stands k held
+      ∙ ap (λ (all : Settlement). at all.entries k) (registrar_is journal)
 
   -- ---- behind the step
 
@@ -69,6 +78,15 @@ module _ (journal : List Receipt) (s : FolioState) (behind : IsBehindLock journa
     room = subst (λ holds. HasAllRoom journal holds (entries_at parts) (room_at parts)) (sym held) roomy;
     scratch = λ n touched. subst (HasItsScratch journal n (at (settled_first journal (n - 1)).entries)) (sym same) (behind.scratch n touched);
   }
+
+-- the same of a journal by its name
+pub behind_named : (names journal : List Receipt) (s : FolioState) (i taken : ℕ) (parts : List PartState) (scratch : ScratchRoom) → journal ≡ names → IsBehindLock journal s → TurnComes journal s.folio s.taken i
+    → taken ≡ s.taken + 1 → is_held parts ≡ is_held s.parts → StandsAt journal i (is_held s.parts) (entries_at parts) → HasAllRoom journal (is_held s.parts) (entries_at parts) (room_at parts) → scratch ≡ s.scratch
+    → IsBehindLock names (record { folio = s.folio; taken = taken; parts = parts; scratch = scratch })
+behind_named names journal s i taken parts scratch named behind turn one_more held there roomy same =
+    subst (λ j. IsBehindLock j (record { folio = s.folio; taken = taken; parts = parts; scratch = scratch })) named
+    (subst (λ n. IsBehindLock journal (record { folio = s.folio; taken = n; parts = parts; scratch = scratch })) (sym one_more)
+    (behind_step journal s behind i parts scratch turn held there roomy same))
 
 -- ---- an item that touches one folio
 
@@ -118,6 +136,4 @@ behind_its_step names journal s i taken parts scratch named ready one_more held 
     let there = stands_behind journal i (is_held s.parts) (entries_at s.parts) (entries_at parts) (room_at s.parts) (room_at parts) ready.turn.low ready.there added in
     let roomy =
     room_behind journal (is_held s.parts) (entries_at s.parts) (entries_at parts) (room_at s.parts) (room_at parts) (brings journal i (at (settled_first journal (i - 1)).entries)).entries ready.behind.room added in
-    subst (λ j. IsBehindLock j (record { folio = s.folio; taken = taken; parts = parts; scratch = scratch })) named
-    (subst (λ n. IsBehindLock journal (record { folio = s.folio; taken = n; parts = parts; scratch = scratch })) (sym one_more)
-    (behind_step journal s ready.behind i parts scratch ready.turn held there roomy same))
+    behind_named names journal s i taken parts scratch named ready.behind ready.turn one_more held there roomy same

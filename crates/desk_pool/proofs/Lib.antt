@@ -1,10 +1,12 @@
 -- Lemmas that the answers cite.
+pub mod Apart
 pub mod CountedNumbers
 pub mod CutLists
 pub mod FilingRoom
 pub mod FolioSteps
 pub mod ItemRoom
 pub mod NothingBetween
+pub mod PairAdds
 pub mod RoomGrows
 pub mod RoomsSuffice
 pub mod SaleRoom

@@ -20,24 +20,22 @@ use Rattle.registrar.specs.Rooms.{HasItsRoom, room_wanted}
 use Rattle.registrar.specs.Settling.{registrar}
 use Rattle.registrar.specs.StandingAwards.{StandsForKeptAwards}
 use Rattle.registrar.specs.declared.verdicts.Verdict.{Verdict}
-use Rattle.desk_pool.specs.FolioQueues.{last_taken, queue_of}
+use Rattle.desk_pool.specs.FolioQueues.{touches_folio}
 use Rattle.desk_pool.specs.FolioStates.{HasAllRoom, StandsAt}
 use Rattle.desk_pool.specs.RoundRooms.{room_of_first}
 use Rattle.desk_pool.proofs.NothingBetween.{at_next, nothing_between}
 use Rattle.desk_pool.proofs.RoomsSuffice.{room_grows, room_suffices}
-use Rattle.desk_pool.proofs.Turns.{TurnComes, key_untouched}
+use Rattle.desk_pool.proofs.Turns.{key_untouched}
 
 -- the number of an item, from the one before it
 number_back : (i : ℕ) → 1 ≤ i → (i - 1) + 1 ≡ i
 number_back i low = omega (arith, low)
 
--- where the item's turn has come, the folio's parts say what stands ahead of the item
-pub stands_ahead : (journal : List Receipt) (folio taken i : ℕ) (holds : Key → Bool) (stands : Key → List Entry) → IsJournal journal → Kept journal (λ k. []) → TurnComes journal folio taken i
-    → ((k : Key) → IsTrue (holds k) → folio_of_key k ≡ folio) → StandsAt journal (last_taken (queue_of journal folio) taken) holds stands → StandsAt journal (i - 1) holds stands
-stands_ahead journal folio taken i holds stands numbered empty turn own before = λ k held.
-    before k held
-    ∙ sym (nothing_between journal k numbered empty (last_taken (queue_of journal folio) taken) (i - 1) turn.before
-    (λ m above within. key_untouched journal folio m k (own k held) (turn.none m above within)))
+-- where no item from one number to another touches the folio, its parts say at the other what they say at the one
+pub stands_on : (journal : List Receipt) (folio n m : ℕ) (holds : Key → Bool) (stands : Key → List Entry) → IsJournal journal → Kept journal (λ k. []) → n ≤ m → ((i : ℕ) → n < i → i ≤ m → touches_folio journal folio i ≡ false)
+    → ((k : Key) → IsTrue (holds k) → folio_of_key k ≡ folio) → StandsAt journal n holds stands → StandsAt journal m holds stands
+stands_on journal folio n m holds stands numbered empty within none own before = λ k held.
+    before k held ∙ sym (nothing_between journal k numbered empty n m within (λ i above most. key_untouched journal folio i k (own k held) (none i above most)))
 
 -- all that a step asks of what it is lent
 pub record CanStep (journal : List Receipt) (i : ℕ) (holds : Key → Bool) (stands : Key → List Entry) (room : Key → ℕ) : Type 0 where

@@ -3,3 +3,5 @@
 
 pub mod laws;
 mod locked_folios;
+mod nowhere;
+mod pairs;
