@@ -6,7 +6,9 @@ pub mod FilingRoom
 pub mod FolioSteps
 pub mod ItemRoom
 pub mod NothingBetween
+pub mod NoKeys
 pub mod PairAdds
+pub mod PairSteps
 pub mod RoomGrows
 pub mod RoomsSuffice
 pub mod SaleRoom

@@ -1,12 +1,12 @@
 -- An entry that is added to the one or the other of two folios is added to both together.
-use Rattle.std.proofs.Common.{◌≡◌, ℕ, ◌+◌, Bool, true, false, cond, List, [], ◌∷◌, ◌++◌, sym, ap, ◌∙◌}
+use Rattle.std.proofs.Common.{◌≡◌, ℕ, ◌+◌, Bool, true, false, cond, ◌||◌, List, [], ◌∷◌, ◌++◌, sym, ap, ◌∙◌}
 use Rattle.std.proofs.lemmas.Bool.{false≢true}
 use Rattle.gb_base.specs.declared.keys.Key.{Key}
 use Rattle.folio_sections.specs.Adding.{Adds}
 use Rattle.folio_sections.specs.Held.{entries_at, is_held, room_at}
 use Rattle.folio_sections.specs.PartState.{PartState}
 use Rattle.folio_sections.specs.declared.entries.Entry.{Entry}
-use Rattle.desk_pool.specs.FolioPairs.{AreApart, either_at, either_room, of_either}
+use Rattle.desk_pool.specs.FolioPairs.{AreApart, either_at, either_holds, either_room, of_either}
 
 -- what is read where the first holds the key, and where it does not
 pub of_first : {X : Type 0} (held : Key → Bool) (x y : Key → X) (k : Key) → held k ≡ true → of_either held x y k ≡ x k
@@ -36,6 +36,13 @@ adds_to_second first second second1 e adds there = record {
   others = λ k other. λ i. cond (is_held first k) (entries_at first k) (adds.others k other i);
   others_room = λ k other. λ i. cond (is_held first k) (room_at first k) (adds.others_room k other i);
 }
+
+-- both hold what they held
+pub holds_with_first : (first first1 second : List PartState) → is_held first1 ≡ is_held first → either_holds (record { first = first1; second = second }) ≡ either_holds (record { first = first; second = second })
+holds_with_first first first1 second same = λ i k. same i k || is_held second k
+
+pub holds_with_second : (first second second1 : List PartState) → is_held second1 ≡ is_held second → either_holds (record { first = first; second = second1 }) ≡ either_holds (record { first = first; second = second })
+holds_with_second first second second1 same = λ i k. is_held first k || same i k
 
 -- ---- no folio at all
 

@@ -1,6 +1,6 @@
 //! What lies behind the lock of a folio.
 //! Why so: docs/DECISIONS.md, "A folio's items are settled in the order of receipts".
-ghost use Rattle.std.specs.Prelude.{◌≡◌, ◌+◌, ◌==◌, Some, IfSome, IfNone, IsTrue, is_some, length, All};
+ghost use Rattle.std.specs.Prelude.{◌≡◌, ◌⊎◌, ◌+◌, ◌<◌, ◌==◌, ◌&&◌, Some, IfSome, IfNone, IsTrue, is_some, length, All};
 ghost use Rattle.gb_base.specs.Keys.{folio_of_key};
 ghost use Rattle.gb_base.specs.declared.keys.Key.{Key};
 ghost use Rattle.conflict_queue.specs.ItemKeys.{keys_of_item};
@@ -11,6 +11,7 @@ ghost use Rattle.folio_sections.specs.Held.{entries_at, is_held, room_at};
 ghost use Rattle.registrar.specs.RegisterState.{verdict_among};
 ghost use Rattle.registrar.specs.Settling.{registrar};
 
+use crate::pairs::FolioPair;
 use act_model::{Journal, JournalName};
 use folio_sections::MapParts;
 use gb_base::{FolioId, ReceiptNo};
@@ -97,6 +98,43 @@ impl<N: JournalName> LockedFolio<N> {
         let taken = self.count_with(queue, item)?;
         let verdict = step(&mut self.parts, &mut self.scratch, journal, item);
         self.taken = taken;
+        Some(verdict)
+    }
+
+    /// Settles an item that touches the keys of two folios, where it is the next of both; else
+    /// nothing changes. The first has the lower number, so desks that lock two folios lock them in
+    /// one order and never wait for each other. The parts of both are moved to `place` for the step.
+    pub fn settle_both(
+        first: &mut LockedFolio<N>,
+        second: &mut LockedFolio<N>,
+        place: &mut FolioPair,
+        journal: &Journal,
+        first_queue: &[ReceiptNo],
+        second_queue: &[ReceiptNo],
+        item: ReceiptNo,
+    ) -> Option<Verdict>
+        requires named { journal.now.receipts ≡ N.receipts }
+        requires first_queue { first_queue.now ≡ queue_of N.receipts first.old.folio }
+        requires second_queue { second_queue.now ≡ queue_of N.receipts second.old.folio }
+        requires in_order { first.old.folio < second.old.folio }
+        requires own { All (λ k. (folio_of_key k ≡ first.old.folio) ⊎ (folio_of_key k ≡ second.old.folio)) (keys_of_item N.receipts item) }
+        ensures verdict { IfSome result (λ verdict. verdict_among (registrar N.receipts).verdicts item ≡ Some verdict) }
+        ensures next { is_some result ≡ (is_next first_queue.now first.old.taken item && is_next second_queue.now second.old.taken item) }
+        ensures first_folio { first.new.folio ≡ first.old.folio }
+        ensures second_folio { second.new.folio ≡ second.old.folio }
+        ensures first_taken { IfSome result (λ verdict. first.new.taken ≡ first.old.taken + 1) }
+        ensures second_taken { IfSome result (λ verdict. second.new.taken ≡ second.old.taken + 1) }
+        ensures unchanged { IfNone result ((first.new ≡ first.old) × (second.new ≡ second.old)) }
+        ensures place { place.new ≡ place.old }
+    {
+        empty_register_is_kept();
+        let first_taken = first.count_with(first_queue, item)?;
+        let second_taken = second.count_with(second_queue, item)?;
+        place.swap(&mut first.parts, &mut second.parts);
+        let verdict = step(place, &mut first.scratch, journal, item);
+        place.swap(&mut first.parts, &mut second.parts);
+        first.taken = first_taken;
+        second.taken = second_taken;
         Some(verdict)
     }
 

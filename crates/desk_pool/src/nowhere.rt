@@ -25,5 +25,9 @@ pub(crate) fn settle_nowhere(
     ensures scratch { scratch.new ≡ scratch.old }
 {
     empty_register_is_kept();
+    // The item is one of the journal's.
+    let number = item.get();
+    let receipts = journal.len();
+    prove!(0 < number && number <= receipts);
     step(nothing, scratch, journal, item)
 }
