@@ -1,8 +1,7 @@
 -- Two folios that hold together what they held before hold each what it held, as the first has the lower number.
-use Rattle.std.proofs.Common.{◌≡◌, ⊎_elim, ℕ, ◌<◌, Bool, true, false, ◌||◌, cond, List, refl, sym, ap, subst, ◌∙◌, arith}
+use Rattle.std.proofs.Common.{◌≡◌, ⊎_elim, ℕ, Bool, true, false, ◌||◌, cond, List, refl, sym, ap, subst, ◌∙◌, arith}
 use Rattle.std.specs.Cmp.{both_ways}
 use Rattle.std.proofs.lemmas.Bool.{cases_Bool, or_cases, or_left, or_right}
-use Rattle.gb_base.specs.Keys.{folio_of_key}
 use Rattle.gb_base.specs.declared.keys.Key.{Key}
 use Rattle.folio_sections.specs.declared.entries.Entry.{Entry}
 use Rattle.desk_pool.specs.FolioPairs.{AreApart, of_either}

@@ -1,5 +1,5 @@
 -- A folio whose turn has come can have the item's step, and the step leaves it behind its lock.
-use Rattle.std.proofs.Common.{◌≡◌, ℕ, ◌+◌, ◌-◌, ◌≤◌, ◌==◌, ◌&&◌, Bool, true, List, [], All, Contains, IsTrue, length, sym, ap, subst, ◌∙◌, arith}
+use Rattle.std.proofs.Common.{◌≡◌, ℕ, ◌+◌, ◌-◌, ◌≤◌, ◌==◌, ◌&&◌, true, List, [], All, Contains, IsTrue, length, sym, ap, subst, ◌∙◌, arith}
 use Rattle.std.specs.List.{range_with_len}
 use Rattle.std.proofs.lemmas.Bool.{and_parts, eqb-true}
 use Rattle.std.proofs.lemmas.Bool.Decides.{nat_tests}
@@ -8,7 +8,6 @@ use Rattle.gb_base.proofs.Members.{in_range}
 use Rattle.gb_base.specs.Keys.{folio_of_key}
 use Rattle.gb_base.specs.declared.keys.Key.{Key}
 use Rattle.act_model.proofs.KeyOrder.{has_decides}
-use Rattle.act_model.specs.Receiving.{IsJournal}
 use Rattle.act_model.specs.declared.receipts.Receipt.{Receipt}
 use Rattle.conflict_queue.specs.ItemKeys.{keys_of_item}
 use Rattle.folio_sections.specs.Adding.{AddsList}
@@ -119,14 +118,11 @@ is_ready journal s i behind empty next own =
     }
 
 -- the same of a journal by its name, and of a folio by its fields
-pub ready_named : (names journal : List Receipt) (s self : FolioState) (queue : List ℕ) (i : ℕ) → journal ≡ names → IsBehindLock names s → Kept journal (λ k. []) → s ≡ self
-    → queue ≡ queue_of names self.folio → IsTrue (is_next queue self.taken i) → All (λ k. folio_of_key k ≡ self.folio) (keys_of_item names i) → IsReady journal s i
+pub ready_named : (names journal : List Receipt) (s self : FolioState) (queue : List ℕ) (i : ℕ) → journal ≡ names → IsBehindLock names s → Kept names (λ k. []) → s ≡ self → queue ≡ queue_of names self.folio
+    → true ≡ is_next queue self.taken i → All (λ k. folio_of_key k ≡ self.folio) (keys_of_item names i) → IsReady journal s i
 ready_named names journal s self queue i named behind empty fields are next own =
-    let behind_it = subst (λ j. IsBehindLock j s) (sym named) behind in
-    let queue_is : queue ≡ queue_of journal s.folio = are ∙ ap (λ j. queue_of j self.folio) (sym named) ∙ ap (λ (f : FolioState). queue_of journal f.folio) (sym fields) in
-    is_ready journal s i behind_it empty
-    (subst (λ (f : FolioState). IsTrue (is_next (queue_of journal s.folio) f.taken i)) (sym fields) (subst (λ q. IsTrue (is_next q self.taken i)) queue_is next))
-    (subst (λ (f : FolioState). All (λ k. folio_of_key k ≡ f.folio) (keys_of_item journal i)) (sym fields) (subst (λ js. All (λ k. folio_of_key k ≡ self.folio) (keys_of_item js i)) (sym named) own))
+    let ready = is_ready names self i (subst (IsBehindLock names) fields behind) empty (subst (λ q. IsTrue (is_next q self.taken i)) are (sym next)) own in
+    subst (λ j. IsReady j s i) (sym named) (subst (λ x. IsReady names x i) (sym fields) ready)
 
 -- the step leaves the folio behind its lock
 pub behind_its_step : (names journal : List Receipt) (s : FolioState) (i taken : ℕ) (parts : List PartState) (scratch : ScratchRoom) → journal ≡ names → IsReady journal s i → taken ≡ s.taken + 1 → is_held parts ≡ is_held s.parts

@@ -1,10 +1,9 @@
 -- Two folios whose turn has come for the same item can have its step together, and it leaves both behind their locks.
-use Rattle.std.proofs.Common.{◌≡◌, ◌⊎◌, ⊎_elim, ℕ, ◌+◌, ◌-◌, ◌<◌, ◌≤◌, ◌||◌, ◌==◌, Bool, true, List, [], All, Contains, IsTrue, length, refl, sym, ap, subst, ◌∙◌, arith}
+use Rattle.std.proofs.Common.{◌≡◌, ◌⊎◌, ⊎_elim, ℕ, ◌+◌, ◌-◌, ◌<◌, ◌≤◌, ◌||◌, ◌==◌, true, List, [], All, Contains, IsTrue, length, refl, sym, ap, subst, ◌∙◌, arith}
 use Rattle.std.proofs.lemmas.Bool.{eqb-true, or_left, or_right}
 use Rattle.std.proofs.lemmas.List.Elements.{All-contains}
 use Rattle.gb_base.specs.Keys.{folio_of_key}
 use Rattle.gb_base.specs.declared.keys.Key.{Key}
-use Rattle.act_model.specs.Receiving.{IsJournal}
 use Rattle.act_model.specs.declared.receipts.Receipt.{Receipt}
 use Rattle.conflict_queue.specs.ItemKeys.{keys_of_item}
 use Rattle.folio_sections.proofs.FilteredLists.{of_any}
@@ -12,7 +11,6 @@ use Rattle.folio_sections.specs.Adding.{AddsList}
 use Rattle.folio_sections.specs.Entries.{at}
 use Rattle.folio_sections.specs.Held.{entries_at, is_held, room_at}
 use Rattle.folio_sections.specs.PartState.{PartState}
-use Rattle.folio_sections.specs.declared.entries.Entry.{Entry}
 use Rattle.kept_registers.specs.Kept.{Kept}
 use Rattle.registrar.proofs.Registering.{left_by}
 use Rattle.registrar.proofs.RisingNumbers.{contains_of_in}
@@ -26,7 +24,7 @@ use Rattle.desk_pool.proofs.Scratches.{scratch_same}
 use Rattle.desk_pool.proofs.Settling.{CanStep, can_step, room_behind, stands_behind}
 use Rattle.desk_pool.proofs.Turns.{TurnComes, next_found, turn_comes}
 use Rattle.desk_pool.specs.FolioPairs.{AreApart, PairState, either_at, either_holds, either_room}
-use Rattle.desk_pool.specs.FolioQueues.{is_next, queue_of, touches_folio}
+use Rattle.desk_pool.specs.FolioQueues.{is_next, queue_of}
 use Rattle.desk_pool.specs.FolioStates.{FolioState, HasAllRoom, IsBehindLock, StandsAt}
 use Rattle.desk_pool.specs.RoundRooms.{room_of_first}
 
@@ -109,12 +107,12 @@ pair_is_ready journal s t i one other empty less next_one next_other own =
 -- the same of a journal by its name, and of folios by their fields
 pub pair_ready_named : (names journal : List Receipt) (s t first second : FolioState) (pair : PairState) (first_queue second_queue : List ℕ) (i : ℕ) → journal ≡ names → IsBehindLock names s → IsBehindLock names t → Kept names (λ k. [])
     → s ≡ first → t ≡ second → first.folio < second.folio → first_queue ≡ queue_of names first.folio → second_queue ≡ queue_of names second.folio
-    → IsTrue (is_next first_queue first.taken i) → IsTrue (is_next second_queue second.taken i)
+    → true ≡ is_next first_queue first.taken i → true ≡ is_next second_queue second.taken i
     → All (λ k. (folio_of_key k ≡ first.folio) ⊎ (folio_of_key k ≡ second.folio)) (keys_of_item names i) → pair ≡ pair_of s t → ArePairReady journal s t pair i
 pair_ready_named names journal s t first second pair first_queue second_queue i named one other empty one_is other_is less first_are second_are next_one next_other own pair_is =
     let ready =
     pair_is_ready names first second i (subst (IsBehindLock names) one_is one) (subst (IsBehindLock names) other_is other) empty less
-    (subst (λ q. IsTrue (is_next q first.taken i)) first_are next_one) (subst (λ q. IsTrue (is_next q second.taken i)) second_are next_other) own in
+    (subst (λ q. IsTrue (is_next q first.taken i)) first_are (sym next_one)) (subst (λ q. IsTrue (is_next q second.taken i)) second_are (sym next_other)) own in
     subst (λ p. ArePairReady journal s t p i) (sym pair_is)
     (subst (λ j. ArePairReady j s t (pair_of s t) i) (sym named)
     (subst (λ x. ArePairReady names x t (pair_of x t) i) (sym one_is) (subst (λ y. ArePairReady names first y (pair_of first y) i) (sym other_is) ready)))

@@ -15,7 +15,7 @@ ahead g c = record { folio = c.self.inside.folio; taken = c.self.inside.taken; p
 ready : (g : _) (c : goal.After-step-arg-2-1 g) → IsReady c.args.journal.now.receipts (ahead g c) c.args.item
 ready g c =
     ready_named g.N.JournalName.receipts c.args.journal.now.receipts (ahead g c) c.args.self.now c.args.queue.now c.args.item c.requires.named c.self.invariant
-    (c.empty_register_is_kept.ensures.kept c.args.journal.now.receipts) c.self.view_is c.requires.queue (sym c.in_ok-taken.ensures.next) c.requires.own
+    (c.empty_register_is_kept.ensures.kept g.N.JournalName.receipts) c.self.view_is c.requires.queue c.in_ok-taken.ensures.next c.requires.own
 
 pub step-verdict-requires-clause-received : goal.step-verdict-requires-clause-received
 step-verdict-requires-clause-received g c = (ready g c).turn.high
@@ -42,7 +42,7 @@ before g c = record { folio = c.self.inside.folio; taken = c.self.inside.taken; 
 was_ready : (g : _) (c : goal.After-self-1 g) → IsReady c.args.journal.now.receipts (before g c) c.args.item
 was_ready g c =
     ready_named g.N.JournalName.receipts c.args.journal.now.receipts (before g c) c.args.self.now c.args.queue.now c.args.item c.requires.named c.self.invariant
-    (c.empty_register_is_kept.ensures.kept c.args.journal.now.receipts) c.self.view_is c.requires.queue (sym c.in_ok-taken.ensures.next) c.requires.own
+    (c.empty_register_is_kept.ensures.kept g.N.JournalName.receipts) c.self.view_is c.requires.queue c.in_ok-taken.ensures.next c.requires.own
 
 pub invariant_of-self : goal.invariant_of-self
 invariant_of-self g c =

@@ -22,7 +22,7 @@ swap-requires g c =
     record {
       apart = (pair_ready_named names names (first_there g c) (second_there g c) c.args.first.now c.args.second.now (pair_of (first_there g c) (second_there g c)) c.args.first_queue.now c.args.second_queue.now c.args.item refl
           c.first.invariant c.second.invariant (c.empty_register_is_kept.ensures.kept names) c.first.view_is c.second.view_is c.requires.in_order c.requires.first_queue c.requires.second_queue
-          (sym c.in_ok-first_taken.ensures.next) (sym c.in_ok-second_taken.ensures.next) c.requires.own refl).apart;
+          c.in_ok-first_taken.ensures.next c.in_ok-second_taken.ensures.next c.requires.own refl).apart;
     }
 
 -- ---- ahead of the step
@@ -38,7 +38,7 @@ ready g c =
     let names = g.N.JournalName.receipts in
     pair_ready_named names c.args.journal.now.receipts (first_ahead g c) (second_ahead g c) c.args.first.now c.args.second.now c.swap.new.self c.args.first_queue.now c.args.second_queue.now c.args.item c.requires.named
     c.first.invariant c.second.invariant (c.empty_register_is_kept.ensures.kept names) c.first.view_is c.second.view_is c.requires.in_order c.requires.first_queue c.requires.second_queue
-    (sym c.in_ok-first_taken.ensures.next) (sym c.in_ok-second_taken.ensures.next) c.requires.own c.swap.ensures.pair
+    c.in_ok-first_taken.ensures.next c.in_ok-second_taken.ensures.next c.requires.own c.swap.ensures.pair
 
 pub step-verdict-requires-clause-received : goal.step-verdict-requires-clause-received
 step-verdict-requires-clause-received g c = (ready g c).turn_one.high
@@ -71,7 +71,7 @@ was_ready g c =
     let names = g.N.JournalName.receipts in
     pair_ready_named names c.args.journal.now.receipts (first_before g c) (second_before g c) c.args.first.now c.args.second.now c.swap.new.self c.args.first_queue.now c.args.second_queue.now c.args.item c.requires.named
     c.first.invariant c.second.invariant (c.empty_register_is_kept.ensures.kept names) c.first.view_is c.second.view_is c.requires.in_order c.requires.first_queue c.requires.second_queue
-    (sym c.in_ok-first_taken.ensures.next) (sym c.in_ok-second_taken.ensures.next) c.requires.own c.swap.ensures.pair
+    c.in_ok-first_taken.ensures.next c.in_ok-second_taken.ensures.next c.requires.own c.swap.ensures.pair
 
 behind : (g : _) (c : goal.After-second-1 g)
     → AreBehind g.N.JournalName.receipts (first_before g c) (second_before g c) c.in_ok-first_taken.first_taken c.in_ok-second_taken.second_taken c.swap-2.new.first c.swap-2.new.second c.step-verdict.new.scratch
