@@ -1,10 +1,15 @@
 -- Lemmas that the answers cite.
+pub mod Apart
 pub mod CountedNumbers
 pub mod CutLists
 pub mod FilingRoom
+pub mod FolioSteps
 pub mod ItemRoom
+pub mod NoKeys
 pub mod NothingBetween
 pub mod OrderWalks
+pub mod PairAdds
+pub mod PairSteps
 pub mod PreparedRegisters
 pub mod PreparedRuns
 pub mod RoomGrows

@@ -2,7 +2,7 @@
 use Rattle.std.proofs.Common.{◌≡◌, ⊎_elim, ℕ, zero, suc, ◌+◌, ◌-◌, ◌<◌, ◌≤◌, Bool, true, false, cond, ◌||◌, ◌==◌, List, [], ◌∷◌, length, filter, Some, None, slice_get, refl, sym, ap, subst, ◌∙◌, arith}
 use Rattle.std.specs.List.{list_any, range_with_len}
 use Rattle.std.specs.Option.{option_map_or}
-use Rattle.std.proofs.lemmas.Bool.{cases_lt, false≢true}
+use Rattle.std.proofs.lemmas.Bool.{cases_lt, eqb-true, false≢true}
 use Rattle.std.proofs.lemmas.Bool.Decides.{nat_tests}
 use Rattle.gb_base.specs.Keys.{folio_of_key, same_key}
 use Rattle.gb_base.specs.declared.keys.Key.{Key}
@@ -10,7 +10,7 @@ use Rattle.act_model.proofs.KeyOrder.{same_is}
 use Rattle.act_model.specs.declared.receipts.Receipt.{Receipt}
 use Rattle.conflict_queue.specs.Dockets.{has_key}
 use Rattle.conflict_queue.specs.ItemKeys.{keys_of_item}
-use Rattle.desk_pool.specs.FolioQueues.{last_taken, queue_of, touches_folio}
+use Rattle.desk_pool.specs.FolioQueues.{is_next, last_taken, queue_of, touches_folio}
 
 -- the number at place t, or 0
 abbrev number_at : List ℕ → ℕ → ℕ
@@ -92,6 +92,45 @@ turn_comes journal folio taken i got =
       none = λ m above below. found.none m above (omega (arith, below, low));
       taken_next = ap (number_at (0 ∷ queue_of journal folio)) one_more ∙ ap (λ o. option_map_or (λ m. m) o 0) got;
     }
+
+-- what is tested is that the item stands there
+pub next_found : (queue : List ℕ) (taken i : ℕ) → is_next queue taken i ≡ true → slice_get queue taken ≡ Some i
+next_found queue taken i =
+    elim (slice_get queue taken) as (λ o. option_map_or (λ n. n == i) o false ≡ true → o ≡ Some i) [
+      | Some n ↦ λ is. ap (λ m. Some m) (eqb-true n i is)
+      | None ↦ λ is. absurd (false≢true is)
+    ]
+
+-- ---- a folio that is done
+
+-- Behind the last number of those of a row that pass none passes.
+record IsLast (p : ℕ → Bool) (ns : List ℕ) (b a n : ℕ) : Type 0 where
+  high : number_at (b ∷ ns) (length ns) < a + n
+  none : (m : ℕ) → number_at (b ∷ ns) (length ns) < m → m < a + n → p m ≡ false
+
+last : (p : ℕ → Bool) (b a n : ℕ) → b < a → ((j : ℕ) → b < j → j < a → p j ≡ false) → IsLast p (filter p (range_with_len a n)) b a n
+last p b a zero low fails = record { high = omega (arith, low); none = λ m above below. fails m above (omega (arith, below)) }
+last p b a (suc n) low fails =
+    elim (p a) as (λ v. p a ≡ v → IsLast p (cond v (a ∷ filter p (range_with_len (a + 1) n)) (filter p (range_with_len (a + 1) n))) b a (suc n)) [
+      | true ↦ λ is.
+          let rest = last p a (a + 1) n (omega arith) (λ j above below. absurd (omega (arith, above, below))) in
+          record { high = let high = rest.high in omega (arith, high); none = λ m above below. rest.none m above (omega (arith, below)) }
+      | false ↦ λ is.
+          let rest = last p b (a + 1) n (omega (arith, low))
+          (λ j above below. ⊎_elim (λ less. fails j above less) (λ no. ap p (omega (arith, no, below)) ∙ is) (cases_lt j a)) in
+          record { high = let high = rest.high in omega (arith, high); none = λ m above below. rest.none m above (omega (arith, below)) }
+    ] refl
+
+-- No item of the journal behind the folio's last touches it.
+pub record IsDone (journal : List Receipt) (folio taken : ℕ) : Type 0 where
+  pub within : last_taken (queue_of journal folio) taken ≤ length journal
+  pub none : (m : ℕ) → last_taken (queue_of journal folio) taken < m → m ≤ length journal → touches_folio journal folio m ≡ false
+
+pub all_done : (journal : List Receipt) (folio taken : ℕ) → taken ≡ length (queue_of journal folio) → IsDone journal folio taken
+all_done journal folio taken is =
+    let found = last (touches_folio journal folio) 0 1 (length journal) (omega arith) (λ j above below. absurd (omega (arith, above, below))) in
+    subst (IsDone journal folio) (sym is)
+    (record { within = let high = found.high in omega (arith, high); none = λ m above below. found.none m above (omega (arith, below)) })
 
 -- an item that does not touch the folio touches none of its keys
 pub key_untouched : (journal : List Receipt) (folio m : ℕ) (k : Key) → folio_of_key k ≡ folio → touches_folio journal folio m ≡ false → has_key k (keys_of_item journal m) ≡ false

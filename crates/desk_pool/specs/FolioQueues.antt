@@ -1,5 +1,5 @@
 -- The items that touch a folio, in the order of their receipts (GBO § 17).
-use Rattle.std.specs.Prelude.{◌≡◌, ℕ, Bool, ◌==◌, ◌&&◌, List, ◌∷◌, All, filter, length, slice_get}
+use Rattle.std.specs.Prelude.{◌≡◌, ℕ, Bool, false, ◌==◌, ◌&&◌, List, ◌∷◌, All, filter, length, slice_get}
 use Rattle.std.specs.List.{list_any, range_with_len}
 use Rattle.std.specs.Option.{option_map_or}
 use Rattle.gb_base.specs.Keys.{folio_of_key}
@@ -21,6 +21,10 @@ queue_of journal folio = filter (touches_folio journal folio) (range_with_len 1 
 -- the last of the first so many of them; 0 ahead of the first
 abbrev pub last_taken : List ℕ → ℕ → ℕ
 last_taken queue taken = option_map_or (λ n. n) (slice_get (0 ∷ queue) taken) 0
+
+-- the item is the next of them, where the first so many are taken
+abbrev pub is_next : List ℕ → ℕ → ℕ → Bool
+is_next queue taken item = option_map_or (λ n. n == item) (slice_get queue taken) false
 
 -- the key is one of the folio's, and an item of the journal touches it
 abbrev pub is_key_of : List Receipt → ℕ → Key → Bool

@@ -1,5 +1,6 @@
 -- What contracts cite.
 pub mod Boards
+pub mod FolioPairs
 pub mod FolioQueues
 pub mod FolioStates
 pub mod FoliosBack
