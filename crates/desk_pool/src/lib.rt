@@ -12,6 +12,7 @@ mod open_folios;
 mod orders;
 mod pairs;
 mod prepared;
+mod seats;
 mod shared_rounds;
 mod taking_over;
 mod together;

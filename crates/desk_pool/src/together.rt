@@ -2,6 +2,7 @@
 ghost use Rattle.std.specs.Prelude.{◌<◌, length};
 
 use crate::desks::work;
+use crate::seats::Seat;
 use crate::shared_rounds::SharedRound;
 use act_model::JournalName;
 use gb_outside::DeskGate;
@@ -9,7 +10,7 @@ use std::sync::Wait;
 use std::thread;
 use std::thread::Threads;
 
-/// Lets so many desks work, each in a thread of its own where one can be had, until no item is left.
+/// Lets a desk work at each seat, in a thread of its own where one can be had, until no item is left.
 pub(crate) fn work_together<
     N: JournalName + Send + Sync,
     G: DeskGate,
@@ -18,10 +19,10 @@ pub(crate) fn work_together<
     rt: &R,
     round: &SharedRound<'_, N>,
     gate: &G,
-    seats: &mut [u8],
+    seats: &mut [Seat],
 )
     requires { 0 < length seats.old }
 {
     let desks = seats.len();
-    thread::for_each_mut(rt, seats, desks, &|_, _seat| work(rt, round, gate));
+    thread::for_each_mut(rt, seats, desks, &|_, seat| work(rt, round, gate, seat));
 }
