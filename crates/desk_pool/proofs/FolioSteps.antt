@@ -8,6 +8,7 @@ use Rattle.gb_base.proofs.Members.{in_range}
 use Rattle.gb_base.specs.Keys.{folio_of_key}
 use Rattle.gb_base.specs.declared.keys.Key.{Key}
 use Rattle.act_model.proofs.KeyOrder.{has_decides}
+use Rattle.act_model.specs.Receiving.{IsJournal}
 use Rattle.act_model.specs.declared.receipts.Receipt.{Receipt}
 use Rattle.conflict_queue.specs.ItemKeys.{keys_of_item}
 use Rattle.folio_sections.specs.Adding.{AddsList}
@@ -28,7 +29,8 @@ use Rattle.desk_pool.proofs.Scratches.{scratch_same}
 use Rattle.desk_pool.proofs.Settling.{CanStep, can_step, room_behind, stands_behind, stands_on}
 use Rattle.desk_pool.proofs.Turns.{TurnComes, all_done, next_found, turn_comes}
 use Rattle.desk_pool.specs.FolioQueues.{is_key_of, is_next, last_taken, queue_of}
-use Rattle.desk_pool.specs.FolioStates.{FolioState, HasAllRoom, IsBehindLock, StandsAt}
+use Rattle.desk_pool.specs.FolioStates.{FolioState, HasAllRoom, HasAllScratch, IsBehindLock, StandsAt}
+use Rattle.desk_pool.specs.RoundRooms.{room_of_first}
 
 -- ---- the folio's keys
 
@@ -86,6 +88,18 @@ behind_named names journal s i taken parts scratch named behind turn one_more he
     subst (λ j. IsBehindLock j (record { folio = s.folio; taken = taken; parts = parts; scratch = scratch })) named
     (subst (λ n. IsBehindLock journal (record { folio = s.folio; taken = n; parts = parts; scratch = scratch })) (sym one_more)
     (behind_step journal s behind i parts scratch turn held there roomy same))
+
+-- a folio whose parts are empty and have room for all is behind its lock, with none of its items settled
+pub behind_at_first : (journal : List Receipt) (folio : ℕ) (parts : List PartState) (scratch : ScratchRoom) → IsJournal journal → ((k : Key) → is_held parts k ≡ is_key_of journal folio k)
+    → ((k : Key) → entries_at parts k ≡ []) → ((k : Key) → IsTrue (is_held parts k) → room_of_first journal (length journal) k ≤ room_at parts k) → HasAllScratch journal folio scratch
+    → IsBehindLock journal (record { folio = folio; taken = 0; parts = parts; scratch = scratch })
+behind_at_first journal folio parts scratch numbered held empty roomy scratch_suffices = record {
+  numbered = numbered;
+  held = held;
+  stands = λ k there. empty k;
+  room = λ k there. let place = roomy k there in omega (arith, place);
+  scratch = scratch_suffices;
+}
 
 -- ---- an item that touches one folio
 

@@ -2,6 +2,7 @@
 pub mod Apart
 pub mod CountedNumbers
 pub mod CutLists
+pub mod FewFolios
 pub mod FilingRoom
 pub mod FolioSteps
 pub mod ItemRoom

@@ -66,7 +66,7 @@ impl<N: JournalName> LockedFolio<N> {
 
     /// How many of the folio's items are settled once this one is; None where it is not the folio's
     /// next. `queue` are the items of the folio.
-    pub(crate) fn count_with(&self, queue: &[ReceiptNo], item: ReceiptNo) -> Option<usize>
+    fn count_with(&self, queue: &[ReceiptNo], item: ReceiptNo) -> Option<usize>
         ensures next { is_some result ≡ is_next queue.now self.now.taken item }
         ensures count { IfSome result (λ n. n ≡ self.now.taken + 1) }
     {
@@ -101,9 +101,10 @@ impl<N: JournalName> LockedFolio<N> {
         Some(verdict)
     }
 
-    /// Settles an item that touches the keys of two folios, where it is the next of both; else
-    /// nothing changes. The first has the lower number, so desks that lock two folios lock them in
-    /// one order and never wait for each other. The parts of both are moved to `place` for the step.
+    /// Settles an item that touches these two folios and no other, where it is the next of both;
+    /// else nothing changes. The first has the lower number: in that order a desk locks them. The
+    /// queues are the items of the first and of the second. The parts of both are moved to `place`
+    /// for the step, and back.
     pub fn settle_both(
         first: &mut LockedFolio<N>,
         second: &mut LockedFolio<N>,

@@ -1,8 +1,9 @@
 //! The parts of two folios that one item touches, read and written as one.
-//! Why so: docs/DECISIONS.md, "A folio's items are settled in the order of receipts".
-ghost use Rattle.std.specs.Prelude.{◌≡◌, IfOk};
+//! Why so: docs/DECISIONS.md, "The parts of two folios are moved into a pair for a step".
+ghost use Rattle.std.specs.Prelude.{◌≡◌, false, IfOk};
 ghost use Rattle.folio_sections.specs.Held.{is_held};
-ghost use Rattle.desk_pool.specs.FolioPairs.{AreApart};
+ghost use Rattle.desk_pool.specs.FolioPairs.{AreApart, either_holds};
+ghost use Rattle.gb_base.specs.declared.keys.Key.{Key};
 
 use folio_sections::{CasePart, Entry, MapParts, Parts, RightPart, TitlePart};
 use gb_base::{FolioId, Key, NoMemory, RightId};
@@ -31,7 +32,9 @@ impl Model for FolioPair {
 
 impl FolioPair {
     /// A place for two folios, which holds none yet.
-    pub fn new(alloc: Global) -> Result<FolioPair, NoMemory> {
+    pub fn new(alloc: Global) -> Result<FolioPair, NoMemory>
+        ensures none { IfOk result (λ pair. (k : Key) → either_holds pair k ≡ false) }
+    {
         let first = MapParts::new(alloc, &[])?;
         let second = MapParts::new(alloc, &[])?;
         Ok(FolioPair { first, second })
