@@ -21,6 +21,7 @@ pub mod Scratches
 pub mod Settling
 pub mod StandsSince
 pub mod TakingOver
+pub mod TouchedKeys
 pub mod Turns
 pub mod WaitingBehind
 pub mod WaitingInTurn
