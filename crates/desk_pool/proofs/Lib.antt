@@ -1,9 +1,14 @@
 -- Lemmas that the answers cite.
+pub mod AllPrepared
+pub mod BuiltQueues
 pub mod CountedNumbers
+pub mod CountedRooms
 pub mod CutLists
 pub mod FilingRoom
 pub mod ItemRoom
 pub mod NothingBetween
+pub mod PreparedParts
+pub mod PreparedScratches
 pub mod RoomGrows
 pub mod RoomsSuffice
 pub mod SaleRoom

@@ -2,8 +2,15 @@
 #![tactic(auto)]
 
 mod boards;
+mod building_queues;
 mod desks;
+mod folio_parts;
 mod folio_queues;
+mod key_rooms;
 pub mod laws;
 mod locked_folios;
+mod open_folios;
+mod prepared;
+mod preparing;
+mod scratches;
 mod shared_rounds;
