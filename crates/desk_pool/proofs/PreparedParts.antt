@@ -100,7 +100,7 @@ in_list P (r ∷ rs) k all there =
       | false ↦ λ e h. in_list P rs k (λ i d within. all (suc i) d (omega (arith, within))) h
     ] refl there
 
-parts_for : (rooms : BTreeMap Key ℕ) (wanted : Key → Bool) (list : List KeyRoom) (parts : List PartState) → AreRoomsAt rooms wanted list
+pub parts_for : (rooms : BTreeMap Key ℕ) (wanted : Key → Bool) (list : List KeyRoom) (parts : List PartState) → AreRoomsAt rooms wanted list
     → ((k : Key) → is_held parts k ≡ is_given (map key_of list) k) → ((k : Key) → entries_at parts k ≡ []) → All (λ r. r.room ≤ room_at parts r.key) list → ArePartsFor rooms wanted parts
 parts_for rooms wanted list parts are held empty room = record {
   held = λ k. held k ∙ are.keys k;

@@ -1,5 +1,5 @@
 //! Empty parts with room, at the keys of a journal or of one of its folios.
-ghost use Rattle.std.specs.Prelude.{◌≡◌, ◌==◌, ◌≤◌, true, [], map, All, IfOk};
+ghost use Rattle.std.specs.Prelude.{◌≡◌, ◌==◌, ◌≤◌, [], map, All, IfOk};
 ghost use Rattle.std.specs.BTreeMap.{IsOrdered};
 ghost use Rattle.std.specs.BTreeMap.Range.{IsLeBy};
 ghost use Rattle.gb_base.specs.Keys.{folio_of_key, key_cmp};
@@ -20,17 +20,6 @@ pub(crate) struct KeyRoom {
     pub room: usize,
 }
 
-/// Empty parts at the keys of these rooms. Wants memory (NoMemory).
-pub(crate) fn parts_for_all(
-    alloc: Global,
-    rooms: &BTreeMap<Key, usize>,
-) -> Result<MapParts, NoMemory>
-    ensures { IfOk result (ArePartsFor rooms.now (λ k. true)) }
-{
-    let keys = list_rooms(alloc, rooms)?;
-    parts_at(alloc, keys.as_slice())
-}
-
 /// Empty parts at those of the keys that are of the folio. Wants memory (NoMemory).
 pub(crate) fn parts_for_folio(
     alloc: Global,
@@ -43,7 +32,7 @@ pub(crate) fn parts_for_folio(
     parts_at(alloc, keys.as_slice())
 }
 
-/// All keys with their rooms, ascending.
+/// All keys with their rooms, ascending. Wants memory (NoMemory).
 pub(crate) fn list_rooms(
     alloc: Global,
     rooms: &BTreeMap<Key, usize>,
@@ -84,8 +73,8 @@ fn key_room(key: &Key, room: &usize) -> KeyRoom
     }
 }
 
-/// Empty parts at these keys, with their room.
-fn parts_at(alloc: Global, keys: &[KeyRoom]) -> Result<MapParts, NoMemory>
+/// Empty parts at these keys, with their room. Wants memory (NoMemory).
+pub(crate) fn parts_at(alloc: Global, keys: &[KeyRoom]) -> Result<MapParts, NoMemory>
     ensures held { IfOk result (λ parts. (k : Key) → is_held parts k ≡ is_given (map (λ r. r.key) keys.now) k) }
     ensures empty { IfOk result (λ parts. (k : Key) → entries_at parts k ≡ []) }
     ensures room { IfOk result (λ parts. All (λ r. r.room ≤ room_at parts r.key) keys.now) }
