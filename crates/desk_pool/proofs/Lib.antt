@@ -1,6 +1,9 @@
 -- Lemmas that the answers cite.
+pub mod AllPrepared
 pub mod Apart
+pub mod BuiltQueues
 pub mod CountedNumbers
+pub mod CountedRooms
 pub mod CutLists
 pub mod FewFolios
 pub mod FilingRoom
@@ -11,8 +14,10 @@ pub mod NothingBetween
 pub mod OrderWalks
 pub mod PairAdds
 pub mod PairSteps
+pub mod PreparedParts
 pub mod PreparedRegisters
 pub mod PreparedRuns
+pub mod PreparedScratches
 pub mod RoomGrows
 pub mod RoomsSuffice
 pub mod SaleRoom

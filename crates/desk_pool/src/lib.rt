@@ -2,9 +2,11 @@
 #![tactic(auto)]
 
 mod boards;
+mod building_queues;
 mod desks;
 mod folio_parts;
 mod folio_queues;
+mod key_rooms;
 pub mod laws;
 mod locked_folios;
 mod nowhere;
@@ -12,6 +14,8 @@ mod open_folios;
 mod orders;
 mod pairs;
 mod prepared;
+mod preparing;
+mod scratches;
 mod seats;
 mod shared_rounds;
 mod taking_over;

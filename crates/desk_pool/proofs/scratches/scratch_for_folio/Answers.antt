@@ -1,0 +1,18 @@
+-- A folio that has a sale has its room, and in another one nothing reckons.
+use Rattle.std.proofs.Common.{◌∙◌, sym, subst}
+use Rattle.std.proofs.lemmas.Bool.{false≢true}
+use Rattle.gb_base.specs.declared.keys.Key.TheVariants.{Case}
+use Rattle.desk_pool.specs.FolioStates.{HasAllScratch}
+use Rattle.desk_pool.proofs.PreparedScratches.{serves_own}
+use Rattle.desk_pool.proofs.scratches.scratch_for_folio.Goals as goal
+use Rattle.desk_pool.proofs.scratches.scratch_for_folio.Goals.{then-is_kept+in_ok-reserve_at, else-is_kept}
+
+pub returns : goal.returns
+returns c =
+    let journal = c.args.journal.now.receipts in
+    let folio = c.args.folio in
+    let kept = c.is_kept.ensures ∙ c.requires.rooms.keys (Case folio) in
+    elim c.if-is_kept.branch [
+      | then-is_kept+in_ok-reserve_at w ↦ subst (HasAllScratch journal folio) (sym w.scratch-is) (serves_own journal w.reserve_at.new.scratch folio (λ _. w.in_ok-reserve_at.ensures.served))
+      | else-is_kept w ↦ subst (HasAllScratch journal folio) (sym w.scratch-is) (serves_own journal c.in_ok-scratch.scratch folio (λ given. absurd (false≢true (sym w.if-is_kept.false ∙ kept ∙ given))))
+    ]
