@@ -216,7 +216,6 @@ not_empty journal k (n ∷ ns) given none =
 
 module _ (journal : List Receipt) (items : BTreeMap ℕ (Vec ℕ Global)) (queues : List FolioQueue)
     (own : (folio : ℕ) → items_at items folio ≡ queue_of journal folio) (listed : map as_entry queues ≡ items.entries) (ordered : IsOrdered nat_cmp items) where
-
   entry_at : (i : ℕ) (d : FolioQueue) → i < length queues → slice_get items.entries i ≡ Some (as_entry (get_or queues i d))
   entry_at i d within =
       let count = length-map queues as_entry in

@@ -32,7 +32,6 @@ cut keys i k within is =
     let next : suc i ≡ i + 1 = omega arith in
     drop-cons keys i k within ∙ (λ j. sym is j ∷ drop (next j) keys)
 
-
 -- a key of which room is still to be counted has it
 pub room_fits : (keys : List Key) (i : ℕ) (k : Key) (room now whole : ℕ) → i < length keys → k ≡ get_or keys i k → with_room_at (drop i keys) k room now ≡ whole → now + room ≤ whole
 room_fits keys i k room now whole within is so_far =

@@ -25,3 +25,7 @@ IsBackFor journal queues back k =
 -- The parts of each folio are back, as far as these keys go.
 abbrev pub AreBack : List Receipt → List FolioQueue → List (List PartState) → List KeyRoom → Type 0
 AreBack journal queues back keys = All (λ w. IsBackFor journal queues back w.key) keys
+
+-- The parts of each folio are back, at all its keys.
+abbrev pub AllBack : List Receipt → List FolioQueue → List (List PartState) → Type 0
+AllBack journal queues back = (k : Key) → IsBackFor journal queues back k

@@ -1,13 +1,15 @@
 //! The board that hands out the items whose turn has come.
-ghost use Rattle.std.specs.Prelude.{◌≡◌, ◌≤◌, Some, IfSome, IsTrue, length};
-ghost use Rattle.std.specs.List.{enumerate_from};
+ghost use Rattle.std.specs.Prelude.{◌≡◌, ◌≤◌, ◌-◌, ℕ, Some, IfSome, length, slice_get};
 ghost use Rattle.registrar.specs.RegisterState.{verdict_among};
 ghost use Rattle.registrar.specs.Settling.{registrar};
 
 use crate::folio_queues::{FolioQueue, place_of};
+use crate::preparing::no_verdicts;
 use act_model::JournalName;
-use gb_base::{FolioId, Key, ReceiptNo};
+use conflict_queue::Docket;
+use gb_base::{FolioId, Key, NoMemory, ReceiptNo};
 use registrar::Verdict;
+use std::alloc::Global;
 use std::marker::{Model, PhantomData};
 
 /// What desks share beside the folios: the items that are ready, and what became of those that are
@@ -40,6 +42,58 @@ impl<N: JournalName> Model for Board<N> {
 }
 
 impl<N: JournalName> Board<N> {
+    /// The board of a journal, on which nothing is said, and the items are these: those that touch no
+    /// key are ready, and so is the first of each folio, as far as its other folio lets it. Wants
+    /// memory (NoMemory).
+    pub fn new(
+        alloc: Global,
+        docket: &Docket,
+        queues: &[FolioQueue],
+        items: &[ReceiptNo],
+    ) -> Result<Board<N>, NoMemory> {
+        let mut board = Board {
+            verdicts: no_verdicts(alloc, items.len())?,
+            said: vec![in alloc; false; items.len()]?,
+            ready: Vec::with_capacity(alloc, items.len())?,
+            waits: count_folios(alloc, docket, items)?,
+            settled: vec![in alloc; 0; queues.len()]?,
+            in_hand: 0,
+            of: PhantomData,
+        };
+        board.begin_nowhere(items);
+        board.begin_in(queues);
+        Ok(board)
+    }
+
+    /// The items that touch no folio are ready.
+    fn begin_nowhere(&mut self, items: &[ReceiptNo]) {
+        for item in items {
+            if self.waits.get(item.get() as usize - 1) == Some(&0) {
+                self.push_ready(*item);
+            }
+        }
+    }
+
+    /// The turn of the first item of each folio comes.
+    fn begin_in(&mut self, queues: &[FolioQueue]) {
+        for queue in queues {
+            if let Some(item) = queue.items.first() {
+                self.comes(*item);
+            }
+        }
+    }
+
+    /// The verdicts, where each is said: then they are those of the one registrar.
+    pub fn into_verdicts(self) -> Option<Vec<Verdict>>
+        ensures { IfSome result (λ verdicts. (n : ℕ) → 1 ≤ n → n ≤ length verdicts.items
+            → slice_get verdicts.items (n - 1) ≡ verdict_among (registrar N.receipts).verdicts n) }
+    {
+        if self.said.len() != self.verdicts.len() || self.said.contains(&false) {
+            return None;
+        }
+        Some(self.verdicts)
+    }
+
     /// Whether a desk that asks for an item has to wait: none is ready, and others have items in
     /// hand behind which some may be.
     pub fn must_wait(&self) -> bool {
@@ -110,13 +164,42 @@ impl<N: JournalName> Board<N> {
     }
 
     /// The item's turn comes in one more of its folios: in the last one it is ready.
-    pub fn comes(&mut self, item: ReceiptNo) {
+    fn comes(&mut self, item: ReceiptNo) {
         let Some(waits) = self.waits.get_mut(item.get() as usize - 1) else {
             return;
         };
         *waits = waits.saturating_sub(1);
-        if *waits == 0 && self.ready.len() < self.ready.capacity() {
+        if *waits == 0 {
+            self.push_ready(item);
+        }
+    }
+
+    /// The item is ready.
+    fn push_ready(&mut self, item: ReceiptNo) {
+        if self.ready.len() < self.ready.capacity() {
             self.ready.push_reserved(item);
         }
+    }
+}
+
+/// For each of these items, how many folios it touches.
+fn count_folios(alloc: Global, docket: &Docket, items: &[ReceiptNo]) -> Result<Vec<u8>, NoMemory> {
+    let mut counts = Vec::with_capacity(alloc, items.len())?;
+    for item in items {
+        counts.push(folios_touched(docket, *item))?;
+    }
+    Ok(counts)
+}
+
+/// How many folios an item touches: none, one or two.
+fn folios_touched(docket: &Docket, item: ReceiptNo) -> u8 {
+    if item.get() as usize > docket.len() {
+        return 0;
+    }
+    let keys = docket.keys(item);
+    match (keys.first(), keys.last()) {
+        (Some(first), Some(last)) if first.folio() != last.folio() => 2,
+        (Some(_), _) => 1,
+        (None, _) => 0,
     }
 }

@@ -87,12 +87,7 @@ fn settle<N: JournalName, G: DeskGate, R: Wait>(
     let keys = keys_of(round, item)?;
     let Some(first) = keys.first() else {
         gate.at(item);
-        return Some(settle_nowhere(
-            &mut seat.nothing,
-            &mut seat.scratch,
-            round.journal,
-            item,
-        ));
+        return Some(settle_nowhere(&mut seat.nothing, &mut seat.scratch, round.journal, item));
     };
     let folio = first.folio();
     if are_all_in(keys, folio) {

@@ -18,5 +18,6 @@ mod preparing;
 mod scratches;
 mod seats;
 mod shared_rounds;
+mod taking_back;
 mod taking_over;
 mod together;

@@ -49,10 +49,28 @@ impl Prepared {
         ensures kept { Kept journal.now.receipts (entries_at result.parts) }
         ensures awards { AwardsKept journal.now.receipts (entries_at result.parts) }
     {
+        // Called for its clause.
+        journal.len();
+        self.settle_all(journal, order);
+        self.into_register(journal, order)
+    }
+
+    /// The register where all items are settled, in this order.
+    pub fn into_register(mut self, journal: &Journal, order: &[ReceiptNo]) -> Register
+        requires taken { HasTaken journal.now.receipts order.now self }
+        requires permitted { IsPermitted journal.now.receipts order.now }
+        ensures settled { HasSettled journal.now.receipts result }
+        ensures whole { IsRegisterOf journal.now.receipts result }
+        ensures entries { entries_at result.parts ≡ at (registrar journal.now.receipts).entries }
+        ensures verdicts { result.verdicts ≡ (registrar journal.now.receipts).verdicts }
+        ensures folios { result.folios ≡ open_folios (registrar journal.now.receipts).entries }
+        ensures held { (k : Key) → is_held result.parts k ≡ is_given (keys_of_first journal.now.receipts (length journal.now.receipts)) k }
+        ensures kept { Kept journal.now.receipts (entries_at result.parts) }
+        ensures awards { AwardsKept journal.now.receipts (entries_at result.parts) }
+    {
         // Called for their clauses.
         empty_register_is_kept();
         journal.len();
-        self.settle_all(journal, order);
         keep_open(&mut self.folios, &self.parts);
         Register::of_parts(self.alloc, self.parts, self.verdicts, self.folios)
     }

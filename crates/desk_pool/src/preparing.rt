@@ -77,7 +77,7 @@ fn lock_folio<N: JournalName>(
 }
 
 /// So many verdicts, that say nothing yet.
-fn no_verdicts(alloc: Global, count: usize) -> Result<Vec<Verdict>, NoMemory>
+pub(crate) fn no_verdicts(alloc: Global, count: usize) -> Result<Vec<Verdict>, NoMemory>
     ensures { IfOk result (λ verdicts. length verdicts.items ≡ count) }
 {
     let mut verdicts = Vec::with_capacity(alloc, count)?;

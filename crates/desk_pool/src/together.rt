@@ -11,11 +11,7 @@ use std::thread;
 use std::thread::Threads;
 
 /// Lets a desk work at each seat, in a thread of its own where one can be had, until no item is left.
-pub(crate) fn work_together<
-    N: JournalName + Send + Sync,
-    G: DeskGate,
-    R: Threads + Wait + Sync,
->(
+pub(crate) fn work_together<N: JournalName + Send + Sync, G: DeskGate, R: Threads + Wait + Sync>(
     rt: &R,
     round: &SharedRound<'_, N>,
     gate: &G,
