@@ -1,5 +1,5 @@
 -- The queues of folios grow by an item, and their list has each folio that a key is of.
-use Rattle.std.proofs.Common.{◌≡◌, ⊎_elim, ℕ, zero, suc, ◌+◌, ◌-◌, ◌<◌, ◌≤◌, Bool, true, false, cond, ◌||◌, ◌==◌, List, [], ◌∷◌, ◌++◌, Option, Some, None, Any, All, AllPairs, IsTrue, Vec, drop, filter, flat_map, get_or, length, map, slice_get, refl, sym, ap, subst, ◌∙◌, length-append, drop-cons, add-one, arith}
+use Rattle.std.proofs.Common.{◌≡◌, ⊎_elim, ℕ, zero, suc, ◌+◌, ◌-◌, ◌<◌, ◌≤◌, Bool, true, false, cond, ◌||◌, ◌==◌, List, [], ◌∷◌, ◌++◌, Option, Some, None, Any, IsTrue, Vec, drop, filter, flat_map, get_or, length, map, slice_get, refl, sym, ap, subst, ◌∙◌, length-append, arith}
 use Rattle.std.specs.BTreeMap.{BTreeMap, IsOrdered, Updates, get, is_at}
 use Rattle.std.specs.List.{last_or, list_any, range_with_len}
 use Rattle.std.specs.List.Sorted.{IsStrictlySortedBy}
@@ -26,6 +26,7 @@ use Rattle.act_model.specs.inner.KeyInsertion.{insert_key, with_key, with_keys}
 use Rattle.conflict_queue.proofs.Lists.{get_behind}
 use Rattle.conflict_queue.specs.Dockets.{has_key, keys_touched}
 use Rattle.conflict_queue.specs.ItemKeys.{keys_of_item}
+use Rattle.desk_pool.proofs.CountedRooms.{cut}
 use Rattle.desk_pool.specs.AllQueues.{AreAllQueues}
 use Rattle.desk_pool.specs.FolioQueues.{queue_of, touches_folio}
 use Rattle.desk_pool.specs.declared.folio_queues.FolioQueue.{FolioQueue}
@@ -91,9 +92,7 @@ unmoved old g f item ends =
 pub next_key : (keys : List Key) (i f item : ℕ) (k : Key) (old new whole : List ℕ) → i < length keys → k ≡ get_or keys i k
     → new ≡ cond (folio_of_key k == f) (with_item item old) old → with_item_at (drop i keys) f item old ≡ whole → with_item_at (drop (i + 1) keys) f item new ≡ whole
 next_key keys i f item k old new whole within is written so_far =
-    let next : suc i ≡ i + 1 = omega arith in
-    let cut : drop i keys ≡ k ∷ drop (i + 1) keys = drop-cons keys i k within ∙ (λ j. sym is j ∷ drop (next j) keys) in
-    ap (with_item_at (drop (i + 1) keys) f item) written ∙ sym (ap (λ ks. with_item_at ks f item old) cut) ∙ so_far
+    ap (with_item_at (drop (i + 1) keys) f item) written ∙ sym (ap (λ ks. with_item_at ks f item old) (cut keys i k within is)) ∙ so_far
 
 -- ---- item by item
 
@@ -143,7 +142,7 @@ any_with_keys : (p : Key → Bool) (ks js : List Key) → list_any p (with_keys 
 any_with_keys p [] js = refl
 any_with_keys p (k ∷ ks) js = any_with_keys p ks (with_key k js) ∙ ap (λ b. list_any p ks || b) (any_with p k js) ∙ swap (list_any p ks) (p k) (list_any p js)
 
-or_none : (a : Bool) → (a || false) ≡ a
+pub or_none : (a : Bool) → (a || false) ≡ a
 or_none true = refl
 or_none false = refl
 

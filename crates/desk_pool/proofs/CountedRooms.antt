@@ -1,8 +1,7 @@
 -- Room is counted at each key once for each item that touches it.
-use Rattle.std.proofs.Common.{◌≡◌, ℕ, zero, suc, ◌+◌, ◌*◌, ◌-◌, ◌<◌, ◌≤◌, Bool, true, false, cond, ◌||◌, List, [], ◌∷◌, Some, None, drop, get_or, length, refl, sym, ap, subst, ◌∙◌, drop-cons, arith}
+use Rattle.std.proofs.Common.{◌≡◌, ℕ, zero, suc, ◌+◌, ◌*◌, ◌<◌, ◌≤◌, Bool, true, false, cond, ◌||◌, List, [], ◌∷◌, Some, None, drop, get_or, length, refl, sym, ap, subst, ◌∙◌, drop-cons, arith}
 use Rattle.std.specs.List.Sorted.{IsStrictlySortedBy}
 use Rattle.std.specs.Option.{option_map_or}
-use Rattle.std.proofs.lemmas.Bool.{false≢true}
 use Rattle.gb_base.specs.Keys.{key_cmp, same_key}
 use Rattle.gb_base.specs.declared.keys.Key.{Key}
 use Rattle.act_model.proofs.KeyOrder.{in_key_order_sorted, itself, not_above_itself, same_is}
@@ -27,7 +26,8 @@ no_less (j ∷ js) k room kept =
       | false ↦ no_less js k room kept
     ]
 
-cut : (keys : List Key) (i : ℕ) (k : Key) → i < length keys → k ≡ get_or keys i k → drop i keys ≡ k ∷ drop (i + 1) keys
+-- what is left of a list is its next one and what is left behind that
+pub cut : (keys : List Key) (i : ℕ) (k : Key) → i < length keys → k ≡ get_or keys i k → drop i keys ≡ k ∷ drop (i + 1) keys
 cut keys i k within is =
     let next : suc i ≡ i + 1 = omega arith in
     drop-cons keys i k within ∙ (λ j. sym is j ∷ drop (next j) keys)

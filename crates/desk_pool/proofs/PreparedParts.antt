@@ -20,6 +20,7 @@ use Rattle.gb_base.specs.Keys.{folio_of_key, key_cmp, same_key}
 use Rattle.gb_base.specs.declared.keys.Key.{Key}
 use Rattle.gb_base.specs.declared.keys.Key.TheVariants.{Case, Right, Title}
 use Rattle.act_model.proofs.KeyOrder.{itself, same_is, ties, total}
+use Rattle.desk_pool.proofs.BuiltQueues.{or_none}
 use Rattle.desk_pool.specs.KeyRooms.{room_in}
 use Rattle.desk_pool.specs.declared.folio_parts.KeyRoom.{KeyRoom}
 use Rattle.desk_pool.specs.inner.PartsPrepared.{ArePartsFor, AreRoomsAt, room_of_entry}
@@ -53,10 +54,6 @@ held_none parts keys holds empty = record { held = holds; empty = λ k. none_sta
 map_both : (xs ys : List KeyRoom) → map key_of (xs ++ ys) ≡ map key_of xs ++ map key_of ys
 map_both [] ys = refl
 map_both (x ∷ xs) ys = ap (λ rest. key_of x ∷ rest) (map_both xs ys)
-
-or_none : (b : Bool) → (b || false) ≡ b
-or_none true = refl
-or_none false = refl
 
 given_next : (keys : List KeyRoom) (i : ℕ) (r : KeyRoom) (k : Key) → i < length keys → r ≡ get_or keys i r
     → is_given (map key_of (take (i + 1) keys)) k ≡ (is_given (map key_of (take i keys)) k || same_key r.key k)

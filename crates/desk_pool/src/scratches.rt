@@ -1,7 +1,5 @@
 //! The scratches in which a round reckons sales.
-ghost use Rattle.std.specs.Prelude.{◌≡◌, ◌*◌, ◌≤◌, true, is_some, length, sum_by, IfOk, OnOk};
-ghost use Rattle.std.specs.BTreeMap.{get};
-ghost use Rattle.gb_base.specs.Keys.{key_cmp};
+ghost use Rattle.std.specs.Prelude.{◌≡◌, ◌*◌, ◌≤◌, true, length, sum_by, IfOk, OnOk};
 ghost use Rattle.gb_base.specs.declared.keys.Key.{Key};
 ghost use Rattle.gb_base.specs.declared.keys.Key.TheVariants.{Right};
 ghost use Rattle.act_model.specs.Limits.{most_creations, most_receipts};
@@ -52,17 +50,10 @@ pub(crate) fn scratch_for_folio(
 {
     let mut scratch = Scratch::with_room(alloc, 0, 0)?;
     let case = Key::Case(folio);
-    if is_kept(rooms, &case) {
+    if rooms.contains_key(&case) {
         reserve_at(alloc, &mut scratch, journal, rooms, &case)?;
     }
     Ok(scratch)
-}
-
-/// Whether room is kept at a key.
-fn is_kept(rooms: &BTreeMap<Key, usize>, key: &Key) -> bool
-    ensures { result ≡ is_some (get key_cmp rooms.now key.now) }
-{
-    rooms.get(key).is_some()
 }
 
 /// Keeps the room in a scratch that a sale wants, where the key is one: for the rights of its folio,

@@ -1,5 +1,5 @@
 -- One item after the other comes behind those of its folios.
-use Rattle.std.proofs.Common.{◌≡◌, ◌∙◌, ◌+◌, ◌-◌, length, sym, ap, arith}
+use Rattle.std.proofs.Common.{◌≡◌, ◌∙◌, ◌+◌, length, ap, arith}
 use Rattle.std.proofs.lemmas.Grind.{common_steps}
 use Rattle.conflict_queue.proofs.Numbered.{docket_len}
 use Rattle.desk_pool.specs.inner.QueuesBuilt.{items_at}
