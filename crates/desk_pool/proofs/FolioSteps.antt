@@ -25,7 +25,7 @@ use Rattle.registrar.specs.HeldKeys.{keys_of_first}
 use Rattle.registrar.specs.Rooms.{HasItsScratch}
 use Rattle.registrar.specs.Settling.{Settlement, registrar}
 use Rattle.sale_rules.specs.ScratchRoom.{ScratchRoom}
-use Rattle.desk_pool.proofs.Scratches.{scratch_same}
+use Rattle.desk_pool.proofs.AgreeingScratches.{scratch_same}
 use Rattle.desk_pool.proofs.Settling.{CanStep, can_step, room_behind, stands_behind, stands_on}
 use Rattle.desk_pool.proofs.Turns.{TurnComes, all_done, next_found, turn_comes}
 use Rattle.desk_pool.specs.FolioQueues.{is_key_of, is_next, last_taken, queue_of}

@@ -1,4 +1,5 @@
 -- Lemmas that the answers cite.
+pub mod AgreeingScratches
 pub mod AllPrepared
 pub mod Apart
 pub mod BuiltQueues
@@ -22,7 +23,6 @@ pub mod RoomGrows
 pub mod RoomsSuffice
 pub mod SaleRoom
 pub mod Saying
-pub mod Scratches
 pub mod Settling
 pub mod StandsSince
 pub mod TakingOver

@@ -20,7 +20,7 @@ use Rattle.registrar.specs.Rooms.{HasItsScratch}
 use Rattle.sale_rules.specs.ScratchRoom.{ScratchRoom}
 use Rattle.desk_pool.proofs.Apart.{at_either, at_first, at_second, first_same, second_same}
 use Rattle.desk_pool.proofs.FolioSteps.{ahead_of_step, behind_named, holds_key, own_key}
-use Rattle.desk_pool.proofs.Scratches.{scratch_same}
+use Rattle.desk_pool.proofs.AgreeingScratches.{scratch_same}
 use Rattle.desk_pool.proofs.Settling.{CanStep, can_step, room_behind, stands_behind}
 use Rattle.desk_pool.proofs.Turns.{TurnComes, next_found, turn_comes}
 use Rattle.desk_pool.specs.FolioPairs.{AreApart, PairState, either_at, either_holds, either_room}

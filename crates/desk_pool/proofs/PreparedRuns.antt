@@ -29,7 +29,7 @@ use Rattle.registrar.specs.Settling.{Settlement, nothing_settled, settled_in_ord
 use Rattle.registrar.specs.StandingAwards.{StandsForKeptAwards}
 use Rattle.registrar.specs.declared.verdicts.Verdict.{Verdict}
 use Rattle.desk_pool.proofs.RoomsSuffice.{room_grows, room_suffices}
-use Rattle.desk_pool.proofs.Scratches.{scratch_same}
+use Rattle.desk_pool.proofs.AgreeingScratches.{scratch_same}
 use Rattle.desk_pool.specs.Preparing.{AreTitledFolios, HasPlaces, IsPrepared, ServesEachItem}
 use Rattle.desk_pool.specs.RoundRooms.{room_of_first}
 use Rattle.desk_pool.specs.declared.prepared.Prepared.{Prepared}

@@ -3,7 +3,7 @@ use Rattle.folio_sections.specs.Entries.{at}
 use Rattle.registrar.proofs.Registering.{left_by}
 use Rattle.registrar.specs.HasSettled.{settled_first}
 use Rattle.desk_pool.proofs.NoKeys.{can_step_nowhere, no_key, not_held, still_nothing}
-use Rattle.desk_pool.proofs.Scratches.{scratch_nowhere}
+use Rattle.desk_pool.proofs.AgreeingScratches.{scratch_nowhere}
 use Rattle.desk_pool.proofs.Settling.{verdict_said}
 use Rattle.folio_sections.specs.Held.{entries_at}
 use Rattle.desk_pool.proofs.nowhere.settle_nowhere.Goals as goal
