@@ -12,5 +12,5 @@ mod locked_folios;
 mod open_folios;
 mod prepared;
 mod preparing;
-mod scratches;
+mod sale_scratches;
 mod shared_rounds;
