@@ -1,6 +1,6 @@
 -- What a round prepares is what the settling of a journal begins with.
-use Rattle.std.proofs.Common.{◌≡◌, ℕ, zero, suc, ◌+◌, ◌<◌, ◌≤◌, Bool, true, false, ◌&&◌, ◌||◌, ◌==◌, List, [], ◌∷◌, All, AllPairs, Contains, IsTrue, filter_map, get_or, is_some, length, map, refl, sym, ap, subst, ◌∙◌, arith}
-use Rattle.std.specs.BTreeMap.{BTreeMap, IsOrdered, get}
+use Rattle.std.proofs.Common.{◌≡◌, ℕ, zero, suc, ◌<◌, Bool, true, false, ◌&&◌, ◌||◌, ◌==◌, List, [], ◌∷◌, Contains, filter_map, get_or, length, map, refl, sym, ap, subst, ◌∙◌, arith}
+use Rattle.std.specs.BTreeMap.{BTreeMap, IsOrdered}
 use Rattle.std.specs.List.{AllByRecursion, list_any}
 use Rattle.std.specs.List.Sorted.{IsStrictlySortedBy}
 use Rattle.std.specs.Map.{keys_of}
@@ -9,7 +9,7 @@ use Rattle.std.specs.declared.cmp.Ordering.TheVariants.{Less}
 use Rattle.std.proofs.lemmas.Bool.{eqb-true, false≢true, or_right}
 use Rattle.std.proofs.lemmas.Bool.Decides.{nat_tests}
 use Rattle.std.proofs.lemmas.Map.Keys.{below_from_sorted}
-use Rattle.gb_base.specs.Keys.{folio_of_key, key_cmp, same_key}
+use Rattle.gb_base.specs.Keys.{folio_of_key, key_cmp}
 use Rattle.gb_base.specs.declared.keys.Key.{Key}
 use Rattle.gb_base.specs.declared.keys.Key.TheVariants.{Case, Right, Title}
 use Rattle.act_model.specs.Receiving.{IsJournal}
@@ -17,9 +17,8 @@ use Rattle.act_model.specs.declared.receipts.Receipt.{Receipt}
 use Rattle.desk_pool.proofs.BuiltQueues.{same_number}
 use Rattle.desk_pool.proofs.PreparedParts.{all_listed, key_of}
 use Rattle.desk_pool.specs.FolioStates.{HasAllRoom, HasAllScratch, IsBehindLock}
-use Rattle.desk_pool.specs.KeyRooms.{AreRooms, room_in}
+use Rattle.desk_pool.specs.KeyRooms.{AreRooms}
 use Rattle.desk_pool.specs.Preparing.{AreTitledFolios, IsPrepared, ServesEachItem}
-use Rattle.desk_pool.specs.RoundRooms.{room_of_first}
 use Rattle.desk_pool.specs.declared.folio_parts.KeyRoom.{KeyRoom}
 use Rattle.desk_pool.specs.declared.prepared.Prepared.{Prepared}
 use Rattle.desk_pool.specs.inner.PartsPrepared.{ArePartsFor, room_of_entry}

@@ -1,17 +1,15 @@
 -- Parts with room at the keys of a list, and the lists of keys of a map of rooms.
-use Rattle.std.proofs.Common.{◌≡◌, ⊎_elim, ℕ, zero, suc, ◌+◌, ◌<◌, ◌≤◌, Bool, true, false, cond, not, ◌&&◌, ◌||◌, ◌==◌, List, [], ◌∷◌, ◌++◌, Option, Some, None, Result, Ok, Err, IfOk, All, IsTrue, filter, find, get_or, is_some, length, map, slice_get, take, refl, sym, ap, subst, ◌∙◌, arith}
+use Rattle.std.proofs.Common.{◌≡◌, ⊎_elim, ℕ, suc, ◌+◌, ◌<◌, ◌≤◌, Bool, true, false, cond, ◌&&◌, ◌||◌, ◌==◌, List, [], ◌∷◌, ◌++◌, Option, Some, None, Result, Ok, Err, IfOk, All, IsTrue, find, get_or, is_some, length, map, take, refl, sym, ap, subst, ◌∙◌, arith}
 use Rattle.std.specs.BTreeMap.{BTreeMap, IsOrdered, get, is_at}
 use Rattle.std.specs.BTreeMap.Range.{IsLeBy, range_contains}
-use Rattle.std.specs.List.{list_any}
 use Rattle.std.specs.Map.{lookup}
 use Rattle.std.specs.Option.{option_map_or}
-use Rattle.std.specs.Ordering.{is_eq, is_gt, is_le, is_lt}
 use Rattle.std.specs.declared.ops.Bound.TheVariants.{Included}
-use Rattle.std.proofs.lemmas.Bool.{cases_eq, cases_Bool, false≢true, or_right}
+use Rattle.std.proofs.lemmas.Bool.{cases_eq, false≢true, or_right}
 use Rattle.std.proofs.lemmas.Bool.Decides.{nat_tests}
 use Rattle.std.proofs.lemmas.Cmp.{eq_by_cmp_equiv}
 use Rattle.std.proofs.lemmas.Grind.{take_at_read}
-use Rattle.std.proofs.lemmas.List.{get_or-map, get_or_default, length-map, take_all}
+use Rattle.std.proofs.lemmas.List.{get_or-map, get_or_default, length-map}
 use Rattle.std.proofs.lemmas.List.Elements.{All-filter}
 use Rattle.std.proofs.lemmas.List.Folds.{list_any-append}
 use Rattle.std.proofs.lemmas.Map.Entries.{btree_map_get_place, lookup-filter-keys}
@@ -26,7 +24,6 @@ use Rattle.desk_pool.specs.declared.folio_parts.KeyRoom.{KeyRoom}
 use Rattle.desk_pool.specs.inner.PartsPrepared.{ArePartsFor, AreRoomsAt, room_of_entry}
 use Rattle.folio_sections.specs.Held.{entries_at, is_given, is_held, room_at}
 use Rattle.folio_sections.specs.PartState.{PartState}
-use Rattle.folio_sections.specs.declared.entries.Entry.{Entry}
 use Rattle.folio_sections.specs.inner.RightsInKeys.{entries_from_to}
 
 -- ---- part by part

@@ -1,5 +1,5 @@
 -- A scratch with room for the rights of each folio that has a sale serves each item.
-use Rattle.std.proofs.Common.{◌≡◌, ⊎_elim, ℕ, zero, suc, ◌+◌, ◌*◌, ◌-◌, ◌<◌, ◌≤◌, nat_lt, Bool, true, false, cond, ◌||◌, ◌==◌, List, [], ◌∷◌, Option, Some, None, All, IfSome, IsTrue, filter, flat_map, get_or, length, map, slice_get, sum_by, take, refl, sym, ap, subst, ◌∙◌, arith}
+use Rattle.std.proofs.Common.{◌≡◌, ⊎_elim, ℕ, zero, suc, ◌+◌, ◌*◌, ◌-◌, ◌<◌, ◌≤◌, nat_lt, Bool, true, false, cond, ◌||◌, ◌==◌, List, [], ◌∷◌, Some, None, All, IfSome, filter, flat_map, get_or, length, map, slice_get, sum_by, take, refl, sym, ap, subst, ◌∙◌, arith}
 use Rattle.std.specs.BTreeMap.{BTreeMap}
 use Rattle.std.specs.List.{list_any, range_with_len}
 use Rattle.std.specs.Option.{option_map_or}
@@ -23,9 +23,8 @@ use Rattle.act_model.specs.declared.receipts.Receipt.{Receipt}
 use Rattle.conflict_queue.specs.Dockets.{has_key}
 use Rattle.conflict_queue.specs.ItemKeys.{keys_by_item, keys_of_item}
 use Rattle.desk_pool.proofs.CountedRooms.{room_few}
-use Rattle.desk_pool.proofs.PreparedParts.{in_list, key_of}
+use Rattle.desk_pool.proofs.PreparedParts.{in_list}
 use Rattle.desk_pool.proofs.RoomsSuffice.{exchanges_fit, room_grows}
-use Rattle.desk_pool.specs.FolioQueues.{touches_folio}
 use Rattle.desk_pool.specs.FolioStates.{HasAllScratch}
 use Rattle.desk_pool.specs.KeyRooms.{AreRooms, room_in}
 use Rattle.desk_pool.specs.Preparing.{ServesEachItem}
@@ -33,14 +32,13 @@ use Rattle.desk_pool.specs.RoundRooms.{room_of_first}
 use Rattle.desk_pool.specs.declared.folio_parts.KeyRoom.{KeyRoom}
 use Rattle.desk_pool.specs.inner.PartsPrepared.{AreRoomsAt}
 use Rattle.desk_pool.specs.inner.ScratchesPrepared.{IsNoSmaller, ServesAt, ServesFolio}
-use Rattle.folio_line.specs.FolioLine.{all_rises}
 use Rattle.folio_sections.specs.Entries.{at}
 use Rattle.folio_sections.specs.Held.{is_given}
 use Rattle.folio_sections.specs.declared.entries.Entry.{Entry}
 use Rattle.kept_registers.specs.Kept.{Kept}
 use Rattle.registrar.specs.HasSettled.{settled_first}
 use Rattle.registrar.specs.HeldKeys.{keys_of_first}
-use Rattle.registrar.specs.Rooms.{HasItsScratch, IsForFolio, IsRoomy}
+use Rattle.registrar.specs.Rooms.{IsForFolio, IsRoomy}
 use Rattle.sale_rules.specs.ScratchRoom.{ScratchRoom}
 
 -- ---- the room of a folio's rights serves each item that reckons there

@@ -1,5 +1,5 @@
 //! The room that a round keeps at each key of a journal.
-ghost use Rattle.std.specs.Prelude.{◌≡◌, ◌||◌, ◌+◌, ◌*◌, ◌≤◌, ℕ, if◌then◌else◌, is_some, IfOk, OnOk};
+ghost use Rattle.std.specs.Prelude.{◌≡◌, ◌||◌, ◌+◌, ◌*◌, ◌≤◌, if◌then◌else◌, is_some, IfOk, OnOk};
 ghost use Rattle.act_model.specs.Limits.{most_receipts};
 ghost use Rattle.gb_base.specs.Keys.{key_cmp, same_key};
 ghost use Rattle.gb_base.specs.declared.keys.Key.{Key};

@@ -15,7 +15,7 @@ mod orders;
 mod pairs;
 mod prepared;
 mod preparing;
-mod scratches;
+mod sale_scratches;
 mod seats;
 mod shared_rounds;
 mod taking_back;

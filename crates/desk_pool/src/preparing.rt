@@ -8,7 +8,7 @@ use crate::folio_parts::{KeyRoom, list_rooms, parts_at, parts_for_folio};
 use crate::folio_queues::FolioQueue;
 use crate::locked_folios::LockedFolio;
 use crate::prepared::Prepared;
-use crate::scratches::{scratch_for_all, scratch_for_folio};
+use crate::sale_scratches::{scratch_for_all, scratch_for_folio};
 use act_model::{Journal, JournalName};
 use gb_base::{FolioId, Key, NoMemory};
 use registrar::Verdict;

@@ -1,5 +1,5 @@
 -- One item after the other keeps its room at its keys.
-use Rattle.std.proofs.Common.{◌≡◌, ◌∙◌, ◌+◌, ◌*◌, ◌≤◌, length, sym, ap, subst, ◌||◌, arith}
+use Rattle.std.proofs.Common.{◌≡◌, ◌∙◌, ◌+◌, length, ap, ◌||◌, arith}
 use Rattle.std.proofs.lemmas.Grind.{common_steps}
 use Rattle.conflict_queue.proofs.Numbered.{docket_len}
 use Rattle.conflict_queue.specs.Dockets.{has_key}

@@ -4,8 +4,8 @@ use Rattle.std.proofs.lemmas.Bool.{false≢true}
 use Rattle.gb_base.specs.declared.keys.Key.TheVariants.{Case}
 use Rattle.desk_pool.specs.FolioStates.{HasAllScratch}
 use Rattle.desk_pool.proofs.PreparedScratches.{serves_own}
-use Rattle.desk_pool.proofs.scratches.scratch_for_folio.Goals as goal
-use Rattle.desk_pool.proofs.scratches.scratch_for_folio.Goals.{then-contains_key+in_ok-reserve_at, else-contains_key}
+use Rattle.desk_pool.proofs.sale_scratches.scratch_for_folio.Goals as goal
+use Rattle.desk_pool.proofs.sale_scratches.scratch_for_folio.Goals.{then-contains_key+in_ok-reserve_at, else-contains_key}
 
 pub returns : goal.returns
 returns c =

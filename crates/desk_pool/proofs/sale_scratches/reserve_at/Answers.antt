@@ -2,7 +2,7 @@
 use Rattle.std.proofs.Common.{◌≤◌, OnOk, length, sym, subst}
 use Rattle.desk_pool.specs.inner.ScratchesPrepared.{ServesAt, ServesFolio}
 use Rattle.desk_pool.proofs.PreparedScratches.{few_filed, rooms_few, serves_folio}
-use Rattle.desk_pool.proofs.scratches.reserve_at.Goals as goal
+use Rattle.desk_pool.proofs.sale_scratches.reserve_at.Goals as goal
 use Rattle.registrar.proofs.ScratchRooms.{both_on_ok}
 
 pub exchange_room-exchanges-requires-clause-few : goal.exchange_room-exchanges-requires-clause-few

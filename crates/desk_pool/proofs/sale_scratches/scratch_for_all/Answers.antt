@@ -1,7 +1,7 @@
 -- One sale after the other has its room.
 use Rattle.std.proofs.Common.{arith}
 use Rattle.desk_pool.proofs.PreparedScratches.{at_case, next_serves, serves_all}
-use Rattle.desk_pool.proofs.scratches.scratch_for_all.Goals as goal
+use Rattle.desk_pool.proofs.sale_scratches.scratch_for_all.Goals as goal
 
 pub loop-wanted-preserved : goal.loop-wanted-preserved
 loop-wanted-preserved c = record {
