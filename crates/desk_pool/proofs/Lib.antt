@@ -16,6 +16,7 @@ pub mod SaleRoom
 pub mod Scratches
 pub mod Settling
 pub mod StandsSince
+pub mod TouchedKeys
 pub mod Turns
 pub mod WaitingBehind
 pub mod WaitingInTurn

@@ -3,4 +3,5 @@ pub mod FolioPairs
 pub mod FolioQueues
 pub mod FolioStates
 pub mod RoundRooms
+pub mod TouchedFolios
 pub mod Turns

@@ -5,3 +5,4 @@ pub mod laws;
 mod locked_folios;
 mod nowhere;
 mod pairs;
+mod touched_folios;
