@@ -26,6 +26,7 @@ use Rattle.folio_sections.proofs.Unchanged.{all_both, all_weaker}
 use Rattle.kept_registers.proofs.WellFiled.{well_filed}
 use Rattle.registrar.proofs.ContainedParts.{each_mapped}
 use Rattle.desk_pool.proofs.NoKeys.{no_key}
+use Rattle.desk_pool.specs.TouchedFolios.{AreOfFewFolios}
 
 -- ---- numbers of which two are different
 
@@ -110,21 +111,17 @@ filing_names_few f well =
 
 -- ---- the folios of items
 
--- where two of these keys are of different folios, any is of the one or the other
-abbrev pub FewFolios : List Key → Type 0
-FewFolios keys = (j k l : Key) → Contains keys j → Contains keys k → Contains keys l → (folio_of_key j ≡ folio_of_key k → ⊥) → (folio_of_key l ≡ folio_of_key j) ⊎ (folio_of_key l ≡ folio_of_key k)
-
-no_folio : FewFolios []
+no_folio : AreOfFewFolios []
 no_folio j k l of_j of_k of_l apart = absurd (no_key [] j refl of_j)
 
-one_folio : (keys : List Key) (folio : ℕ) → AllByRecursion (λ k. folio_of_key k ≡ folio) keys → FewFolios keys
+one_folio : (keys : List Key) (folio : ℕ) → AllByRecursion (λ k. folio_of_key k ≡ folio) keys → AreOfFewFolios keys
 one_folio keys folio all j k l of_j of_k of_l apart =
     let own : (x : Key) → Contains keys x → folio_of_key x ≡ folio = λ x there. All-contains (λ y. folio_of_key y ≡ folio) keys x (All-from_recursion (λ y. folio_of_key y ≡ folio) keys all) there in
     absurd (apart (own j of_j ∙ sym (own k of_k)))
 
-filing_few : (journal : List Receipt) (m : ℕ) → IsJournal journal → FewFolios (keys_of_filing journal m)
+filing_few : (journal : List Receipt) (m : ℕ) → IsJournal journal → AreOfFewFolios (keys_of_filing journal m)
 filing_few journal m numbered =
-    elim (filing_at journal m) as (λ o. filing_at journal m ≡ o → FewFolios (option_map_or (λ (f : Filing). keys_of_acts journal m 1 f.acts) o [])) [
+    elim (filing_at journal m) as (λ o. filing_at journal m ≡ o → AreOfFewFolios (option_map_or (λ (f : Filing). keys_of_acts journal m 1 f.acts) o [])) [
       | None ↦ λ is. no_folio
       | Some f ↦ λ is j k l of_j of_k of_l apart.
           let keys = keys_of_acts journal m 1 f.acts in
@@ -133,18 +130,18 @@ filing_few journal m numbered =
           of_two (map folio_of f.acts) (folio_of_key j) (folio_of_key k) (folio_of_key l) (filing_names_few f (well_filed journal m f numbered is)) apart (own j of_j) (own k of_k) (own l of_l)
     ] refl
 
-named_few : (journal : List Receipt) (i m : ℕ) → IsJournal journal → FewFolios (keys_of_named journal i m)
+named_few : (journal : List Receipt) (i m : ℕ) → IsJournal journal → AreOfFewFolios (keys_of_named journal i m)
 named_few journal i m numbered =
-    elim (nat_lt m i) as (λ b. FewFolios (cond b (keys_of_filing journal m) [])) [
+    elim (nat_lt m i) as (λ b. AreOfFewFolios (cond b (keys_of_filing journal m) [])) [
       | true ↦ filing_few journal m numbered
       | false ↦ no_folio
     ]
 
-sale_few : (journal : List Receipt) (i folio : ℕ) → FewFolios (keys_of_sale journal i folio)
+sale_few : (journal : List Receipt) (i folio : ℕ) → AreOfFewFolios (keys_of_sale journal i folio)
 sale_few journal i folio =
     one_folio (keys_of_sale journal i folio) folio (refl, (refl, each_mapped (λ k. folio_of_key k ≡ folio) (Right folio) (earlier_rights journal i folio) (λ id. refl)))
 
-item_few : (journal : List Receipt) (i : ℕ) (w : Item) → IsJournal journal → FewFolios (keys_by_item journal i w)
+item_few : (journal : List Receipt) (i : ℕ) (w : Item) → IsJournal journal → AreOfFewFolios (keys_by_item journal i w)
 item_few journal i (item.Filing f) numbered = filing_few journal i numbered
 item_few journal i (item.Cure m docs) numbered = named_few journal i m numbered
 item_few journal i (item.Lapse m) numbered = named_few journal i m numbered
@@ -154,9 +151,9 @@ item_few journal i (item.OpenBids folio costs) numbered = sale_few journal i fol
 item_few journal i (item.Award folio buyer bid) numbered = sale_few journal i folio
 item_few journal i (item.Distribute folio) numbered = sale_few journal i folio
 
-pub few_folios : (journal : List Receipt) (i : ℕ) → IsJournal journal → FewFolios (keys_of_item journal i)
+pub few_folios : (journal : List Receipt) (i : ℕ) → IsJournal journal → AreOfFewFolios (keys_of_item journal i)
 few_folios journal i numbered =
-    elim (receipt_at journal i) as (λ o. FewFolios (option_map_or (λ (r : Receipt). keys_by_item journal i r.item) o [])) [
+    elim (receipt_at journal i) as (λ o. AreOfFewFolios (option_map_or (λ (r : Receipt). keys_by_item journal i r.item) o [])) [
       | None ↦ no_folio
       | Some r ↦ item_few journal i r.item numbered
     ]

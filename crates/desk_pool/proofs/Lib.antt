@@ -12,6 +12,7 @@ pub mod FolioSteps
 pub mod ItemRoom
 pub mod NoKeys
 pub mod NothingBetween
+pub mod NothingHeld
 pub mod OrderWalks
 pub mod PairAdds
 pub mod PairSteps

@@ -10,9 +10,13 @@ use Rattle.desk_pool.specs.declared.folio_queues.FolioQueue.{FolioQueue}
 use Rattle.folio_sections.specs.Held.{is_given}
 use Rattle.registrar.specs.HeldKeys.{keys_of_first}
 
+-- one of these keys is of the folio
+abbrev pub has_folio : List Key → ℕ → Bool
+has_folio keys folio = list_any (λ k. folio_of_key k == folio) keys
+
 -- the item touches a key of the folio
 abbrev pub touches_folio : List Receipt → ℕ → ℕ → Bool
-touches_folio journal folio i = list_any (λ k. folio_of_key k == folio) (keys_of_item journal i)
+touches_folio journal folio i = has_folio (keys_of_item journal i) folio
 
 -- the items that do, ascending
 abbrev pub queue_of : List Receipt → ℕ → List ℕ

@@ -8,5 +8,6 @@ pub mod FoliosBack
 pub mod KeyRooms
 pub mod Preparing
 pub mod RoundRooms
+pub mod TouchedFolios
 pub mod Turns
 pub mod inner

@@ -1,6 +1,6 @@
 //! A desk at work: it takes items that are ready, and settles each under the locks of its folios.
 //! Why so: docs/DECISIONS.md, "A folio's items are settled in the order of receipts".
-ghost use Rattle.std.specs.Prelude.{◌≡◌, ◌⊎◌, ◌<◌, ◌≤◌, ◌↔◌, Some, IfSome, IsTrue, All, length};
+ghost use Rattle.std.specs.Prelude.{◌≡◌, ◌⊎◌, ◌<◌, ◌≤◌, [], Some, IfSome, All, length};
 ghost use Rattle.gb_base.specs.Keys.{folio_of_key};
 ghost use Rattle.conflict_queue.specs.Dockets.{keys_touched};
 ghost use Rattle.conflict_queue.specs.ItemKeys.{keys_of_item};
@@ -14,6 +14,7 @@ use crate::nowhere::settle_nowhere;
 use crate::pairs::FolioPair;
 use crate::seats::Seat;
 use crate::shared_rounds::SharedRound;
+use crate::touched_folios::{TouchedFolios, folios_touched};
 use act_model::JournalName;
 use gb_base::{FolioId, Key, ReceiptNo};
 use gb_outside::DeskGate;
@@ -84,42 +85,31 @@ fn settle<N: JournalName, G: DeskGate, R: Wait>(
 ) -> Option<Verdict>
     ensures { IfSome result (λ verdict. verdict_among (registrar N.receipts).verdicts item ≡ Some verdict) }
 {
-    let keys = keys_of(round, item)?;
-    let Some(first) = keys.first() else {
-        gate.at(item);
-        return Some(settle_nowhere(&mut seat.nothing, &mut seat.scratch, round.journal, item));
-    };
-    let folio = first.folio();
-    if are_all_in(keys, folio) {
-        return settle_in_one(rt, round, gate, item, folio);
+    if item.get() > round.journal.len() {
+        return None;
     }
-    let other = keys.last()?.folio();
-    if folio < other && are_in_either(keys, folio, other) {
-        return settle_in_two(rt, round, gate, &mut seat.pair, item, folio, other);
+    match folios_touched(round.docket, round.journal, item) {
+        TouchedFolios::Nowhere => Some(settle_here(round, gate, seat, item)),
+        TouchedFolios::One(folio) => settle_in_one(rt, round, gate, item, folio),
+        TouchedFolios::Two(first, second) => {
+            settle_in_two(rt, round, gate, &mut seat.pair, item, first, second)
+        }
     }
-    None
 }
 
-/// Whether all these keys are of the folio.
-fn are_all_in(keys: &[Key], folio: FolioId) -> bool
-    ensures { IsTrue result ↔ All (λ k. folio_of_key k ≡ folio) keys.now }
+/// The same of an item that touches no key, and so no folio.
+fn settle_here<N: JournalName, G: DeskGate>(
+    round: &SharedRound<'_, N>,
+    gate: &G,
+    seat: &mut Seat,
+    item: ReceiptNo,
+) -> Verdict
+    requires received { item ≤ length N.receipts }
+    requires none { keys_of_item N.receipts item ≡ [] }
+    ensures { verdict_among (registrar N.receipts).verdicts item ≡ Some result }
 {
-    keys.iter().all(|key| key.folio() == folio)
-}
-
-/// Whether each of these keys is of one of the two folios.
-fn are_in_either(keys: &[Key], first: FolioId, second: FolioId) -> bool
-    ensures { IsTrue result → All (λ k. (folio_of_key k ≡ first) ⊎ (folio_of_key k ≡ second)) keys.now }
-{
-    keys.iter().all(|key| is_in_either(key, first, second))
-}
-
-/// Whether the key is of one of the two folios.
-fn is_in_either(key: &Key, first: FolioId, second: FolioId) -> bool
-    ensures { IsTrue result → (folio_of_key key.now ≡ first) ⊎ (folio_of_key key.now ≡ second) }
-{
-    let folio = key.folio();
-    folio == first || folio == second
+    gate.at(item);
+    settle_nowhere(&mut seat.nothing, &mut seat.scratch, round.journal, item)
 }
 
 /// The same of an item that touches one folio alone.

@@ -21,3 +21,4 @@ mod shared_rounds;
 mod taking_back;
 mod taking_over;
 mod together;
+mod touched_folios;

@@ -1,4 +1,4 @@
-use Rattle.desk_pool.proofs.TouchedKeys.{nothing_held}
+use Rattle.desk_pool.proofs.NothingHeld.{nothing_held}
 use Rattle.desk_pool.proofs.seats.Seat.new.Goals as goal
 
 pub invariant_of-result : goal.invariant_of-result
