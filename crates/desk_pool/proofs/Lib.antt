@@ -22,6 +22,7 @@ pub mod PreparedRuns
 pub mod PreparedScratches
 pub mod RoomGrows
 pub mod RoomsSuffice
+pub mod RoundOrders
 pub mod SaleRoom
 pub mod Saying
 pub mod Settling

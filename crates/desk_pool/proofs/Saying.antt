@@ -1,11 +1,14 @@
 -- A verdict more is said of the items of a journal.
-use Rattle.std.proofs.Common.{◌≡◌, ⊎_elim, ℕ, zero, suc, ◌+◌, ◌<◌, Bool, true, List, [], ◌∷◌, length, set, Some, slice_get, refl, sym, ap, subst, ◌∙◌, arith}
+use Rattle.std.proofs.Common.{◌≡◌, ⊎_elim, ℕ, zero, suc, ◌+◌, ◌-◌, ◌<◌, ◌≤◌, Bool, false, true, get_or, List, [], ◌∷◌, length, set, Some, slice_get, refl, sym, ap, subst, ◌∙◌, arith}
+use Rattle.std.specs.List.{list_all}
 use Rattle.std.specs.Option.{option_map_or}
-use Rattle.std.proofs.lemmas.Bool.{cases_eq}
+use Rattle.std.proofs.lemmas.Bool.{cases_eq, false≢true}
+use Rattle.std.proofs.lemmas.Option.{slice_get-get_or}
 use Rattle.act_model.specs.declared.receipts.Receipt.{Receipt}
 use Rattle.registrar.specs.RegisterState.{verdict_among}
 use Rattle.registrar.specs.Settling.{registrar}
 use Rattle.registrar.specs.declared.verdicts.Verdict.{Verdict}
+use Rattle.registrar.specs.declared.verdicts.Verdict.TheVariants.{NotPending}
 use Rattle.desk_pool.specs.Boards.{AreSaid}
 
 -- at its place a written element is found, and elsewhere what was there
@@ -33,3 +36,18 @@ said_set journal verdicts said item i v number within is before = λ n verdict t
     ap (λ m. verdict_among (registrar journal).verdicts (m + 1)) here ∙ ap (verdict_among (registrar journal).verdicts) (sym number) ∙ is ∙ ap Some own)
     (λ apart. before n verdict (sym (written_apart said i n true apart) ∙ told) (sym (written_apart verdicts i n v apart) ∙ there))
     (cases_eq n i)
+
+-- where each is said, the verdicts are those of the one registrar
+all_told : (said : List Bool) (n : ℕ) → list_all (λ b. b) said ≡ true → n < length said → slice_get said n ≡ Some true
+all_told [] n all within = absurd (omega arith)
+all_told (true ∷ bs) zero all within = refl
+all_told (false ∷ bs) zero all within = absurd (false≢true all)
+all_told (true ∷ bs) (suc n) all within = all_told bs n all (omega arith)
+all_told (false ∷ bs) (suc n) all within = absurd (false≢true all)
+
+pub said_whole : (journal : List Receipt) (verdicts : List Verdict) (said : List Bool) → AreSaid journal verdicts said → length said ≡ length verdicts → list_all (λ b. b) said ≡ true
+    → (n : ℕ) → 1 ≤ n → n ≤ length verdicts → slice_get verdicts (n - 1) ≡ verdict_among (registrar journal).verdicts n
+said_whole journal verdicts said are same all n low high =
+    let there : slice_get verdicts (n - 1) ≡ Some (get_or verdicts (n - 1) NotPending) = slice_get-get_or verdicts (n - 1) NotPending (omega (arith, low, high)) in
+    let number : (n - 1) + 1 ≡ n = omega (arith, low) in
+    there ∙ sym (sym (ap (verdict_among (registrar journal).verdicts) number) ∙ are (n - 1) (get_or verdicts (n - 1) NotPending) (all_told said (n - 1) all (omega (arith, low, high, same))) there)

@@ -8,6 +8,7 @@ pub mod FoliosBack
 pub mod KeyRooms
 pub mod Preparing
 pub mod RoundRooms
+pub mod Rounds
 pub mod TouchedFolios
 pub mod Turns
 pub mod inner

@@ -1,5 +1,6 @@
 //! The board that hands out the items whose turn has come.
 ghost use Rattle.std.specs.Prelude.{◌≡◌, ◌≤◌, ◌-◌, ℕ, Some, IfSome, length, slice_get};
+ghost use Rattle.std.specs.List.{list_all};
 ghost use Rattle.registrar.specs.RegisterState.{verdict_among};
 ghost use Rattle.registrar.specs.Settling.{registrar};
 
@@ -88,7 +89,7 @@ impl<N: JournalName> Board<N> {
         ensures { IfSome result (λ verdicts. (n : ℕ) → 1 ≤ n → n ≤ length verdicts.items
             → slice_get verdicts.items (n - 1) ≡ verdict_among (registrar N.receipts).verdicts n) }
     {
-        if self.said.len() != self.verdicts.len() || self.said.contains(&false) {
+        if self.said.len() != self.verdicts.len() || !are_all_said(self.said.as_slice()) {
             return None;
         }
         Some(self.verdicts)
@@ -180,6 +181,13 @@ impl<N: JournalName> Board<N> {
             self.ready.push_reserved(item);
         }
     }
+}
+
+/// Whether each is said.
+fn are_all_said(said: &[bool]) -> bool
+    ensures { result ≡ list_all (λ one. one) said.now }
+{
+    said.iter().all(|one| *one)
 }
 
 /// For each of these items, how many folios it touches.

@@ -15,6 +15,7 @@ mod orders;
 mod pairs;
 mod prepared;
 mod preparing;
+mod rounds;
 mod sale_scratches;
 mod seats;
 mod shared_rounds;
@@ -22,3 +23,5 @@ mod taking_back;
 mod taking_over;
 mod together;
 mod touched_folios;
+
+pub use rounds::Round;
