@@ -25,6 +25,7 @@ pub mod Saying
 pub mod Scratches
 pub mod Settling
 pub mod StandsSince
+pub mod TakingBack
 pub mod TakingOver
 pub mod TouchedKeys
 pub mod Turns
