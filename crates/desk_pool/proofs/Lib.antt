@@ -27,6 +27,7 @@ pub mod SaleRoom
 pub mod Saying
 pub mod Settling
 pub mod StandsSince
+pub mod TakingBack
 pub mod TakingOver
 pub mod TouchedKeys
 pub mod Turns
