@@ -5,6 +5,7 @@
 
 What is drawn is the same each time.
 """
+import datetime
 import json
 import random
 import sys
@@ -284,9 +285,96 @@ def waiting(count, draws):
         yield stamped(number, WAITING_TRANSFER)
 
 
+class Drawn:
+    """The draws of a generated journal, from its seed."""
+
+    def __init__(self, seed):
+        self.state = seed
+
+    def below(self, count):
+        self.state = (self.state * 6_364_136_223_846_793_005 + 1_442_695_040_888_963_407) % 2**64
+        return self.state // 2**33 % count
+
+
+class Notes:
+    """What the generator keeps of a folio."""
+
+    def __init__(self, folio):
+        self.folio, self.owner = folio, folio
+        self.last, self.before = None, None
+        self.waiting, self.step = None, 0
+
+    def of(self, act, *docs):
+        return filing([{**act, "folio": self.folio}], list(docs), applicant=self.owner)
+
+    def created(self, number, draws, form="certified"):
+        capital, holder = 100_000 * (1 + draws.below(50)), 1_000_001 + draws.below(20)
+        item = self.of(charge(capital, holder), consent(self.owner, form))
+        if form == "plain":
+            self.waiting = number
+        else:
+            self.before, self.last = self.last, (number, holder)
+        return item
+
+    def transferred(self, number):
+        owner = 2_000_000 + number
+        item = self.of(transfer(owner), consent(self.owner), AGREEMENT, CLEARANCE)
+        self.owner = owner
+        return item
+
+    def cancelled(self):
+        item = self.of(of_right("cancel", self.last[0]), consent(self.last[1]), consent(self.owner))
+        self.last, self.before = self.before, None
+        return item
+
+    def sold(self, number, day):
+        step, self.step = self.step, (self.step + 1) % 4
+        if step == 0:
+            basis = {"type": "personal", "creditor": 5_000_000, "claim": 1_000_000}
+            return {**seizure(basis), "folio": self.folio, "served": str(day - datetime.timedelta(40))}
+        if step == 1:
+            return {**CALL, "folio": self.folio}
+        if step == 2:
+            self.owner = 3_000_000 + number
+            return {**AWARD, "folio": self.folio, "buyer": self.owner, "bid": 1_000_000_000}
+        return {**DISTRIBUTION, "folio": self.folio}
+
+    def next(self, number, day, draws):
+        kind = draws.below(11)
+        if kind == 5:
+            return self.transferred(number)
+        if kind == 6:
+            return self.created(number, draws, "plain")
+        if kind == 7 and self.waiting:
+            of, self.waiting = self.waiting, None
+            return cure(of, [consent(self.owner)])
+        if kind == 8 and self.before:
+            return self.of(exchange(self.before[0], self.last[0]), consent(self.before[1]), consent(self.owner))
+        if kind == 9 and self.last:
+            return self.cancelled()
+        if kind == 10:
+            return self.sold(number, day)
+        return self.created(number, draws)
+
+
+def sample(count, draws):
+    """the receipts of `sample --seed 7`, of this size"""
+    drawn = Drawn(7)
+    kept = [Notes(folio) for folio in range(1, 2 + count // 16)]
+    for number in range(1, count + 1):
+        day = datetime.date(2024, 1, 1) + datetime.timedelta(number // 64)
+        if number <= len(kept):
+            act = {**opening(number, number), "parcel": number}
+            item = filing([act], [consent(number)], applicant=number)
+        else:
+            item = kept[drawn.below(len(kept))].next(number, day, drawn)
+        line = {"day": str(day), "minute": 480 + number % 64, "sender": 1, "reference": number, "item": item}
+        yield json.dumps(line, separators=(",", ":"))
+
+
 SHAPES = {shape.__name__.replace("_", "-"): shape for shape in [
     one_folio, many_folios, folios, transfers, pending, lapses, notices, cures, others, cancel, exchanges, wide,
-    senders, waiting, bids, mixed, mixright, sales, swapsales]}
+    senders, waiting, bids, mixed, mixright, sales, swapsales, sample]}
 
 
 def main():

@@ -11,7 +11,6 @@ import re
 import checks
 
 DESCRIPTION = checks.ROOT / "docs" / "http.yaml"
-PAGE = checks.ROOT / "docs" / "formats" / "http.md"
 METHODS = ("get", "put", "post", "delete", "options", "head", "patch", "trace")
 
 
@@ -37,12 +36,12 @@ def main():
         look.ok("openapi description is valid")
     except Exception as why:
         look.differs("openapi description is valid", why)
-    page = PAGE.read_text()
+    page = checks.HTTP_PAGE.read_text()
     routes = dict(routes_of(description))
-    rows = re.findall(r"^\| `([A-Z]+ /\S*)` \|[^|]*\| ([\d ]+) \|$", page, re.M)
+    rows = checks.routes_of_page()
     look.same("openapi has the routes of the page", sorted(routes), sorted(route for route, _ in rows))
     for route, statuses in rows:
-        look.same(f"openapi has the statuses of {route}", routes.get(route), statuses.split())
+        look.same(f"openapi has the statuses of {route}", routes.get(route), statuses)
     said = {status for statuses in routes.values() for status in statuses}
     phrases = re.findall(r"^\| (\d{3}) \|", page, re.M)
     look.same("openapi has the statuses of the page", sorted(said), sorted(phrases))

@@ -7,6 +7,7 @@ A check prints a line for each thing that it looked at, `ok`, `differs` or `skip
 import functools
 import os
 import pathlib
+import re
 import subprocess
 import sys
 
@@ -17,6 +18,7 @@ ROOT = pathlib.Path(__file__).resolve().parent.parent
 WRAPPER = ROOT / "grundbuch"
 PROGRAM = ROOT / "crates" / "grundbuch" / "out" / "grundbuch"
 JOURNAL = "grundbuch.journal"
+HTTP_PAGE = ROOT / "docs" / "formats" / "http.md"
 
 # No run of a check takes longer, in seconds.
 LIMIT = 60
@@ -84,6 +86,12 @@ def run(words, folder=None, before=None, **how):
         del how["stdin"]
     ran = subprocess.run([*(before or []), PROGRAM, *words], cwd=folder, timeout=LIMIT, **how)
     return ran.returncode, ran.stdout, ran.stderr
+
+
+def routes_of_page():
+    """The method and path of each route of docs/formats/http.md, with the statuses that it may answer."""
+    rows = re.findall(r"^\| `([A-Z]+ /\S*)` \|[^|]*\| ([\d ]+) \|$", HTTP_PAGE.read_text(), re.M)
+    return [(route, statuses.split()) for route, statuses in rows]
 
 
 def names_in(folder):

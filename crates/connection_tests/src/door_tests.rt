@@ -1,7 +1,8 @@
 //! What is written to links that come through a door, whole bytes, and how serving them ends.
+use crate::doors::{MADE, disk_of, door_of, has_written};
 use connections::{Clerk, DoorEnd};
 use gb_outside::{ListClock, MemDisk, MemLink, MemListener};
-use std::alloc::{AllocError, Global};
+use std::alloc::Global;
 use std::process::Abort;
 use std::test::Fail;
 use test_items::{day, stamp};
@@ -35,6 +36,11 @@ const NOT_FOUND: &str =
     "HTTP/1.1 404 Not Found\r\nContent-Type: text/plain\r\nContent-Length: 10\r\n\r\n\
     not found\n";
 
+/// The same without its last byte.
+const CUT_OFF: &str =
+    "HTTP/1.1 404 Not Found\r\nContent-Type: text/plain\r\nContent-Length: 10\r\n\r\n\
+    not found";
+
 /// The reply to a route that has another method.
 const WRONG_METHOD: &str =
     "HTTP/1.1 405 Method Not Allowed\r\nContent-Type: text/plain\r\nContent-Length: 19\r\n\r\n\
@@ -60,22 +66,6 @@ const UNAVAILABLE: &str =
     "HTTP/1.1 503 Service Unavailable\r\nContent-Type: text/plain\r\nContent-Length: 20\r\n\r\n\
     service unavailable\n";
 
-/// A file that was made, without a receipt. An opening of it makes four calls, and a receipt four
-/// more: two writes with a sync behind each.
-const MADE: &[u8] = b"\x47GBJOURN1\0";
-
-/// A disk with this file, of which the numbered calls fail.
-fn disk_of(alloc: Global, file: &[u8], fail: &[u32]) -> Result<MemDisk, AllocError> {
-    MemDisk::new(alloc, file, 1_024, 1_024, 64, fail)
-}
-
-/// A door with one link.
-fn door_of<'a>(alloc: Global, asks: &'a str) -> Result<MemListener<'a>, Fail> {
-    let mut links = Vec::new(alloc);
-    links.push(MemLink::new(alloc, asks.as_bytes(), 1_024, &[])?)?;
-    Ok(MemListener::new(alloc, links, &[])?)
-}
-
 /// A door with two links that give the same bytes, of which the numbered calls of the first fail.
 fn door_of_two<'a>(alloc: Global, asks: &'a str, fail: &'a [u32]) -> Result<MemListener<'a>, Fail> {
     let mut links = Vec::new(alloc);
@@ -90,12 +80,6 @@ fn serve(alloc: Global, door: &mut MemListener, disk: &mut MemDisk, most: u32) -
     let mut clock = ListClock::new(&stamps);
     let mut clerk = Clerk::new();
     clerk.serve_door(alloc, door, disk, &mut clock, most)
-}
-
-/// This was written to the link with this number.
-fn has_written(rt: &impl Abort, door: &MemListener, number: usize, wanted: &str) {
-    let link = door.served().get(number).expect(rt, "a link");
-    assert_eq!(rt; link.written(), wanted.as_bytes());
 }
 
 /// A link that asks this of the disk has this written to it.
@@ -188,10 +172,45 @@ fn a_link_that_fails_ends_its_own_connection_alone(rt: HostRuntime) -> Result<()
 }
 
 #[test]
+fn replies_of_a_link_that_failed_count(rt: HostRuntime) -> Result<(), Fail> {
+    let alloc = rt.alloc();
+    let asks = format!(in alloc; "{}{}", ASTRAY, ASTRAY)?;
+    let mut door = door_of_two(alloc, &asks, &[3])?;
+    let mut disk = disk_of(alloc, MADE, &[])?;
+    let end = serve(alloc, &mut door, &mut disk, 2);
+    assert_eq!(rt; end, DoorEnd::Done);
+    assert_eq!(rt; door.served().len(), 2);
+    has_written(&rt, &door, 0, NOT_FOUND);
+    has_written(&rt, &door, 1, NOT_FOUND);
+    Ok(())
+}
+
+#[test]
+fn a_reply_without_its_last_byte_does_not_count(rt: HostRuntime) -> Result<(), Fail> {
+    let alloc = rt.alloc();
+    let asks = format!(in alloc; "{}{}", ASTRAY, ASTRAY)?;
+    let both = format!(in alloc; "{}{}", NOT_FOUND, NOT_FOUND)?;
+    // The first link has no room for the last byte.
+    let mut links = Vec::new(alloc);
+    links.push(MemLink::new(alloc, ASTRAY.as_bytes(), CUT_OFF.len(), &[])?)?;
+    links.push(MemLink::new(alloc, asks.as_bytes(), 1_024, &[])?)?;
+    let mut door = MemListener::new(alloc, links, &[])?;
+    let mut disk = disk_of(alloc, MADE, &[])?;
+    let end = serve(alloc, &mut door, &mut disk, 2);
+    assert_eq!(rt; end, DoorEnd::Done);
+    assert_eq!(rt; door.served().len(), 2);
+    has_written(&rt, &door, 0, CUT_OFF);
+    has_written(&rt, &door, 1, &both);
+    Ok(())
+}
+
+#[test]
 fn a_file_that_is_no_journal_is_said_to_be_none(rt: HostRuntime) -> Result<(), Fail> {
     let alloc = rt.alloc();
     let asks = "GET /report HTTP/1.1\r\n\r\nGET /x HTTP/1.1\r\n\r\n";
     let wanted = format!(in alloc; "{}{}", NOT_A_JOURNAL, NOT_FOUND)?;
     let mut disk = disk_of(alloc, b"hello world", &[])?;
-    answers(&rt, alloc, &mut disk, asks, &wanted)
+    answers(&rt, alloc, &mut disk, asks, &wanted)?;
+    assert_eq!(rt; disk.bytes(), b"hello world".as_slice());
+    Ok(())
 }

@@ -4,4 +4,8 @@
 #[cfg(test)]
 mod door_tests;
 #[cfg(test)]
+mod doors;
+#[cfg(test)]
+mod opening_tests;
+#[cfg(test)]
 mod reading_tests;

@@ -1,5 +1,5 @@
 -- A request is answered: what it asks for, and how answering it ends.
-use Rattle.std.proofs.Common.{◌≡◌, ◌≤◌, false, ⊎_elim, ℕ, List, Option, Some, None, IsSome, IfSome, subst}
+use Rattle.std.proofs.Common.{◌≡◌, ◌≤◌, false, ⊎_elim, ℕ, ◌==◌, List, Option, Some, None, IsSome, IfSome, sym, ◌∙◌, ap, subst}
 use Rattle.gb_base.specs.DayMinute.{DayMinute}
 use Rattle.act_model.specs.declared.receipts.Receipt.{Receipt}
 use Rattle.intake.specs.Grown.{GrownFrom, IsFront}
@@ -16,6 +16,7 @@ use Rattle.connections.specs.Asking.{Asked, Asks}
 use Rattle.connections.specs.Holding.{Begins, Holds, IsOpenOn, working}
 use Rattle.connections.specs.Replies.{ReplyParts}
 use Rattle.connections.specs.inner.Ends as ends
+use Rattle.connections.proofs.DiskReplies.{disk_by_reply}
 
 -- a working book has its journal in each image
 all_begin : (book : Option SettledBookState) (reads : List ℕ) (images : List ℕ → Type 0) (journal : List Receipt) → IsSome book → IfSome book (λ settled. IsOpenOn settled reads images journal) → AllBegin journal images
@@ -32,7 +33,7 @@ module _ {D : Type 0} (reads : D → List ℕ) (images : D → List ℕ → Type
   begins_by : (front from to : List Receipt) (file : List ℕ) → IsFront front from → GrownFrom from to file → Begins front file
   begins_by front from to file is grown = record { journal = grown.journal; stands = grown.stands; begins = front_trans front from grown.journal is grown.begins }
 
-  pub answers : (request : RequestParts) (held : Held) (reply : ReplyParts) (at_hand : Option SettledBookState) (known : Option (List DayMinute)) (asked : Asked) → Asks request asked → (may_call_disk asked request.body ≡ false → new ≡ old)
+  pub answers : (request : RequestParts) (held : Held) (reply : ReplyParts) (at_hand : Option SettledBookState) (known : Option (List DayMinute)) (asked : Asked) → Asks request asked → (may_call_disk asked request.body ≡ false → (new ≡ old) × ((reply.status == 503) ≡ false))
       → StandsForJournal (reads old) held.journal → ends.EndsBy reads images moment since old new held (answer held request.body asked) reply at_hand known
       → AnswersRequest images moment since old new request held reply (λ h. Holds at_hand (reads new) (images new) known h)
   answers request held reply at_hand known asked asks uncalled stands end = record {
@@ -41,7 +42,8 @@ module _ {D : Type 0} (reads : D → List ℕ) (images : D → List ℕ → Type
     asks = asks;
     reply_is = end.reply_is;
     holds = end.holds;
-    uncalled = uncalled;
+    uncalled = λ none. (uncalled none).0;
+    unfailed = λ none. sym (disk_by_reply held request.body asked end.fate) ∙ sym (ap (λ (r : ReplyParts). r.status == 503) end.reply_is) ∙ (uncalled none).1;
     left = end.left;
     kept = λ front all file now.
         ⊎_elim (λ before. all file before)

@@ -1,5 +1,5 @@
 -- What a reply is by the book and the disk alone.
-use Rattle.std.proofs.Common.{◌≡◌, inl, inr, ℕ, ◌==◌, Bool, true, false, List, Option, Some, None, Err, IfSome, refl, sym, ◌∙◌, ap, subst, IsTrue, arith, eq-eqb}
+use Rattle.std.proofs.Common.{◌≡◌, inl, inr, ℕ, ◌==◌, Bool, true, false, List, Option, Some, None, Err, IfSome, IsSome, refl, sym, ◌∙◌, ap, subst, IsTrue, arith, eq-eqb}
 use Rattle.gb_outside.specs.Faults.{Counts}
 use Rattle.act_model.specs.declared.receipts.Receipt.{Receipt}
 use Rattle.intake.specs.Requests.{is_fault}
@@ -11,11 +11,12 @@ use Rattle.receipt_journal.specs.declared.faults.BookFault.TheVariants as fault
 use Rattle.receipt_journal.specs.declared.received.Received.{Received}
 use Rattle.receipt_journal.specs.declared.received.Received.TheVariants as answers
 use Rattle.settled_book.specs.SettledBookState.{SettledBookState}
-use Rattle.connections.specs.Answering.{is_refusal, tells_of_journal}
-use Rattle.connections.specs.Holding.{StandsOpen, working}
+use Rattle.connections.specs.Answering.{OpensNone, is_refusal, tells_of_journal}
+use Rattle.connections.specs.Holding.{StandsForNone, StandsOpen, working}
 use Rattle.connections.specs.Replies.{ReplyParts, is_reply_status, out_of_memory}
 use Rattle.connections.specs.inner.Ends.{Serves}
 use Rattle.connections.specs.inner.Taking.{IsReplyTo, opening_reply, received_reply}
+use Rattle.connections.proofs.NoBook.{none_still}
 use Rattle.connections.proofs.TakenBooks.{failed_is, to_working}
 
 never_true : (b : Bool) (P : Type 0) → b ≡ false → b ≡ true → P
@@ -30,30 +31,40 @@ counts_still count = record { never_falls = omega arith; failed_rose = λ failed
 
 -- ---- no book was opened
 
-module _ (tells : Bool) (old : Option SettledBookState) (file reads : List ℕ) (images : List ℕ → Type 0) (faults0 faults1 : ℕ) where
-  unopened_by : (f : BookFault) → (IsTrue tells → BookRefuses file f) → working old ≡ None → Counts faults0 faults1 (book_opening_disk_failed {A = SettledBookState} (Err f))
-      → Serves tells old None file reads images faults0 faults1 (opening_reply f)
-  unopened_by fault.Disk refuses none counts = record { stands_open = λ told. tt; disk = counts; no_journal = λ told is. never_true (503 == 500) _ refl (eq-eqb 503 500 is); had_none = λ is. none; status = refl; not_opened = λ told was no_file. refl }
-  unopened_by fault.NotJournal refuses none counts = record { stands_open = λ told. tt; disk = counts; no_journal = λ told is. inl (refuses told); had_none = λ is. none; status = refl; not_opened = λ told was no_file. refl }
-  unopened_by (fault.BadRecord at) refuses none counts = record { stands_open = λ told. tt; disk = counts; no_journal = λ told is. inr (at, refuses told); had_none = λ is. none; status = refl; not_opened = λ told was no_file. refl }
-  unopened_by fault.Memory refuses none counts = record { stands_open = λ told. tt; disk = counts; no_journal = λ told is. never_true (507 == 500) _ refl (eq-eqb 507 500 is); had_none = λ is. none; status = refl; not_opened = λ told was no_file. refl }
+none_open : (at_hand : Option SettledBookState) (P : Type 0) → at_hand ≡ None → IsSome at_hand → P
+none_open at_hand P none some = let never : IsSome {T = SettledBookState} None = subst (λ (o : Option SettledBookState). IsSome o) none some in absurd cc
 
-  pub unopened : (reply : ReplyParts) (new : Option SettledBookState) (f : BookFault) → reply ≡ opening_reply f → new ≡ None → (IsTrue tells → BookRefuses file f) → working old ≡ None
-      → Counts faults0 faults1 (book_opening_disk_failed {A = SettledBookState} (Err f)) → Serves tells old new file reads images faults0 faults1 reply
-  unopened reply new f is empty refuses none counts =
-      subst (λ r. Serves tells old new file reads images faults0 faults1 r) (sym is)
-      (subst (λ (o : Option SettledBookState). Serves tells old o file reads images faults0 faults1 (opening_reply f)) (sym empty) (unopened_by f refuses none counts))
+module _ {D : Type 0} (tells : Bool) (reads : D → List ℕ) (images : D → List ℕ → Type 0) (moment : D → ℕ) (since : D → ℕ → List ℕ → Type 0) (faults : D → ℕ) (old new : D) (book : Option SettledBookState) where
+  abbrev Answers : Option SettledBookState → ReplyParts → Type 0
+  Answers behind reply = Serves tells reads images moment since faults old new book behind reply
+
+  abbrev FindsNone : Option SettledBookState → Type 0
+  FindsNone behind = IsTrue tells → working book ≡ None → StandsForNone (reads old) → OpensNone reads images moment since old new behind
+
+  unopened_by : (f : BookFault) → FindsNone None → (IsTrue tells → BookRefuses (reads old) f) → working book ≡ None → Counts (faults old) (faults new) (book_opening_disk_failed {A = SettledBookState} (Err f)) → Answers None (opening_reply f)
+  unopened_by fault.Disk finds refuses none counts = record { stands_open = λ told. tt; disk = counts; no_journal = λ told is. never_true (503 == 500) _ refl (eq-eqb 503 500 is); had_none = λ is. none; status = refl; not_opened = λ told was no_file. refl; no_book = finds; kept_open = λ some sound. none_open (working book) _ none some }
+  unopened_by fault.NotJournal finds refuses none counts = record { stands_open = λ told. tt; disk = counts; no_journal = λ told is. inl (refuses told); had_none = λ is. none; status = refl; not_opened = λ told was no_file. refl; no_book = finds; kept_open = λ some sound. none_open (working book) _ none some }
+  unopened_by (fault.BadRecord at) finds refuses none counts = record { stands_open = λ told. tt; disk = counts; no_journal = λ told is. inr (at, refuses told); had_none = λ is. none; status = refl; not_opened = λ told was no_file. refl; no_book = finds; kept_open = λ some sound. none_open (working book) _ none some }
+  unopened_by fault.Memory finds refuses none counts = record { stands_open = λ told. tt; disk = counts; no_journal = λ told is. never_true (507 == 500) _ refl (eq-eqb 507 500 is); had_none = λ is. none; status = refl; not_opened = λ told was no_file. refl; no_book = finds; kept_open = λ some sound. none_open (working book) _ none some }
+
+  pub unopened : (reply : ReplyParts) (behind : Option SettledBookState) (f : BookFault) → reply ≡ opening_reply f → behind ≡ None → FindsNone behind → (IsTrue tells → BookRefuses (reads old) f) → working book ≡ None
+      → Counts (faults old) (faults new) (book_opening_disk_failed {A = SettledBookState} (Err f)) → Answers behind reply
+  unopened reply behind f is empty finds refuses none counts =
+      subst (λ r. Answers behind r) (sym is)
+      (subst (λ (o : Option SettledBookState). Answers o (opening_reply f)) (sym empty) (unopened_by f (subst (λ (o : Option SettledBookState). FindsNone o) empty finds) refuses none counts))
 
   -- a book was taken
-  pub opened : (reply : ReplyParts) (settled : SettledBookState) → (IsTrue tells → StandsOpen (Some settled) reads images) → Counts faults0 faults1 (reply.status == 503) → (reply.status == 500) ≡ false → is_reply_status reply.status ≡ true
-      → (IsTrue tells → working old ≡ None → (journal : List Receipt) × StandsForJournal file journal) → Serves tells old (Some settled) file reads images faults0 faults1 reply
-  opened reply settled stands counts other known journal = record {
+  pub opened : (reply : ReplyParts) (settled : SettledBookState) → ((reply.status == 503) ≡ false → IsSome (working (Some settled))) → (IsTrue tells → StandsOpen (Some settled) (reads new) (images new)) → Counts (faults old) (faults new) (reply.status == 503) → (reply.status == 500) ≡ false
+      → is_reply_status reply.status ≡ true → (IsTrue tells → working book ≡ None → (journal : List Receipt) × StandsForJournal (reads old) journal) → Answers (Some settled) reply
+  opened reply settled works stands counts other known journal = record {
     stands_open = stands;
     disk = counts;
     no_journal = λ told is. never_true (reply.status == 500) _ other (eq-eqb reply.status 500 is);
     had_none = λ is. never_true (reply.status == 500) _ other (eq-eqb reply.status 500 is);
     status = known;
+    kept_open = λ some sound. works sound;
     not_opened = λ told was no_file. let found = journal told was in absurd (no_file found.0 found.1);
+    no_book = λ told was no_file. let found = journal told was in absurd (no_file found.0 found.1);
   }
 
 -- a request for which no book was opened is not refused
@@ -75,15 +86,18 @@ pub record IsApart (reply : ReplyParts) : Type 0 where
   pub known : is_reply_status reply.status ≡ true
   pub silent : tells_of_journal reply ≡ false
 
-pub still : (tells : Bool) (at_hand : Option SettledBookState) (reads : List ℕ) (images : List ℕ → Type 0) (faults : ℕ) (reply : ReplyParts) → (IsTrue tells → StandsOpen at_hand reads images) → IsApart reply
-    → Serves tells at_hand at_hand reads reads images faults faults reply
-still tells at_hand reads images faults reply stands apart = record {
+pub still : {D : Type 0} (tells : Bool) (reads : D → List ℕ) (images : D → List ℕ → Type 0) (moment : D → ℕ) (since : D → ℕ → List ℕ → Type 0) (faults : D → ℕ) (disk : D) (at_hand : Option SettledBookState) (reply : ReplyParts)
+    → (IsTrue tells → (file : List ℕ) → since disk (moment disk) file → images disk file) → (IsTrue tells → StandsOpen at_hand (reads disk) (images disk)) → IsApart reply
+    → Serves tells reads images moment since faults disk disk at_hand at_hand reply
+still tells reads images moment since faults disk at_hand reply only_now stands apart = record {
   stands_open = stands;
-  disk = subst (λ b. Counts faults faults b) (sym apart.no_disk) (counts_still faults);
+  disk = subst (λ b. Counts (faults disk) (faults disk) b) (sym apart.no_disk) (counts_still (faults disk));
   no_journal = λ told is. never_true (reply.status == 500) _ apart.no_journal (eq-eqb reply.status 500 is);
   had_none = λ is. never_true (reply.status == 500) _ apart.no_journal (eq-eqb reply.status 500 is);
   status = apart.known;
   not_opened = λ told was no_file. apart.silent;
+  kept_open = λ some sound. some;
+  no_book = λ told was no_file. none_still reads images moment since disk at_hand (only_now told) was;
 }
 
 -- ---- the status of a reply

@@ -79,17 +79,30 @@ module _ {D : Type 0} (images : D → List ℕ → Type 0) (moment : D → ℕ) 
 
   one_asked : (old new : D) (held : Held) (left : ℕ) (bytes : List ℕ) (waiting : List (List ℕ)) (first : LinkRequests) (asked : List LinkRequests) (waiting_new : Option (List (List ℕ)))
       (served_old served_mid served_new : Option Pairs) (w0 w1 : Option (List ℕ)) (link_faults : ℕ) (HoldsNow : Held → Type 0) (served : Served)
-      → 1 ≤ left → waiting_new ≡ Some waiting → served_mid ≡ served_old → NothingWritten served_old w0 → Counts 0 link_faults (is_link_fault served.ended) → doors.Serves served_mid served_new w1 link_faults
+      → 1 ≤ left → served.replies ≤ left → waiting_new ≡ Some waiting → served_mid ≡ served_old → NothingWritten served_old w0 → Counts 0 link_faults (is_link_fault served.ended) → doors.Serves served_mid served_new w1 link_faults
       → ServesLink images moment since faults old new held w0 w1 (turns left first.requests first.end) served HoldsNow
       → OneServed old new held left (bytes ∷ waiting) (first ∷ asked) waiting_new served_old served_new HoldsNow served
-  one_asked old new held left bytes waiting first asked waiting_new served_old served_mid served_new w0 w1 link_faults HoldsNow served some waits same none failed told is =
+  one_asked old new held left bytes waiting first asked waiting_new served_old served_mid served_new w0 w1 link_faults HoldsNow served some few waits same none failed told is =
       let c = is.became in
+      let replies : served.replies ≡ whole_replies served.ended c = replies_are served.ended (turns left first.requests first.end) c served.replies is.finished is.unfinished in
       let taken : taken_of c ≡ taken_of c ++ [] = sym (append-nil (taken_of c)) in record {
         link = record { connection = c; ended = served.ended; faults = link_faults };
         ended_is = refl;
-        replies_is = replies_are served.ended (turns left first.requests first.end) c served.replies is.finished is.unfinished;
+        replies_is = replies;
         serves = record {
-          are = (some, record { of_turns = is.of_turns; finished = λ end. let whole = is.finished end in whole.0; failed = failed }, λ lacks. refl, none_served (held_by held c) (left - whole_replies served.ended c) asked);
+          are = (
+            some,
+            record {
+              of_turns = is.of_turns;
+              finished = λ end. let whole = is.finished end in whole.0;
+              cut_off = is.cut_off;
+              unwritten = is.unwritten;
+              few = subst (λ n. n ≤ left) replies few;
+              failed = failed;
+            },
+            λ lacks. refl,
+            none_served (held_by held c) (left - whole_replies served.ended c) asked,
+          );
           waits = waits;
           told = told_one served_old served_mid served_new w0 w1 (written_by held c) link_faults same none is.written told;
           holds = subst (λ l. HoldsNow (held_behind held l)) taken is.holds;
@@ -99,12 +112,12 @@ module _ {D : Type 0} (images : D → List ℕ → Type 0) (moment : D → ℕ) 
 
   pub links_one : (old new : D) (held : Held) (left : ℕ) (waiting : List (List ℕ)) (asked : List LinkRequests) (waiting_old waiting_mid waiting_new : Option (List (List ℕ)))
       (served_old served_mid served_new : Option Pairs) (link_left w0 w1 : Option (List ℕ)) (faults0 faults1 : ℕ) (HoldsNow : Held → Type 0) (served : Served)
-      → 1 ≤ left → AllZip AskSo waiting asked → waiting_old ≡ Some waiting → TakesFirst waiting_old waiting_mid link_left → waiting_new ≡ waiting_mid → served_mid ≡ served_old → NothingWritten served_old w0
+      → 1 ≤ left → served.replies ≤ left → AllZip AskSo waiting asked → waiting_old ≡ Some waiting → TakesFirst waiting_old waiting_mid link_left → waiting_new ≡ waiting_mid → served_mid ≡ served_old → NothingWritten served_old w0
       → faults0 ≡ 0 → Counts faults0 faults1 (is_link_fault served.ended) → doors.Serves served_mid served_new w1 faults1
       → ((input : List ℕ) (requests : List RequestParts) (end : AtFront) → link_left ≡ Some input → AreRequests input requests end
       → ServesLink images moment since faults old new held w0 w1 (turns left requests end) served HoldsNow)
       → OneServed old new held left waiting asked waiting_new served_old served_new HoldsNow served
-  links_one old new held left waiting asked waiting_old waiting_mid waiting_new served_old served_mid served_new link_left w0 w1 faults0 faults1 HoldsNow served some ask waits takes later same none sound counts told serves =
+  links_one old new held left waiting asked waiting_old waiting_mid waiting_new served_old served_mid served_new link_left w0 w1 faults0 faults1 HoldsNow served some few ask waits takes later same none sound counts told serves =
       let first : TakesFirst (Some waiting) waiting_mid link_left = subst (λ (w : Option (List (List ℕ))). TakesFirst w waiting_mid link_left) waits takes in
       at waiting asked first.0 first.1 first.2 (later ∙ first.3) first.4 ask
     where
@@ -121,7 +134,7 @@ module _ {D : Type 0} (images : D → List ℕ → Type 0) (moment : D → ℕ) 
       at [] asked bytes rest is now left_is ask = absurd cc
       at (w ∷ ws) [] bytes rest is now left_is ask = absurd ask
       at (w ∷ ws) (a ∷ others) bytes rest is now left_is ask =
-          one_asked old new held left w ws a others waiting_new served_old served_mid served_new w0 w1 faults1 HoldsNow served some (now ∙ ap (λ (l : List (List ℕ)). Some (tail_of l)) (sym is)) same none
+          one_asked old new held left w ws a others waiting_new served_old served_mid served_new w0 w1 faults1 HoldsNow served some few (now ∙ ap (λ (l : List (List ℕ)). Some (tail_of l)) (sym is)) same none
           (subst (λ n. Counts n faults1 (is_link_fault served.ended)) sound counts) told (serves w a.requests a.end (left_is ∙ ap (λ (l : List (List ℕ)). Some (head_of l)) (sym is)) ask.0)
 
   pub links_then : (old mid new : D) (held : Held) (left : ℕ) (waiting : List (List ℕ)) (asked : List LinkRequests) (waiting_mid waiting_new : Option (List (List ℕ)))

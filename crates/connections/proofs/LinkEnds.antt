@@ -1,22 +1,24 @@
 -- What a turn comes to by what came next of the link: a request, a refusal, or an end.
 use Rattle.std.proofs.Common.{◌≡◌, ℕ, ◌-◌, ◌≤◌, ◌==◌, Bool, true, false, if◌then◌else◌, List, [], ◌∷◌, length, Option, Some, None, refl, sym, ◌∙◌, ap, subst}
 use Rattle.std.specs.Io.KnownBytes.{Appends}
+use Rattle.std.specs.List.{list_any}
 use Rattle.gb_outside.specs.Faults.{Counts}
 use Rattle.act_json.specs.Lines.{longest_line}
 use Rattle.intake.specs.Requests.{Held}
 use Rattle.receipt_journal.specs.Standing.{StandsForJournal}
+use Rattle.registry_http.specs.RequestLists.{AreRequests}
 use Rattle.registry_http.specs.RequestParts.{RequestParts}
 use Rattle.registry_http.specs.Requests.{AtFront, Whole, StandsIn}
 use Rattle.connections.specs.Answering.{AnswersRequest, is_from_disk}
 use Rattle.connections.specs.Holding.{IsNoJournal}
 use Rattle.connections.specs.Replies.{ReplyParts, bytes_of, out_of_memory}
 use Rattle.connections.specs.Serving.{ServesLink}
-use Rattle.connections.specs.Turns.{Request, Refusal, Answering, Refusing, answer_in, refusals, turns}
+use Rattle.connections.specs.Turns.{Turn, Request, Refusal, Answering, Refusing, End, answer_in, is_owed, last_turn, turns}
 use Rattle.connections.specs.declared.serving.Ended.TheVariants as ended
 use Rattle.connections.specs.declared.serving.Served.{Served}
 use Rattle.connections.specs.inner.Rounds.{EndsWith, GoesOn, IsTurn}
 use Rattle.connections.proofs.LinksServed.{served_close, served_none, served_turn}
-use Rattle.connections.proofs.LinkTurns.{first_turn, last_turns}
+use Rattle.connections.proofs.LinkTurns.{first_turn, last_turns, some_turn}
 use Rattle.connections.proofs.TakenTurns.{takes_none, takes_one, takes_refusal}
 
 -- a request of a link has a body that a line may have
@@ -34,7 +36,7 @@ module _ {D : Type 0} (images : D → List ℕ → Type 0) (moment : D → ℕ) 
     request_ends served last ends n some =
         subst (λ us. ServesLink images moment since faults old new held w0 w1 us served HoldsNow) (sym (first_turn n request requests end some))
         (served_turn images moment since faults old new w0 w1 served held (Request request) (if request.last then [] else turns (n - 1) requests end) (Answering request is.asked is.fate) HoldsNow
-        (refl, is.asks) is.holds (takes_one images moment since faults reads old new request held reply HoldsNow is stands none counts)
+        (refl, is.asks, is.unfailed) is.holds (takes_one images moment since faults reads old new request held reply HoldsNow is stands none counts)
         (λ whole. ap (λ (b : Bool). if b then [] else turns (n - 1) requests end) (last whole)) (subst (λ (r : ReplyParts). EndsWith w0 w1 r served) is.reply_is ends))
 
     pub request_goes_on : request.last ≡ false → Appends w0 w1 (bytes_of (reply ∷ []))
@@ -45,7 +47,7 @@ module _ {D : Type 0} (images : D → List ℕ → Type 0) (moment : D → ℕ) 
       first = refl;
       more = more;
       taken = Answering request is.asked is.fate;
-      is = (refl, is.asks);
+      is = (refl, is.asks, is.unfailed);
       written = subst (λ (r : ReplyParts). Appends w0 w1 (bytes_of (r ∷ []))) is.reply_is wrote;
       meets = (is.holds, refl);
       disk = takes_one images moment since faults reads old new request held reply HoldsNow is stands none counts;
@@ -81,30 +83,32 @@ module _ {D : Type 0} (images : D → List ℕ → Type 0) (moment : D → ℕ) 
     from_old : (n : ℕ) → ServesLink images moment since faults disk disk held w0 w1 (turns n requests end) served HoldsNow → ServesLink images moment since faults disk disk held w w1 (turns n requests end) served HoldsNow
     from_old n is = subst (λ (v : Option (List ℕ)). ServesLink images moment since faults disk disk held v w1 (turns n requests end) served HoldsNow) same is
 
-    turns_are : (n : ℕ) (last : AtFront) → (n == 0) ≡ false → requests ≡ [] → end ≡ last → turns n requests end ≡ refusals last
+    turns_are : (n : ℕ) (last : AtFront) → (n == 0) ≡ false → requests ≡ [] → end ≡ last → turns n requests end ≡ last_turn last
     turns_are n last some none is = ap (λ l. turns n l end) none ∙ ap (λ (e : AtFront). turns n [] e) is ∙ last_turns n last some
 
     -- the bytes end
-    pub none_ends : (last : AtFront) → requests ≡ [] → end ≡ last → refusals last ≡ [] → w1 ≡ w0 → served.replies ≡ 0 → Ends
-    none_ends last none is silent wrote zero = λ n some. from_old n
+    pub none_ends : (last : AtFront) → requests ≡ [] → end ≡ last → last_turn last ≡ End ∷ [] → w1 ≡ w0 → served.ended ≡ ended.Finished → served.replies ≡ 0 → Ends
+    none_ends last none is silent wrote finished zero = λ n some. from_old n
         (served_none images moment since faults disk disk w0 w1 served held (turns n requests end) HoldsNow holds (takes_none images moment since faults disk held only_now) wrote
-        (λ finished. turns_are n last some none is ∙ silent) zero)
+        (λ again. ap (λ (l : List Turn). list_any is_owed l) (turns_are n last some none is ∙ silent)) (λ no. absurd (no finished))
+        (λ memory. let never : ended.Finished ≡ ended.Memory = sym finished ∙ memory in absurd cc) zero)
 
     -- the link failed
-    pub cut_off : w1 ≡ w0 → (served.ended ≡ ended.Finished → ⊥) → served.replies ≡ 0 → Ends
-    cut_off wrote cut zero = λ n some. from_old n
+    pub cut_off : (bytes : List ℕ) → AreRequests bytes requests end → w1 ≡ w0 → served.ended ≡ ended.LinkFault → served.replies ≡ 0 → Ends
+    cut_off bytes are wrote failed zero = λ n some. from_old n
         (served_none images moment since faults disk disk w0 w1 served held (turns n requests end) HoldsNow holds (takes_none images moment since faults disk held only_now) wrote
-        (λ finished. absurd (cut finished)) zero)
+        (λ finished. let never : ended.LinkFault ≡ ended.Finished = sym failed ∙ finished in absurd cc) (λ no. some_turn n bytes requests end some are)
+        (λ memory. let never : ended.LinkFault ≡ ended.Memory = sym failed ∙ memory in absurd cc) zero)
 
     -- the bytes are refused
-    pub refusal_ends : (last : AtFront) (reply given : ReplyParts) → given ≡ reply → requests ≡ [] → end ≡ last → refusals last ≡ Refusal reply ∷ [] → is_from_disk reply ≡ false → EndsWith w0 w1 given served → Ends
+    pub refusal_ends : (last : AtFront) (reply given : ReplyParts) → given ≡ reply → requests ≡ [] → end ≡ last → last_turn last ≡ Refusal reply ∷ [] → is_from_disk reply ≡ false → EndsWith w0 w1 given served → Ends
     refusal_ends last reply given gives none is one silent ends = λ n some. from_old n
         (subst (λ us. ServesLink images moment since faults disk disk held w0 w1 us served HoldsNow) (sym (turns_are n last some none is ∙ one))
         (served_turn images moment since faults disk disk w0 w1 served held (Refusal reply) [] (Refusing reply) HoldsNow refl holds (takes_refusal images moment since faults disk held reply silent only_now)
         (λ finished. refl) (subst (λ (r : ReplyParts). EndsWith w0 w1 r served) gives ends)))
 
     -- no memory was found
-    pub memory_ends : (given : ReplyParts) → given ≡ out_of_memory → EndsWith w0 w1 given served → Ends
-    memory_ends given gives ends = λ n some. from_old n
-        (served_close images moment since faults disk disk w0 w1 served held (turns n requests end) HoldsNow holds (takes_none images moment since faults disk held only_now)
+    pub memory_ends : (bytes : List ℕ) → AreRequests bytes requests end → (given : ReplyParts) → given ≡ out_of_memory → EndsWith w0 w1 given served → Ends
+    memory_ends bytes are given gives ends = λ n some. from_old n
+        (served_close images moment since faults disk disk w0 w1 served held (turns n requests end) HoldsNow holds (takes_none images moment since faults disk held only_now) (some_turn n bytes requests end some are)
         (subst (λ (r : ReplyParts). EndsWith w0 w1 r served) gives ends))

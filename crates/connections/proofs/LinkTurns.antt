@@ -5,14 +5,14 @@ use Rattle.std.proofs.lemmas.Bool.{cases_Bool, eqb-true}
 use Rattle.std.specs.Io.KnownBytes.{Appends}
 use Rattle.std.specs.List.{AllZip}
 use Rattle.intake.specs.Requests.{Held}
-use Rattle.registry_http.specs.RequestLists.{AreRequests, IsNext}
+use Rattle.registry_http.specs.RequestLists.{AreRequests, IsLast, IsNext}
 use Rattle.registry_http.specs.RequestParts.{RequestParts}
-use Rattle.registry_http.specs.Requests.{AtFront, ReadsNext}
+use Rattle.registry_http.specs.Requests.{AtFront, Whole, Nothing, Cut, HeadFault, BodyTooLong, ReadsNext}
 use Rattle.registry_http.specs.declared.requests.Next.{Next}
 use Rattle.registry_http.proofs.InTurn.{in_turn}
 use Rattle.connections.specs.Replies.{bytes_of}
 use Rattle.connections.specs.Serving.{ServesLink, TakesTurns}
-use Rattle.connections.specs.Turns.{Turn, Taken, Request, IsOf, answer_in, held_behind, refusals, replies_in, turns}
+use Rattle.connections.specs.Turns.{Turn, Taken, Request, IsOf, answer_in, held_behind, last_turn, replies_in, turns}
 use Rattle.connections.specs.declared.serving.Ended.TheVariants as ended
 use Rattle.connections.specs.declared.serving.Served.{Served}
 use Rattle.connections.specs.inner.Rounds.{GoesOn}
@@ -26,12 +26,24 @@ pub first_turn : (n : ℕ) (request : RequestParts) (requests : List RequestPart
     → turns n (request ∷ requests) end ≡ Request request ∷ (if request.last then [] else turns (n - 1) requests end)
 first_turn n request requests end some = ap (λ (b : Bool). if b then [] else Request request ∷ (if request.last then [] else turns (n - 1) requests end)) some
 
-pub last_turns : (n : ℕ) (end : AtFront) → (n == 0) ≡ false → turns n [] end ≡ refusals end
-last_turns n end some = ap (λ (b : Bool). if b then [] else refusals end) some
+pub last_turns : (n : ℕ) (end : AtFront) → (n == 0) ≡ false → turns n [] end ≡ last_turn end
+last_turns n end some = ap (λ (b : Bool). if b then [] else last_turn end) some
 
 no_turns : (requests : List RequestParts) (end : AtFront) → turns 0 requests end ≡ []
 no_turns [] end = refl
 no_turns (request ∷ requests) end = refl
+
+last_is_there : (end : AtFront) → IsLast end → 0 < length (last_turn end)
+last_is_there (Whole request rest) is = absurd is
+last_is_there Nothing is = omega arith
+last_is_there Cut is = omega arith
+last_is_there HeadFault is = omega arith
+last_is_there BodyTooLong is = omega arith
+
+-- while a reply is left, so is a turn
+pub some_turn : (n : ℕ) (bytes : List ℕ) (requests : List RequestParts) (end : AtFront) → (n == 0) ≡ false → AreRequests bytes requests end → 0 < length (turns n requests end)
+some_turn n bytes [] end some are = omega (arith, ap (λ (l : List Turn). length l) (last_turns n end some), last_is_there end are.1)
+some_turn n bytes (request ∷ requests) end some are = omega (arith, ap (λ (l : List Turn). length l) (first_turn n request requests end some))
 
 some_left : (n : ℕ) → 0 < n → (n == 0) ≡ false
 some_left n some = ⊎_elim (λ (is : (n == 0) ≡ true). absurd (omega (arith, some, eqb-true n 0 is))) (λ (no : (n == 0) ≡ false). no) (cases_Bool (n == 0))
@@ -145,5 +157,5 @@ module _ {D : Type 0} (images : D → List ℕ → Type 0) (moment : D → ℕ) 
       (served_later images moment since faults old now now w0 w1 w1 held went.ahead [] went.done HoldsNow (record { replies = 0; ended = ended.Finished }) all counts went.are
       (length_zip went.ahead went.done went.are) went.written went.disk
       (served_none images moment since faults now now w1 w1 (record { replies = 0; ended = ended.Finished }) (held_behind held went.done) [] HoldsNow (holds (held_behind held went.done) went.requests went.meets)
-      (takes_none images moment since faults now (held_behind held went.done) only_now) refl (λ finished. refl) refl)
+      (takes_none images moment since faults now (held_behind held went.done) only_now) refl (λ finished. refl) (λ no. absurd (no refl)) (λ memory. absurd cc) refl)
       is (omega (arith, adds, went.count)))

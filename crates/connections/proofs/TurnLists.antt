@@ -1,5 +1,5 @@
 -- Turns that are taken one list after another: their replies, what is held, and what is told.
-use Rattle.std.proofs.Common.{◌≡◌, ℕ, List, [], ◌∷◌, ◌++◌, length, map, take, refl, sym, ◌∙◌, ap, subst, arith, append_assoc}
+use Rattle.std.proofs.Common.{◌≡◌, ℕ, List, [], ◌∷◌, ◌++◌, drop, length, map, take, refl, sym, ◌∙◌, ap, subst, arith, append_assoc}
 use Rattle.std.proofs.lemmas.Grind.{flat_map-append}
 use Rattle.std.specs.List.{AllZip}
 use Rattle.act_model.specs.declared.receipts.Receipt.{Receipt}
@@ -85,3 +85,10 @@ zip_more [] us [] xs all more = more
 zip_more [] us (d ∷ done) xs all more = absurd all
 zip_more (a ∷ ahead) us [] xs all more = absurd all
 zip_more (a ∷ ahead) us (d ∷ done) xs all more = (all.0, zip_more ahead us done xs all.1 more)
+
+-- the turns behind those ahead
+pub turns_behind : (ahead us : List Turn) (done xs : List Taken) → AllZip IsOf ahead done → drop (length (done ++ xs)) (ahead ++ us) ≡ drop (length xs) us
+turns_behind [] us [] xs all = refl
+turns_behind [] us (d ∷ done) xs all = absurd all
+turns_behind (a ∷ ahead) us [] xs all = absurd all
+turns_behind (a ∷ ahead) us (d ∷ done) xs all = turns_behind ahead us done xs all.1

@@ -1,5 +1,5 @@
 -- How a request ends that calls no disk: it has no route, its body is no item, or no memory was found ahead of the book.
-use Rattle.std.proofs.Common.{◌≡◌, ◌≢◌, ◌⊎◌, inl, inr, ℕ, false, List, Option, Result, Err, refl, sym, ◌∙◌, ap, subst}
+use Rattle.std.proofs.Common.{◌≡◌, ◌≢◌, ◌⊎◌, inl, inr, ℕ, true, false, List, Option, Result, Err, is_ok, refl, sym, ◌∙◌, ap, subst}
 use Rattle.gb_base.specs.DayMinute.{DayMinute}
 use Rattle.act_json.specs.Lines.{ReadsAs}
 use Rattle.act_json.specs.declared.lines.LineFault.{LineFault}
@@ -13,7 +13,7 @@ use Rattle.registry_http.specs.declared.finding.RouteFault.{RouteFault}
 use Rattle.registry_http.specs.declared.finding.RouteFault.TheVariants as routing
 use Rattle.registry_http.specs.declared.routes.Route.{Route}
 use Rattle.settled_book.specs.SettledBookState.{SettledBookState}
-use Rattle.connections.specs.Answering.{is_from_disk}
+use Rattle.connections.specs.Answering.{AnswersNone, IsFailure, is_from_disk}
 use Rattle.connections.specs.Answers.{Answer, answer, body_answer, malformed, only}
 use Rattle.connections.specs.Asking.{Asked, Asks, NoRoute, WrongMethod}
 use Rattle.connections.specs.Fates.{OutOfMemory}
@@ -64,6 +64,30 @@ asks_none request path is none = λ r good same. none r good (is ∙ same)
 pub asks_other : (request : RequestParts) (path method : List ℕ) → path ≡ request.path → method ≡ request.method
     → (r : Route) × IsRoute r × (path ≡ path_of r) × (method ≢ method_of r) → Asks request WrongMethod
 asks_other request path method is by other = (other.0, other.1, sym is ∙ other.2, λ same. other.3 (by ∙ same))
+
+-- ---- where the file stands for no journal
+
+-- want of memory may come whatever the body is
+pub unfound_body : (meant : Result (ℕ × ℕ × Item) LineFault) (fault : LineFault) (reply : ReplyParts) → ReadsAs {A = ℕ × ℕ × Item} (Err fault) meant → (reply ≡ malformed fault) ⊎ (reply ≡ out_of_memory)
+    → is_ok meant ≡ true → IsFailure reply
+unfound_body meant line.NotJson reply same (inl is) item = let never : true ≡ false = sym item ∙ ap is_ok same in absurd cc
+unfound_body meant (line.NotItem path) reply same (inl is) item = let never : true ≡ false = sym item ∙ ap is_ok same in absurd cc
+unfound_body meant line.Memory reply same (inl is) item = (OutOfMemory, is)
+unfound_body meant fault reply same (inr is) item = (OutOfMemory, is)
+
+pub refused_body : (meant : Result (ℕ × ℕ × Item) LineFault) (fault : LineFault) (reply : ReplyParts) → ReadsAs {A = ℕ × ℕ × Item} (Err fault) meant → (reply ≡ malformed fault) ⊎ (reply ≡ out_of_memory)
+    → ((held : Held) → reply ≡ (body_answer held meant).reply) ⊎ (reply ≡ out_of_memory)
+refused_body meant line.NotJson reply same (inl is) = inl (λ held. is ∙ sym (ap (λ (m : Result (ℕ × ℕ × Item) LineFault). (body_answer held m).reply) same))
+refused_body meant (line.NotItem path) reply same (inl is) = inl (λ held. is ∙ sym (ap (λ (m : Result (ℕ × ℕ × Item) LineFault). (body_answer held m).reply) same))
+refused_body meant line.Memory reply same (inl is) = inr is
+refused_body meant fault reply same (inr is) = inr is
+
+pub unrouted_none : (request : RequestParts) (fault : RouteFault) (reply : ReplyParts) → reply ≡ unrouted_reply fault
+    → (unfound fault ≡ unfound routing.NotFound → Asks request NoRoute) → (unfound fault ≡ unfound routing.WrongMethod → Asks request WrongMethod) → AnswersNone request reply
+unrouted_none request routing.NotFound reply is none other = record { asked = NoRoute; asks = none refl; failed = λ calls. absurd cc; uncalled = λ calls. inl (λ held. is) }
+unrouted_none request routing.WrongMethod reply is none other = record { asked = WrongMethod; asks = other refl; failed = λ calls. absurd cc; uncalled = λ calls. inl (λ held. is) }
+unrouted_none request routing.Memory reply is none other =
+    let always = always_asked request in record { asked = always.asked; asks = always.asks; failed = λ calls. (OutOfMemory, is); uncalled = λ calls. inr is }
 
 -- ---- how it ends
 

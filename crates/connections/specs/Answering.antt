@@ -1,5 +1,5 @@
 -- What answering a request does.
-use Rattle.std.specs.Prelude.{◌≡◌, ◌⊎◌, ℕ, ◌==◌, ◌||◌, Bool, true, false, List, is_ok}
+use Rattle.std.specs.Prelude.{◌≡◌, ◌⊎◌, ℕ, ◌==◌, ◌||◌, Bool, true, false, List, Option, None, is_ok}
 use Rattle.gb_outside.specs.Images.{LeavesOnly}
 use Rattle.act_json.specs.Lines.{item_of}
 use Rattle.act_model.specs.declared.receipts.Receipt.{Receipt}
@@ -7,11 +7,12 @@ use Rattle.intake.specs.Grown.{GrownFrom}
 use Rattle.intake.specs.Requests.{Held}
 use Rattle.registry_http.specs.RequestParts.{RequestParts}
 use Rattle.registry_http.specs.declared.routes.Route.TheVariants.{Post}
+use Rattle.settled_book.specs.SettledBookState.{SettledBookState}
 use Rattle.connections.specs.Answers.{answer}
 use Rattle.connections.specs.Asking.{Asked, AskedFor, NoRoute, WrongMethod, Asks}
-use Rattle.connections.specs.Fates.{Fate, answer_by}
-use Rattle.connections.specs.Holding.{Begins}
-use Rattle.connections.specs.Replies.{ReplyParts}
+use Rattle.connections.specs.Fates.{Fate, Failure, answer_by, failure_reply, has_disk_failed}
+use Rattle.connections.specs.Holding.{Begins, working}
+use Rattle.connections.specs.Replies.{ReplyParts, out_of_memory}
 
 -- the status says that a text was read, or that an item was received
 abbrev pub is_from_disk : ReplyParts → Bool
@@ -36,7 +37,7 @@ may_call_disk WrongMethod body = false
 abbrev pub AllBegin : List Receipt → (List ℕ → Type 0) → Type 0
 AllBegin front images = (file : List ℕ) → images file → Begins front file
 
--- A request was answered by what it asks for and by what became of it; that is what is held behind it. The disk is called only where it may be. At each moment since, a stop leaves what it might have left before, or the journal that was held, with the receipt of this request or without it. What every image began with each begins with still, and with all that a text was read of or an item was received into.
+-- A request was answered by what it asks for and by what became of it; that is what is held behind it. The disk is called only where it may be, and no call of it failed where it is not. At each moment since, a stop leaves what it might have left before, or the journal that was held, with the receipt of this request or without it. What every image began with each begins with still, and with all that a text was read of or an item was received into.
 pub record AnswersRequest {D : Type 0} (images : D → List ℕ → Type 0) (moment : D → ℕ) (since : D → ℕ → List ℕ → Type 0) (old new : D) (request : RequestParts) (held : Held) (reply : ReplyParts) (HoldsNow : Held → Type 0) : Type 0 where
   pub asked : Asked
   pub fate : Fate
@@ -44,6 +45,26 @@ pub record AnswersRequest {D : Type 0} (images : D → List ℕ → Type 0) (mom
   pub reply_is : reply ≡ (answer_by fate held (answer held request.body asked)).reply
   pub holds : HoldsNow (answer_by fate held (answer held request.body asked)).held
   pub uncalled : may_call_disk asked request.body ≡ false → new ≡ old
+  pub unfailed : may_call_disk asked request.body ≡ false → has_disk_failed fate ≡ false
   pub left : LeavesOnly moment since old new (λ file. images old file ⊎ GrownFrom held.journal (answer held request.body asked).held.journal file)
   pub kept : (front : List Receipt) → AllBegin front (images old) → AllBegin front (images new)
   pub told : is_from_disk reply ≡ true → AllBegin (answer_by fate held (answer held request.body asked)).held.journal (images new)
+
+-- ---- where no book is open and the file stands for no journal
+
+-- the reply to a request in which something failed
+abbrev pub IsFailure : ReplyParts → Type 0
+IsFailure reply = (failure : Failure) × (reply ≡ failure_reply failure)
+
+-- A request was answered by what failed where the disk may be called for it: that the file is no journal, unless a call of the disk failed or no memory was found. Where the disk is not called it was answered as it asks, or no memory was found.
+pub record AnswersNone (request : RequestParts) (reply : ReplyParts) : Type 0 where
+  pub asked : Asked
+  pub asks : Asks request asked
+  pub failed : may_call_disk asked request.body ≡ true → IsFailure reply
+  pub uncalled : may_call_disk asked request.body ≡ false → ((held : Held) → reply ≡ (answer held request.body asked).reply) ⊎ (reply ≡ out_of_memory)
+
+-- No book was opened. The file is as it was, and at each moment since a stop leaves what it might have left before.
+pub record OpensNone {D : Type 0} (reads : D → List ℕ) (images : D → List ℕ → Type 0) (moment : D → ℕ) (since : D → ℕ → List ℕ → Type 0) (old new : D) (at_hand : Option SettledBookState) : Type 0 where
+  pub none : working at_hand ≡ None
+  pub same : reads new ≡ reads old
+  pub left : LeavesOnly moment since old new (images old)

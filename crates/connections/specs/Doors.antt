@@ -6,7 +6,7 @@ use Rattle.intake.specs.Requests.{Held}
 use Rattle.registry_http.specs.RequestLists.{AreRequests}
 use Rattle.registry_http.specs.RequestParts.{RequestParts}
 use Rattle.registry_http.specs.Requests.{AtFront}
-use Rattle.connections.specs.Served.{Connection, IsOfTurns, IsWhole, held_by, replies_of, taken_of, written_by}
+use Rattle.connections.specs.Served.{Connection, IsCutOff, IsOfTurns, IsUnwritten, IsWhole, held_by, replies_of, taken_of, written_by}
 use Rattle.connections.specs.Serving.{TakesTurns, fate_of, is_answered, is_link_fault, lacks_memory}
 use Rattle.connections.specs.Turns.{Turn, Taken, held_behind, turns}
 use Rattle.connections.specs.declared.doors.DoorEnd.{DoorEnd}
@@ -43,10 +43,13 @@ whole_replies ended.Memory c = length c.replied
 abbrev pub left_by : ℕ → LinkServed → ℕ
 left_by left link = left - whole_replies link.ended link.connection
 
--- A link that asks so was served, with so many replies left: its connection is one of its turns, and it is whole unless the link failed or no memory was found. The link failed just where its connection ended by that.
+-- A link that asks so was served, with so many replies left: its connection is one of its turns, and it is whole unless the link failed or no memory was found; else it is cut off, and where no memory was found for a reply nothing of it was written. It has no more whole replies than were left. The link failed just where its connection ended by that.
 pub record IsServed (held : Held) (left : ℕ) (asked : LinkRequests) (link : LinkServed) : Type 0 where
   pub of_turns : IsOfTurns held (turns_of left asked) link.connection
   pub finished : link.ended ≡ ended.Finished → IsWhole (turns_of left asked) link.connection
+  pub cut_off : (link.ended ≡ ended.Finished → ⊥) → IsCutOff held (turns_of left asked) link.connection
+  pub unwritten : link.ended ≡ ended.Memory → IsUnwritten held link.connection
+  pub few : whole_replies link.ended link.connection ≤ left
   pub failed : Counts 0 link.faults (is_link_fault link.ended)
 
 -- The first of the links that ask so were served, each from what the one before left. A reply was left for each, and none came behind one for which no memory was found.

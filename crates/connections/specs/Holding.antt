@@ -33,6 +33,10 @@ StandsOpen at_hand reads images = IfSome (working at_hand) (λ settled. Stands s
 abbrev pub IsNoJournal : List ℕ → Type 0
 IsNoJournal file = HasBookStanding file standing.Foreign ⊎ ((at : ℕ) × HasBookStanding file (standing.Bad at))
 
+-- the file stands for no journal
+abbrev pub StandsForNone : List ℕ → Type 0
+StandsForNone file = (journal : List Receipt) → StandsForJournal file journal → ⊥
+
 -- the file stands for a journal that begins with these receipts
 pub record Begins (front : List Receipt) (file : List ℕ) : Type 0 where
   pub journal : List Receipt

@@ -1,11 +1,11 @@
 -- What a connection writes and leaves.
-use Rattle.std.specs.Prelude.{◌≡◌, ◌⊎◌, ℕ, ◌+◌, ◌≤◌, List, [], ◌∷◌, ◌++◌, length, map, take}
-use Rattle.std.specs.List.{AllZip}
+use Rattle.std.specs.Prelude.{◌≡◌, ◌≢◌, ◌⊎◌, ℕ, ◌+◌, ◌<◌, ◌≤◌, false, List, [], ◌∷◌, ◌++◌, length, map, take, drop}
+use Rattle.std.specs.List.{AllZip, list_any}
 use Rattle.intake.specs.Grown.{GrownFrom, IsFront}
 use Rattle.intake.specs.Requests.{Held}
 use Rattle.connections.specs.Fates.{Answered}
 use Rattle.connections.specs.Replies.{ReplyParts, bytes_of, out_of_memory}
-use Rattle.connections.specs.Turns.{Turn, Taken, Answering, Refusing, IsOf, held_behind, replies_in}
+use Rattle.connections.specs.Turns.{Turn, Taken, Answering, Refusing, IsOf, held_behind, is_owed, replies_in}
 
 -- the turn as it is where nothing fails in it
 abbrev pub unfailed : Taken → Taken
@@ -21,9 +21,9 @@ pub record IsLeftIn (held : Held) (turns : List Taken) (file : List ℕ) : Type 
   pub one : length next ≤ 1
   pub left : GrownFrom (held_behind held done).journal (held_behind held (done ++ map unfailed next)).journal file
 
--- the connection has no more to say, as no memory was found for what comes next; or it said all
-abbrev pub IsClosing : List ReplyParts → Type 0
-IsClosing closing = (closing ≡ []) ⊎ (closing ≡ out_of_memory ∷ [])
+-- The connection said all; or it has no more to say, as no memory was found for a turn that was left behind these.
+abbrev pub IsClosing : List Turn → List Taken → List ReplyParts → Type 0
+IsClosing turns replied closing = (closing ≡ []) ⊎ ((closing ≡ out_of_memory ∷ []) × (length replied < length turns))
 
 -- What became of a connection: the turns that were replied to whole, the one that was taken up behind them if any, the reply that ends it where no memory was found for what comes next, and the bytes that stand written of a reply that is not whole.
 pub record Connection : Type 0 where
@@ -44,19 +44,33 @@ written_by held c = bytes_of (replies_in held c.replied) ++ c.front
 abbrev pub held_by : Held → Connection → Held
 held_by held c = held_behind held (taken_of c)
 
+-- the reply that comes next behind the whole ones: to the turn that was begun, or the one that closes
+abbrev pub next_reply : Held → Connection → List ReplyParts
+next_reply held c = replies_in (held_behind held c.replied) c.begun ++ c.closing
+
 -- It is a connection of these turns: the first of them were taken, at most one of them is not replied to whole, and what stands written behind the whole replies is a front of its reply, or of the one that closes.
 pub record IsOfTurns (held : Held) (turns : List Turn) (c : Connection) : Type 0 where
   pub are : AllZip IsOf (take (length (taken_of c)) turns) (taken_of c)
   pub one : length c.begun ≤ 1
-  pub closes : IsClosing c.closing
+  pub closes : IsClosing turns c.replied c.closing
   pub apart : (c.begun ≡ []) ⊎ (c.closing ≡ [])
-  pub part : IsFront c.front (bytes_of (replies_in (held_behind held c.replied) c.begun ++ c.closing))
+  pub part : IsFront c.front (bytes_of (next_reply held c))
 
--- It is whole: all turns were replied to, or the reply that closes stands written whole.
+-- It is whole: all turns were replied to that are owed a reply, or the reply that closes stands written whole.
 pub record IsWhole (turns : List Turn) (c : Connection) : Type 0 where
   pub none_begun : c.begun ≡ []
   pub written : c.front ≡ bytes_of c.closing
-  pub all : c.closing ≡ [] → length c.replied ≡ length turns
+  pub all : c.closing ≡ [] → list_any is_owed (drop (length c.replied) turns) ≡ false
+
+-- It is cut off: a turn was left, and the reply that comes next, if there is one, does not stand whole.
+pub record IsCutOff (held : Held) (turns : List Turn) (c : Connection) : Type 0 where
+  pub left : length c.replied < length turns
+  pub short : (next_reply held c ≡ []) ⊎ (length c.front < length (bytes_of (next_reply held c)))
+
+-- A reply comes next, and nothing of it was written.
+pub record IsUnwritten (held : Held) (c : Connection) : Type 0 where
+  pub owed : next_reply held c ≢ []
+  pub nothing : c.front ≡ []
 
 -- how many whole replies were written of one that is whole
 abbrev pub replies_of : Connection → ℕ

@@ -8,7 +8,7 @@ use Rattle.act_model.specs.declared.receipts.Receipt.{Receipt}
 use Rattle.intake.specs.Requests.{Held}
 use Rattle.connections.specs.Answering.{AllBegin, is_from_disk}
 use Rattle.connections.specs.Fates.{Fate, Answered, Failed, DiskFailed, NoJournal, OutOfMemory, has_disk_failed}
-use Rattle.connections.specs.Served.{Connection, IsLeftIn, IsOfTurns, IsWhole, held_by, replies_of, taken_of, written_by}
+use Rattle.connections.specs.Served.{Connection, IsCutOff, IsLeftIn, IsOfTurns, IsUnwritten, IsWhole, held_by, replies_of, taken_of, written_by}
 use Rattle.connections.specs.Turns.{Turn, Taken, Answering, Refusing, answer_in}
 use Rattle.connections.specs.declared.serving.Ended.{Ended}
 use Rattle.connections.specs.declared.serving.Ended.TheVariants as ended
@@ -58,7 +58,7 @@ pub record TakesTurns {D : Type 0} (images : D → List ℕ → Type 0) (moment 
   pub disk : Counts (faults old) (faults new) (list_any (λ turn. has_disk_failed (fate_of turn)) taken)
   pub journal : list_any (λ turn. lacks_journal (fate_of turn)) taken ≡ false
 
--- A connection of these turns was served: what became of it, what was written, what is held behind it, and what was done to the disk. Where it is finished it is whole; else its whole replies alone are counted. Where no count of the disk rose and no memory was wanting, each turn was answered as it asks.
+-- A connection of these turns was served: what became of it, what was written, what is held behind it, and what was done to the disk. Where it is finished it is whole; else it is cut off, and its whole replies alone are counted. Where no memory was found for a reply nothing of it was written. Where no count of the disk rose and no memory was wanting, each turn was answered as it asks.
 pub record ServesLink {D : Type 0} (images : D → List ℕ → Type 0) (moment : D → ℕ) (since : D → ℕ → List ℕ → Type 0) (faults : D → ℕ) (old new : D) (held : Held)
     (written_old written_new : Option (List ℕ)) (turns : List Turn) (served : Served) (HoldsNow : Held → Type 0) : Type 0 where
   pub became : Connection
@@ -68,5 +68,7 @@ pub record ServesLink {D : Type 0} (images : D → List ℕ → Type 0) (moment 
   pub disk : TakesTurns images moment since faults old new held (taken_of became)
   pub finished : served.ended ≡ ended.Finished → IsWhole turns became × (served.replies ≡ replies_of became)
   pub unfinished : (served.ended ≡ ended.Finished → ⊥) → served.replies ≡ length became.replied
+  pub cut_off : (served.ended ≡ ended.Finished → ⊥) → IsCutOff held turns became
+  pub unwritten : served.ended ≡ ended.Memory → IsUnwritten held became
   pub answered : (Rose (faults old) (faults new) → ⊥) → list_any (λ turn. lacks_memory (fate_of turn)) (taken_of became) ≡ false
       → list_all (λ turn. is_answered (fate_of turn)) (taken_of became) ≡ true

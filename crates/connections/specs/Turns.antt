@@ -1,29 +1,37 @@
 -- The replies of a connection, one turn after another.
-use Rattle.std.specs.Prelude.{◌≡◌, ℕ, ◌-◌, ◌==◌, if◌then◌else◌, List, [], ◌∷◌}
+use Rattle.std.specs.Prelude.{◌≡◌, ℕ, ◌-◌, ◌==◌, Bool, true, false, if◌then◌else◌, List, [], ◌∷◌}
 use Rattle.intake.specs.Requests.{Held}
 use Rattle.registry_http.specs.RequestParts.{RequestParts}
 use Rattle.registry_http.specs.Requests.{AtFront, Whole, Nothing, Cut, HeadFault, BodyTooLong}
+use Rattle.connections.specs.Answering.{may_call_disk}
 use Rattle.connections.specs.Answers.{Answer, answer, only}
 use Rattle.connections.specs.Asking.{Asked, Asks}
-use Rattle.connections.specs.Fates.{Fate, answer_by}
+use Rattle.connections.specs.Fates.{Fate, answer_by, has_disk_failed}
 use Rattle.connections.specs.Replies.{ReplyParts, bad_request, body_too_long}
 
--- what a reply is owed to: a request, or bytes that end the connection with a refusal
+-- what a connection reads in one turn: a request, bytes that end it with a refusal, or the end of its bytes
 pub data Turn : Type 0 where
   Request : RequestParts → Turn
   Refusal : ReplyParts → Turn
+  End : Turn
 
--- what stands behind the last request of a link may be refused
-abbrev pub refusals : AtFront → List Turn
-refusals (Whole request rest) = []
-refusals Nothing = []
-refusals Cut = []
-refusals HeadFault = Refusal bad_request ∷ []
-refusals BodyTooLong = Refusal body_too_long ∷ []
+-- a reply is owed to it
+abbrev pub is_owed : Turn → Bool
+is_owed (Request request) = true
+is_owed (Refusal reply) = true
+is_owed End = false
 
--- The turns of a connection with so many replies left: its requests, up to one that is the last, and what ends it.
+-- the turn behind the last request of a link
+abbrev pub last_turn : AtFront → List Turn
+last_turn (Whole request rest) = []
+last_turn Nothing = End ∷ []
+last_turn Cut = End ∷ []
+last_turn HeadFault = Refusal bad_request ∷ []
+last_turn BodyTooLong = Refusal body_too_long ∷ []
+
+-- The turns of a connection with so many replies left, as long as it reads: its requests, up to one that is the last, and what ends it.
 abbrev pub turns : ℕ → List RequestParts → AtFront → List Turn
-turns left [] end = if left == 0 then [] else refusals end
+turns left [] end = if left == 0 then [] else last_turn end
 turns left (request ∷ requests) end =
     if left == 0 then [] else Request request ∷ (if request.last then [] else turns (left - 1) requests end)
 
@@ -32,12 +40,14 @@ pub data Taken : Type 0 where
   Answering : RequestParts → Asked → Fate → Taken
   Refusing : ReplyParts → Taken
 
--- it is this turn
+-- It is this turn; where the disk is not called for it, no call of the disk failed in it.
 abbrev pub IsOf : Turn → Taken → Type 0
-IsOf (Request request) (Answering taken asked fate) = (taken ≡ request) × Asks request asked
+IsOf (Request request) (Answering taken asked fate) =
+    (taken ≡ request) × Asks request asked × (may_call_disk asked request.body ≡ false → has_disk_failed fate ≡ false)
 IsOf (Request request) (Refusing reply) = ⊥
 IsOf (Refusal reply) (Refusing taken) = taken ≡ reply
 IsOf (Refusal reply) (Answering request asked fate) = ⊥
+IsOf End taken = ⊥
 
 -- the reply of a turn, and what is held after it
 abbrev pub answer_in : Held → Taken → Answer

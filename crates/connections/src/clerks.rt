@@ -1,21 +1,21 @@
 //! The clerk, who answers requests and keeps the open book between them.
-ghost use Rattle.std.specs.Prelude.{◌≡◌, ◌≤◌, ◌==◌, ℕ, List, Option, Some, None, length, IfOk, IfErr, IfSome, OnErr, OnOk, IsTrue, is_ok, true, false};
+ghost use Rattle.std.specs.Prelude.{◌≡◌, ◌⊎◌, ◌≤◌, ◌==◌, ◌+◌, ℕ, List, Option, Some, None, length, IfOk, IfErr, IfSome, IsSome, OnErr, OnOk, IsTrue, is_ok, true, false};
 ghost use Rattle.gb_base.specs.DayMinute.{DayMinute};
 ghost use Rattle.gb_outside.specs.Faults.{Counts};
+ghost use Rattle.gb_outside.specs.Images.{Only, Torn};
 ghost use Rattle.act_json.specs.Lines.{item_of, longest_line};
 ghost use Rattle.act_model.specs.WellFormed.{well_formed};
 ghost use Rattle.act_model.specs.declared.receipts.Receipt.{Receipt};
 ghost use Rattle.intake.specs.Requests.{Held};
-ghost use Rattle.journal_disk.specs.Layout.{the_heading, made_from, IsUnmade};
+ghost use Rattle.journal_disk.specs.Layout.{first_gate, the_heading, made_from, IsUnmade};
 ghost use Rattle.journal_disk.specs.Opening.{AnswersSynced, IsKept};
 ghost use Rattle.receipt_journal.specs.Opening.{BookRefuses, book_opening_disk_failed};
 ghost use Rattle.receipt_journal.specs.Standing.{Stands, StandsForJournal};
-ghost use Rattle.settled_book.specs.Texts.{reads_register};
-ghost use Rattle.connections.specs.Answering.{AnswersRequest, is_refusal, may_call_disk, tells_of_journal};
+ghost use Rattle.connections.specs.Answering.{AnswersNone, AnswersRequest, IsFailure, OpensNone, is_refusal, may_call_disk, tells_of_journal};
 ghost use Rattle.connections.specs.Answers.{answer, body_answer, item_answer, only, read_reply};
 ghost use Rattle.connections.specs.Asking.{AskedFor};
-ghost use Rattle.connections.specs.Holding.{Holds, IsNoJournal, IsOpenOn, StandsOpen, working};
-ghost use Rattle.connections.specs.Replies.{is_reply_status};
+ghost use Rattle.connections.specs.Holding.{Holds, IsNoJournal, IsOpenOn, StandsForNone, StandsOpen, working};
+ghost use Rattle.connections.specs.Replies.{is_reply_status, out_of_memory};
 ghost use Rattle.connections.specs.inner.Ends.{EndsBy, Serves};
 ghost use Rattle.connections.specs.inner.Taking.{Finds};
 
@@ -58,13 +58,16 @@ impl Clerk {
 
     /// A clerk with the book of a disk open. Nothing is settled yet.
     pub fn open<D: Disk>(alloc: Global, disk: &mut D) -> Result<Clerk, BookFault>
+        ensures opened { IfOk result (λ clerk. IsSome (working clerk)) }
         ensures holds { IsTrue D.tells → (held : Held) → StandsForJournal (D.reads disk.old) held.journal
             → IfOk result (λ clerk. Holds clerk (D.reads disk.new) (D.images disk.new) (Some held.ticks) held) }
         ensures stands_open { IsTrue D.tells → IfOk result (λ clerk. StandsOpen clerk (D.reads disk.new) (D.images disk.new)) }
         ensures journal { IsTrue D.tells → OnOk result ((journal : List Receipt) × StandsForJournal (D.reads disk.old) journal) }
         ensures refused { IsTrue D.tells → IfErr result (BookRefuses (D.reads disk.old)) }
         ensures made { IsTrue D.tells → OnOk result (IsUnmade (D.reads disk.old) → D.reads disk.new ≡ made_from the_heading (D.reads disk.old)) }
+        ensures settled { OnOk result (IsTrue D.tells → Only (D.reads disk.new) (D.images disk.new)) }
         ensures kept { IsTrue D.tells → IsKept (D.reads disk.old) (D.reads disk.new) }
+        ensures torn { IsTrue D.tells → Torn 0 (first_gate the_heading + 1) (D.reads disk.old) (D.reads disk.new) }
         ensures any_moment { IsTrue D.tells → AnswersSynced D.reads D.images D.moment D.since disk.old disk.new (book_opening_disk_failed result) }
         ensures cause { Counts (D.faults disk.old) (D.faults disk.new) (book_opening_disk_failed result) }
     {
@@ -98,6 +101,7 @@ impl Clerk {
         ensures refused { IsTrue D.tells → IfErr result (BookRefuses (D.reads disk.old)) }
         ensures had_none { OnErr result (working self.old ≡ None) }
         ensures journal { IsTrue D.tells → working self.old ≡ None → OnOk result ((journal : List Receipt) × StandsForJournal (D.reads disk.old) journal) }
+        ensures no_book { IsTrue D.tells → working self.old ≡ None → StandsForNone (D.reads disk.old) → OpensNone D.reads D.images D.moment D.since disk.old disk.new self.new }
         ensures cause { Counts (D.faults disk.old) (D.faults disk.new) (book_opening_disk_failed result) }
     {
         if let Some(book) = self.take_working() {
@@ -111,8 +115,9 @@ impl Clerk {
         requires { IsTrue D.tells → StandsOpen self.old (D.reads disk.old) (D.images disk.old) }
         ensures ends { IsTrue D.tells → (known : Option (List DayMinute)) (held : Held) → Holds self.old (D.reads disk.old) (D.images disk.old) known held
             → EndsBy D.reads D.images D.moment D.since disk.old disk.new held (only held (read_reply held.journal route)) result self.new known }
-        ensures serves { Serves D.tells self.old self.new (D.reads disk.old) (D.reads disk.new) (D.images disk.new) (D.faults disk.old) (D.faults disk.new) result }
+        ensures serves { Serves D.tells D.reads D.images D.moment D.since D.faults disk.old disk.new self.old self.new result }
         ensures late { is_refusal result ≡ false }
+        ensures unfound { IsTrue D.tells → working self.old ≡ None → StandsForNone (D.reads disk.old) → IsFailure result }
     {
         let mut book = match self.take_book(alloc, disk) {
             Ok(book) => book,
@@ -136,8 +141,9 @@ impl Clerk {
         requires stands_open { IsTrue D.tells → StandsOpen self.old (D.reads disk.old) (D.images disk.old) }
         ensures ends { IsTrue D.tells → (held : Held) → Holds self.old (D.reads disk.old) (D.images disk.old) (C.ticks clock.old) held
             → EndsBy D.reads D.images D.moment D.since disk.old disk.new held (item_answer held from item.now) result self.new (C.ticks clock.new) }
-        ensures serves { Serves D.tells self.old self.new (D.reads disk.old) (D.reads disk.new) (D.images disk.new) (D.faults disk.old) (D.faults disk.new) result }
+        ensures serves { Serves D.tells D.reads D.images D.moment D.since D.faults disk.old disk.new self.old self.new result }
         ensures late { is_refusal result ≡ false }
+        ensures unfound { IsTrue D.tells → working self.old ≡ None → StandsForNone (D.reads disk.old) → IsFailure result }
     {
         let mut book = match self.take_book(alloc, disk) {
             Ok(book) => book,
@@ -160,9 +166,11 @@ impl Clerk {
         requires stands_open { IsTrue D.tells → StandsOpen self.old (D.reads disk.old) (D.images disk.old) }
         ensures ends { IsTrue D.tells → (held : Held) → Holds self.old (D.reads disk.old) (D.images disk.old) (C.ticks clock.old) held
             → EndsBy D.reads D.images D.moment D.since disk.old disk.new held (body_answer held (item_of body.now)) result self.new (C.ticks clock.new) }
-        ensures serves { Serves D.tells self.old self.new (D.reads disk.old) (D.reads disk.new) (D.images disk.new) (D.faults disk.old) (D.faults disk.new) result }
+        ensures serves { Serves D.tells D.reads D.images D.moment D.since D.faults disk.old disk.new self.old self.new result }
         ensures apart { is_refusal result ≡ true → (self.new ≡ self.old) × (disk.new ≡ disk.old) × (clock.new ≡ clock.old) }
-        ensures uncalled { is_ok (item_of body.now) ≡ false → disk.new ≡ disk.old }
+        ensures uncalled { is_ok (item_of body.now) ≡ false → (disk.new ≡ disk.old) × ((result.status == 503) ≡ false) }
+        ensures unfound { IsTrue D.tells → working self.old ≡ None → StandsForNone (D.reads disk.old) → is_ok (item_of body.now) ≡ true → IsFailure result }
+        ensures refused { is_ok (item_of body.now) ≡ false → ((held : Held) → result ≡ (body_answer held (item_of body.now)).reply) ⊎ (result ≡ out_of_memory) }
     {
         let (sender, reference, item) = match read_item(alloc, body) {
             Ok(found) => found,
@@ -185,9 +193,11 @@ impl Clerk {
         requires stands_open { IsTrue D.tells → StandsOpen self.old (D.reads disk.old) (D.images disk.old) }
         ensures ends { IsTrue D.tells → (held : Held) → Holds self.old (D.reads disk.old) (D.images disk.old) (C.ticks clock.old) held
             → EndsBy D.reads D.images D.moment D.since disk.old disk.new held (answer held body.now (AskedFor route)) result self.new (C.ticks clock.new) }
-        ensures serves { Serves D.tells self.old self.new (D.reads disk.old) (D.reads disk.new) (D.images disk.new) (D.faults disk.old) (D.faults disk.new) result }
+        ensures serves { Serves D.tells D.reads D.images D.moment D.since D.faults disk.old disk.new self.old self.new result }
         ensures apart { is_refusal result ≡ true → (self.new ≡ self.old) × (disk.new ≡ disk.old) × (clock.new ≡ clock.old) }
-        ensures uncalled { may_call_disk (AskedFor route) body.now ≡ false → disk.new ≡ disk.old }
+        ensures uncalled { may_call_disk (AskedFor route) body.now ≡ false → (disk.new ≡ disk.old) × ((result.status == 503) ≡ false) }
+        ensures unfound { IsTrue D.tells → working self.old ≡ None → StandsForNone (D.reads disk.old) → may_call_disk (AskedFor route) body.now ≡ true → IsFailure result }
+        ensures refused { may_call_disk (AskedFor route) body.now ≡ false → ((held : Held) → result ≡ (answer held body.now (AskedFor route)).reply) ⊎ (result ≡ out_of_memory) }
     {
         match &route {
             Route::Post => self.post(alloc, disk, clock, body),
@@ -210,6 +220,7 @@ impl Clerk {
         ensures answers { IsTrue D.tells → (held : Held) → Holds self.old (D.reads disk.old) (D.images disk.old) (C.ticks clock.old) held
             → AnswersRequest D.images D.moment D.since disk.old disk.new request.now held result (Holds self.new (D.reads disk.new) (D.images disk.new) (C.ticks clock.new)) }
         ensures stands_open { IsTrue D.tells → StandsOpen self.new (D.reads disk.new) (D.images disk.new) }
+        ensures kept_open { IsSome (working self.old) → (result.status == 503) ≡ false → IsSome (working self.new) }
         ensures disk { Counts (D.faults disk.old) (D.faults disk.new) (result.status == 503) }
         ensures status { IsTrue (is_reply_status result.status) }
 
@@ -219,7 +230,9 @@ impl Clerk {
         // Each answer about the file is by its standing, where a book had to be opened.
         ensures no_journal { IsTrue D.tells → result.status ≡ 500 → IsNoJournal (D.reads disk.old) }
         ensures had_none { result.status ≡ 500 → working self.old ≡ None }
-        ensures not_opened { IsTrue D.tells → working self.old ≡ None → ((journal : List Receipt) → StandsForJournal (D.reads disk.old) journal → ⊥) → tells_of_journal result ≡ false }
+        ensures not_opened { IsTrue D.tells → working self.old ≡ None → StandsForNone (D.reads disk.old) → tells_of_journal result ≡ false }
+        ensures answers_none { IsTrue D.tells → working self.old ≡ None → StandsForNone (D.reads disk.old) → AnswersNone request.now result }
+        ensures no_book { IsTrue D.tells → working self.old ≡ None → StandsForNone (D.reads disk.old) → OpensNone D.reads D.images D.moment D.since disk.old disk.new self.new }
     {
         let route = match route(alloc, request.method(), request.path()) {
             Ok(route) => route,

@@ -1,10 +1,11 @@
 //! Links are served one after another, as they come through a door.
-ghost use Rattle.std.specs.Prelude.{◌≡◌, ℕ, ◌≤◌, List, Some, IfOk, IsSome, IsTrue};
+ghost use Rattle.std.specs.Prelude.{◌≡◌, ℕ, ◌≤◌, List, None, Some, IfOk, IsSome, IsTrue};
 ghost use Rattle.std.specs.List.{AllZip};
 ghost use Rattle.gb_outside.specs.Faults.{Counts};
 ghost use Rattle.intake.specs.Requests.{Held};
+ghost use Rattle.connections.specs.Answering.{OpensNone};
 ghost use Rattle.connections.specs.Doors.{AskSo, LinkRequests, ServesDoor, is_door_fault};
-ghost use Rattle.connections.specs.Holding.{Holds, StandsOpen};
+ghost use Rattle.connections.specs.Holding.{Holds, StandsForNone, StandsOpen, working};
 ghost use Rattle.connections.specs.inner.LinkRounds.{IsRound, behind_link, has_door_failed};
 
 use crate::{Clerk, Ended, Served};
@@ -51,6 +52,7 @@ impl Clerk {
             (λ h. Holds self.new (D.reads disk.new) (D.images disk.new) (C.ticks clock.new) h) result }
         ensures few { IfOk result (λ replies. replies ≤ left) }
         ensures stands_open { IsTrue D.tells → StandsOpen self.new (D.reads disk.new) (D.images disk.new) }
+        ensures no_book { IsTrue D.tells → working self.old ≡ None → StandsForNone (D.reads disk.old) → OpensNone D.reads D.images D.moment D.since disk.old disk.new self.new }
         ensures handed_back { IsSome (L.served door.old) → IsSome (L.served door.new) × (L.out door.new ≡ L.out door.old) }
         ensures cause { Counts (L.faults door.old) (L.faults door.new) (has_door_failed result) }
     {
@@ -81,6 +83,7 @@ impl Clerk {
             → ServesDoor D.images D.moment D.since D.faults disk.old disk.new held most waiting asked (L.waiting door.new) (L.served door.old) (L.served door.new) result
             (λ h. Holds self.new (D.reads disk.new) (D.images disk.new) (C.ticks clock.new) h) }
         ensures stands_open { IsTrue D.tells → StandsOpen self.new (D.reads disk.new) (D.images disk.new) }
+        ensures no_book { IsTrue D.tells → working self.old ≡ None → StandsForNone (D.reads disk.old) → OpensNone D.reads D.images D.moment D.since disk.old disk.new self.new }
         ensures handed_back { IsSome (L.served door.old) → IsSome (L.served door.new) × (L.out door.new ≡ L.out door.old) }
         ensures cause { Counts (L.faults door.old) (L.faults door.new) (is_door_fault result) }
     {

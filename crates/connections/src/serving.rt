@@ -1,18 +1,19 @@
 //! A connection is served: its requests are answered one after another.
-ghost use Rattle.std.specs.Prelude.{◌≡◌, ◌≤◌, ℕ, List, [], ◌∷◌, Some, OnOk, OnErr, Err, IsSome, IsTrue, IfSome, length};
+ghost use Rattle.std.specs.Prelude.{◌≡◌, ◌≤◌, ℕ, List, [], ◌∷◌, None, Some, OnOk, OnErr, Err, IsSome, IsTrue, IfSome, length};
 ghost use Rattle.std.specs.Io.KnownBytes.{Appends};
-ghost use Rattle.gb_outside.specs.Bytes.{AppendsFront};
 ghost use Rattle.gb_outside.specs.Faults.{Counts};
 ghost use Rattle.act_json.specs.Lines.{longest_line};
 ghost use Rattle.intake.specs.Requests.{Held};
+ghost use Rattle.registry_http.specs.Replies.{AppendsPart};
 ghost use Rattle.registry_http.specs.RequestLists.{AreRequests};
 ghost use Rattle.registry_http.specs.RequestParts.{RequestParts};
 ghost use Rattle.registry_http.specs.Requests.{AtFront};
-ghost use Rattle.connections.specs.Holding.{Holds, StandsOpen};
+ghost use Rattle.connections.specs.Answering.{OpensNone};
+ghost use Rattle.connections.specs.Holding.{Holds, StandsForNone, StandsOpen, working};
 ghost use Rattle.connections.specs.Replies.{bytes_of};
 ghost use Rattle.connections.specs.Serving.{ServesLink, is_link_fault};
 ghost use Rattle.connections.specs.Turns.{turns};
-ghost use Rattle.connections.specs.declared.serving.Ended.TheVariants.{Finished};
+ghost use Rattle.connections.specs.declared.serving.Ended.TheVariants.{Finished, Memory};
 ghost use Rattle.connections.specs.inner.Rounds.{EndsWith, IsTurn, Meets, answering_ended, is_cut_off, sending_failed};
 
 use crate::Clerk;
@@ -54,7 +55,8 @@ fn ended_by(fault: ReplyFault) -> Ended
 /// Writes a reply, or says how the connection ends.
 fn send<L: Link>(alloc: Global, link: &mut L, reply: &Reply) -> Result<(), Ended>
     ensures whole { OnOk result (Appends (L.written link.old) (L.written link.new) (bytes_of (reply.now ∷ []))) }
-    ensures part { OnErr result (AppendsFront (L.written link.old) (L.written link.new) (bytes_of (reply.now ∷ []))) }
+    ensures part { OnErr result (AppendsPart (L.written link.old) (L.written link.new) (bytes_of (reply.now ∷ []))) }
+    ensures nothing { result ≡ Err Memory → L.written link.new ≡ L.written link.old }
     ensures unfinished { result ≡ Err Finished → ⊥ }
     ensures left { L.left link.new ≡ L.left link.old }
     ensures cause { Counts (L.faults link.old) (L.faults link.new) (sending_failed result) }
@@ -100,6 +102,7 @@ impl Clerk {
             (λ h others. Holds self.new (D.reads disk.new) (D.images disk.new) (C.ticks clock.new) h × (others ≡ requests)) result }
         ensures few { IfSome result (λ served. served.replies ≤ 1) }
         ensures stands_open { IsTrue D.tells → StandsOpen self.new (D.reads disk.new) (D.images disk.new) }
+        ensures no_book { IsTrue D.tells → working self.old ≡ None → StandsForNone (D.reads disk.old) → OpensNone D.reads D.images D.moment D.since disk.old disk.new self.new }
         ensures told { IsSome (L.written link.old) → IsSome (L.written link.new) }
         ensures left { L.left link.new ≡ L.left link.old }
         ensures cause { Counts (L.faults link.old) (L.faults link.new) (is_cut_off result) }
@@ -136,6 +139,7 @@ impl Clerk {
             (λ h others. Meets self.new (D.reads disk.new) (D.images disk.new) (C.ticks clock.new) (L.left link.new) rest.new.items end h others) result }
         ensures few { IfSome result (λ served. served.replies ≤ 1) }
         ensures stands_open { IsTrue D.tells → StandsOpen self.new (D.reads disk.new) (D.images disk.new) }
+        ensures no_book { IsTrue D.tells → working self.old ≡ None → StandsForNone (D.reads disk.old) → OpensNone D.reads D.images D.moment D.since disk.old disk.new self.new }
         ensures told { IsSome (L.written link.old) → IsSome (L.written link.new) }
         ensures cause { Counts (L.faults link.old) (L.faults link.new) (is_cut_off result) }
     {
@@ -172,6 +176,7 @@ impl Clerk {
             → ServesLink D.images D.moment D.since D.faults disk.old disk.new held (L.written link.old) (L.written link.new) (turns left requests end) result
             (λ h. Holds self.new (D.reads disk.new) (D.images disk.new) (C.ticks clock.new) h) }
         ensures stands_open { IsTrue D.tells → StandsOpen self.new (D.reads disk.new) (D.images disk.new) }
+        ensures no_book { IsTrue D.tells → working self.old ≡ None → StandsForNone (D.reads disk.old) → OpensNone D.reads D.images D.moment D.since disk.old disk.new self.new }
         ensures few { result.replies ≤ left }
         ensures told { IsSome (L.written link.old) → IsSome (L.written link.new) }
         ensures cause { Counts (L.faults link.old) (L.faults link.new) (is_link_fault result.ended) }

@@ -56,7 +56,7 @@ impl<R: Read + Drop> Source for Input<R> {
 }
 
 /// Reads once, and again where a signal interrupts the call.
-fn read_some<R: Read>(reader: &mut R, into: &mut [u8]) -> io::Result<usize>
+pub fn read_some<R: Read>(reader: &mut R, into: &mut [u8]) -> io::Result<usize>
     ensures bound { ReadsAtMost result into.new }
     ensures bytes { ReadConsumes (R.remaining reader.old) (R.remaining reader.new) result into.new }
     ensures again { IfErr result (λ error. error_kind error ≢ ErrorKind.Interrupted) }

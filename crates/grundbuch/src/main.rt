@@ -1,6 +1,8 @@
-//! The program: hands standard input and output to the office, and ends with its status.
+//! The program: hands standard input and output, its file, its clock and its port to the office, and
+//! ends with the office's status.
 #![tactic(auto)]
 
+mod connection;
 mod endings;
 #[cfg(test)]
 mod fake_files;
@@ -10,13 +12,15 @@ mod input;
 mod journal_file;
 mod output;
 mod system_clock;
+mod tcp_door;
 mod words;
 
 use crate::input::Input;
 use crate::journal_file::JournalFile;
 use crate::output::Output;
 use crate::system_clock::SystemClock;
-use gb_outside::{OpenGate, SureListener};
+use crate::tcp_door::TcpDoor;
+use gb_outside::OpenGate;
 use registry_office::{Status, run};
 use std::io;
 use std::process::ExitCode;
@@ -31,14 +35,14 @@ fn main(rt: HostRuntime) -> ExitCode {
     ExitCode::from(endings::number(status))
 }
 
-/// Runs the office over standard input and output, the journal's file of the current folder and
-/// the system's clock, with nobody at the door.
+/// Runs the office over standard input and output, the journal's file of the current folder, the
+/// system's clock and the office's port.
 fn office(rt: &HostRuntime, words: &[RcStr]) -> Status {
     let mut source = Input::new(rt.reader());
     let mut sink = Output::new(io::writer(rt));
     let mut disk = JournalFile::new(rt);
     let mut clock = SystemClock::new(rt);
-    let mut door = SureListener::new(Vec::new(rt.alloc()));
+    let mut door = TcpDoor::new(rt);
     run(
         rt,
         words,

@@ -55,7 +55,7 @@ impl<W: Write + Drop> Sink for Output<W> {
 
 /// Writes once, and again where a signal interrupts the call. A writer that takes nothing of a
 /// piece that is not empty has failed.
-fn write_some<W: Write>(writer: &mut W, piece: &[u8]) -> io::Result<usize>
+pub fn write_some<W: Write>(writer: &mut W, piece: &[u8]) -> io::Result<usize>
     ensures bound { WritesAtMost result piece.now }
     ensures some { IfOk result (λ count. 0 < length piece.now → 0 < count) }
     ensures bytes { WriteAppends (W.contents writer.old) (W.contents writer.new) result piece.now }

@@ -12,6 +12,8 @@ mod runs;
 #[cfg(test)]
 mod sample_tests;
 #[cfg(test)]
+mod serving_tests;
+#[cfg(test)]
 mod settling_tests;
 #[cfg(test)]
 mod stamped_line_tests;

@@ -11,11 +11,12 @@ use Rattle.folio_sections.specs.Held.{entries_at, is_given, is_held, room_at}
 use Rattle.folio_sections.specs.PartState.{PartState}
 use Rattle.registrar.specs.Rooms.{most_brought}
 
--- the first of these keys are held too, and have room for what an item may bring; no entry has changed
+-- the first of these keys are held too, and have room for what an item may bring; no entry has changed, and no key has less room
 pub record RoomSoFar (before parts : List PartState) (keys : List Key) (done : ℕ) : Type 0 where
   pub entries : entries_at parts ≡ entries_at before
   pub held : (k : Key) → is_held parts k ≡ (is_held before k || is_given (take done keys) k)
   pub room : (i : ℕ) (d : Key) → i < done → length (entries_at before (get_or keys i d)) + most_brought ≤ room_at parts (get_or keys i d)
+  pub kept : (k : Key) → room_at before k ≤ room_at parts k
 
 or_nothing : (b : Bool) → (b || false) ≡ b
 or_nothing true = refl
@@ -26,7 +27,7 @@ or_in_turn true b c = refl
 or_in_turn false b c = refl
 
 pub room_at_none : (parts : List PartState) (keys : List Key) → RoomSoFar parts parts keys 0
-room_at_none parts keys = record { entries = refl; held = λ k. sym (or_nothing (is_held parts k)); room = λ i d less. absurd (omega arith) }
+room_at_none parts keys = record { entries = refl; held = λ k. sym (or_nothing (is_held parts k)); room = λ i d less. absurd (omega arith); kept = λ k. omega arith }
 
 given_next : (keys : List Key) (i : ℕ) (key k : Key) → i < length keys → key ≡ get_or keys i key → is_given (take (i + 1) keys) k ≡ (is_given (take i keys) k || same_key key k)
 given_next keys i key k within is =
@@ -59,6 +60,7 @@ room_at_next before parts held after keys i many key so_far within is holds stay
           let further = kept (get_or keys j d) in
           omega arith)
           (cases_eq j i);
+      kept = λ k. let first = so_far.kept k in let then = wider k in let last = kept k in omega arith;
     }
 
 -- all keys

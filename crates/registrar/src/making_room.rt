@@ -21,11 +21,12 @@ const MOST_BROUGHT: usize = 3;
 /// Holds the keys of an item, and keeps room at each of them for what it may bring: three entries,
 /// and an official notice for each filing that waits there. Room for as many as stand there serves
 /// these notices, since each such filing has an entry there; and so a key that grows is moved
-/// seldom.
+/// seldom. No key has less room than before, also where no memory is found.
 pub fn make_room(parts: &mut MapParts, keys: &[Key]) -> Result<(), NoMemory>
     ensures entries { entries_at parts.new ≡ entries_at parts.old }
     ensures held { OnOk result ((k : Key) → is_held parts.new k ≡ (is_held parts.old k || is_given keys.now k)) }
     ensures room { OnOk result ((k : Key) → Contains keys.now k → length (entries_at parts.new k) + most_brought ≤ room_at parts.new k) }
+    ensures kept { (k : Key) → room_at parts.old k ≤ room_at parts.new k }
 {
     for key in keys {
         parts.hold(*key)?;

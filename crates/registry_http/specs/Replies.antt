@@ -1,7 +1,8 @@
 -- The bytes of a reply.
 -- Why so: docs/DECISIONS.md, "A reply takes a status of `http` and its phrase".
-use Rattle.std.specs.Prelude.{ℕ, Bool, true, false, List, [], ◌++◌, length, codes, unwrap_or, Result, Ok, Err}
+use Rattle.std.specs.Prelude.{◌≡◌, ◌<◌, ℕ, Bool, true, false, List, [], ◌++◌, length, codes, unwrap_or, Option, Result, Ok, Err}
 use Rattle.std.specs.Fmt.{decimal}
+use Rattle.std.specs.Io.KnownBytes.{Appends}
 use Rattle.http.specs.StatusCode.{reason_phrase}
 use Rattle.registry_http.specs.declared.replies.ReplyFault.{ReplyFault}
 use Rattle.registry_http.specs.declared.replies.ReplyFault.TheVariants as fault
@@ -19,6 +20,14 @@ reply_head status body_length =
 -- a reply, byte for byte
 abbrev pub reply_bytes : ℕ → List ℕ → List ℕ
 reply_bytes status body = reply_head status (length body) ++ body
+
+-- told bytes grow by a front of these that is not the whole
+pub record AppendsPart (old new : Option (List ℕ)) (bytes : List ℕ) : Type 0 where
+  pub front : List ℕ
+  pub rest : List ℕ
+  pub whole : bytes ≡ front ++ rest
+  pub short : 0 < length rest
+  pub added : Appends old new front
 
 -- the link failed
 abbrev pub reply_failed : Result (Unit {0}) ReplyFault → Bool

@@ -2,9 +2,8 @@
 //! Why so: docs/DECISIONS.md, "A reply over HTTP is written from one buffer".
 ghost use Rattle.std.specs.Prelude.{◌≡◌, ◌<◌, IfOk, OnOk, OnErr, Some, Err, length};
 ghost use Rattle.std.specs.Io.KnownBytes.{Appends};
-ghost use Rattle.gb_outside.specs.Bytes.{AppendsFront};
 ghost use Rattle.gb_outside.specs.Faults.{Counts};
-ghost use Rattle.registry_http.specs.Replies.{phrase_of, reply_head, reply_bytes, reply_failed};
+ghost use Rattle.registry_http.specs.Replies.{AppendsPart, phrase_of, reply_head, reply_bytes, reply_failed};
 ghost use Rattle.registry_http.specs.declared.replies.ReplyFault.TheVariants.{LinkFault, Memory};
 
 use gb_base::NoMemory;
@@ -15,7 +14,7 @@ use std::alloc::{AllocError, Global};
 /// Why a reply was not written whole.
 #[derive(Clone, Copy, Debug, PartialEq, Eq)]
 pub enum ReplyFault {
-    /// The link failed: a front of the reply was written.
+    /// The link failed: a front of the reply was written, and not the whole.
     LinkFault,
     /// No memory was found: nothing was written.
     Memory,
@@ -51,10 +50,10 @@ fn reply(alloc: Global, status: StatusCode, body: &[u8]) -> Result<Vec<u8>, NoMe
     Ok(reply)
 }
 
-/// Writes all of these bytes, or a front of them where the link fails.
+/// Writes all of these bytes, or a front of them that is not the whole where the link fails.
 fn write_all<L: Link>(link: &mut L, bytes: &[u8]) -> Result<(), ReplyFault>
     ensures whole { OnOk result (Appends (L.written link.old) (L.written link.new) bytes.now) }
-    ensures part { OnErr result (AppendsFront (L.written link.old) (L.written link.new) bytes.now) }
+    ensures part { OnErr result (AppendsPart (L.written link.old) (L.written link.new) bytes.now) }
     ensures failed { OnErr result (result ≡ Err LinkFault) }
     ensures left { L.left link.new ≡ L.left link.old }
     ensures cause { Counts (L.faults link.old) (L.faults link.new) (reply_failed result) }
@@ -77,7 +76,7 @@ pub fn write_reply<L: Link>(
     body: &[u8],
 ) -> Result<(), ReplyFault>
     ensures whole { OnOk result (Appends (L.written link.old) (L.written link.new) (reply_bytes status body.now)) }
-    ensures part { result ≡ Err LinkFault → AppendsFront (L.written link.old) (L.written link.new) (reply_bytes status body.now) }
+    ensures part { result ≡ Err LinkFault → AppendsPart (L.written link.old) (L.written link.new) (reply_bytes status body.now) }
     ensures nothing { result ≡ Err Memory → L.written link.new ≡ L.written link.old }
     ensures left { L.left link.new ≡ L.left link.old }
     ensures cause { Counts (L.faults link.old) (L.faults link.new) (reply_failed result) }

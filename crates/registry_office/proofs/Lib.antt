@@ -4,5 +4,6 @@ pub mod OnDisk
 pub mod Opened
 pub mod OpenedFrames
 pub mod Reported
+pub mod ServedDoors
 pub mod Takings
 pub mod Whole

@@ -67,7 +67,7 @@ found_by_writing status.Memory file of found = tt
 found_by_writing status.NotJournal file of found = absurd cc
 found_by_writing (status.BadRecord at) file of found = absurd cc
 found_by_writing status.InputTooLong file of found = found
-found_by_writing status.DoorFault file of found = tt
+found_by_writing status.DoorFault file of found = found
 
 -- a text that was written to its end or not: a front of it stands
 pub any_front : (r : Result (Unit {0}) OutputFault) (w0 w1 : Option (List ℕ)) (text : List ℕ) → OnOk r (Appends w0 w1 text) → OnErr r (AppendsFront w0 w1 text) → AppendsFront w0 w1 text

@@ -24,24 +24,32 @@ FindsBy file status.Memory = Unit {0}
 FindsBy file status.NotJournal = IsForeign the_heading file
 FindsBy file (status.BadRecord at) = (journal : List Receipt) × IsBadBehind file journal × (at ≡ gate_behind journal)
 FindsBy file status.InputTooLong = IsJournalFile file
-FindsBy file status.DoorFault = Unit {0}
+FindsBy file status.DoorFault = IsJournalFile file
 
 -- the files that a stop leaves; where the disk failed, but for those that it might have left before
 abbrev pub LeftAnew : Bool → (List ℕ → Type 0) → (List ℕ → Type 0) → List ℕ → Type 0
 LeftAnew true before now file = now file × (before file → ⊥)
 LeftAnew false before now file = now file
 
--- First a sync: until it is done a stop leaves what it might have left before, and from then on a journal that has grown from the first of these two to the second, or part of the way.
-pub record GrowsSynced {D : Type 0} (reads : D → List ℕ) (images : D → List ℕ → Type 0) (moment : D → ℕ) (since : D → ℕ → List ℕ → Type 0) (old new : D) (from to : List Receipt) : Type 0 where
+-- First a sync: until it is done a stop leaves what it might have left before, and from then on a file of this kind.
+pub record LeavesSynced {D : Type 0} (reads : D → List ℕ) (images : D → List ℕ → Type 0) (moment : D → ℕ) (since : D → ℕ → List ℕ → Type 0) (old new : D) (left : List ℕ → Type 0) : Type 0 where
   pub synced : D
   pub until : LeavesOnly moment since old synced (images old)
   pub only : Only (reads old) (images synced)
-  pub then : LeavesOnly moment since synced new (GrownFrom from to)
+  pub then : LeavesOnly moment since synced new left
+
+-- so, with a journal that has grown from the first of these two to the second, or part of the way
+abbrev pub GrowsSynced : {D : Type 0} → (D → List ℕ) → (D → List ℕ → Type 0) → (D → ℕ) → (D → ℕ → List ℕ → Type 0) → D → D → List Receipt → List Receipt → Type 0
+GrowsSynced reads images moment since old new from to = LeavesSynced reads images moment since old new (GrownFrom from to)
 
 -- that sync was done; or, where the disk failed, it may be that it was not
+abbrev pub KeepsSynced : {D : Type 0} → (D → List ℕ) → (D → List ℕ → Type 0) → (D → ℕ) → (D → ℕ → List ℕ → Type 0) → D → D → Bool → (List ℕ → Type 0) → Type 0
+KeepsSynced reads images moment since old new true left = LeavesOnly moment since old new (images old) ⊎ LeavesSynced reads images moment since old new left
+KeepsSynced reads images moment since old new false left = LeavesSynced reads images moment since old new left
+
+-- so, with a journal that has grown from the first of these two to the second, or part of the way
 abbrev pub KeepsGrown : {D : Type 0} → (D → List ℕ) → (D → List ℕ → Type 0) → (D → ℕ) → (D → ℕ → List ℕ → Type 0) → D → D → Bool → List Receipt → List Receipt → Type 0
-KeepsGrown reads images moment since old new true from to = LeavesOnly moment since old new (images old) ⊎ GrowsSynced reads images moment since old new from to
-KeepsGrown reads images moment since old new false from to = GrowsSynced reads images moment since old new from to
+KeepsGrown reads images moment since old new failed from to = KeepsSynced reads images moment since old new failed (GrownFrom from to)
 
 -- What is written of a file that stood for the first of these journals, while it grows to the second or part of the way: the frames between the two. An unmade file is made before; unless it is told that it was opened, any byte up to the last of these gates may be written.
 pub record WritesBehind (opened : Bool) (from to : List Receipt) (file new : List ℕ) : Type 0 where

@@ -2,6 +2,7 @@
 pub mod Disks
 pub mod Outcomes
 pub mod Receivings
+pub mod Servings
 pub mod Statuses
-pub mod Words
+pub mod Unread
 pub mod inner

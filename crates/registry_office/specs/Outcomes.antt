@@ -12,8 +12,8 @@ use Rattle.intake.specs.Requests.{InMemory, OnDisk, Held, holding, replies, held
 use Rattle.intake.specs.Sessions.{line_requests, ended_requests}
 use Rattle.intake.specs.declared.lines.LineKind.TheVariants.{Stamped}
 use Rattle.intake_requests.specs.declared.requests.Request.{Request}
-use Rattle.registry_office.specs.declared.words.Command.{Command}
-use Rattle.registry_office.specs.declared.words.Command.TheVariants.{Settle, SettleLines, Receive, Sample}
+use Rattle.command_words.specs.declared.commands.Command.{Command}
+use Rattle.command_words.specs.declared.commands.Command.TheVariants.{Settle, SettleLines, Receive, Serve, Sample}
 
 -- the report of the journal that one registrar takes in the order of receipt
 unfoldable pub report_of : List Receipt → List ℕ
@@ -34,6 +34,7 @@ requests_of None input = []
 requests_of (Some (Settle desks)) input = []
 requests_of (Some (SettleLines desks)) input = line_requests Stamped input
 requests_of (Some (Receive intake)) input = whole_of intake input
+requests_of (Some (Serve desks requests)) input = []
 requests_of (Some (Sample seed size desks)) input = []
 
 -- what it asks where it is cut here
@@ -42,6 +43,7 @@ cut_requests_of None read = []
 cut_requests_of (Some (Settle desks)) read = []
 cut_requests_of (Some (SettleLines desks)) read = ended_requests Stamped [] read
 cut_requests_of (Some (Receive intake)) read = cut_of intake read
+cut_requests_of (Some (Serve desks requests)) read = []
 cut_requests_of (Some (Sample seed size desks)) read = []
 
 -- the replies to these requests of the command
@@ -50,9 +52,10 @@ replies_of None held requests = []
 replies_of (Some (Settle desks)) held requests = []
 replies_of (Some (SettleLines desks)) held requests = replies InMemory (holding [] []) requests
 replies_of (Some (Receive intake)) held requests = replies OnDisk held requests
+replies_of (Some (Serve desks most)) held requests = []
 replies_of (Some (Sample seed size desks)) held requests = []
 
--- what a command writes, and the journal of the disk and the clock's ticks after it
+-- what a command writes, and the journal of the disk and the clock's ticks after it; of one that serves, `ServesOffice` says more
 pub record Outcome : Type 0 where
   pub written : List ℕ
   pub journal : List Receipt
@@ -68,6 +71,7 @@ outcome (Some (Receive intake)) held input = record {
   journal = (held_after OnDisk held (whole_of intake input)).journal;
   ticks = (held_after OnDisk held (whole_of intake input)).ticks;
 }
+outcome (Some (Serve desks requests)) held input = record { written = []; journal = held.journal; ticks = held.ticks }
 outcome (Some (Sample seed size desks)) held input = record { written = sample_output seed size; journal = held.journal; ticks = held.ticks }
 
 -- the command reads the input
@@ -76,6 +80,7 @@ uses_input None = false
 uses_input (Some (Settle desks)) = false
 uses_input (Some (SettleLines desks)) = true
 uses_input (Some (Receive intake)) = true
+uses_input (Some (Serve desks requests)) = false
 uses_input (Some (Sample seed size desks)) = false
 
 -- the command uses the disk
@@ -84,6 +89,7 @@ uses_disk None = false
 uses_disk (Some (Settle desks)) = true
 uses_disk (Some (SettleLines desks)) = false
 uses_disk (Some (Receive intake)) = true
+uses_disk (Some (Serve desks requests)) = true
 uses_disk (Some (Sample seed size desks)) = false
 
 -- the command receives onto the disk, with the clock's stamps
@@ -92,7 +98,17 @@ receives None = false
 receives (Some (Settle desks)) = false
 receives (Some (SettleLines desks)) = false
 receives (Some (Receive intake)) = true
+receives (Some (Serve desks requests)) = false
 receives (Some (Sample seed size desks)) = false
+
+-- the command serves what comes through the door, up to so many replies and as many links
+abbrev pub serves : Option Command → Option ℕ
+serves None = None
+serves (Some (Settle desks)) = None
+serves (Some (SettleLines desks)) = None
+serves (Some (Receive intake)) = None
+serves (Some (Serve desks requests)) = Some requests
+serves (Some (Sample seed size desks)) = None
 
 -- The objects that the command uses tell what they hold: at first the disk's file stood for this journal, the clock had these ticks to give, and this was left of the input.
 pub record Told (command : Option Command) (tells : Bool) (file : List ℕ) (left : Option (List ℕ)) (known : Option (List DayMinute)) (held : Held) (input : List ℕ) : Type 0 where

@@ -4,14 +4,15 @@
 mod disk_settling;
 mod receiving;
 mod sampling;
+mod serving;
 mod settling;
 mod statuses;
 mod taking;
 mod top;
-mod words;
 
 pub use disk_settling::settle;
 pub use sample_journals::sample_journal;
+pub use serving::serve_connection;
 pub use statuses::Status;
 pub use taking::take;
 pub use top::run;

@@ -17,7 +17,7 @@ ghost use Rattle.intake.specs.Requests.{OnDisk, Held, holding, replies, held_aft
 ghost use Rattle.intake.specs.Sessions.{most_input, Took};
 ghost use Rattle.registry_office.specs.Statuses.{read_fault, write_fault, disk_fault, door_fault, is_no_journal, is_of_session, tells_of_opening};
 ghost use Rattle.intake_requests.specs.declared.requests.Request.{Request};
-ghost use Rattle.registry_office.specs.declared.words.Command.TheVariants.{Receive};
+ghost use Rattle.command_words.specs.declared.commands.Command.TheVariants.{Receive};
 
 use crate::statuses::{Status, status_of_opening};
 use crate::taking::{take, take_list};

@@ -1,32 +1,37 @@
 //! The top call: the words, and the objects that stand outside.
 //! Why so: docs/DECISIONS.md, "That an acknowledged receipt stays is said by requests".
-//! Why so: docs/DECISIONS.md, "Want of memory comes behind the first sync".
+//! Why so: docs/DECISIONS.md, "Want of memory comes with the words, or behind the first sync".
 //! Why so: docs/DECISIONS.md, "That a reply goes out before the next read is said by two clauses".
-ghost use Rattle.std.specs.Prelude.{◌≡◌, ◌⊎◌, ◌↔◌, ◌≤◌, ◌+◌, ◌++◌, ℕ, [], Some, None, IfSome, IsTrue, List, length, take, true, false};
+ghost use Rattle.std.specs.Prelude.{◌≡◌, ◌⊎◌, ◌↔◌, ◌≤◌, ◌+◌, ◌++◌, ℕ, [], Some, None, IfSome, IsSome, IsTrue, List, length, take, true, false};
+ghost use Rattle.std.specs.List.{AllZip};
 ghost use Rattle.std.specs.Rc.{rc_str_bytes};
 ghost use Rattle.std.specs.Io.KnownBytes.{Appends, IsAtEnd};
 ghost use Rattle.gb_outside.specs.Bytes.{AppendsFront};
-ghost use Rattle.gb_outside.specs.Faults.{Counts};
+ghost use Rattle.gb_outside.specs.Faults.{Counts, Rose};
 ghost use Rattle.journal_disk.specs.Layout.{the_heading, made_from, IsMade, IsUnmade};
 ghost use Rattle.journal_disk.specs.Opening.{IsKept, AnswersSynced};
 ghost use Rattle.receipt_journal.specs.Standing.{StandsForJournal};
 ghost use Rattle.registry_office.specs.Disks.{FindsBy, IsJournalFile, KeepsGrown, LeftAnew, WritesBehind};
 ghost use Rattle.intake.specs.EarlyEnds.{EndsEarly, AreOf};
 ghost use Rattle.intake.specs.Grown.{GrownFrom};
-ghost use Rattle.registry_office.specs.Outcomes.{outcome, requests_of, cut_requests_of, replies_of, uses_disk, uses_input, receives, Begins};
-ghost use Rattle.registry_office.specs.Words.{commanded};
-ghost use Rattle.intake.specs.Requests.{OnDisk, replies, held_after};
+ghost use Rattle.connections.specs.Doors.{AskSo, LinkRequests};
+ghost use Rattle.registry_office.specs.Outcomes.{outcome, requests_of, cut_requests_of, replies_of, uses_disk, uses_input, receives, serves, Begins};
+ghost use Rattle.command_words.specs.Words.{commanded};
+ghost use Rattle.intake.specs.Requests.{Held, OnDisk, replies, held_after};
 ghost use Rattle.intake.specs.Sessions.{most_input, Took};
 ghost use Rattle.registry_office.specs.Receivings.{HasWritten};
+ghost use Rattle.registry_office.specs.Servings.{IsHeld, ServesOffice};
 ghost use Rattle.registry_office.specs.Statuses.{read_fault, write_fault, disk_fault, door_fault, is_no_journal, tells_of_opening};
+ghost use Rattle.registry_office.specs.Unread.{IsUnread};
 ghost use Rattle.intake_requests.specs.declared.requests.Request.{Request};
 
 use crate::disk_settling::settle_disk;
 use crate::receiving::receive_disk;
 use crate::sampling::settle_sample;
+use crate::serving::serve;
 use crate::settling::settle_lines;
 use crate::statuses::{Status, status_of};
-use crate::words::{Command, read_words};
+use command_words::{Command, WordsFault, read_words};
 use gb_outside::{Clock, DeskGate, Disk, Listener, Sink, Source};
 use std::rc::RcStr;
 
@@ -57,7 +62,8 @@ pub fn run<R: AllocGlobal, S: Source, K: Sink, D: Disk, C: Clock, L: Listener, G
     door: &mut L,
     gate: &G,
 ) -> Status
-    ensures usage { (result ≡ Status.Usage) ↔ (commanded rc_str_bytes words.now ≡ None) }
+    ensures usage { result ≡ Status.Usage → commanded rc_str_bytes words.now ≡ None }
+    ensures no_command { commanded rc_str_bytes words.now ≡ None → (result ≡ Status.Usage) ⊎ (result ≡ Status.Memory) }
 
     // All was read, and all was written.
     ensures written { (begun : Begins (commanded rc_str_bytes words.now) D.tells (D.reads disk.old) (S.left source.old) (C.ticks clock.old))
@@ -69,7 +75,7 @@ pub fn run<R: AllocGlobal, S: Source, K: Sink, D: Disk, C: Clock, L: Listener, G
         → receives (commanded rc_str_bytes words.now) ≡ true → result ≡ Status.Ok
         → C.ticks clock.new ≡ Some (outcome (commanded rc_str_bytes words.now) begun.held begun.input).ticks }
     ensures stands_at_end { (begun : Begins (commanded rc_str_bytes words.now) D.tells (D.reads disk.old) (S.left source.old) (C.ticks clock.old)) (file : List ℕ)
-        → uses_disk (commanded rc_str_bytes words.now) ≡ true → result ≡ Status.Ok → D.images disk.new file
+        → uses_disk (commanded rc_str_bytes words.now) ≡ true → serves (commanded rc_str_bytes words.now) ≡ None → result ≡ Status.Ok → D.images disk.new file
         → StandsForJournal file (outcome (commanded rc_str_bytes words.now) begun.held begun.input).journal }
 
     // No more than 64 MiB are taken, unless the status says so.
@@ -102,7 +108,8 @@ pub fn run<R: AllocGlobal, S: Source, K: Sink, D: Disk, C: Clock, L: Listener, G
     // to the disk at any moment.
     ensures early { (begun : Begins (commanded rc_str_bytes words.now) D.tells (D.reads disk.old) (S.left source.old) (C.ticks clock.old))
         → receives (commanded rc_str_bytes words.now) ≡ true → (result ≡ Status.Ok → ⊥)
-        → Took (S.left source.old) (S.left source.new) (λ read. (requests : List Request) × AreOf (requests_of (commanded rc_str_bytes words.now)) (cut_requests_of (commanded rc_str_bytes words.now)) (S.left source.new) read requests
+        → IsUnread source.old source.new sink.old sink.new disk.old disk.new clock.old clock.new door.old door.new result
+        ⊎ Took (S.left source.old) (S.left source.new) (λ read. (requests : List Request) × AreOf (requests_of (commanded rc_str_bytes words.now)) (cut_requests_of (commanded rc_str_bytes words.now)) (S.left source.new) read requests
         × EndsEarly OnDisk begun.held (C.ticks clock.new) (K.written sink.old) (K.written sink.new) (LeftAnew (disk_fault result) (D.images disk.old) (D.images disk.new)) requests
         × KeepsGrown D.reads D.images D.moment D.since disk.old disk.new (disk_fault result) begun.held.journal (held_after OnDisk begun.held requests).journal
         × WritesBehind (tells_of_opening result) begun.held.journal (held_after OnDisk begun.held requests).journal (D.reads disk.old) (D.reads disk.new)) }
@@ -111,8 +118,9 @@ pub fn run<R: AllocGlobal, S: Source, K: Sink, D: Disk, C: Clock, L: Listener, G
     // of the receipts that this call receives, and their frames alone are written; each reply that stands
     // whole has its receipts in every image.
     ensures any_moment { (begun : Begins (commanded rc_str_bytes words.now) D.tells (D.reads disk.old) (S.left source.old) (C.ticks clock.old))
-        → uses_disk (commanded rc_str_bytes words.now) ≡ true
-        → KeepsGrown D.reads D.images D.moment D.since disk.old disk.new (disk_fault result) begun.held.journal (outcome (commanded rc_str_bytes words.now) begun.held begun.input).journal }
+        → uses_disk (commanded rc_str_bytes words.now) ≡ true → serves (commanded rc_str_bytes words.now) ≡ None
+        → IsUnread source.old source.new sink.old sink.new disk.old disk.new clock.old clock.new door.old door.new result
+        ⊎ KeepsGrown D.reads D.images D.moment D.since disk.old disk.new (disk_fault result) begun.held.journal (outcome (commanded rc_str_bytes words.now) begun.held begun.input).journal }
     ensures frames { (begun : Begins (commanded rc_str_bytes words.now) D.tells (D.reads disk.old) (S.left source.old) (C.ticks clock.old))
         → receives (commanded rc_str_bytes words.now) ≡ true
         → WritesBehind (tells_of_opening result) begun.held.journal (outcome (commanded rc_str_bytes words.now) begun.held begun.input).journal (D.reads disk.old) (D.reads disk.new) }
@@ -125,27 +133,38 @@ pub fn run<R: AllocGlobal, S: Source, K: Sink, D: Disk, C: Clock, L: Listener, G
     // A status tells what the disk's file stood for, and an unmade one is made. Where the command
     // receives nothing, no other byte changes; where the file stood for no journal, nothing else is touched.
     ensures found { IsTrue D.tells → uses_disk (commanded rc_str_bytes words.now) ≡ true → FindsBy (D.reads disk.old) result }
-    ensures made { IsTrue D.tells → uses_disk (commanded rc_str_bytes words.now) ≡ true → tells_of_opening result ≡ true → IsMade the_heading (D.reads disk.new) }
-    ensures made_so { IsTrue D.tells → uses_disk (commanded rc_str_bytes words.now) ≡ true → receives (commanded rc_str_bytes words.now) ≡ false → tells_of_opening result ≡ true → IsUnmade (D.reads disk.old)
+    ensures made { IsTrue D.tells → uses_disk (commanded rc_str_bytes words.now) ≡ true → serves (commanded rc_str_bytes words.now) ≡ None → tells_of_opening result ≡ true → IsMade the_heading (D.reads disk.new) }
+    ensures made_so { IsTrue D.tells → uses_disk (commanded rc_str_bytes words.now) ≡ true → receives (commanded rc_str_bytes words.now) ≡ false → serves (commanded rc_str_bytes words.now) ≡ None → tells_of_opening result ≡ true → IsUnmade (D.reads disk.old)
         → D.reads disk.new ≡ made_from the_heading (D.reads disk.old) }
-    ensures kept { IsTrue D.tells → uses_disk (commanded rc_str_bytes words.now) ≡ true → (receives (commanded rc_str_bytes words.now) ≡ false) ⊎ (IsJournalFile (D.reads disk.old) → ⊥) → IsKept (D.reads disk.old) (D.reads disk.new) }
-    ensures kept_any_moment { IsTrue D.tells → uses_disk (commanded rc_str_bytes words.now) ≡ true → (receives (commanded rc_str_bytes words.now) ≡ false) ⊎ (IsJournalFile (D.reads disk.old) → ⊥)
-        → AnswersSynced D.reads D.images D.moment D.since disk.old disk.new (disk_fault result) }
+    ensures kept { IsTrue D.tells → uses_disk (commanded rc_str_bytes words.now) ≡ true → ((receives (commanded rc_str_bytes words.now) ≡ false) × (serves (commanded rc_str_bytes words.now) ≡ None)) ⊎ (IsJournalFile (D.reads disk.old) → ⊥) → IsKept (D.reads disk.old) (D.reads disk.new) }
+    ensures kept_any_moment { IsTrue D.tells → uses_disk (commanded rc_str_bytes words.now) ≡ true → ((receives (commanded rc_str_bytes words.now) ≡ false) × (serves (commanded rc_str_bytes words.now) ≡ None)) ⊎ (IsJournalFile (D.reads disk.old) → ⊥)
+        → IsUnread source.old source.new sink.old sink.new disk.old disk.new clock.old clock.new door.old door.new result
+        ⊎ AnswersSynced D.reads D.images D.moment D.since disk.old disk.new (disk_fault result) }
     ensures unopened { IsTrue D.tells → uses_disk (commanded rc_str_bytes words.now) ≡ true → (IsJournalFile (D.reads disk.old) → ⊥)
-        → (source.new ≡ source.old) × (sink.new ≡ sink.old) × (clock.new ≡ clock.old) }
-    ensures unopened_by { is_no_journal result ≡ true → (source.new ≡ source.old) × (sink.new ≡ sink.old) × (clock.new ≡ clock.old) }
+        → (source.new ≡ source.old) × (sink.new ≡ sink.old) × (clock.new ≡ clock.old) × (door.new ≡ door.old) }
+    ensures unopened_by { is_no_journal result ≡ true → (source.new ≡ source.old) × (sink.new ≡ sink.old) × (clock.new ≡ clock.old) × (door.new ≡ door.old) }
+
+    // A command that serves answers the requests of the links that come, one link after another, each
+    // from what the one before left, and hands each back. A disk that fails behind its opening is
+    // answered to the request in which it failed, and ends nothing.
+    ensures served { (most : ℕ) (held : Held) (waiting : List (List ℕ)) (asked : List LinkRequests) → serves (commanded rc_str_bytes words.now) ≡ Some most
+        → IsTrue D.tells → IsHeld (D.reads disk.old) (C.ticks clock.old) held → L.waiting door.old ≡ Some waiting → AllZip AskSo waiting asked
+        → IsUnread source.old source.new sink.old sink.new disk.old disk.new clock.old clock.new door.old door.new result
+        ⊎ ServesOffice D.reads D.images D.moment D.since D.faults disk.old disk.new held most waiting asked (L.waiting door.new) (L.served door.old) (L.served door.new) (C.ticks clock.new) result }
+    ensures handed_back { IsSome (L.served door.old) → IsSome (L.served door.new) × (L.out door.new ≡ L.out door.old) }
+    ensures disk_at_opening { disk_fault result ≡ true → Rose (D.faults disk.old) (D.faults disk.new) × (door.new ≡ door.old) }
 
     // What the command does not use stays as it is.
     ensures same_source { uses_input (commanded rc_str_bytes words.now) ≡ false → source.new ≡ source.old }
-    ensures same_sink { commanded rc_str_bytes words.now ≡ None → sink.new ≡ sink.old }
+    ensures same_sink { (commanded rc_str_bytes words.now ≡ None) ⊎ IsSome (serves (commanded rc_str_bytes words.now)) → sink.new ≡ sink.old }
     ensures same_disk { uses_disk (commanded rc_str_bytes words.now) ≡ false → disk.new ≡ disk.old }
-    ensures same_clock { receives (commanded rc_str_bytes words.now) ≡ false → clock.new ≡ clock.old }
-    ensures same_door { door.new ≡ door.old }
+    ensures same_clock { receives (commanded rc_str_bytes words.now) ≡ false → serves (commanded rc_str_bytes words.now) ≡ None → clock.new ≡ clock.old }
+    ensures same_door { serves (commanded rc_str_bytes words.now) ≡ None → door.new ≡ door.old }
 
     // Each fault has its cause, and a count rises with no other answer.
     ensures read { Counts (S.faults source.old) (S.faults source.new) (read_fault result) }
     ensures write { Counts (K.faults sink.old) (K.faults sink.new) (write_fault result) }
-    ensures disk { Counts (D.faults disk.old) (D.faults disk.new) (disk_fault result) }
+    ensures disk { serves (commanded rc_str_bytes words.now) ≡ None → Counts (D.faults disk.old) (D.faults disk.new) (disk_fault result) }
     ensures door { Counts (L.faults door.old) (L.faults door.new) (door_fault result) }
 
     // A status of an object that the command does not use never comes.
@@ -153,14 +172,18 @@ pub fn run<R: AllocGlobal, S: Source, K: Sink, D: Disk, C: Clock, L: Listener, G
         → (disk_fault result ≡ false) × (is_no_journal result ≡ false) }
     ensures no_input { uses_input (commanded rc_str_bytes words.now) ≡ false
         → (read_fault result ≡ false) × (result ≡ Status.InputTooLong → ⊥) }
-    ensures no_door { door_fault result ≡ false }
+    ensures no_door { serves (commanded rc_str_bytes words.now) ≡ None → door_fault result ≡ false }
 {
-    match read_words(words) {
-        None => Status::Usage,
-        Some(Command::Settle { desks }) => settle_disk(rt, disk, sink, desks, gate),
-        Some(Command::SettleLines { .. }) => status_of(settle_lines(rt.alloc(), source, sink)),
-        Some(Command::Receive { intake }) => receive_disk(rt, intake, source, sink, disk, clock),
-        Some(Command::Sample { seed, size, desks }) => {
+    match read_words(rt.alloc(), words) {
+        Err(WordsFault::Usage) => Status::Usage,
+        Err(WordsFault::Memory) => Status::Memory,
+        Ok(Command::Settle { desks }) => settle_disk(rt, disk, sink, desks, gate),
+        Ok(Command::SettleLines { .. }) => status_of(settle_lines(rt.alloc(), source, sink)),
+        Ok(Command::Receive { intake }) => receive_disk(rt, intake, source, sink, disk, clock),
+        Ok(Command::Serve { desks, requests }) => {
+            serve(rt, desks, requests, disk, clock, door, gate)
+        }
+        Ok(Command::Sample { seed, size, desks }) => {
             settle_sample(rt, seed, size, sink, desks, gate)
         }
     }

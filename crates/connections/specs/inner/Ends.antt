@@ -3,15 +3,13 @@ use Rattle.std.specs.Prelude.{◌≡◌, ◌⊎◌, ℕ, ◌==◌, Bool, true, f
 use Rattle.gb_base.specs.DayMinute.{DayMinute}
 use Rattle.gb_outside.specs.Faults.{Counts}
 use Rattle.gb_outside.specs.Images.{LeavesOnly}
-use Rattle.act_model.specs.declared.receipts.Receipt.{Receipt}
 use Rattle.intake.specs.Grown.{GrownFrom}
 use Rattle.intake.specs.Requests.{Held}
-use Rattle.receipt_journal.specs.Standing.{StandsForJournal}
 use Rattle.settled_book.specs.SettledBookState.{SettledBookState}
-use Rattle.connections.specs.Answering.{is_from_disk, tells_of_journal}
+use Rattle.connections.specs.Answering.{OpensNone, is_from_disk, tells_of_journal}
 use Rattle.connections.specs.Answers.{Answer}
 use Rattle.connections.specs.Fates.{Fate, answer_by}
-use Rattle.connections.specs.Holding.{Holds, IsNoJournal, StandsOpen, working}
+use Rattle.connections.specs.Holding.{Holds, IsNoJournal, StandsForNone, StandsOpen, working}
 use Rattle.connections.specs.Replies.{ReplyParts, is_reply_status}
 
 -- What a request came to that would be answered so where all works; a reply that was taken from the disk has a working book behind it.
@@ -24,10 +22,13 @@ pub record EndsBy {D : Type 0} (reads : D → List ℕ) (images : D → List ℕ
   pub works : is_from_disk reply ≡ true → IsSome (working at_hand)
 
 -- What a reply is by the book and the disk alone, whatever is held.
-pub record Serves (tells : Bool) (old new : Option SettledBookState) (reads0 reads1 : List ℕ) (images1 : List ℕ → Type 0) (faults0 faults1 : ℕ) (reply : ReplyParts) : Type 0 where
-  pub stands_open : IsTrue tells → StandsOpen new reads1 images1
-  pub disk : Counts faults0 faults1 (reply.status == 503)
-  pub no_journal : IsTrue tells → reply.status ≡ 500 → IsNoJournal reads0
-  pub had_none : reply.status ≡ 500 → working old ≡ None
+pub record Serves {D : Type 0} (tells : Bool) (reads : D → List ℕ) (images : D → List ℕ → Type 0) (moment : D → ℕ) (since : D → ℕ → List ℕ → Type 0) (faults : D → ℕ) (old new : D)
+    (book_old book_new : Option SettledBookState) (reply : ReplyParts) : Type 0 where
+  pub stands_open : IsTrue tells → StandsOpen book_new (reads new) (images new)
+  pub disk : Counts (faults old) (faults new) (reply.status == 503)
+  pub kept_open : IsSome (working book_old) → (reply.status == 503) ≡ false → IsSome (working book_new)
+  pub no_journal : IsTrue tells → reply.status ≡ 500 → IsNoJournal (reads old)
+  pub had_none : reply.status ≡ 500 → working book_old ≡ None
   pub status : is_reply_status reply.status ≡ true
-  pub not_opened : IsTrue tells → working old ≡ None → ((journal : List Receipt) → StandsForJournal reads0 journal → ⊥) → tells_of_journal reply ≡ false
+  pub not_opened : IsTrue tells → working book_old ≡ None → StandsForNone (reads old) → tells_of_journal reply ≡ false
+  pub no_book : IsTrue tells → working book_old ≡ None → StandsForNone (reads old) → OpensNone reads images moment since old new book_new

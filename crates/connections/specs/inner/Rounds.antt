@@ -2,8 +2,8 @@
 use Rattle.std.specs.Prelude.{◌≡◌, ℕ, ◌==◌, Bool, false, List, [], ◌∷◌, ◌++◌, Option, Some, None, Result, Ok, Err}
 use Rattle.std.specs.Io.KnownBytes.{Appends}
 use Rattle.gb_base.specs.DayMinute.{DayMinute}
-use Rattle.gb_outside.specs.Bytes.{AppendsFront}
 use Rattle.intake.specs.Requests.{Held}
+use Rattle.registry_http.specs.Replies.{AppendsPart}
 use Rattle.registry_http.specs.RequestLists.{AreRequests}
 use Rattle.registry_http.specs.RequestParts.{RequestParts}
 use Rattle.registry_http.specs.Requests.{AtFront}
@@ -33,10 +33,11 @@ abbrev pub is_cut_off : Option Served → Bool
 is_cut_off None = false
 is_cut_off (Some served) = is_link_fault served.ended
 
--- the reply that is the last was written whole, or a front of it
+-- the reply that is the last was written whole, or a front of it that is not the whole; where no memory was found, nothing of it
 pub record EndsWith (written_old written_new : Option (List ℕ)) (reply : ReplyParts) (served : Served) : Type 0 where
   pub whole : served.ended ≡ ended.Finished → Appends written_old written_new (bytes_of (reply ∷ [])) × (served.replies ≡ 1)
-  pub part : (served.ended ≡ ended.Finished → ⊥) → AppendsFront written_old written_new (bytes_of (reply ∷ [])) × (served.replies ≡ 0)
+  pub part : (served.ended ≡ ended.Finished → ⊥) → AppendsPart written_old written_new (bytes_of (reply ∷ [])) × (served.replies ≡ 0)
+  pub nothing : served.ended ≡ ended.Memory → written_new ≡ written_old
 
 -- What stands at a link ahead of a turn: what is held, and these requests in the bytes that were read and those to come.
 pub record Meets (at_hand : Option SettledBookState) (reads : List ℕ) (images : List ℕ → Type 0) (known : Option (List DayMinute)) (left : Option (List ℕ)) (kept : List ℕ) (end : AtFront)

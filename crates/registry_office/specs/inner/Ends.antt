@@ -2,6 +2,8 @@
 use Rattle.std.specs.Prelude.{Result, Ok, Err}
 use Rattle.receipt_journal.specs.declared.faults.BookFault.{BookFault}
 use Rattle.receipt_journal.specs.declared.faults.BookFault.TheVariants as fault
+use Rattle.connections.specs.declared.doors.DoorEnd.{DoorEnd}
+use Rattle.connections.specs.declared.doors.DoorEnd.TheVariants as door
 use Rattle.intake.specs.declared.faults.OutputFault.{OutputFault}
 use Rattle.intake.specs.declared.faults.OutputFault.TheVariants as output
 use Rattle.intake.specs.declared.faults.SessionFault.{SessionFault}
@@ -34,3 +36,9 @@ abbrev pub status_of_writing : {A : Type 0} → Result A OutputFault → Status
 status_of_writing (Ok value) = status.Ok
 status_of_writing (Err output.Write) = status.WriteFault
 status_of_writing (Err output.Memory) = status.Memory
+
+-- the status of a door that was served
+abbrev pub status_of_door : DoorEnd → Status
+status_of_door door.Done = status.Ok
+status_of_door door.DoorFault = status.DoorFault
+status_of_door door.Memory = status.Memory

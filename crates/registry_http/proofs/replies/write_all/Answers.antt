@@ -1,5 +1,5 @@
 use Rattle.std.proofs.Common.{◌∙◌, arith, refl}
-use Rattle.registry_http.proofs.Written.{Appends-take, AppendsFront-take}
+use Rattle.registry_http.proofs.Written.{Appends-take, AppendsPart-take}
 use Rattle.std.proofs.lemmas.Grind.{common_steps}
 use Rattle.registry_http.proofs.replies.write_all.Goals as goal
 
@@ -13,4 +13,4 @@ loop-done-preserved g c = record {
 
 pub returns-in-Failed-clause-part : goal.returns-in-Failed-clause-part
 returns-in-Failed-clause-part g c =
-    AppendsFront-take _ _ _ _ c.loop-done.done c.loop-done.invariant.so_far c.in-Failed.ensures.content
+    AppendsPart-take _ _ _ _ c.loop-done.done c.loop-done-test.true c.loop-done.invariant.so_far c.in-Failed.ensures.content

@@ -10,7 +10,7 @@ use Rattle.registry_office.specs.Outcomes.{Told}
 use Rattle.registry_office.specs.Receivings.{Receives}
 use Rattle.intake.specs.Requests.{OnDisk, Held, holding, held_after}
 use Rattle.registry_office.specs.Statuses.{disk_fault, tells_of_opening}
-use Rattle.registry_office.specs.declared.words.Command.TheVariants.{Receive}
+use Rattle.command_words.specs.declared.commands.Command.TheVariants.{Receive}
 use Rattle.intake.proofs.Durable.{durable_stands}
 use Rattle.intake.proofs.EarlyEnds.{early_of_fewer}
 use Rattle.registry_office.proofs.Opened.{early_unopened, grows_synced, grows_further, keeps_grown, opening_status, disk_at_opening, found_at_opening, session_not_none, found_by_session, session_no_door, session_no_usage, none_written, no_front, made_of_journal, left_by_opening, left_of, told_by_session, cut_by_source}

@@ -1,68 +1,82 @@
-use Rattle.std.proofs.Common.{◌≡◌, Option, Some, List, take, subst, sym, ap, ◌∙◌}
+use Rattle.std.proofs.Common.{◌≡◌, inl, inr, ℕ, Option, Some, List, take, refl, subst, sym, ap, ◌∙◌}
 use Rattle.std.specs.Io.KnownBytes.{Appends}
 use Rattle.gb_outside.specs.Bytes.{AppendsFront}
 use Rattle.receipt_journal.specs.Standing.{StandsForJournal}
 use Rattle.registry_office.specs.Disks.{KeepsGrown, LeftAnew, WritesBehind}
 use Rattle.intake.specs.EarlyEnds.{EndsEarly, AreOf}
 use Rattle.intake.specs.Intakes.{whole_of, cut_of}
-use Rattle.registry_office.specs.Outcomes.{outcome, requests_of, cut_requests_of, replies_of, uses_disk, Told}
-use Rattle.intake.specs.Requests.{OnDisk, held_after}
+use Rattle.registry_office.specs.Outcomes.{outcome, requests_of, cut_requests_of, replies_of, serves, uses_disk, Told}
+use Rattle.registry_office.specs.Servings.{ServesOffice}
+use Rattle.intake.specs.Requests.{OnDisk, held_after, replies}
 use Rattle.intake.specs.Sessions.{Took}
 use Rattle.registry_office.specs.Statuses.{disk_fault, tells_of_opening}
 use Rattle.intake_requests.specs.declared.requests.Request.{Request}
-use Rattle.registry_office.specs.declared.words.Command.{Command}
+use Rattle.command_words.specs.declared.commands.Command.{Command}
+use Rattle.intake.proofs.SessionInputs.{took_none}
+use Rattle.registry_office.proofs.Opened.{no_front, none_written}
 use Rattle.registry_office.proofs.Takings.{cut_by_status, err_by_status, short_by_status, read_part_of_early}
 use Rattle.registry_office.proofs.top.run.Goals as goal
 
-pub returns-in-Some-Settle-clause-part : goal.returns-in-Some-Settle-clause-part
-returns-in-Some-Settle-clause-part g c = λ begun other.
-    subst (λ (command : Option Command). AppendsFront (g.K.Sink.written c.args.sink.now) (g.K.Sink.written c.settle_disk.new.sink) (outcome command begun.held begun.input).written) (sym (sym c.read_words.ensures.command ∙ c.in-Some-Settle.is ∙ ap (λ (command : Command). Some command) c.in-Some-Settle.field-0-is))
-    (c.settle_disk.ensures.part (begun.told.disk_tells (ap uses_disk (sym c.read_words.ensures.command ∙ c.in-Some-Settle.is ∙ ap (λ (command : Command). Some command) c.in-Some-Settle.field-0-is))) begun.held.journal (begun.told.disk_stands (ap uses_disk (sym c.read_words.ensures.command ∙ c.in-Some-Settle.is ∙ ap (λ (command : Command). Some command) c.in-Some-Settle.field-0-is))))
+pub returns-in-Ok-Settle-clause-part : goal.returns-in-Ok-Settle-clause-part
+returns-in-Ok-Settle-clause-part g c = λ begun other.
+    subst (λ (command : Option Command). AppendsFront (g.K.Sink.written c.args.sink.now) (g.K.Sink.written c.settle_disk.new.sink) (outcome command begun.held begun.input).written) (sym (c.in-Ok-Settle.ensures.command ∙ ap (λ (command : Command). Some command) c.in-Ok-Settle.field-0-is))
+    (c.settle_disk.ensures.part (begun.told.disk_tells (ap uses_disk (c.in-Ok-Settle.ensures.command ∙ ap (λ (command : Command). Some command) c.in-Ok-Settle.field-0-is))) begun.held.journal (begun.told.disk_stands (ap uses_disk (c.in-Ok-Settle.ensures.command ∙ ap (λ (command : Command). Some command) c.in-Ok-Settle.field-0-is))))
 
-pub returns-in-Some-Settle-clause-stands_at_end : goal.returns-in-Some-Settle-clause-stands_at_end
-returns-in-Some-Settle-clause-stands_at_end g c = λ begun file uses ok image.
-    subst (λ (command : Option Command). StandsForJournal file (outcome command begun.held begun.input).journal) (sym (sym c.read_words.ensures.command ∙ c.in-Some-Settle.is ∙ ap (λ (command : Command). Some command) c.in-Some-Settle.field-0-is))
-    (c.settle_disk.ensures.stands_at_end (begun.told.disk_tells uses) begun.held.journal file (begun.told.disk_stands uses) ok image)
-
-pub returns-in-Some-SettleLines-clause-short : goal.returns-in-Some-SettleLines-clause-short
-returns-in-Some-SettleLines-clause-short g c = λ other. c.settle_lines.ensures.short (short_by_status c.settle_lines.result c.status_of.result c.status_of.ensures other)
-
-pub returns-in-Some-SettleLines-clause-read_part : goal.returns-in-Some-SettleLines-clause-read_part
-returns-in-Some-SettleLines-clause-read_part g c = λ begun uses other unended.
-    subst (λ (command : Option Command). Took (g.S.Source.left c.args.source.now) (g.S.Source.left c.settle_lines.new.source) (λ read. AppendsFront (g.K.Sink.written c.args.sink.now) (g.K.Sink.written c.settle_lines.new.sink) (replies_of command begun.held (cut_requests_of command (take 67108864 read))))) (sym (sym c.read_words.ensures.command ∙ c.in-Some-SettleLines.is ∙ ap (λ (command : Command). Some command) c.in-Some-SettleLines.field-0-is))
+pub returns-in-Ok-SettleLines-clause-read_part : goal.returns-in-Ok-SettleLines-clause-read_part
+returns-in-Ok-SettleLines-clause-read_part g c = λ begun uses other unended.
+    subst (λ (command : Option Command). Took (g.S.Source.left c.args.source.now) (g.S.Source.left c.settle_lines.new.source) (λ read. AppendsFront (g.K.Sink.written c.args.sink.now) (g.K.Sink.written c.settle_lines.new.sink) (replies_of command begun.held (cut_requests_of command (take 67108864 read))))) (sym (c.in-Ok-SettleLines.ensures.command ∙ ap (λ (command : Command). Some command) c.in-Ok-SettleLines.field-0-is))
     (err_by_status c.settle_lines.result c.status_of.result _ c.status_of.ensures other c.settle_lines.ensures.read_part unended)
 
-pub returns-in-Some-SettleLines-clause-cut : goal.returns-in-Some-SettleLines-clause-cut
-returns-in-Some-SettleLines-clause-cut g c = λ begun which.
-    subst (λ (command : Option Command). Took (g.S.Source.left c.args.source.now) (g.S.Source.left c.settle_lines.new.source) (λ read. Appends (g.K.Sink.written c.args.sink.now) (g.K.Sink.written c.settle_lines.new.sink) (replies_of command begun.held (cut_requests_of command (take 67108864 read))))) (sym (sym c.read_words.ensures.command ∙ c.in-Some-SettleLines.is ∙ ap (λ (command : Command). Some command) c.in-Some-SettleLines.field-0-is))
+pub returns-in-Ok-SettleLines-clause-cut : goal.returns-in-Ok-SettleLines-clause-cut
+returns-in-Ok-SettleLines-clause-cut g c = λ begun which.
+    subst (λ (command : Option Command). Took (g.S.Source.left c.args.source.now) (g.S.Source.left c.settle_lines.new.source) (λ read. Appends (g.K.Sink.written c.args.sink.now) (g.K.Sink.written c.settle_lines.new.sink) (replies_of command begun.held (cut_requests_of command (take 67108864 read))))) (sym (c.in-Ok-SettleLines.ensures.command ∙ ap (λ (command : Command). Some command) c.in-Ok-SettleLines.field-0-is))
     (c.settle_lines.ensures.cut (cut_by_status c.settle_lines.result c.status_of.result c.status_of.ensures which))
 
-pub returns-in-Some-Receive-clause-read_part : goal.returns-in-Some-Receive-clause-read_part
-returns-in-Some-Receive-clause-read_part g c = λ begun uses other unended.
-    let took = c.receive_disk.ensures.early begun.held begun.input (subst (λ (command : Option Command). Told command g.D.Disk.tells (g.D.Disk.reads c.args.disk.now) (g.S.Source.left c.args.source.now) (g.C.Clock.ticks c.args.clock.now) begun.held begun.input) (sym c.read_words.ensures.command ∙ c.in-Some-Receive.is ∙ ap (λ (command : Command). Some command) c.in-Some-Receive.field-0-is) begun.told) other in
-    subst (λ (command : Option Command). Took (g.S.Source.left c.args.source.now) (g.S.Source.left c.receive_disk.new.source) (λ read. AppendsFront (g.K.Sink.written c.args.sink.now) (g.K.Sink.written c.receive_disk.new.sink) (replies_of command begun.held (cut_requests_of command (take 67108864 read))))) (sym (sym c.read_words.ensures.command ∙ c.in-Some-Receive.is ∙ ap (λ (command : Command). Some command) c.in-Some-Receive.field-0-is))
-    (read_part_of_early OnDisk (whole_of c.in-Some-Receive.intake) (cut_of c.in-Some-Receive.intake) begun.held (g.S.Source.left c.args.source.now) (g.S.Source.left c.receive_disk.new.source) (g.C.Clock.ticks c.receive_disk.new.clock) (g.K.Sink.written c.args.sink.now) (g.K.Sink.written c.receive_disk.new.sink)
+pub returns-in-Ok-Receive-clause-read_part : goal.returns-in-Ok-Receive-clause-read_part
+returns-in-Ok-Receive-clause-read_part g c = λ begun uses other unended.
+    let took = c.receive_disk.ensures.early begun.held begun.input (subst (λ (command : Option Command). Told command g.D.Disk.tells (g.D.Disk.reads c.args.disk.now) (g.S.Source.left c.args.source.now) (g.C.Clock.ticks c.args.clock.now) begun.held begun.input) (c.in-Ok-Receive.ensures.command ∙ ap (λ (command : Command). Some command) c.in-Ok-Receive.field-0-is) begun.told) other in
+    subst (λ (command : Option Command). Took (g.S.Source.left c.args.source.now) (g.S.Source.left c.receive_disk.new.source) (λ read. AppendsFront (g.K.Sink.written c.args.sink.now) (g.K.Sink.written c.receive_disk.new.sink) (replies_of command begun.held (cut_requests_of command (take 67108864 read))))) (sym (c.in-Ok-Receive.ensures.command ∙ ap (λ (command : Command). Some command) c.in-Ok-Receive.field-0-is))
+    (read_part_of_early OnDisk (whole_of c.in-Ok-Receive.intake) (cut_of c.in-Ok-Receive.intake) begun.held (g.S.Source.left c.args.source.now) (g.S.Source.left c.receive_disk.new.source) (g.C.Clock.ticks c.receive_disk.new.clock) (g.K.Sink.written c.args.sink.now) (g.K.Sink.written c.receive_disk.new.sink)
     (LeftAnew (disk_fault c.receive_disk.result) (g.D.Disk.images c.args.disk.now) (g.D.Disk.images c.receive_disk.new.disk)) (record { read = took.read; consumed = took.consumed; did = (took.did.0, took.did.1, took.did.2) }) unended)
 
-pub returns-in-Some-Receive-clause-cut : goal.returns-in-Some-Receive-clause-cut
-returns-in-Some-Receive-clause-cut g c = λ begun which.
-    subst (λ (command : Option Command). Took (g.S.Source.left c.args.source.now) (g.S.Source.left c.receive_disk.new.source) (λ read. Appends (g.K.Sink.written c.args.sink.now) (g.K.Sink.written c.receive_disk.new.sink) (replies_of command begun.held (cut_requests_of command (take 67108864 read))))) (sym (sym c.read_words.ensures.command ∙ c.in-Some-Receive.is ∙ ap (λ (command : Command). Some command) c.in-Some-Receive.field-0-is))
-    (c.receive_disk.ensures.cut begun.held begun.input (subst (λ (command : Option Command). Told command g.D.Disk.tells (g.D.Disk.reads c.args.disk.now) (g.S.Source.left c.args.source.now) (g.C.Clock.ticks c.args.clock.now) begun.held begun.input) (sym c.read_words.ensures.command ∙ c.in-Some-Receive.is ∙ ap (λ (command : Command). Some command) c.in-Some-Receive.field-0-is) begun.told) which)
+pub returns-in-Ok-Receive-clause-cut : goal.returns-in-Ok-Receive-clause-cut
+returns-in-Ok-Receive-clause-cut g c = λ begun which.
+    subst (λ (command : Option Command). Took (g.S.Source.left c.args.source.now) (g.S.Source.left c.receive_disk.new.source) (λ read. Appends (g.K.Sink.written c.args.sink.now) (g.K.Sink.written c.receive_disk.new.sink) (replies_of command begun.held (cut_requests_of command (take 67108864 read))))) (sym (c.in-Ok-Receive.ensures.command ∙ ap (λ (command : Command). Some command) c.in-Ok-Receive.field-0-is))
+    (c.receive_disk.ensures.cut begun.held begun.input (subst (λ (command : Option Command). Told command g.D.Disk.tells (g.D.Disk.reads c.args.disk.now) (g.S.Source.left c.args.source.now) (g.C.Clock.ticks c.args.clock.now) begun.held begun.input) (c.in-Ok-Receive.ensures.command ∙ ap (λ (command : Command). Some command) c.in-Ok-Receive.field-0-is) begun.told) which)
 
-pub returns-in-Some-Receive-clause-cut_journal : goal.returns-in-Some-Receive-clause-cut_journal
-returns-in-Some-Receive-clause-cut_journal g c = λ begun file receiving which image.
-    subst (λ (command : Option Command). Took (g.S.Source.left c.args.source.now) (g.S.Source.left c.receive_disk.new.source) (λ read. StandsForJournal file (held_after OnDisk begun.held (cut_requests_of command (take 67108864 read))).journal)) (sym (sym c.read_words.ensures.command ∙ c.in-Some-Receive.is ∙ ap (λ (command : Command). Some command) c.in-Some-Receive.field-0-is))
-    (c.receive_disk.ensures.cut_journal begun.held begun.input file (subst (λ (command : Option Command). Told command g.D.Disk.tells (g.D.Disk.reads c.args.disk.now) (g.S.Source.left c.args.source.now) (g.C.Clock.ticks c.args.clock.now) begun.held begun.input) (sym c.read_words.ensures.command ∙ c.in-Some-Receive.is ∙ ap (λ (command : Command). Some command) c.in-Some-Receive.field-0-is) begun.told) which image)
+pub returns-in-Ok-Receive-clause-cut_journal : goal.returns-in-Ok-Receive-clause-cut_journal
+returns-in-Ok-Receive-clause-cut_journal g c = λ begun file receiving which image.
+    subst (λ (command : Option Command). Took (g.S.Source.left c.args.source.now) (g.S.Source.left c.receive_disk.new.source) (λ read. StandsForJournal file (held_after OnDisk begun.held (cut_requests_of command (take 67108864 read))).journal)) (sym (c.in-Ok-Receive.ensures.command ∙ ap (λ (command : Command). Some command) c.in-Ok-Receive.field-0-is))
+    (c.receive_disk.ensures.cut_journal begun.held begun.input file (subst (λ (command : Option Command). Told command g.D.Disk.tells (g.D.Disk.reads c.args.disk.now) (g.S.Source.left c.args.source.now) (g.C.Clock.ticks c.args.clock.now) begun.held begun.input) (c.in-Ok-Receive.ensures.command ∙ ap (λ (command : Command). Some command) c.in-Ok-Receive.field-0-is) begun.told) which image)
 
-pub returns-in-Some-Receive-clause-cut_ticks : goal.returns-in-Some-Receive-clause-cut_ticks
-returns-in-Some-Receive-clause-cut_ticks g c = λ begun receiving which.
-    subst (λ (command : Option Command). Took (g.S.Source.left c.args.source.now) (g.S.Source.left c.receive_disk.new.source) (λ read. g.C.Clock.ticks c.receive_disk.new.clock ≡ Some (held_after OnDisk begun.held (cut_requests_of command (take 67108864 read))).ticks)) (sym (sym c.read_words.ensures.command ∙ c.in-Some-Receive.is ∙ ap (λ (command : Command). Some command) c.in-Some-Receive.field-0-is))
-    (c.receive_disk.ensures.cut_ticks begun.held begun.input (subst (λ (command : Option Command). Told command g.D.Disk.tells (g.D.Disk.reads c.args.disk.now) (g.S.Source.left c.args.source.now) (g.C.Clock.ticks c.args.clock.now) begun.held begun.input) (sym c.read_words.ensures.command ∙ c.in-Some-Receive.is ∙ ap (λ (command : Command). Some command) c.in-Some-Receive.field-0-is) begun.told) which)
+pub returns-in-Ok-Receive-clause-cut_ticks : goal.returns-in-Ok-Receive-clause-cut_ticks
+returns-in-Ok-Receive-clause-cut_ticks g c = λ begun receiving which.
+    subst (λ (command : Option Command). Took (g.S.Source.left c.args.source.now) (g.S.Source.left c.receive_disk.new.source) (λ read. g.C.Clock.ticks c.receive_disk.new.clock ≡ Some (held_after OnDisk begun.held (cut_requests_of command (take 67108864 read))).ticks)) (sym (c.in-Ok-Receive.ensures.command ∙ ap (λ (command : Command). Some command) c.in-Ok-Receive.field-0-is))
+    (c.receive_disk.ensures.cut_ticks begun.held begun.input (subst (λ (command : Option Command). Told command g.D.Disk.tells (g.D.Disk.reads c.args.disk.now) (g.S.Source.left c.args.source.now) (g.C.Clock.ticks c.args.clock.now) begun.held begun.input) (c.in-Ok-Receive.ensures.command ∙ ap (λ (command : Command). Some command) c.in-Ok-Receive.field-0-is) begun.told) which)
 
-pub returns-in-Some-Receive-clause-early : goal.returns-in-Some-Receive-clause-early
-returns-in-Some-Receive-clause-early g c = λ begun receiving other.
-    subst (λ (command : Option Command). Took (g.S.Source.left c.args.source.now) (g.S.Source.left c.receive_disk.new.source) (λ read. (requests : List Request) × AreOf (requests_of command) (cut_requests_of command) (g.S.Source.left c.receive_disk.new.source) read requests
+pub returns-in-Ok-Receive-clause-early : goal.returns-in-Ok-Receive-clause-early
+returns-in-Ok-Receive-clause-early g c = λ begun receiving other.
+    inr (subst (λ (command : Option Command). Took (g.S.Source.left c.args.source.now) (g.S.Source.left c.receive_disk.new.source) (λ read. (requests : List Request) × AreOf (requests_of command) (cut_requests_of command) (g.S.Source.left c.receive_disk.new.source) read requests
     × EndsEarly OnDisk begun.held (g.C.Clock.ticks c.receive_disk.new.clock) (g.K.Sink.written c.args.sink.now) (g.K.Sink.written c.receive_disk.new.sink) (LeftAnew (disk_fault c.receive_disk.result) (g.D.Disk.images c.args.disk.now) (g.D.Disk.images c.receive_disk.new.disk)) requests
     × KeepsGrown g.D.Disk.reads g.D.Disk.images g.D.Disk.moment g.D.Disk.since c.args.disk.now c.receive_disk.new.disk (disk_fault c.receive_disk.result) begun.held.journal (held_after OnDisk begun.held requests).journal
-    × WritesBehind (tells_of_opening c.receive_disk.result) begun.held.journal (held_after OnDisk begun.held requests).journal (g.D.Disk.reads c.args.disk.now) (g.D.Disk.reads c.receive_disk.new.disk))) (sym (sym c.read_words.ensures.command ∙ c.in-Some-Receive.is ∙ ap (λ (command : Command). Some command) c.in-Some-Receive.field-0-is))
-    (c.receive_disk.ensures.early begun.held begun.input (subst (λ (command : Option Command). Told command g.D.Disk.tells (g.D.Disk.reads c.args.disk.now) (g.S.Source.left c.args.source.now) (g.C.Clock.ticks c.args.clock.now) begun.held begun.input) (sym c.read_words.ensures.command ∙ c.in-Some-Receive.is ∙ ap (λ (command : Command). Some command) c.in-Some-Receive.field-0-is) begun.told) other)
+    × WritesBehind (tells_of_opening c.receive_disk.result) begun.held.journal (held_after OnDisk begun.held requests).journal (g.D.Disk.reads c.args.disk.now) (g.D.Disk.reads c.receive_disk.new.disk))) (sym (c.in-Ok-Receive.ensures.command ∙ ap (λ (command : Command). Some command) c.in-Ok-Receive.field-0-is))
+    (c.receive_disk.ensures.early begun.held begun.input (subst (λ (command : Option Command). Told command g.D.Disk.tells (g.D.Disk.reads c.args.disk.now) (g.S.Source.left c.args.source.now) (g.C.Clock.ticks c.args.clock.now) begun.held begun.input) (c.in-Ok-Receive.ensures.command ∙ ap (λ (command : Command). Some command) c.in-Ok-Receive.field-0-is) begun.told) other))
+
+pub returns-in-Ok-Serve-clause-served : goal.returns-in-Ok-Serve-clause-served
+returns-in-Ok-Serve-clause-served g c = λ most held waiting asked is tells holds waits asks.
+    let these : Some c.in-Ok-Serve.requests ≡ Some most = sym (ap serves (c.in-Ok-Serve.ensures.command ∙ ap (λ (command : Command). Some command) c.in-Ok-Serve.field-0-is)) ∙ is in
+    let same : c.in-Ok-Serve.requests ≡ most = cc in
+    inr (subst (λ (m : ℕ). ServesOffice g.D.Disk.reads g.D.Disk.images g.D.Disk.moment g.D.Disk.since g.D.Disk.faults c.args.disk.now c.serve.new.disk held m waiting asked (g.L.Listener.waiting c.serve.new.door) (g.L.Listener.served c.args.door.now) (g.L.Listener.served c.serve.new.door) (g.C.Clock.ticks c.serve.new.clock) c.serve.result)
+    same (c.serve.ensures.serves tells held waiting asked holds waits asks))
+
+-- ---- no memory was found for the words
+
+pub returns-in-Err-Memory-clause-read_part : goal.returns-in-Err-Memory-clause-read_part
+returns-in-Err-Memory-clause-read_part g c = λ begun uses other unended. took_none (g.S.Source.left c.args.source.now) _ (no_front (g.K.Sink.written c.args.sink.now) _)
+
+pub returns-in-Err-Memory-clause-early : goal.returns-in-Err-Memory-clause-early
+returns-in-Err-Memory-clause-early g c = λ begun receiving other. inl (record { memory = refl; source = refl; sink = refl; disk = refl; clock = refl; door = refl })
+
+pub returns-in-Err-Memory-clause-acknowledged : goal.returns-in-Err-Memory-clause-acknowledged
+returns-in-Err-Memory-clause-acknowledged g c = λ begun front back file receiving split told wrote image.
+    absurd (told (none_written (g.K.Sink.written c.args.sink.now) (replies OnDisk begun.held front) wrote))

@@ -1,11 +1,13 @@
-use Rattle.std.proofs.Common.{◌∙◌, List, ℕ, ap, refl, sym, subst}
+use Rattle.std.proofs.Common.{◌≡◌, ◌⊎◌, ◌∙◌, List, ℕ, ap, refl, sym, subst}
+use Rattle.intake.specs.Requests.{Held}
 use Rattle.connections.specs.Answering.{may_call_disk}
 use Rattle.connections.specs.Answers.{answer}
 use Rattle.connections.specs.Asking.{AskedFor}
+use Rattle.connections.specs.Replies.{out_of_memory}
 use Rattle.connections.specs.inner.Ends.{EndsBy, Serves}
 use Rattle.connections.proofs.Answered.{answers}
 use Rattle.connections.proofs.ByDiskAlone.{still}
-use Rattle.connections.proofs.Unbegun.{apart_by_route, asks_none, asks_other, ends_unrouted}
+use Rattle.connections.proofs.Unbegun.{apart_by_route, asks_none, asks_other, ends_unrouted, unrouted_none}
 use Rattle.connections.proofs.clerks.Clerk.answer_request.Goals as goal
 
 -- ---- it has no route
@@ -18,12 +20,11 @@ returns-in-Err-clause-answers g c = λ tells held holds.
     (λ is. asks_other c.args.request.now c.path.result.now c.method.result.now c.path.ensures c.method.ensures (c.in-Err.ensures.wrong_method is)) in
     answers g.D.Disk.reads g.D.Disk.images g.D.Disk.moment g.D.Disk.since c.args.disk.now c.args.disk.now (g.met.D.Disk.reads_is_image c.args.disk.now tells)
     (λ t file le image. g.met.D.Disk.counts_now c.args.disk.now t file tells le image)
-    c.args.request.now held c.unrouted.result c.args.self.now (g.C.Clock.ticks c.args.clock.now) ends.asked ends.asks (λ none. refl) holds.file ends.end
+    c.args.request.now held c.unrouted.result c.args.self.now (g.C.Clock.ticks c.args.clock.now) ends.asked ends.asks (λ none. (refl, (apart_by_route c.in-Err.fault c.unrouted.result c.unrouted.ensures).no_disk)) holds.file ends.end
 
-served : (g : _) (c : goal.After-unrouted g) → Serves g.D.Disk.tells c.args.self.now c.args.self.now (g.D.Disk.reads c.args.disk.now) (g.D.Disk.reads c.args.disk.now) (g.D.Disk.images c.args.disk.now)
-    (g.D.Disk.faults c.args.disk.now) (g.D.Disk.faults c.args.disk.now) c.unrouted.result
-served g c = still g.D.Disk.tells c.args.self.now (g.D.Disk.reads c.args.disk.now) (g.D.Disk.images c.args.disk.now) (g.D.Disk.faults c.args.disk.now) c.unrouted.result c.requires.stands_open
-    (apart_by_route c.in-Err.fault c.unrouted.result c.unrouted.ensures)
+served : (g : _) (c : goal.After-unrouted g) → Serves g.D.Disk.tells g.D.Disk.reads g.D.Disk.images g.D.Disk.moment g.D.Disk.since g.D.Disk.faults c.args.disk.now c.args.disk.now c.args.self.now c.args.self.now c.unrouted.result
+served g c = still g.D.Disk.tells g.D.Disk.reads g.D.Disk.images g.D.Disk.moment g.D.Disk.since g.D.Disk.faults c.args.disk.now c.args.self.now c.unrouted.result
+    (λ tells file left. g.met.D.Disk.only_now c.args.disk.now file tells left) c.requires.stands_open (apart_by_route c.in-Err.fault c.unrouted.result c.unrouted.ensures)
 
 pub returns-in-Err-clause-disk : goal.returns-in-Err-clause-disk
 returns-in-Err-clause-disk g c = (served g c).disk
@@ -40,6 +41,18 @@ returns-in-Err-clause-not_opened g c = (served g c).not_opened
 pub returns-in-Err-clause-status : goal.returns-in-Err-clause-status
 returns-in-Err-clause-status g c = (served g c).status
 
+pub returns-in-Err-clause-kept_open : goal.returns-in-Err-clause-kept_open
+returns-in-Err-clause-kept_open g c = (served g c).kept_open
+
+pub returns-in-Err-clause-no_book : goal.returns-in-Err-clause-no_book
+returns-in-Err-clause-no_book g c = (served g c).no_book
+
+pub returns-in-Err-clause-answers_none : goal.returns-in-Err-clause-answers_none
+returns-in-Err-clause-answers_none g c = λ tells was none.
+    unrouted_none c.args.request.now c.in-Err.fault c.unrouted.result c.unrouted.ensures
+    (λ is. asks_none c.args.request.now c.path.result.now c.path.ensures (c.in-Err.ensures.not_found is))
+    (λ is. asks_other c.args.request.now c.path.result.now c.method.result.now c.path.ensures c.method.ensures (c.in-Err.ensures.wrong_method is))
+
 -- ---- it has one
 
 pub returns-clause-answers : goal.returns-clause-answers
@@ -51,3 +64,19 @@ returns-clause-answers g c = λ tells held holds.
     c.args.request.now held c.answer_route.result c.answer_route.new.self (g.C.Clock.ticks c.answer_route.new.clock) (AskedFor c.in-Ok.route)
     (c.in-Ok.ensures.found.0, sym c.path.ensures ∙ c.in-Ok.ensures.found.1, sym c.method.ensures ∙ c.in-Ok.ensures.found.2)
     (λ none. c.answer_route.ensures.uncalled (ap (λ (body : List ℕ). may_call_disk (AskedFor c.in-Ok.route) body) c.body.ensures ∙ none)) holds.file end
+
+pub returns-clause-answers_none : goal.returns-clause-answers_none
+returns-clause-answers_none g c = λ tells was none. record {
+  asked = AskedFor c.in-Ok.route;
+  asks = (c.in-Ok.ensures.found.0, sym c.path.ensures ∙ c.in-Ok.ensures.found.1, sym c.method.ensures ∙ c.in-Ok.ensures.found.2);
+  failed = λ calls. c.answer_route.ensures.unfound tells was none (ap (λ (body : List ℕ). may_call_disk (AskedFor c.in-Ok.route) body) c.body.ensures ∙ calls);
+  uncalled = λ calls_none.
+      subst (λ (body : List ℕ). ((held : Held) → c.answer_route.result ≡ (answer held body (AskedFor c.in-Ok.route)).reply) ⊎ (c.answer_route.result ≡ out_of_memory)) c.body.ensures
+      (c.answer_route.ensures.refused (ap (λ (body : List ℕ). may_call_disk (AskedFor c.in-Ok.route) body) c.body.ensures ∙ calls_none));
+}
+
+pub returns-clause-kept_open : goal.returns-clause-kept_open
+returns-clause-kept_open g c = c.answer_route.ensures.serves.kept_open
+
+pub returns-clause-no_book : goal.returns-clause-no_book
+returns-clause-no_book g c = c.answer_route.ensures.serves.no_book

@@ -1,8 +1,10 @@
-use Rattle.std.proofs.Common.{◌≡◌, ◌∙◌, true, false, ap, sym, subst}
+use Rattle.std.proofs.Common.{◌≡◌, ◌⊎◌, ◌∙◌, true, false, ap, sym, subst}
+use Rattle.intake.specs.Requests.{Held}
 use Rattle.registry_http.specs.declared.routes.Route.{Route}
 use Rattle.connections.specs.Answering.{may_call_disk}
 use Rattle.connections.specs.Answers.{Answer, answer}
 use Rattle.connections.specs.Asking.{AskedFor}
+use Rattle.connections.specs.Replies.{out_of_memory}
 use Rattle.connections.specs.inner.Ends.{EndsBy}
 use Rattle.connections.proofs.Grows.{answer_reads, reading_calls}
 use Rattle.connections.proofs.clerks.Clerk.answer_route.Goals as goal
@@ -22,3 +24,18 @@ returns-in-Post-clause-uncalled g c = λ none. c.post.ensures.uncalled (sym (ap 
 
 pub returns-in_default-clause-uncalled : goal.returns-in_default-clause-uncalled
 returns-in_default-clause-uncalled g c = λ none. let never : true ≡ false = sym (reading_calls c.args.body.now c.args.route c.in_default.not-Post) ∙ none in absurd cc
+
+pub returns-in-Post-clause-unfound : goal.returns-in-Post-clause-unfound
+returns-in-Post-clause-unfound g c = λ tells was none calls.
+    c.post.ensures.unfound tells was none (sym (ap (λ (r : Route). may_call_disk (AskedFor r) c.args.body.now) c.in-Post.is) ∙ calls)
+
+pub returns-in_default-clause-unfound : goal.returns-in_default-clause-unfound
+returns-in_default-clause-unfound g c = λ tells was none calls. c.read.ensures.unfound tells was none
+
+pub returns-in-Post-clause-refused : goal.returns-in-Post-clause-refused
+returns-in-Post-clause-refused g c = λ none.
+    subst (λ (r : Route). ((held : Held) → c.post.result ≡ (answer held c.args.body.now (AskedFor r)).reply) ⊎ (c.post.result ≡ out_of_memory)) (sym c.in-Post.is)
+    (c.post.ensures.refused (sym (ap (λ (r : Route). may_call_disk (AskedFor r) c.args.body.now) c.in-Post.is) ∙ none))
+
+pub returns-in_default-clause-refused : goal.returns-in_default-clause-refused
+returns-in_default-clause-refused g c = λ none. let never : true ≡ false = sym (reading_calls c.args.body.now c.args.route c.in_default.not-Post) ∙ none in absurd cc

@@ -1,8 +1,12 @@
 use Rattle.std.proofs.Common.{Ok, refl}
 use Rattle.receipt_journal.specs.Standing.{Stands}
 use Rattle.connections.specs.Holding.{IsOpenOn}
+use Rattle.connections.proofs.ItemEnds.{some_works}
 use Rattle.connections.proofs.TakenBooks.{finds_by_opening, to_working}
 use Rattle.connections.proofs.clerks.Clerk.open.Goals as goal
+
+pub returns-clause-opened : goal.returns-clause-opened
+returns-clause-opened g c = some_works c.in_ok-book.book c.in_ok-book.ensures.works
 
 pub returns-clause-holds : goal.returns-clause-holds
 returns-clause-holds g c = λ tells held stands.

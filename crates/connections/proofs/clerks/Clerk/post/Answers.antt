@@ -1,9 +1,9 @@
-use Rattle.std.proofs.Common.{◌≡◌, ◌∙◌, true, false, ap, is_ok, sym, subst}
+use Rattle.std.proofs.Common.{◌≡◌, ◌∙◌, true, false, ap, is_ok, refl, sym, subst}
 use Rattle.act_json.specs.Lines.{item_of}
 use Rattle.connections.specs.Answers.{body_answer}
 use Rattle.connections.specs.inner.Ends.{EndsBy}
 use Rattle.connections.proofs.ByDiskAlone.{still}
-use Rattle.connections.proofs.Unbegun.{apart_by_body, body_end}
+use Rattle.connections.proofs.Unbegun.{apart_by_body, body_end, refused_body, unfound_body}
 use Rattle.connections.proofs.clerks.Clerk.post.Goals as goal
 
 pub returns-in-Err-clause-ends : goal.returns-in-Err-clause-ends
@@ -13,7 +13,8 @@ returns-in-Err-clause-ends g c = λ tells held holds.
 
 pub returns-in-Err-clause-serves : goal.returns-in-Err-clause-serves
 returns-in-Err-clause-serves g c =
-    still g.D.Disk.tells c.args.self.now (g.D.Disk.reads c.args.disk.now) (g.D.Disk.images c.args.disk.now) (g.D.Disk.faults c.args.disk.now) c.malformed.result c.requires.stands_open
+    still g.D.Disk.tells g.D.Disk.reads g.D.Disk.images g.D.Disk.moment g.D.Disk.since g.D.Disk.faults c.args.disk.now c.args.self.now c.malformed.result
+    (λ tells file left. g.met.D.Disk.only_now c.args.disk.now file tells left) c.requires.stands_open
     (apart_by_body c.in-Err.fault c.malformed.result c.malformed.ensures)
 
 pub returns-clause-ends : goal.returns-clause-ends
@@ -21,5 +22,20 @@ returns-clause-ends g c = λ tells held holds.
     subst (λ read. EndsBy g.D.Disk.reads g.D.Disk.images g.D.Disk.moment g.D.Disk.since c.args.disk.now c.post_item.new.disk held (body_answer held read) c.post_item.result c.post_item.new.self (g.C.Clock.ticks c.post_item.new.clock))
     (sym c.in-Ok.ensures.exact) (c.post_item.ensures.ends tells held holds)
 
+pub returns-in-Err-clause-uncalled : goal.returns-in-Err-clause-uncalled
+returns-in-Err-clause-uncalled g c = λ none. (refl, (apart_by_body c.in-Err.fault c.malformed.result c.malformed.ensures).no_disk)
+
 pub returns-clause-uncalled : goal.returns-clause-uncalled
 returns-clause-uncalled g c = λ none. let never : true ≡ false = sym (ap is_ok c.in-Ok.ensures.exact) ∙ none in absurd cc
+
+pub returns-in-Err-clause-unfound : goal.returns-in-Err-clause-unfound
+returns-in-Err-clause-unfound g c = λ tells was none item. unfound_body (item_of c.args.body.now) c.in-Err.fault c.malformed.result c.in-Err.ensures.exact c.malformed.ensures item
+
+pub returns-in-Err-clause-refused : goal.returns-in-Err-clause-refused
+returns-in-Err-clause-refused g c = λ no_item. refused_body (item_of c.args.body.now) c.in-Err.fault c.malformed.result c.in-Err.ensures.exact c.malformed.ensures
+
+pub returns-clause-unfound : goal.returns-clause-unfound
+returns-clause-unfound g c = λ tells was none item. c.post_item.ensures.unfound tells was none
+
+pub returns-clause-refused : goal.returns-clause-refused
+returns-clause-refused g c = λ no_item. let never : true ≡ false = sym (ap is_ok c.in-Ok.ensures.exact) ∙ no_item in absurd cc

@@ -1,10 +1,11 @@
-use Rattle.std.proofs.Common.{sym, subst}
+use Rattle.std.proofs.Common.{◌∙◌, sym, subst}
 use Rattle.gb_outside.specs.Faults.{Counts}
 use Rattle.receipt_journal.specs.Receiving.{receiving_disk_failed}
 use Rattle.connections.specs.Answers.{item_answer}
+use Rattle.connections.specs.inner.Taking.{failure_of}
 use Rattle.connections.proofs.BookEnds.{ends_unopened}
 use Rattle.connections.proofs.Grows.{item_grows}
-use Rattle.connections.proofs.ItemEnds.{item_ends}
+use Rattle.connections.proofs.ItemEnds.{item_ends, some_works}
 use Rattle.connections.proofs.ByDiskAlone.{counts_then, opened, stands_behind, status_of_item, unopened, unopened_late}
 use Rattle.connections.proofs.clerks.Clerk.post_item.Goals as goal
 
@@ -16,8 +17,8 @@ returns-in-Err-clause-ends g c = λ tells held holds.
 
 pub returns-in-Err-clause-serves : goal.returns-in-Err-clause-serves
 returns-in-Err-clause-serves g c =
-    unopened g.D.Disk.tells c.args.self.now (g.D.Disk.reads c.args.disk.now) (g.D.Disk.reads c.take_book.new.disk) (g.D.Disk.images c.take_book.new.disk)
-    (g.D.Disk.faults c.args.disk.now) (g.D.Disk.faults c.take_book.new.disk) c.unopened.result c.take_book.new.self c.in-Err.fault c.unopened.ensures c.take_book.ensures.taken
+    unopened g.D.Disk.tells g.D.Disk.reads g.D.Disk.images g.D.Disk.moment g.D.Disk.since g.D.Disk.faults c.args.disk.now c.take_book.new.disk c.args.self.now
+    c.unopened.result c.take_book.new.self c.in-Err.fault c.unopened.ensures c.take_book.ensures.taken c.take_book.ensures.no_book
     (λ told. c.in-Err.ensures.refused told) c.in-Err.ensures.had_none c.in-Err.ensures.cause
 
 pub returns-clause-ends : goal.returns-clause-ends
@@ -30,8 +31,8 @@ returns-clause-ends g c = λ tells held holds.
 pub returns-clause-serves : goal.returns-clause-serves
 returns-clause-serves g c =
     let status = status_of_item c.receive-answer.result c.received.result c.receive-answer.ensures.opened c.received.ensures in
-    opened g.D.Disk.tells c.args.self.now (g.D.Disk.reads c.args.disk.now) (g.D.Disk.reads c.receive-answer.new.disk) (g.D.Disk.images c.receive-answer.new.disk)
-    (g.D.Disk.faults c.args.disk.now) (g.D.Disk.faults c.receive-answer.new.disk) c.received.result c.receive-answer.new.book
+    opened g.D.Disk.tells g.D.Disk.reads g.D.Disk.images g.D.Disk.moment g.D.Disk.since g.D.Disk.faults c.args.disk.now c.receive-answer.new.disk c.args.self.now c.received.result c.receive-answer.new.book
+    (λ sound. some_works c.receive-answer.new.book (c.receive-answer.ensures.failed ∙ sym status.disk ∙ sound))
     (λ told. stands_behind c.receive-answer.new.book (g.D.Disk.reads c.receive-answer.new.disk) (g.D.Disk.images c.receive-answer.new.disk) (receiving_disk_failed c.receive-answer.result)
     c.receive-answer.ensures.failed (λ sound. c.receive-answer.ensures.stands told sound))
     (subst (λ b. Counts (g.D.Disk.faults c.args.disk.now) (g.D.Disk.faults c.receive-answer.new.disk) b) (sym status.disk)
@@ -44,3 +45,9 @@ returns-in-Err-clause-late g c = unopened_late c.in-Err.fault c.unopened.result 
 
 pub returns-clause-late : goal.returns-clause-late
 returns-clause-late g c = (status_of_item c.receive-answer.result c.received.result c.receive-answer.ensures.opened c.received.ensures).late
+
+pub returns-in-Err-clause-unfound : goal.returns-in-Err-clause-unfound
+returns-in-Err-clause-unfound g c = λ tells was none. (failure_of c.in-Err.fault, c.unopened.ensures)
+
+pub returns-clause-unfound : goal.returns-clause-unfound
+returns-clause-unfound g c = λ tells was none. let found = c.in-Ok.ensures.journal tells was in absurd (none found.0 found.1)

@@ -4,7 +4,9 @@ use Rattle.intake.proofs.Durable.{front_refl}
 use Rattle.receipt_journal.specs.BookState.{BookState}
 use Rattle.receipt_journal.specs.Standing.{Stands}
 use Rattle.connections.specs.Answers.{only, read_reply}
+use Rattle.connections.specs.inner.Taking.{failure_of}
 use Rattle.connections.proofs.BookEnds.{ends_read, ends_unopened, read_status}
+use Rattle.connections.proofs.ItemEnds.{some_works}
 use Rattle.connections.proofs.ByDiskAlone.{opened, stands_behind, unopened, unopened_late}
 use Rattle.connections.proofs.clerks.Clerk.read.Goals as goal
 
@@ -16,8 +18,8 @@ returns-in-Err-clause-ends g c = λ tells known held holds.
 
 pub returns-in-Err-clause-serves : goal.returns-in-Err-clause-serves
 returns-in-Err-clause-serves g c =
-    unopened g.D.Disk.tells c.args.self.now (g.D.Disk.reads c.args.disk.now) (g.D.Disk.reads c.take_book.new.disk) (g.D.Disk.images c.take_book.new.disk)
-    (g.D.Disk.faults c.args.disk.now) (g.D.Disk.faults c.take_book.new.disk) c.unopened.result c.take_book.new.self c.in-Err.fault c.unopened.ensures c.take_book.ensures.taken
+    unopened g.D.Disk.tells g.D.Disk.reads g.D.Disk.images g.D.Disk.moment g.D.Disk.since g.D.Disk.faults c.args.disk.now c.take_book.new.disk c.args.self.now
+    c.unopened.result c.take_book.new.self c.in-Err.fault c.unopened.ensures c.take_book.ensures.taken c.take_book.ensures.no_book
     (λ told. c.in-Err.ensures.refused told) c.in-Err.ensures.had_none c.in-Err.ensures.cause
 
 pub returns-clause-ends : goal.returns-clause-ends
@@ -29,8 +31,8 @@ returns-clause-ends g c = λ tells known held holds.
 pub returns-clause-serves : goal.returns-clause-serves
 returns-clause-serves g c =
     let status = read_status (λ t. t.items) c.text-text.result c.read.result c.read.ensures.found c.read.ensures.fault in
-    opened g.D.Disk.tells c.args.self.now (g.D.Disk.reads c.args.disk.now) (g.D.Disk.reads c.take_book.new.disk) (g.D.Disk.images c.take_book.new.disk)
-    (g.D.Disk.faults c.args.disk.now) (g.D.Disk.faults c.take_book.new.disk) c.read.result c.text-text.new.self
+    opened g.D.Disk.tells g.D.Disk.reads g.D.Disk.images g.D.Disk.moment g.D.Disk.since g.D.Disk.faults c.args.disk.now c.take_book.new.disk c.args.self.now c.read.result c.text-text.new.self
+    (λ sound. some_works c.text-text.new.self (ap (λ (b : BookState). b.log.failed) c.text-text.ensures.book ∙ c.in-Ok.ensures.works))
     (λ told. stands_behind c.text-text.new.self (g.D.Disk.reads c.take_book.new.disk) (g.D.Disk.images c.take_book.new.disk) false
     (ap (λ (b : BookState). b.log.failed) c.text-text.ensures.book ∙ c.in-Ok.ensures.works)
     (λ sound. subst (λ (b : BookState). Stands b (g.D.Disk.reads c.take_book.new.disk) (g.D.Disk.images c.take_book.new.disk)) (sym c.text-text.ensures.book) (c.in-Ok.ensures.stands told)))
@@ -42,3 +44,9 @@ returns-in-Err-clause-late g c = unopened_late c.in-Err.fault c.unopened.result 
 
 pub returns-clause-late : goal.returns-clause-late
 returns-clause-late g c = (read_status (λ t. t.items) c.text-text.result c.read.result c.read.ensures.found c.read.ensures.fault).late
+
+pub returns-in-Err-clause-unfound : goal.returns-in-Err-clause-unfound
+returns-in-Err-clause-unfound g c = λ tells was none. (failure_of c.in-Err.fault, c.unopened.ensures)
+
+pub returns-clause-unfound : goal.returns-clause-unfound
+returns-clause-unfound g c = λ tells was none. let found = c.in-Ok.ensures.journal tells was in absurd (none found.0 found.1)

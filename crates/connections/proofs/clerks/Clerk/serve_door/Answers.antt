@@ -2,6 +2,7 @@ use Rattle.std.proofs.Common.{◌∙◌, drop, inl, inr, length, arith, refl}
 use Rattle.connections.specs.Doors.{turns_taken}
 use Rattle.connections.specs.Holding.{Holds}
 use Rattle.connections.specs.Turns.{held_behind}
+use Rattle.connections.proofs.NoBook.{none_still, none_then}
 use Rattle.connections.proofs.DoorRounds.{links_begun, links_end, links_on, links_out}
 use Rattle.connections.proofs.LinksTaken.{zip_drop}
 use Rattle.connections.proofs.clerks.Clerk.serve_door.Goals as goal
@@ -10,6 +11,8 @@ pub loop-left-init : goal.loop-left-init
 loop-left-init g c = record {
   few = omega arith;
   stands_open = c.requires;
+  no_book = λ tells was none.
+      none_still g.D.Disk.reads g.D.Disk.images g.D.Disk.moment g.D.Disk.since c.args.disk.now c.args.self.now (λ file since. g.met.D.Disk.only_now c.args.disk.now file tells since) was;
   handed_back = λ told. (told, refl);
   quiet = refl;
   went = λ tells held waiting asked holds waits ask.
@@ -22,6 +25,9 @@ pub loop-left-preserved : goal.loop-left-preserved
 loop-left-preserved g c = record {
   few = omega (arith, c.if-links-most.true);
   stands_open = c.serve_first.ensures.stands_open;
+  no_book = λ tells was none.
+      none_then g.D.Disk.reads g.D.Disk.images g.D.Disk.moment g.D.Disk.since c.args.disk.now c.loop-left.disk c.serve_first.new.disk c.loop-left.self c.serve_first.new.self
+      (λ t file le image. g.met.D.Disk.counts_now c.loop-left.disk t file tells le image) none (c.loop-left.invariant.no_book tells was none) (c.serve_first.ensures.no_book tells);
   handed_back = λ told. let before = c.loop-left.invariant.handed_back told in let now = c.serve_first.ensures.handed_back before.0 in (now.0, now.1 ∙ before.1);
   quiet = c.in-Ok.ensures.cause.else_same refl ∙ c.loop-left.invariant.quiet;
   went = λ tells held waiting asked holds waits ask.
@@ -57,3 +63,8 @@ returns-after-loop-left-clause-serves g c = λ tells held waiting asked holds wa
     links_out g.D.Disk.images g.D.Disk.moment g.D.Disk.since g.D.Disk.faults c.args.disk.now c.loop-left.disk held c.args.most waiting asked (g.L.Listener.waiting c.loop-left.door) (g.L.Listener.served c.args.door.now)
     (g.L.Listener.served c.loop-left.door) (λ h. Holds c.loop-left.self (g.D.Disk.reads c.loop-left.disk) (g.D.Disk.images c.loop-left.disk) (g.C.Clock.ticks c.loop-left.clock) h) c.loop-left.left c.loop-left.links
     c.loop-left.invariant.few (inl (omega (arith, c.loop-left-test.false))) (c.loop-left.invariant.went tells held waiting asked holds waits ask)
+
+pub returns-in-Err-clause-no_book : goal.returns-in-Err-clause-no_book
+returns-in-Err-clause-no_book g c = λ tells was none.
+    none_then g.D.Disk.reads g.D.Disk.images g.D.Disk.moment g.D.Disk.since c.args.disk.now c.loop-left.disk c.serve_first.new.disk c.loop-left.self c.serve_first.new.self
+    (λ t file le image. g.met.D.Disk.counts_now c.loop-left.disk t file tells le image) none (c.loop-left.invariant.no_book tells was none) (c.serve_first.ensures.no_book tells)

@@ -2,6 +2,7 @@ use Rattle.std.proofs.Common.{◌≡◌, ◌∙◌, [], subst}
 use Rattle.gb_outside.specs.Doors.{NoneWaits}
 use Rattle.connections.specs.Holding.{Holds}
 use Rattle.connections.specs.declared.doors.DoorEnd.TheVariants.{Done, DoorFault}
+use Rattle.connections.proofs.NoBook.{none_still}
 use Rattle.connections.proofs.DoorLinks.{links_one}
 use Rattle.connections.proofs.DoorRounds.{round_of_link, round_of_none}
 use Rattle.connections.proofs.clerks.Clerk.serve_first.Goals as goal
@@ -30,6 +31,14 @@ returns-clause-round g c = λ tells held waiting asked holds waits ask.
     (g.L.Link.Link.left c.in-Open.link) (g.L.Link.Link.written c.in-Open.link) (g.L.Link.Link.written c.serve_link-served.new.link) (g.L.Link.Link.faults c.in-Open.link)
     (g.L.Link.Link.faults c.serve_link-served.new.link)
     (λ h. Holds c.serve_link-served.new.self (g.D.Disk.reads c.serve_link-served.new.disk) (g.D.Disk.images c.serve_link-served.new.disk) (g.C.Clock.ticks c.serve_link-served.new.clock) h) c.serve_link-served.result
-    c.requires.some_left ask waits c.in-Open.ensures.links.0 c.done.ensures.waiting c.accept.ensures.served c.in-Open.ensures.links.1 c.in-Open.ensures.links.2 c.serve_link-served.ensures.cause c.done.ensures.served
+    c.requires.some_left c.serve_link-served.ensures.few ask waits c.in-Open.ensures.links.0 c.done.ensures.waiting c.accept.ensures.served c.in-Open.ensures.links.1 c.in-Open.ensures.links.2 c.serve_link-served.ensures.cause c.done.ensures.served
     (λ input requests end left are. c.serve_link-served.ensures.serves tells held input requests end holds left are))
     c.behind.ensures
+
+pub returns-in-Closed-clause-no_book : goal.returns-in-Closed-clause-no_book
+returns-in-Closed-clause-no_book g c = λ tells was none.
+    none_still g.D.Disk.reads g.D.Disk.images g.D.Disk.moment g.D.Disk.since c.args.disk.now c.args.self.now (λ file since. g.met.D.Disk.only_now c.args.disk.now file tells since) was
+
+pub returns-in-Failed-clause-no_book : goal.returns-in-Failed-clause-no_book
+returns-in-Failed-clause-no_book g c = λ tells was none.
+    none_still g.D.Disk.reads g.D.Disk.images g.D.Disk.moment g.D.Disk.since c.args.disk.now c.args.self.now (λ file since. g.met.D.Disk.only_now c.args.disk.now file tells since) was

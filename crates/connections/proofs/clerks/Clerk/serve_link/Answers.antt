@@ -3,6 +3,7 @@ use Rattle.registry_http.specs.RequestLists.{AreRequests}
 use Rattle.connections.specs.Holding.{Holds}
 use Rattle.connections.specs.Turns.{held_behind, turns}
 use Rattle.connections.specs.inner.Rounds.{Meets}
+use Rattle.connections.proofs.NoBook.{none_still, none_then}
 use Rattle.connections.proofs.LinkTurns.{went_none, went_on, went_out, went_to_end}
 use Rattle.connections.proofs.clerks.Clerk.serve_link.Goals as goal
 
@@ -10,6 +11,8 @@ pub loop-replies-init : goal.loop-replies-init
 loop-replies-init g c = record {
   few = omega arith;
   stands_open = c.requires;
+  no_book = λ tells was none.
+      none_still g.D.Disk.reads g.D.Disk.images g.D.Disk.moment g.D.Disk.since c.args.disk.now c.args.self.now (λ file since. g.met.D.Disk.only_now c.args.disk.now file tells since) was;
   told = λ told. told;
   quiet = refl;
   went = λ tells held input requests end holds left are.
@@ -23,6 +26,9 @@ pub loop-replies-preserved : goal.loop-replies-preserved
 loop-replies-preserved g c = record {
   few = omega (arith, c.loop-replies-test.true);
   stands_open = c.serve_next.ensures.stands_open;
+  no_book = λ tells was none.
+      none_then g.D.Disk.reads g.D.Disk.images g.D.Disk.moment g.D.Disk.since c.args.disk.now c.loop-replies.disk c.serve_next.new.disk c.loop-replies.self c.serve_next.new.self
+      (λ t file le image. g.met.D.Disk.counts_now c.loop-replies.disk t file tells le image) none (c.loop-replies.invariant.no_book tells was none) (c.serve_next.ensures.no_book tells);
   told = λ told. c.serve_next.ensures.told (c.loop-replies.invariant.told told);
   quiet = c.in-None.ensures.cause.else_same refl ∙ c.loop-replies.invariant.quiet;
   went = λ tells held input requests end holds left are.
@@ -60,3 +66,8 @@ returns-in-Some-clause-told g c = λ told. c.serve_next.ensures.told (c.loop-rep
 
 pub returns-clause-told : goal.returns-clause-told
 returns-clause-told g c = λ told. c.loop-replies.invariant.told told
+
+pub returns-in-Some-clause-no_book : goal.returns-in-Some-clause-no_book
+returns-in-Some-clause-no_book g c = λ tells was none.
+    none_then g.D.Disk.reads g.D.Disk.images g.D.Disk.moment g.D.Disk.since c.args.disk.now c.loop-replies.disk c.serve_next.new.disk c.loop-replies.self c.serve_next.new.self
+    (λ t file le image. g.met.D.Disk.counts_now c.loop-replies.disk t file tells le image) none (c.loop-replies.invariant.no_book tells was none) (c.serve_next.ensures.no_book tells)

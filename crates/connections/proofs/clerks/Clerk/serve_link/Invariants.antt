@@ -1,9 +1,10 @@
-use Rattle.std.proofs.Common.{◌≡◌, ℕ, ◌-◌, ◌≤◌, List, Some, IsSome, IsTrue}
+use Rattle.std.proofs.Common.{◌≡◌, ℕ, ◌-◌, ◌≤◌, List, None, Some, IsSome, IsTrue}
 use Rattle.intake.specs.Requests.{Held}
 use Rattle.registry_http.specs.RequestLists.{AreRequests}
 use Rattle.registry_http.specs.RequestParts.{RequestParts}
 use Rattle.registry_http.specs.Requests.{AtFront}
-use Rattle.connections.specs.Holding.{Holds, StandsOpen}
+use Rattle.connections.specs.Answering.{OpensNone}
+use Rattle.connections.specs.Holding.{Holds, StandsForNone, StandsOpen, working}
 use Rattle.connections.specs.Turns.{turns}
 use Rattle.connections.specs.inner.Rounds.{Meets}
 use Rattle.connections.proofs.LinkTurns.{Went}
@@ -16,6 +17,7 @@ abbrev pub invariant-loop-replies : goal.invariant-loop-replies
 invariant-loop-replies g l = record {
   few : l.replies ≤ l.left;
   stands_open : IsTrue g.D.Disk.tells → StandsOpen l.self (g.D.Disk.reads l.disk) (g.D.Disk.images l.disk);
+  no_book : IsTrue g.D.Disk.tells → working l.fn.self ≡ None → StandsForNone (g.D.Disk.reads l.fn.disk) → OpensNone g.D.Disk.reads g.D.Disk.images g.D.Disk.moment g.D.Disk.since l.fn.disk l.disk l.self;
   told : IsSome (g.L.Link.written l.fn.link) → IsSome (g.L.Link.written l.link);
   quiet : g.L.Link.faults l.link ≡ g.L.Link.faults l.fn.link;
   went : IsTrue g.D.Disk.tells → (held : Held) (input : List ℕ) (requests : List RequestParts) (end : AtFront)

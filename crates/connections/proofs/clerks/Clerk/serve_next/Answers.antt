@@ -1,4 +1,4 @@
-use Rattle.std.proofs.Common.{◌≡◌, ◌∙◌, ⊎_elim, ℕ, ◌==◌, false, [], ◌++◌, refl, subst}
+use Rattle.std.proofs.Common.{◌≡◌, ◌∙◌, ⊎_elim, ℕ, ◌==◌, false, [], ◌∷◌, ◌++◌, refl, subst}
 use Rattle.registry_http.specs.RequestLists.{IsNext}
 use Rattle.registry_http.specs.Requests.{AtFront, Nothing, Cut, HeadFault, BodyTooLong}
 use Rattle.registry_http.specs.declared.requests.Next.{Next}
@@ -6,9 +6,10 @@ use Rattle.registry_http.specs.declared.requests.Next.TheVariants as next
 use Rattle.connections.specs.Holding.{Holds}
 use Rattle.connections.specs.Replies.{bad_request, body_too_long}
 use Rattle.connections.specs.Serving.{ServesLink}
-use Rattle.connections.specs.Turns.{refusals, turns}
+use Rattle.connections.specs.Turns.{End, last_turn, turns}
 use Rattle.connections.specs.declared.serving.Ended.TheVariants.{Finished}
 use Rattle.connections.specs.inner.Rounds.{Meets}
+use Rattle.connections.proofs.NoBook.{none_still}
 use Rattle.connections.proofs.LinkEnds.{cut_off, memory_ends, none_ends, refusal_ends, turn_of}
 use Rattle.connections.proofs.LinkTurns.{comes_next}
 use Rattle.connections.proofs.ToldLinks.{same_told}
@@ -31,13 +32,13 @@ pub returns-in-End-clause-turn : goal.returns-in-End-clause-turn
 returns-in-End-clause-turn g c = λ tells held requests end meets.
     let comes = comes_next (g.L.Link.left c.args.link.now) (g.L.Link.left c.next_request.new.link) c.args.rest.now.items c.next_request.new.rest.items meets.input c.next_request.result requests end
     meets.left_is c.next_request.ensures.answer meets.are in
-    let ends : (last : AtFront) → requests ≡ [] → end ≡ last → refusals last ≡ [] → (n : ℕ) → (n == 0) ≡ false
+    let ends : (last : AtFront) → requests ≡ [] → end ≡ last → last_turn last ≡ End ∷ [] → (n : ℕ) → (n == 0) ≡ false
     → ServesLink g.D.Disk.images g.D.Disk.moment g.D.Disk.since g.D.Disk.faults c.args.disk.now c.args.disk.now held (g.L.Link.written c.args.link.now) (g.L.Link.written c.next_request.new.link) (turns n requests end)
     (record { replies = 0; ended = Finished }) (λ h. Holds c.args.self.now (g.D.Disk.reads c.args.disk.now) (g.D.Disk.images c.args.disk.now) (g.C.Clock.ticks c.args.clock.now) h) =
     λ last none is silent.
     none_ends g.D.Disk.images g.D.Disk.moment g.D.Disk.since g.D.Disk.faults c.args.disk.now (λ file left. g.met.D.Disk.only_now c.args.disk.now file tells left) held (g.L.Link.written c.args.link.now)
     (g.L.Link.written c.args.link.now) (g.L.Link.written c.next_request.new.link) requests end (λ h. Holds c.args.self.now (g.D.Disk.reads c.args.disk.now) (g.D.Disk.images c.args.disk.now) (g.C.Clock.ticks c.args.clock.now) h) meets.holds
-    (record { replies = 0; ended = Finished }) refl last none is silent c.next_request.ensures.written refl in
+    (record { replies = 0; ended = Finished }) refl last none is silent c.next_request.ensures.written refl refl in
     ⊎_elim
     (λ is. let at = subst (λ (a : Next). IsNext a (c.next_request.new.rest.items ++ comes.input) requests end) is comes.is in ends Nothing at.0 at.1 refl)
     (λ is. let at = subst (λ (a : Next). IsNext a (c.next_request.new.rest.items ++ comes.input) requests end) is comes.is in ends Cut at.0 at.1 refl)
@@ -63,13 +64,13 @@ pub returns-in-LinkFault-clause-turn : goal.returns-in-LinkFault-clause-turn
 returns-in-LinkFault-clause-turn g c = λ tells held requests end meets.
     cut_off g.D.Disk.images g.D.Disk.moment g.D.Disk.since g.D.Disk.faults c.args.disk.now (λ file left. g.met.D.Disk.only_now c.args.disk.now file tells left) held (g.L.Link.written c.args.link.now)
     (g.L.Link.written c.args.link.now) (g.L.Link.written c.next_request.new.link) requests end (λ h. Holds c.args.self.now (g.D.Disk.reads c.args.disk.now) (g.D.Disk.images c.args.disk.now) (g.C.Clock.ticks c.args.clock.now) h) meets.holds
-    _ refl c.in-LinkFault.ensures.written (λ is. absurd cc) refl
+    _ refl (c.args.rest.now.items ++ meets.input) meets.are c.in-LinkFault.ensures.written refl refl
 
 pub returns-in-Memory-clause-turn : goal.returns-in-Memory-clause-turn
 returns-in-Memory-clause-turn g c = λ tells held requests end meets.
     memory_ends g.D.Disk.images g.D.Disk.moment g.D.Disk.since g.D.Disk.faults c.args.disk.now (λ file left. g.met.D.Disk.only_now c.args.disk.now file tells left) held (g.L.Link.written c.args.link.now)
     (g.L.Link.written c.next_request.new.link) (g.L.Link.written c.close-in-Memory.new.link) requests end (λ h. Holds c.args.self.now (g.D.Disk.reads c.args.disk.now) (g.D.Disk.images c.args.disk.now) (g.C.Clock.ticks c.args.clock.now) h) meets.holds
-    c.close-in-Memory.result c.in-Memory.ensures.written c.out_of_memory.result c.out_of_memory.ensures c.close-in-Memory.ensures.ends
+    c.close-in-Memory.result c.in-Memory.ensures.written (c.args.rest.now.items ++ meets.input) meets.are c.out_of_memory.result c.out_of_memory.ensures c.close-in-Memory.ensures.ends
 
 pub returns-in-Request-clause-told : goal.returns-in-Request-clause-told
 returns-in-Request-clause-told g c = λ told. c.serve_request.ensures.told (same_told (g.L.Link.written c.args.link.now) (g.L.Link.written c.next_request.new.link) c.next_request.ensures.written told)
@@ -88,3 +89,25 @@ returns-in-LinkFault-clause-told g c = λ told. same_told (g.L.Link.written c.ar
 
 pub returns-in-Memory-clause-told : goal.returns-in-Memory-clause-told
 returns-in-Memory-clause-told g c = λ told. c.close-in-Memory.ensures.told (same_told (g.L.Link.written c.args.link.now) (g.L.Link.written c.next_request.new.link) c.next_request.ensures.written told)
+
+-- ---- no request, so no call of the disk
+
+pub returns-in-End-clause-no_book : goal.returns-in-End-clause-no_book
+returns-in-End-clause-no_book g c = λ tells was none.
+    none_still g.D.Disk.reads g.D.Disk.images g.D.Disk.moment g.D.Disk.since c.args.disk.now c.args.self.now (λ file left. g.met.D.Disk.only_now c.args.disk.now file tells left) was
+
+pub returns-in-HeadFault-clause-no_book : goal.returns-in-HeadFault-clause-no_book
+returns-in-HeadFault-clause-no_book g c = λ tells was none.
+    none_still g.D.Disk.reads g.D.Disk.images g.D.Disk.moment g.D.Disk.since c.args.disk.now c.args.self.now (λ file left. g.met.D.Disk.only_now c.args.disk.now file tells left) was
+
+pub returns-in-BodyTooLong-clause-no_book : goal.returns-in-BodyTooLong-clause-no_book
+returns-in-BodyTooLong-clause-no_book g c = λ tells was none.
+    none_still g.D.Disk.reads g.D.Disk.images g.D.Disk.moment g.D.Disk.since c.args.disk.now c.args.self.now (λ file left. g.met.D.Disk.only_now c.args.disk.now file tells left) was
+
+pub returns-in-LinkFault-clause-no_book : goal.returns-in-LinkFault-clause-no_book
+returns-in-LinkFault-clause-no_book g c = λ tells was none.
+    none_still g.D.Disk.reads g.D.Disk.images g.D.Disk.moment g.D.Disk.since c.args.disk.now c.args.self.now (λ file left. g.met.D.Disk.only_now c.args.disk.now file tells left) was
+
+pub returns-in-Memory-clause-no_book : goal.returns-in-Memory-clause-no_book
+returns-in-Memory-clause-no_book g c = λ tells was none.
+    none_still g.D.Disk.reads g.D.Disk.images g.D.Disk.moment g.D.Disk.since c.args.disk.now c.args.self.now (λ file left. g.met.D.Disk.only_now c.args.disk.now file tells left) was

@@ -13,7 +13,7 @@ returns-in-Err-clause-turn g c = λ tells held requests end holds.
     (λ h. Holds c.answer_request-reply.new.self (g.D.Disk.reads c.answer_request-reply.new.disk) (g.D.Disk.images c.answer_request-reply.new.disk) (g.C.Clock.ticks c.answer_request-reply.new.clock) h)
     (c.answer_request-reply.ensures.answers tells held holds) holds.file (c.answer_request-reply.ensures.no_journal tells) c.answer_request-reply.ensures.disk
     (record { replies = 0; ended = c.in-Err.ended }) (λ is. absurd (c.send.ensures.unfinished (c.in-Err.is ∙ ap (λ (e : Ended). Err e) is)))
-    (record { whole = λ is. absurd (c.send.ensures.unfinished (c.in-Err.is ∙ ap (λ (e : Ended). Err e) is)); part = λ no. (c.in-Err.ensures.part, refl) })
+    (record { whole = λ is. absurd (c.send.ensures.unfinished (c.in-Err.is ∙ ap (λ (e : Ended). Err e) is)); part = λ no. (c.in-Err.ensures.part, refl); nothing = λ is. c.send.ensures.nothing (c.in-Err.is ∙ ap (λ (e : Ended). Err e) is) })
 
 pub returns-then-is_last-clause-turn : goal.returns-then-is_last-clause-turn
 returns-then-is_last-clause-turn g c = λ tells held requests end holds.
@@ -22,7 +22,7 @@ returns-then-is_last-clause-turn g c = λ tells held requests end holds.
     (λ h. Holds c.answer_request-reply.new.self (g.D.Disk.reads c.answer_request-reply.new.disk) (g.D.Disk.images c.answer_request-reply.new.disk) (g.C.Clock.ticks c.answer_request-reply.new.clock) h)
     (c.answer_request-reply.ensures.answers tells held holds) holds.file (c.answer_request-reply.ensures.no_journal tells) c.answer_request-reply.ensures.disk
     _ (λ is. sym c.is_last.ensures ∙ c.if-is_last.true)
-    (record { whole = λ is. (c.in_default.ensures.whole, refl); part = λ no. absurd (no refl) })
+    (record { whole = λ is. (c.in_default.ensures.whole, refl); part = λ no. absurd (no refl); nothing = λ is. absurd cc })
 
 pub returns-clause-turn : goal.returns-clause-turn
 returns-clause-turn g c = λ tells held requests end holds.

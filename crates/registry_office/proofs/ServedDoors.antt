@@ -1,0 +1,226 @@
+-- What serving the office comes to: an opening, and then a door that was served; or no book was opened.
+use Rattle.std.proofs.Common.{◌≡◌, ◌⊎◌, inl, inr, ⊎_elim, ℕ, ◌≤◌, ◌||◌, Bool, true, false, List, [], ◌++◌, drop, Option, Some, None, Err, IfSome, refl, sym, ◌∙◌, ap, subst, arith, append-nil}
+use Rattle.std.specs.List.{list_any}
+use Rattle.gb_base.specs.DayMinute.{DayMinute}
+use Rattle.gb_outside.specs.Faults.{Counts, Rose}
+use Rattle.gb_outside.specs.Images.{LeavesOnly}
+use Rattle.gb_outside.proofs.Moments.{followed, weakened}
+use Rattle.journal_disk.specs.Opening.{AnswersSynced, IsKept, SyncsFirst}
+use Rattle.receipt_journal.specs.BookState.{BookState}
+use Rattle.receipt_journal.specs.Opening.{book_opening_disk_failed}
+use Rattle.receipt_journal.specs.Standing.{StandsForJournal}
+use Rattle.receipt_journal.specs.declared.faults.BookFault.{BookFault}
+use Rattle.receipt_journal.specs.declared.faults.BookFault.TheVariants as fault
+use Rattle.intake.specs.Requests.{Held}
+use Rattle.intake.proofs.Replies.{grown_at}
+use Rattle.settled_book.specs.SettledBookState.{SettledBookState}
+use Rattle.connections.specs.Doors.{LinkRequests, ServesDoor}
+use Rattle.connections.specs.Holding.{Holds}
+use Rattle.connections.specs.Served.{IsLeftIn}
+use Rattle.connections.specs.Serving.{ServesLink}
+use Rattle.connections.specs.Turns.{Turn, Taken}
+use Rattle.connections.specs.declared.doors.DoorEnd.{DoorEnd}
+use Rattle.connections.specs.declared.doors.DoorEnd.TheVariants as door
+use Rattle.connections.specs.declared.serving.Served.{Served}
+use Rattle.registry_office.specs.Disks.{KeepsSynced, LeavesSynced}
+use Rattle.registry_office.specs.Servings.{IsHeld, ServesOffice}
+use Rattle.registry_office.specs.Statuses.{disk_fault}
+use Rattle.registry_office.specs.declared.statuses.Status.{Status}
+use Rattle.registry_office.specs.declared.statuses.Status.TheVariants as status
+use Rattle.registry_office.specs.inner.Ends.{status_of_door, status_of_fault}
+use Rattle.registry_office.proofs.Opened.{kept_journal}
+
+-- a file that stands for the journal that is held is left ahead of all turns
+left_ahead : (held : Held) (taken : List Taken) (file : List ℕ) → StandsForJournal file held.journal → IsLeftIn held taken file
+left_ahead held taken file stands = record { done = []; next = []; rest = taken; all = refl; one = omega arith; left = grown_at held.journal file stands }
+
+-- a count that the opening left and the door went on with
+counts_on : (before mid now : ℕ) (failed : Bool) → Counts before mid false → Counts mid now failed → Counts before now failed
+counts_on before mid now failed first second = subst (λ n. Counts n now failed) (first.else_same refl) second
+
+-- a count that the opening left rises behind it alone
+rose_on : (before mid now : ℕ) → Counts before mid false → (Rose before now → ⊥) → Rose mid now → ⊥
+rose_on before mid now first never = subst (λ n. Rose n now → ⊥) (sym (first.else_same refl)) never
+
+-- what no link came of is told of none
+none_told : (served : Option (List (List ℕ × ℕ))) → IfSome served (λ before. served ≡ Some (before ++ []))
+none_told None = tt
+none_told (Some before) = ap (λ (l : List (List ℕ × ℕ)). Some l) (sym (append-nil before))
+
+module _ {D : Type 0} (reads : D → List ℕ) (images : D → List ℕ → Type 0) (moment : D → ℕ) (since : D → ℕ → List ℕ → Type 0) (faults : D → ℕ) where
+  left_on : (old mid new : D) (held : Held) (taken : List Taken) → ((t : ℕ) (c : List ℕ) → t ≤ moment mid → images mid c → since mid t c) → StandsForJournal (reads old) held.journal
+      → SyncsFirst reads images moment since old mid → LeavesOnly moment since mid new (λ file. images mid file ⊎ IsLeftIn held taken file) → LeavesSynced reads images moment since old new (IsLeftIn held taken)
+  left_on old mid new held taken counts stands first second =
+      let kept : LeavesOnly moment since first.synced mid (IsLeftIn held taken) = weakened moment since first.synced mid (IsKept (reads old)) (IsLeftIn held taken)
+      (λ c kept. left_ahead held taken c (kept_journal (reads old) c held.journal stands kept)) first.then in record {
+        synced = first.synced;
+        until = first.until;
+        only = first.only;
+        then = followed moment since first.synced mid new (IsLeftIn held taken) kept
+            (weakened moment since mid new (λ file. images mid file ⊎ IsLeftIn held taken file) (IsLeftIn held taken)
+            (λ file has. ⊎_elim (λ image. kept.each file (counts (moment first.synced) file kept.later image)) (λ left. left) has) second);
+      }
+
+  module _ (old new : D) (held : Held) (most : ℕ) (waiting : List (List ℕ)) (asked : List LinkRequests) (served_old : Option (List (List ℕ × ℕ))) (known : Option (List DayMinute)) where
+    abbrev Office : Option (List (List ℕ)) → Option (List (List ℕ × ℕ)) → Status → Type 0
+    Office waits served result = ServesOffice reads images moment since faults old new held most waiting asked waits served_old served known result
+
+    abbrev Door : D → Option (List (List ℕ)) → Option (List (List ℕ × ℕ)) → Option SettledBookState → DoorEnd → Type 0
+    Door mid waits served at_hand end = ServesDoor images moment since faults mid new held most waiting asked waits served_old served end (λ h. Holds at_hand (reads new) (images new) known h)
+
+    -- the door was served on a book that was opened
+    pub served_opened : (mid : D) (waits : Option (List (List ℕ))) (served : Option (List (List ℕ × ℕ))) (at_hand : Option SettledBookState) (end : DoorEnd) (result : Status)
+        → ((t : ℕ) (c : List ℕ) → t ≤ moment mid → images mid c → since mid t c) → StandsForJournal (reads old) held.journal → SyncsFirst reads images moment since old mid → Counts (faults old) (faults mid) false
+        → Door mid waits served at_hand end → result ≡ status_of_door end → Office waits served result
+    served_opened mid waits served at_hand end result counts stands first quiet is ends = subst (λ s. Office waits served s) (sym ends) (by end is)
+      where
+        by : (e : DoorEnd) → Door mid waits served at_hand e → Office waits served (status_of_door e)
+        by door.Done d = record {
+          links = d.links;
+          are = d.serves.are;
+          few = d.few;
+          waits = d.serves.waits;
+          told = d.serves.told;
+          holds = record { stands = d.serves.holds.file; clock = d.serves.holds.clock };
+          left = left_on old mid new held _ counts stands first d.serves.disk.left;
+          kept = d.serves.disk.told;
+          disk = counts_on (faults old) (faults mid) (faults new) _ quiet d.serves.disk.disk;
+          journal = d.serves.disk.journal;
+          done = λ ok. d.done refl;
+          memory = λ lacks. ap status_of_door (d.memory lacks);
+          wanting = λ is. absurd cc;
+          answered = λ never. d.answered (rose_on (faults old) (faults mid) (faults new) quiet never);
+        }
+        by door.DoorFault d = record {
+          links = d.links;
+          are = d.serves.are;
+          few = d.few;
+          waits = d.serves.waits;
+          told = d.serves.told;
+          holds = record { stands = d.serves.holds.file; clock = d.serves.holds.clock };
+          left = left_on old mid new held _ counts stands first d.serves.disk.left;
+          kept = d.serves.disk.told;
+          disk = counts_on (faults old) (faults mid) (faults new) _ quiet d.serves.disk.disk;
+          journal = d.serves.disk.journal;
+          done = λ ok. absurd cc;
+          memory = λ lacks. ap status_of_door (d.memory lacks);
+          wanting = λ is. absurd cc;
+          answered = λ never. d.answered (rose_on (faults old) (faults mid) (faults new) quiet never);
+        }
+        by door.Memory d = record {
+          links = d.links;
+          are = d.serves.are;
+          few = d.few;
+          waits = d.serves.waits;
+          told = d.serves.told;
+          holds = record { stands = d.serves.holds.file; clock = d.serves.holds.clock };
+          left = left_on old mid new held _ counts stands first d.serves.disk.left;
+          kept = d.serves.disk.told;
+          disk = counts_on (faults old) (faults mid) (faults new) _ quiet d.serves.disk.disk;
+          journal = d.serves.disk.journal;
+          done = λ ok. absurd cc;
+          memory = λ lacks. refl;
+          wanting = λ is. inr (d.wanting refl);
+          answered = λ never. d.answered (rose_on (faults old) (faults mid) (faults new) quiet never);
+        }
+
+    -- no book was opened, and nothing was accepted
+    pub served_none : (f : BookFault) (result : Status) → AnswersSynced reads images moment since old new (book_opening_disk_failed {A = BookState} (Err f))
+        → Counts (faults old) (faults new) (book_opening_disk_failed {A = BookState} (Err f)) → IsKept (reads old) (reads new) → IsHeld (reads old) known held
+        → (waits : Option (List (List ℕ))) → waits ≡ Some waiting → result ≡ status_of_fault f → Office waits served_old result
+    served_none f result answers counts kept is waits stay ends = subst (λ s. Office waits served_old s) (sym ends) (by f answers counts)
+      where
+        holds : IsHeld (reads new) known held
+        holds = record { stands = kept_journal (reads old) (reads new) held.journal is.stands kept; clock = is.clock }
+
+        first_left : SyncsFirst reads images moment since old new → LeavesSynced reads images moment since old new (IsLeftIn held [])
+        first_left first = record {
+          synced = first.synced;
+          until = first.until;
+          only = first.only;
+          then = weakened moment since first.synced new (IsKept (reads old)) (IsLeftIn held []) (λ c kept. left_ahead held [] c (kept_journal (reads old) c held.journal is.stands kept)) first.then;
+        }
+
+        by : (g : BookFault) → AnswersSynced reads images moment since old new (book_opening_disk_failed {A = BookState} (Err g)) → Counts (faults old) (faults new) (book_opening_disk_failed {A = BookState} (Err g))
+            → Office waits served_old (status_of_fault g)
+        by fault.Disk answers counts = record {
+          links = [];
+          are = tt;
+          few = omega arith;
+          waits = stay;
+          told = none_told served_old;
+          holds = holds;
+          left = ⊎_elim (λ none. inl none) (λ first. inr (first_left first)) answers;
+          kept = tt;
+          disk = counts;
+          journal = refl;
+          done = λ ok. absurd cc;
+          memory = λ lacks. absurd lacks;
+          wanting = λ is. inl refl;
+          answered = λ never none. refl;
+        }
+        by fault.NotJournal answers counts = record {
+          links = [];
+          are = tt;
+          few = omega arith;
+          waits = stay;
+          told = none_told served_old;
+          holds = holds;
+          left = first_left answers;
+          kept = tt;
+          disk = counts;
+          journal = refl;
+          done = λ ok. absurd cc;
+          memory = λ lacks. absurd lacks;
+          wanting = λ is. inl refl;
+          answered = λ never none. refl;
+        }
+        by (fault.BadRecord at) answers counts = record {
+          links = [];
+          are = tt;
+          few = omega arith;
+          waits = stay;
+          told = none_told served_old;
+          holds = holds;
+          left = first_left answers;
+          kept = tt;
+          disk = counts;
+          journal = refl;
+          done = λ ok. absurd cc;
+          memory = λ lacks. absurd lacks;
+          wanting = λ is. inl refl;
+          answered = λ never none. refl;
+        }
+        by fault.Memory answers counts = record {
+          links = [];
+          are = tt;
+          few = omega arith;
+          waits = stay;
+          told = none_told served_old;
+          holds = holds;
+          left = first_left answers;
+          kept = tt;
+          disk = counts;
+          journal = refl;
+          done = λ ok. absurd cc;
+          memory = λ lacks. absurd lacks;
+          wanting = λ is. inl refl;
+          answered = λ never none. refl;
+        }
+
+-- what a served link leaves is held, whatever book is open
+pub link_held : {D : Type 0} (images : D → List ℕ → Type 0) (moment : D → ℕ) (since : D → ℕ → List ℕ → Type 0) (faults : D → ℕ) (old new : D) (held : Held) (w v : Option (List ℕ)) (turns : List Turn) (served : Served)
+    (at_hand : Option SettledBookState) (reads : List ℕ) (known : Option (List DayMinute)) → ServesLink images moment since faults old new held w v turns served (λ h. Holds at_hand reads (images new) known h)
+    → ServesLink images moment since faults old new held w v turns served (IsHeld reads known)
+link_held images moment since faults old new held w v turns served at_hand reads known s = record {
+  became = s.became;
+  of_turns = s.of_turns;
+  written = s.written;
+  holds = record { stands = s.holds.file; clock = s.holds.clock };
+  disk = s.disk;
+  finished = s.finished;
+  unfinished = s.unfinished;
+  cut_off = s.cut_off;
+  unwritten = s.unwritten;
+  answered = s.answered;
+}

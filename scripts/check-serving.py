@@ -1,0 +1,315 @@
+#!/usr/bin/env python3
+"""Asks the built program over TCP, as `serve` answers: requests whole and byte by byte, what ends a
+connection and what ends the program, a second program at its port, and kills under load.
+
+Nothing is sent to another machine. Where another program has the port, nothing is checked, and the
+script says so.
+"""
+
+import contextlib
+import http.client
+import os
+import random
+import re
+import shutil
+import signal
+import socket
+import struct
+import subprocess
+import tempfile
+import time
+
+import checks
+
+HOST, PORT = "127.0.0.1", 7117
+KILLS = 100
+CONNECTIONS = 1000
+REQUESTS = 10_000
+BESIDE = 50
+
+
+def is_free():
+    """Whether no other program has the port."""
+    with socket.socket() as door:
+        door.setsockopt(socket.SOL_SOCKET, socket.SO_REUSEADDR, 1)
+        try:
+            door.bind((HOST, PORT))
+        except OSError:
+            return False
+    return True
+
+
+def connected(seconds=checks.LIMIT):
+    """A connection to the program, once it has opened its port."""
+    last = time.monotonic() + seconds
+    while True:
+        try:
+            return socket.create_connection((HOST, PORT), timeout=checks.LIMIT)
+        except ConnectionRefusedError:
+            if time.monotonic() > last:
+                raise
+            time.sleep(0.01)
+
+
+@contextlib.contextmanager
+def serving(folder, requests=1_000_000):
+    """The program, which serves in a folder; it is killed in the end where it still runs."""
+    words = [checks.PROGRAM, "serve", "--desks", "1", "--requests", str(requests)]
+    child = subprocess.Popen(words, cwd=folder, stdin=subprocess.DEVNULL, stdout=subprocess.PIPE, stderr=subprocess.PIPE)
+    try:
+        yield child
+    finally:
+        child.kill()
+        child.communicate()
+
+
+def head(method, path, body=b"", version="1.1", more=""):
+    length = f"Content-Length: {len(body)}\r\n" if body else ""
+    return f"{method} {path} HTTP/{version}\r\n{length}{more}\r\n".encode() + body
+
+
+def reply(status, phrase, body):
+    return f"HTTP/1.1 {status} {phrase}\r\nContent-Type: text/plain\r\nContent-Length: {len(body)}\r\n\r\n".encode() + body
+
+
+def posted(number):
+    return head("POST", "/receipts", checks.plain(number).encode())
+
+
+def all_of(link):
+    """All bytes that come until the program ends the connection."""
+    pieces = []
+    while piece := link.recv(65536):
+        pieces.append(piece)
+    return b"".join(pieces)
+
+
+def said(sent, pieces=0):
+    """What the program writes to a connection that sends this, whole or in so many pieces, and no more."""
+    with connected() as link:
+        link.setsockopt(socket.IPPROTO_TCP, socket.TCP_NODELAY, 1)
+        for at in range(0, len(sent), pieces or len(sent) or 1):
+            link.sendall(sent[at : at + (pieces or len(sent))])
+        link.shutdown(socket.SHUT_WR)
+        return all_of(link)
+
+
+def sends_on(sent, wanted):
+    """Whether a connection may send on behind the reply that ends it."""
+    with connected() as link:
+        link.setsockopt(socket.IPPROTO_TCP, socket.TCP_NODELAY, 1)
+        link.sendall(sent)
+        told = b""
+        while len(told) < len(wanted):
+            told += link.recv(len(wanted) - len(told)) or b"?"
+        try:
+            for _ in range(10):
+                link.sendall(b"x" * 1000)
+                time.sleep(0.02)
+            link.shutdown(socket.SHUT_WR)
+            return told + all_of(link) == wanted
+        except OSError:
+            return False
+
+
+def beside(sent):
+    """What the program writes to connections that all send this before one of them is read."""
+    with contextlib.ExitStack() as opened:
+        links = [opened.enter_context(connected()) for _ in range(BESIDE)]
+        for link in links:
+            link.sendall(sent)
+            link.shutdown(socket.SHUT_WR)
+        return [all_of(link) for link in links]
+
+
+def extract(folio):
+    return f"folio {folio}\ninventory district 1 parcel {folio}/0 area 500\nowners 10\n".encode()
+
+
+ACCEPTED = reply(201, "Created", b"accepted 1\n")
+REPEATED = reply(200, "OK", b"repeated 1\n")
+
+
+def check_requests(look, folder):
+    """Each route, each refusal of a request, and the same bytes cut in each way."""
+    with serving(folder) as child:
+        look.same("a filing", said(posted(1)), ACCEPTED)
+        story = posted(1) + head("GET", "/folios/1") + head("GET", "/receipts/1") + head("GET", "/folios/1/ranks")
+        told = REPEATED + reply(200, "OK", extract(1)) + reply(200, "OK", b"receipt 1 entered\n") + reply(200, "OK", b"ranks 1\n")
+        look.same("four requests of one connection", said(story), told)
+        look.same("the same byte by byte", said(story, 1), told)
+        report = b"receipt 1 entered\n" + extract(1) + b"ranks 1\nend receipts 1 folios 1\n"
+        look.same("the report", said(head("GET", "/report")), reply(200, "OK", report))
+        none = reply(404, "Not Found", b"not found\n")
+        for path in ("/folios/8", "/receipts/01", "/receipts/2", "/plans/1", "/plans/1/csv", "/", "/folios/1?x=1"):
+            look.same(f"GET {path}", said(head("GET", path)), none)
+        wrong = reply(405, "Method Not Allowed", b"method not allowed\n")
+        look.same("DELETE /report", said(head("DELETE", "/report")), wrong)
+        look.same("POST /receipts/1", said(head("POST", "/receipts/1")), wrong)
+        look.same("POST /receipts/01", said(head("POST", "/receipts/01")), none)
+        bad = reply(400, "Bad Request", b"malformed json\n")
+        look.same("an empty body", said(head("POST", "/receipts")), bad)
+        body = reply(422, "Unprocessable Entity", b"malformed sender\n")
+        look.same("a body that is no item", said(head("POST", "/receipts", b'{"reference":1}')), body)
+        other = checks.plain(1).replace('"area":500', '"area":501').encode()
+        look.same("another item under the number", said(head("POST", "/receipts", other)), reply(409, "Conflict", b"differs 1\n"))
+        check_routes(look)
+        check_endings(look)
+        look.same("the program still serves", child.poll(), None)
+
+
+def status_of(reply):
+    return reply.split(b" ")[1].decode()
+
+
+def check_routes(look):
+    """Each route of the page has one of its statuses, and another method of its path is refused."""
+    for route, statuses in checks.routes_of_page():
+        method, path = route.split(" ")
+        for number in ("1", "9"):
+            asked = re.sub(r"{\w}", number, path)
+            status = status_of(said(head(method, asked)))
+            look.same(f"{method} {asked} is answered as the page says", status in statuses and status != "405", True)
+            look.same(f"PUT {asked}", status_of(said(head("PUT", asked))), "405")
+
+
+def check_endings(look):
+    """What ends a connection: a refused head, too long a body, its last request, and its own end."""
+    refused = reply(400, "Bad Request", b"bad request\n")
+    for what, sent in (
+        ("a body of unknown length", head("POST", "/receipts", more="Transfer-Encoding: chunked\r\n")),
+        ("two lengths", head("POST", "/receipts", more="Content-Length: 1\r\nContent-Length: 1\r\n")),
+        ("a length with a sign", head("POST", "/receipts", more="Content-Length: +5\r\n")),
+        ("65 header lines", head("GET", "/report", more="a: b\r\n" * 65)),
+        ("a head without an end", b"GET / HTTP/1.1\r\n" + b"a" * 8193),
+    ):
+        look.same(what, said(sent + head("GET", "/folios/8")), refused)
+    long = reply(413, "Payload Too Large", b"payload too large\n")
+    look.same("a body of 65,537 bytes", said(head("POST", "/receipts", more="Content-Length: 65537\r\n")), long)
+    none = reply(404, "Not Found", b"not found\n")
+    look.same("version 1.0", said(head("GET", "/x", version="1.0") * 2), none)
+    look.same("a connection that is to be closed", said(head("GET", "/x", more="Connection: Close\r\n") * 2), none)
+    look.same("half a request", said(head("POST", "/receipts", b"x" * 100)[:-1]), b"")
+    look.same("no byte", said(b""), b"")
+    browser = "Host: 127.0.0.1:7117\r\nUser-Agent: Mozilla/5.0\r\nAccept: text/html,*/*;q=0.8\r\nConnection: keep-alive\r\n"
+    look.same("a browser's request", said(head("GET", "/x", more=browser)), none)
+    sent = head("POST", "/receipts", more="Content-Length: 65537\r\n")
+    look.same("a refusal while the peer still sends", said(sent + b"x" * 400_000), long)
+    look.same("a peer that sends on behind its refusal", sends_on(sent, long), True)
+    with connected() as gone:
+        gone.sendall(head("GET", "/x") * 100)
+        gone.setsockopt(socket.SOL_SOCKET, socket.SO_LINGER, struct.pack("ii", 1, 0))
+    look.same("a request behind a peer that went away", said(head("GET", "/x")), none)
+    look.same("connections that wait beside one another", beside(head("GET", "/x")), [none] * BESIDE)
+    with connected() as silent:
+        start = time.monotonic()
+        look.same("a request behind a connection that says nothing", said(head("GET", "/x")), none)
+        look.at_most("seconds that it waited", round(time.monotonic() - start), 30)
+        silent.close()
+
+
+def check_ends(look):
+    """What ends the program: so many replies, so many connections, a port that is taken, a file that is no journal."""
+    with tempfile.TemporaryDirectory() as folder, serving(folder, 2) as child:
+        look.same("three requests where two are left", said(head("GET", "/x") * 3), reply(404, "Not Found", b"not found\n") * 2)
+        look.same("the end behind two replies", (child.wait(checks.LIMIT), child.stderr.read()), (0, b""))
+    with tempfile.TemporaryDirectory() as folder, serving(folder, 2) as child:
+        look.same("two connections that ask nothing", [said(b""), said(b"")], [b"", b""])
+        look.same("the end behind two connections", (child.wait(checks.LIMIT), child.stderr.read()), (0, b""))
+    with tempfile.TemporaryDirectory() as folder, serving(folder) as child:
+        look.same("a first reply", said(head("GET", "/x"))[:12], b"HTTP/1.1 404")
+        with tempfile.TemporaryDirectory() as other:
+            ran = checks.run(["serve", "--desks", "1", "--requests", "1"], other)
+            look.same("a second program at the port", ran, (10, b"", b"door fault\n"))
+        ran = checks.run(["serve", "--desks", "1", "--requests", "1"], folder)
+        look.same("a second program at the journal", ran, (5, b"", b"disk fault\n"))
+    with tempfile.TemporaryDirectory() as folder:
+        with open(os.path.join(folder, checks.JOURNAL), "wb") as file:
+            file.write(b"hello world")
+        ran = checks.run(["serve", "--desks", "1", "--requests", "1"], folder)
+        look.same("a file that is no journal", ran, (7, b"", b"not a journal\n"))
+
+
+def check_clients(look, folder):
+    """Many connections, many requests of one, and a client of the standard library."""
+    with serving(folder):
+        wanted = reply(200, "OK", b"receipt 1 entered\n")
+        said(posted(1))
+        came = sum(said(head("GET", "/receipts/1")) == wanted for _ in range(CONNECTIONS))
+        look.same(f"{CONNECTIONS} connections", came, CONNECTIONS)
+        client = http.client.HTTPConnection(HOST, PORT, timeout=checks.LIMIT)
+        came = 0
+        for _ in range(REQUESTS):
+            client.request("GET", "/receipts/1")
+            answer = client.getresponse()
+            came += (answer.status, answer.read()) == (200, b"receipt 1 entered\n")
+        client.close()
+        look.same(f"{REQUESTS} requests of one connection", came, REQUESTS)
+
+
+def check_story(look):
+    """The example's shell story over HTTP."""
+    story = checks.ROOT / "examples" / "over-http.sh"
+    if not shutil.which("curl"):
+        look.skip("example over-http", "this machine has no curl")
+        return
+    with tempfile.TemporaryDirectory() as folder, serving(folder):
+        connected().close()
+        told = subprocess.run([story], stdout=subprocess.PIPE, timeout=checks.LIMIT).stdout
+        look.same("example over-http", told, story.with_suffix(".txt").read_bytes())
+
+
+def acknowledged(child, after):
+    """How many filings were acknowledged, in order, until the program was killed after so many seconds."""
+    last = time.monotonic() + after
+    client = http.client.HTTPConnection(HOST, PORT, timeout=checks.LIMIT)
+    count = 0
+    try:
+        connected().close()
+        while time.monotonic() < last:
+            client.request("POST", "/receipts", checks.plain(count + 1))
+            answer = client.getresponse()
+            if (answer.status, answer.read()) != (201, f"accepted {count + 1}\n".encode()):
+                return None
+            count += 1
+    finally:
+        child.send_signal(signal.SIGKILL)
+        client.close()
+    return count
+
+
+def check_kills(look):
+    """Killed under load, no receipt that was acknowledged is lost."""
+    chance = random.Random(20240301)
+    lost = []
+    total = 0
+    for _ in range(KILLS):
+        with tempfile.TemporaryDirectory() as folder:
+            with serving(folder) as child:
+                count = acknowledged(child, chance.random() / 2)
+            status, output, _ = checks.run(["settle", "--desks", "1"], folder)
+            kept = int(output.split()[-3]) if status == 0 else -1
+            total += count or 0
+            if count is None or kept not in (count, count + 1):
+                lost.append((count, kept))
+    look.same(f"{KILLS} kills behind {total} receipts: those that were lost", lost, [])
+
+
+def main():
+    checks.build()
+    look = checks.Checks()
+    if not is_free():
+        look.skip("serving", f"another program has port {PORT}")
+        look.end()
+    with tempfile.TemporaryDirectory() as folder:
+        check_requests(look, folder)
+    check_ends(look)
+    with tempfile.TemporaryDirectory() as folder:
+        check_clients(look, folder)
+    check_story(look)
+    check_kills(look)
+    look.end()
+
+
+if __name__ == "__main__":
+    main()
