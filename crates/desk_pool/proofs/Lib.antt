@@ -1,5 +1,6 @@
 -- Lemmas that the answers cite.
 pub mod AgreeingScratches
+pub mod AllComplete
 pub mod AllPrepared
 pub mod Apart
 pub mod BuiltQueues

@@ -155,7 +155,7 @@ in_folio journal i folio stands scratch other touched serves = tt
 
 -- ---- the keys of an item are among those of all
 
-given_at : (journal : List Receipt) (k : Key) (a n i : ℕ) → a ≤ i → i < a + n → has_key k (keys_of_item journal i) ≡ true → is_given (flat_map (keys_of_item journal) (range_with_len a n)) k ≡ true
+pub given_at : (journal : List Receipt) (k : Key) (a n i : ℕ) → a ≤ i → i < a + n → has_key k (keys_of_item journal i) ≡ true → is_given (flat_map (keys_of_item journal) (range_with_len a n)) k ≡ true
 given_at journal k a zero i low high has = absurd (omega (arith, low, high))
 given_at journal k a (suc n) i low high has =
     let rest = flat_map (keys_of_item journal) (range_with_len (a + 1) n) in

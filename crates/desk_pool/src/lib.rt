@@ -4,6 +4,7 @@
 mod boards;
 mod building_queues;
 mod desks;
+mod finishing;
 mod folio_parts;
 mod folio_queues;
 mod key_rooms;

@@ -1,6 +1,6 @@
 //! A round: a journal whose items are settled, by desks in threads or by one registrar.
 //! Why so: docs/DECISIONS.md, "A round keeps its room twice".
-ghost use Rattle.std.specs.Prelude.{◌≡◌, ◌↔◌, false, All, IfOk, IfSome, IsSome, length};
+ghost use Rattle.std.specs.Prelude.{◌≡◌, ◌≤◌, ◌↔◌, false, All, IfOk, IfSome, IsSome, length};
 ghost use Rattle.gb_base.specs.declared.keys.Key.{Key};
 ghost use Rattle.conflict_queue.specs.Schedules.{IsPermitted, in_receipt_order};
 ghost use Rattle.folio_sections.specs.Entries.{at};
@@ -14,6 +14,7 @@ ghost use Rattle.registrar.specs.Settling.{registrar};
 
 use crate::boards::Board;
 use crate::building_queues::build_queues;
+use crate::finishing::is_complete;
 use crate::folio_parts::{KeyRoom, list_rooms};
 use crate::folio_queues::FolioQueue;
 use crate::key_rooms::count_rooms;
@@ -22,15 +23,20 @@ use crate::orders::is_permitted;
 use crate::prepared::Prepared;
 use crate::preparing::{lock_folios, prepare_all};
 use crate::seats::Seat;
+use crate::shared_rounds::SharedRound;
+use crate::taking_back::take_back;
+use crate::together::work_together;
 use act_model::{Journal, JournalName};
 use conflict_queue::Docket;
 use conflict_queue::laws::receipts_in_turn;
 use folio_sections::MapParts;
 use gb_base::{NoMemory, ReceiptNo};
+use gb_outside::DeskGate;
 use registrar::Register;
 use std::alloc::Global;
 use std::marker::Model;
-use std::sync::Mutex;
+use std::sync::{Condvar, Mutex, Wait};
+use std::thread::Threads;
 
 /// How many desks there are at most.
 const MOST_DESKS: usize = 64;
@@ -141,6 +147,68 @@ impl<'a, N: JournalName> Round<'a, N> {
             return None;
         }
         Some(prepared.settle_in(journal, order))
+    }
+}
+
+impl<'a, N: JournalName + Send + Sync> Round<'a, N> {
+    /// Settles the journal at so many desks, 1 to 64, each in a thread of its own where one can be
+    /// had. Whatever they do, the register is the one registrar's.
+    pub fn run<R: Threads + Wait + Sync, G: DeskGate>(
+        self,
+        rt: &R,
+        desks: u16,
+        gate: &G,
+    ) -> Register
+        requires desks { (1 ≤ desks) × (desks ≤ 64) }
+        ensures settled { HasSettled N.receipts result }
+        ensures whole { IsRegisterOf N.receipts result }
+        ensures entries { entries_at result.parts ≡ at (registrar N.receipts).entries }
+        ensures verdicts { result.verdicts ≡ (registrar N.receipts).verdicts }
+        ensures folios { result.folios ≡ open_folios (registrar N.receipts).entries }
+        ensures held { (k : Key) → is_held result.parts k ≡ is_given (keys_of_first N.receipts (length N.receipts)) k }
+        ensures kept { Kept N.receipts (entries_at result.parts) }
+        ensures awards { AwardsKept N.receipts (entries_at result.parts) }
+    {
+        // Called for its clause.
+        receipts_in_turn();
+        let Round {
+            journal,
+            docket,
+            queues,
+            keys,
+            folios,
+            mut back,
+            board,
+            mut seats,
+            mut prepared,
+            receipts,
+            ..
+        } = self;
+        let board = Mutex::new(board);
+        let moved = Condvar::new();
+        let round = SharedRound {
+            journal,
+            docket: &docket,
+            queues: queues.as_slice(),
+            folios: folios.as_slice(),
+            board: &board,
+            moved: &moved,
+        };
+        work_together(rt, &round, gate, &mut seats[..desks as usize]);
+        let verdicts = board.into_inner().into_verdicts();
+        let is_back = take_back(folios, queues.as_slice(), &mut back);
+        let parts = is_back.then_some(back);
+        if is_complete::<N>(
+            &mut prepared,
+            verdicts,
+            parts,
+            queues.as_slice(),
+            keys.as_slice(),
+        ) {
+            return prepared.into_register(journal, receipts.as_slice());
+        }
+        prepared.reset();
+        prepared.settle_in(journal, receipts.as_slice())
     }
 }
 

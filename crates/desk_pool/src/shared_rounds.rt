@@ -12,6 +12,7 @@ use std::sync::{Condvar, Mutex};
 
 /// The journal, the keys of its items, the queue of each folio, the folios, each behind its lock,
 /// and the board. All of it is of the named journal.
+#[derive(Drop)]
 pub(crate) struct SharedRound<'a, N: JournalName> {
     pub journal: &'a Journal,
     pub docket: &'a Docket,
