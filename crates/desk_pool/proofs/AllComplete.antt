@@ -56,7 +56,7 @@ given_listed (w ∷ ws) k P given all =
 module _ (journal : List Receipt) (numbered : IsJournal journal) (empty : Kept journal (λ k. [])) where
   -- at a key that no item touches nothing stands
   untouched_is_empty : (k : Key) → is_given (keys_of_first journal (length journal)) k ≡ false → at (registrar journal).entries k ≡ []
-  untouched_is_empty k none = nothing_between journal k numbered empty 0 (length journal) (omega arith) 
+  untouched_is_empty k none = nothing_between journal k numbered empty 0 (length journal) (omega arith)
       (λ i low high.
       ⊎_elim
       (λ touched. absurd (false≢true (sym none ∙ given_at journal k 1 (length journal) i (omega (arith, low)) (omega (arith, high)) touched)))

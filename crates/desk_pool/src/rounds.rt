@@ -1,6 +1,6 @@
 //! A round: a journal whose items are settled, by desks in threads or by one registrar.
 //! Why so: docs/DECISIONS.md, "A round keeps its room twice".
-ghost use Rattle.std.specs.Prelude.{◌≡◌, ◌≤◌, ◌↔◌, false, All, IfOk, IfSome, IsSome, length};
+ghost use Rattle.std.specs.Prelude.{◌≡◌, ◌↔◌, false, All, IfOk, IfSome, IsSome, length};
 ghost use Rattle.gb_base.specs.declared.keys.Key.{Key};
 ghost use Rattle.conflict_queue.specs.Schedules.{IsPermitted, in_receipt_order};
 ghost use Rattle.folio_sections.specs.Entries.{at};
@@ -13,30 +13,21 @@ ghost use Rattle.registrar.specs.OpenFolios.{open_folios};
 ghost use Rattle.registrar.specs.Settling.{registrar};
 
 use crate::boards::Board;
-use crate::building_queues::build_queues;
-use crate::finishing::is_complete;
-use crate::folio_parts::{KeyRoom, list_rooms};
+use crate::folio_parts::KeyRoom;
 use crate::folio_queues::FolioQueue;
-use crate::key_rooms::count_rooms;
 use crate::locked_folios::LockedFolio;
 use crate::orders::is_permitted;
 use crate::prepared::Prepared;
-use crate::preparing::{lock_folios, prepare_all};
 use crate::seats::Seat;
-use crate::shared_rounds::SharedRound;
-use crate::taking_back::take_back;
-use crate::together::work_together;
 use act_model::{Journal, JournalName};
 use conflict_queue::Docket;
 use conflict_queue::laws::receipts_in_turn;
 use folio_sections::MapParts;
 use gb_base::{NoMemory, ReceiptNo};
-use gb_outside::DeskGate;
 use registrar::Register;
 use std::alloc::Global;
 use std::marker::Model;
-use std::sync::{Condvar, Mutex, Wait};
-use std::thread::Threads;
+use std::sync::Mutex;
 
 /// How many desks there are at most.
 const MOST_DESKS: usize = 64;
@@ -76,31 +67,6 @@ impl<'a, N: JournalName> Model for Round<'a, N> {
 }
 
 impl<'a, N: JournalName> Round<'a, N> {
-    /// All that the items of the journal are settled in. Wants memory (NoMemory).
-    pub fn prepare(alloc: Global, journal: &'a Journal) -> Result<Round<'a, N>, NoMemory>
-        requires { journal.now.receipts ≡ N.receipts }
-    {
-        let docket = Docket::build(alloc, journal)?;
-        let queues = build_queues(alloc, journal, &docket)?;
-        let rooms = count_rooms(alloc, journal, &docket)?;
-        let folios = lock_folios(alloc, journal, &rooms, queues.as_slice())?;
-        let receipts = list_receipts(alloc, journal)?;
-        let board = Board::new(alloc, &docket, queues.as_slice(), receipts.as_slice())?;
-        Ok(Round {
-            journal,
-            docket,
-            keys: list_rooms(alloc, &rooms)?,
-            back: Vec::with_capacity(alloc, queues.len())?,
-            queues,
-            folios: put_behind_locks(alloc, folios)?,
-            board,
-            seats: list_seats(alloc)?,
-            prepared: prepare_all(alloc, journal, &rooms)?,
-            passed: list_unpassed(alloc, receipts.len())?,
-            receipts,
-        })
-    }
-
     /// Settles the journal in the order of its receipts.
     pub fn alone(self) -> Register
         ensures settled { HasSettled N.receipts result }
@@ -147,68 +113,6 @@ impl<'a, N: JournalName> Round<'a, N> {
             return None;
         }
         Some(prepared.settle_in(journal, order))
-    }
-}
-
-impl<'a, N: JournalName + Send + Sync> Round<'a, N> {
-    /// Settles the journal at so many desks, 1 to 64, each in a thread of its own where one can be
-    /// had. Whatever they do, the register is the one registrar's.
-    pub fn run<R: Threads + Wait + Sync, G: DeskGate>(
-        self,
-        rt: &R,
-        desks: u16,
-        gate: &G,
-    ) -> Register
-        requires desks { (1 ≤ desks) × (desks ≤ 64) }
-        ensures settled { HasSettled N.receipts result }
-        ensures whole { IsRegisterOf N.receipts result }
-        ensures entries { entries_at result.parts ≡ at (registrar N.receipts).entries }
-        ensures verdicts { result.verdicts ≡ (registrar N.receipts).verdicts }
-        ensures folios { result.folios ≡ open_folios (registrar N.receipts).entries }
-        ensures held { (k : Key) → is_held result.parts k ≡ is_given (keys_of_first N.receipts (length N.receipts)) k }
-        ensures kept { Kept N.receipts (entries_at result.parts) }
-        ensures awards { AwardsKept N.receipts (entries_at result.parts) }
-    {
-        // Called for its clause.
-        receipts_in_turn();
-        let Round {
-            journal,
-            docket,
-            queues,
-            keys,
-            folios,
-            mut back,
-            board,
-            mut seats,
-            mut prepared,
-            receipts,
-            ..
-        } = self;
-        let board = Mutex::new(board);
-        let moved = Condvar::new();
-        let round = SharedRound {
-            journal,
-            docket: &docket,
-            queues: queues.as_slice(),
-            folios: folios.as_slice(),
-            board: &board,
-            moved: &moved,
-        };
-        work_together(rt, &round, gate, &mut seats[..desks as usize]);
-        let verdicts = board.into_inner().into_verdicts();
-        let is_back = take_back(folios, queues.as_slice(), &mut back);
-        let parts = is_back.then_some(back);
-        if is_complete::<N>(
-            &mut prepared,
-            verdicts,
-            parts,
-            queues.as_slice(),
-            keys.as_slice(),
-        ) {
-            return prepared.into_register(journal, receipts.as_slice());
-        }
-        prepared.reset();
-        prepared.settle_in(journal, receipts.as_slice())
     }
 }
 
