@@ -1,5 +1,6 @@
 //! What holds of the orders in which desks take items, and of the room that a round keeps.
-ghost use Rattle.std.specs.Prelude.{◌≡◌, ◌↔◌, ◌+◌, ◌-◌, ◌<◌, ◌≤◌, ℕ, false, List, length, sum_by, Contains};
+ghost use Rattle.std.specs.Prelude.{◌≡◌, ◌⊎◌, ◌↔◌, ◌+◌, ◌-◌, ◌<◌, ◌≤◌, ℕ, false, List, length, sum_by, Contains};
+ghost use Rattle.gb_base.specs.Keys.{folio_of_key};
 ghost use Rattle.gb_base.specs.declared.keys.Key.{Key};
 ghost use Rattle.gb_base.specs.declared.keys.Key.TheVariants.{Right};
 ghost use Rattle.act_model.specs.Receiving.{IsJournal};
@@ -21,6 +22,13 @@ use kept_registers::laws::empty_register_is_kept;
 /// orders (GBO § 17).
 pub fn waiting_in_turn()
     ensures just { (journal : List Receipt) (order : List ℕ) → IsPermitted journal order ↔ WaitsInTurn journal order }
+{}
+
+/// An item touches two folios at most: where two of its keys are of different ones, any other is of
+/// the one or the other.
+pub fn items_touch_few_folios()
+    ensures few { (journal : List Receipt) (i : ℕ) (j k l : Key) → IsJournal journal → Contains (keys_of_item journal i) j → Contains (keys_of_item journal i) k → Contains (keys_of_item journal i) l
+        → (folio_of_key j ≡ folio_of_key k → ⊥) → (folio_of_key l ≡ folio_of_key j) ⊎ (folio_of_key l ≡ folio_of_key k) }
 {}
 
 /// What stands at a key stays until the next item that touches it is settled.

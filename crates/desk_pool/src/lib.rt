@@ -1,4 +1,28 @@
 //! Desks that settle a journal at once, and leave the register of the one registrar.
 #![tactic(auto)]
 
+mod boards;
+mod building_queues;
+mod desks;
+mod finishing;
+mod folio_parts;
+mod folio_queues;
+mod key_rooms;
 pub mod laws;
+mod locked_folios;
+mod nowhere;
+mod open_folios;
+mod orders;
+mod pairs;
+mod prepared;
+mod preparing;
+mod rounds;
+mod sale_scratches;
+mod seats;
+mod shared_rounds;
+mod taking_back;
+mod taking_over;
+mod together;
+mod touched_folios;
+
+pub use rounds::Round;

@@ -58,13 +58,18 @@ fn words_of_an_opening(rt: HostRuntime) -> Result<(), Fail> {
         ["opening", "--sender", ""].as_slice(),
         ["opening", "--desks", "9"].as_slice(),
         ["opening"].as_slice(),
-        ["opening", "--sender=9"].as_slice(),
+        ["opening", "--sender=9", "--sender=9"].as_slice(),
     ] {
         is_no_command(&rt, words)?;
     }
-    let mut disk = disk_of(&rt, &[], &[])?;
-    let last = ["opening", "--sender", "4294967295"];
-    run_of(&last, LIST).writes(&rt, &mut disk, Status::Ok, TAKEN)
+    for words in [
+        ["opening", "--sender", "4294967295"].as_slice(),
+        ["--sender=4294967295", "opening"].as_slice(),
+    ] {
+        let mut disk = disk_of(&rt, &[], &[])?;
+        run_of(words, LIST).writes(&rt, &mut disk, Status::Ok, TAKEN)?;
+    }
+    Ok(())
 }
 
 #[test]

@@ -1,6 +1,5 @@
 -- What serving the office comes to: an opening, and then a door that was served; or no book was opened.
-use Rattle.std.proofs.Common.{◌≡◌, ◌⊎◌, inl, inr, ⊎_elim, ℕ, ◌≤◌, ◌||◌, Bool, true, false, List, [], ◌++◌, drop, Option, Some, None, Err, IfSome, refl, sym, ◌∙◌, ap, subst, arith, append-nil}
-use Rattle.std.specs.List.{list_any}
+use Rattle.std.proofs.Common.{◌≡◌, ◌⊎◌, inl, inr, ⊎_elim, ℕ, ◌≤◌, Bool, false, List, [], ◌++◌, Option, Some, None, Err, IfSome, refl, sym, ap, subst, arith, append-nil}
 use Rattle.gb_base.specs.DayMinute.{DayMinute}
 use Rattle.gb_outside.specs.Faults.{Counts, Rose}
 use Rattle.gb_outside.specs.Images.{LeavesOnly}
@@ -22,11 +21,9 @@ use Rattle.connections.specs.Turns.{Turn, Taken}
 use Rattle.connections.specs.declared.doors.DoorEnd.{DoorEnd}
 use Rattle.connections.specs.declared.doors.DoorEnd.TheVariants as door
 use Rattle.connections.specs.declared.serving.Served.{Served}
-use Rattle.registry_office.specs.Disks.{KeepsSynced, LeavesSynced}
+use Rattle.registry_office.specs.Disks.{LeavesSynced}
 use Rattle.registry_office.specs.Servings.{IsHeld, ServesOffice}
-use Rattle.registry_office.specs.Statuses.{disk_fault}
 use Rattle.registry_office.specs.declared.statuses.Status.{Status}
-use Rattle.registry_office.specs.declared.statuses.Status.TheVariants as status
 use Rattle.registry_office.specs.inner.Ends.{status_of_door, status_of_fault}
 use Rattle.registry_office.proofs.Opened.{kept_journal}
 

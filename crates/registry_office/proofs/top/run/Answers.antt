@@ -14,7 +14,7 @@ use Rattle.intake_requests.specs.declared.requests.Request.{Request}
 use Rattle.command_words.specs.declared.commands.Command.{Command}
 use Rattle.intake.proofs.SessionInputs.{took_none}
 use Rattle.registry_office.proofs.Opened.{no_front, none_written}
-use Rattle.registry_office.proofs.Takings.{cut_by_status, err_by_status, short_by_status, read_part_of_early}
+use Rattle.registry_office.proofs.Takings.{cut_by_status, err_by_status, read_part_of_early}
 use Rattle.registry_office.proofs.top.run.Goals as goal
 
 pub returns-in-Ok-Settle-clause-part : goal.returns-in-Ok-Settle-clause-part

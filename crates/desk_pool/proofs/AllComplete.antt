@@ -1,0 +1,79 @@
+-- What the desks have settled, put together, is the register of the one registrar.
+use Rattle.std.proofs.Common.{◌≡◌, ⊎_elim, ℕ, ◌+◌, ◌-◌, ◌<◌, ◌≤◌, Bool, true, false, ◌||◌, List, [], ◌∷◌, ◌++◌, All, Contains, Global, Vec, length, map, Some, slice_get, refl, sym, ap, subst, ◌∙◌, arith}
+use Rattle.std.specs.List.{range_with_len}
+use Rattle.std.proofs.lemmas.Bool.{cases_Bool, false≢true}
+use Rattle.std.proofs.lemmas.List.Elements.{All-head, All-tail}
+use Rattle.gb_base.proofs.Members.{in_range, of_range}
+use Rattle.gb_base.specs.Keys.{same_key}
+use Rattle.gb_base.specs.declared.keys.Key.{Key}
+use Rattle.act_model.proofs.KeyOrder.{same_is}
+use Rattle.act_model.specs.Receiving.{IsJournal}
+use Rattle.act_model.specs.declared.receipts.Receipt.{Receipt}
+use Rattle.conflict_queue.specs.Dockets.{has_key}
+use Rattle.conflict_queue.specs.ItemKeys.{keys_of_item}
+use Rattle.conflict_queue.specs.Schedules.{in_receipt_order}
+use Rattle.folio_line.specs.inner.NotHeld.{not_held}
+use Rattle.folio_sections.specs.Entries.{at}
+use Rattle.folio_sections.specs.Held.{entries_at, is_given, is_held, room_at}
+use Rattle.folio_sections.specs.PartState.{PartState}
+use Rattle.kept_registers.specs.Kept.{Kept}
+use Rattle.registrar.proofs.RisingNumbers.{in_of_contains}
+use Rattle.registrar.specs.Brings.{brings}
+use Rattle.registrar.specs.HasSettled.{settled_first}
+use Rattle.registrar.specs.HeldKeys.{keys_of_first}
+use Rattle.registrar.specs.RegisterState.{verdict_among}
+use Rattle.registrar.specs.Settling.{registrar}
+use Rattle.registrar.specs.declared.verdicts.Verdict.{Verdict}
+use Rattle.desk_pool.specs.FolioStates.{HasAllRoom}
+use Rattle.desk_pool.specs.FoliosBack.{AllBack, AreAllKeys, AreBack}
+use Rattle.desk_pool.specs.Preparing.{HasPlaces}
+use Rattle.desk_pool.specs.declared.folio_parts.KeyRoom.{KeyRoom}
+use Rattle.desk_pool.specs.declared.folio_queues.FolioQueue.{FolioQueue}
+use Rattle.desk_pool.specs.declared.prepared.Prepared.{Prepared}
+use Rattle.desk_pool.specs.inner.PreparedRuns.{HasTaken}
+use Rattle.desk_pool.proofs.NothingBetween.{nothing_between}
+use Rattle.desk_pool.proofs.PreparedScratches.{given_at}
+use Rattle.desk_pool.proofs.Settling.{verdict_said}
+
+-- what was prepared, with other parts and other verdicts
+abbrev pub put_together : Prepared → List PartState → Vec Verdict Global → Prepared
+put_together s parts verdicts = record { alloc = s.alloc; parts = parts; scratch = s.scratch; verdicts = verdicts; folios = s.folios }
+
+pub places_together : (journal : List Receipt) (s : Prepared) (parts : List PartState) (verdicts : Vec Verdict Global) → HasPlaces journal s → is_held parts ≡ is_held s.parts
+    → HasAllRoom journal (is_held parts) (entries_at parts) (room_at parts) → length verdicts.items ≡ length journal → HasPlaces journal (put_together s parts verdicts)
+places_together journal s parts verdicts places held room count =
+    record { held = λ k. (λ i. held i k) ∙ places.held k; room = room; scratch = places.scratch; verdicts = count; folios = places.folios }
+
+-- what holds of each of these keys holds of one that is given among them
+given_listed : (keys : List KeyRoom) (k : Key) (P : Key → Type 0) → is_given (map (λ w. w.key) keys) k ≡ true → All (λ w. P w.key) keys → P k
+given_listed [] k P given all = absurd (false≢true given)
+given_listed (w ∷ ws) k P given all =
+    ⊎_elim
+    (λ same. subst P (same_is w.key k same) (All-head (λ v. P v.key) w ws all))
+    (λ other. given_listed ws k P (sym (ap (λ b. b || is_given (map (λ v. v.key) ws) k) other) ∙ given) (All-tail (λ v. P v.key) w ws all))
+    (cases_Bool (same_key w.key k))
+
+module _ (journal : List Receipt) (numbered : IsJournal journal) (empty : Kept journal (λ k. [])) where
+  -- at a key that no item touches nothing stands
+  untouched_is_empty : (k : Key) → is_given (keys_of_first journal (length journal)) k ≡ false → at (registrar journal).entries k ≡ []
+  untouched_is_empty k none = nothing_between journal k numbered empty 0 (length journal) (omega arith)
+      (λ i low high.
+      ⊎_elim
+      (λ touched. absurd (false≢true (sym none ∙ given_at journal k 1 (length journal) i (omega (arith, low)) (omega (arith, high)) touched)))
+      (λ lacks. lacks)
+      (cases_Bool (has_key k (keys_of_item journal i))))
+
+  pub entries_together : (parts : List PartState) (keys : List KeyRoom) → ((k : Key) → is_held parts k ≡ is_given (keys_of_first journal (length journal)) k) → AreAllKeys journal keys
+      → All (λ w. entries_at parts w.key ≡ at (registrar journal).entries w.key) keys → (k : Key) → entries_at parts k ≡ at (registrar journal).entries k
+  entries_together parts keys held are all k =
+      ⊎_elim
+      (λ there. given_listed keys k (λ j. entries_at parts j ≡ at (registrar journal).entries j) (are.all k ∙ sym (held k) ∙ there) all)
+      (λ none. not_held parts k none ∙ sym (untouched_is_empty k (sym (held k) ∙ none)))
+      (cases_Bool (is_held parts k))
+
+  pub verdicts_together : (verdicts : List Verdict) → length verdicts ≡ length journal → ((n : ℕ) → 1 ≤ n → n ≤ length verdicts → slice_get verdicts (n - 1) ≡ verdict_among (registrar journal).verdicts n)
+      → (n : ℕ) → Contains (in_receipt_order journal) n → slice_get verdicts (n - 1) ≡ Some (brings journal n (at (settled_first journal (n - 1)).entries)).verdict
+  verdicts_together verdicts count said n among =
+      let is = of_range 1 (length journal) n (in_of_contains (in_receipt_order journal) n among) in
+      said n is.0 (omega (arith, is.1, count))
+      ∙ verdict_said journal n (brings journal n (at (settled_first journal (n - 1)).entries)).verdict numbered empty is.0 (omega (arith, is.1)) refl

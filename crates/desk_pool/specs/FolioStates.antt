@@ -1,0 +1,42 @@
+-- What lies behind the lock of a folio.
+use Rattle.std.specs.Prelude.{◌≡◌, ℕ, ◌+◌, ◌-◌, ◌≤◌, List, length, Bool, IsTrue}
+use Rattle.gb_base.specs.declared.keys.Key.{Key}
+use Rattle.act_model.specs.Receiving.{IsJournal}
+use Rattle.act_model.specs.declared.receipts.Receipt.{Receipt}
+use Rattle.folio_sections.specs.Entries.{at}
+use Rattle.folio_sections.specs.Held.{entries_at, is_held, room_at}
+use Rattle.folio_sections.specs.PartState.{PartState}
+use Rattle.folio_sections.specs.declared.entries.Entry.{Entry}
+use Rattle.desk_pool.specs.FolioQueues.{is_key_of, last_taken, queue_of, touches_folio}
+use Rattle.desk_pool.specs.RoundRooms.{room_of_first}
+use Rattle.registrar.specs.HasSettled.{settled_first}
+use Rattle.registrar.specs.Rooms.{HasItsScratch}
+use Rattle.sale_rules.specs.ScratchRoom.{ScratchRoom}
+
+-- the folio, how many of its items are settled, its parts, and the scratch in which its sales are reckoned
+pub record FolioState : Type 0 where
+  pub folio : ℕ
+  pub taken : ℕ
+  pub parts : List PartState
+  pub scratch : ScratchRoom
+
+-- at each key that is held stands what the one registrar leaves there behind the first n items
+abbrev pub StandsAt : List Receipt → ℕ → (Key → Bool) → (Key → List Entry) → Type 0
+StandsAt journal n holds stands = (k : Key) → IsTrue (holds k) → stands k ≡ at (settled_first journal n).entries k
+
+-- each key that is held has place for all that the journal's items enter there
+abbrev pub HasAllRoom : List Receipt → (Key → Bool) → (Key → List Entry) → (Key → ℕ) → Type 0
+HasAllRoom journal holds stands room = (k : Key) → IsTrue (holds k) → room_of_first journal (length journal) k ≤ length (stands k) + room k
+
+-- the scratch has room for each item that touches the folio
+abbrev pub HasAllScratch : List Receipt → ℕ → ScratchRoom → Type 0
+HasAllScratch journal folio scratch =
+    (i : ℕ) → IsTrue (touches_folio journal folio i) → HasItsScratch journal i (at (settled_first journal (i - 1)).entries) scratch
+
+-- The folio's parts are at its keys, and say what the one registrar leaves there behind the last of the folio's items that are settled.
+pub record IsBehindLock (journal : List Receipt) (s : FolioState) : Type 0 where
+  pub numbered : IsJournal journal
+  pub held : (k : Key) → is_held s.parts k ≡ is_key_of journal s.folio k
+  pub stands : StandsAt journal (last_taken (queue_of journal s.folio) s.taken) (is_held s.parts) (entries_at s.parts)
+  pub room : HasAllRoom journal (is_held s.parts) (entries_at s.parts) (room_at s.parts)
+  pub scratch : HasAllScratch journal s.folio s.scratch

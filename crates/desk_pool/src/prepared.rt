@@ -1,0 +1,112 @@
+//! A journal settled in any permitted order, where all that it wants is there beforehand.
+ghost use Rattle.std.specs.Prelude.{◌≡◌, ◌<◌, ◌+◌, List, length, take};
+ghost use Rattle.gb_base.specs.declared.keys.Key.{Key};
+ghost use Rattle.act_model.specs.Receiving.{IsJournal};
+ghost use Rattle.act_model.specs.declared.receipts.Receipt.{Receipt};
+ghost use Rattle.conflict_queue.specs.Schedules.{IsPermitted};
+ghost use Rattle.desk_pool.specs.Preparing.{HasPlaces, IsPrepared};
+ghost use Rattle.desk_pool.specs.inner.PreparedRuns.{HasTaken};
+ghost use Rattle.folio_sections.specs.Entries.{at};
+ghost use Rattle.folio_sections.specs.Held.{entries_at, is_given, is_held};
+ghost use Rattle.kept_registers.specs.Kept.{Kept};
+ghost use Rattle.registrar.specs.HasSettled.{HasSettled, IsRegisterOf};
+ghost use Rattle.registrar.specs.HeldKeys.{keys_of_first};
+ghost use Rattle.registrar.specs.KeptAwards.{AwardsKept};
+ghost use Rattle.registrar.specs.OpenFolios.{open_folios};
+ghost use Rattle.registrar.specs.Settling.{registrar};
+
+use crate::open_folios::keep_open;
+use act_model::Journal;
+use folio_sections::MapParts;
+use gb_base::{FolioId, ReceiptNo};
+use kept_registers::laws::empty_register_is_kept;
+use registrar::{Register, Scratch, Verdict, step};
+use std::alloc::Global;
+
+/// All that a journal is settled in: parts at its keys with room for what its items bring, a
+/// scratch, a verdict for each item, which says nothing yet, and the folios that may be open in the
+/// end. So the settlement itself wants no memory.
+#[derive(Drop)]
+pub(crate) struct Prepared {
+    pub alloc: Global,
+    pub parts: MapParts,
+    pub scratch: Scratch,
+    pub verdicts: Vec<Verdict>,
+    pub folios: Vec<FolioId>,
+}
+
+impl Prepared {
+    /// Settles all items, in this order, and leaves the register of the one registrar (GBO § 17).
+    pub fn settle_in(mut self, journal: &Journal, order: &[ReceiptNo]) -> Register
+        requires prepared { IsPrepared journal.now.receipts self }
+        requires permitted { IsPermitted journal.now.receipts order.now }
+        ensures settled { HasSettled journal.now.receipts result }
+        ensures whole { IsRegisterOf journal.now.receipts result }
+        ensures entries { entries_at result.parts ≡ at (registrar journal.now.receipts).entries }
+        ensures verdicts { result.verdicts ≡ (registrar journal.now.receipts).verdicts }
+        ensures folios { result.folios ≡ open_folios (registrar journal.now.receipts).entries }
+        ensures held { (k : Key) → is_held result.parts k ≡ is_given (keys_of_first journal.now.receipts (length journal.now.receipts)) k }
+        ensures kept { Kept journal.now.receipts (entries_at result.parts) }
+        ensures awards { AwardsKept journal.now.receipts (entries_at result.parts) }
+    {
+        // Called for its clause.
+        journal.len();
+        self.settle_all(journal, order);
+        self.into_register(journal, order)
+    }
+
+    /// The register where all items are settled, in this order.
+    pub fn into_register(mut self, journal: &Journal, order: &[ReceiptNo]) -> Register
+        requires taken { HasTaken journal.now.receipts order.now self }
+        requires permitted { IsPermitted journal.now.receipts order.now }
+        ensures settled { HasSettled journal.now.receipts result }
+        ensures whole { IsRegisterOf journal.now.receipts result }
+        ensures entries { entries_at result.parts ≡ at (registrar journal.now.receipts).entries }
+        ensures verdicts { result.verdicts ≡ (registrar journal.now.receipts).verdicts }
+        ensures folios { result.folios ≡ open_folios (registrar journal.now.receipts).entries }
+        ensures held { (k : Key) → is_held result.parts k ≡ is_given (keys_of_first journal.now.receipts (length journal.now.receipts)) k }
+        ensures kept { Kept journal.now.receipts (entries_at result.parts) }
+        ensures awards { AwardsKept journal.now.receipts (entries_at result.parts) }
+    {
+        // Called for their clauses.
+        empty_register_is_kept();
+        journal.len();
+        keep_open(&mut self.folios, &self.parts);
+        Register::of_parts(self.alloc, self.parts, self.verdicts, self.folios)
+    }
+
+    /// Settles all items, in this order.
+    fn settle_all(&mut self, journal: &Journal, order: &[ReceiptNo])
+        requires numbered { IsJournal journal.now.receipts }
+        requires prepared { IsPrepared journal.now.receipts self.old }
+        requires permitted { IsPermitted journal.now.receipts order.now }
+        ensures taken { HasTaken journal.now.receipts order.now self.new }
+    {
+        for place in 0..order.len() {
+            self.settle_at(journal, order, place);
+        }
+    }
+
+    /// Settles the item at a place of the order, where those ahead of it are settled.
+    fn settle_at(&mut self, journal: &Journal, order: &[ReceiptNo], place: usize)
+        requires numbered { IsJournal journal.now.receipts }
+        requires permitted { IsPermitted journal.now.receipts order.now }
+        requires place { place < length order.now }
+        requires ahead { HasTaken journal.now.receipts (take place order.now) self.old }
+        ensures taken { HasTaken journal.now.receipts (take (place + 1) order.now) self.new }
+    {
+        // Called for its clause.
+        empty_register_is_kept();
+        let item = order[place];
+        let verdict = step(&mut self.parts, &mut self.scratch, journal, item);
+        self.verdicts[item.get() as usize - 1] = verdict;
+    }
+
+    /// Takes away what stands in the parts, so that a journal for which they have the places is
+    /// settled anew. It takes no memory.
+    pub fn reset(&mut self)
+        ensures prepared { (journal : List Receipt) → HasPlaces journal self.old → IsPrepared journal self.new }
+    {
+        self.parts.clear();
+    }
+}

@@ -1,0 +1,107 @@
+//! All that a journal is settled in, made beforehand.
+ghost use Rattle.std.specs.Prelude.{◌≡◌, filter_map, length, map, IfOk};
+ghost use Rattle.desk_pool.specs.KeyRooms.{AreRooms};
+ghost use Rattle.desk_pool.specs.Preparing.{IsPrepared};
+ghost use Rattle.desk_pool.specs.inner.TitlesListed.{titled_folio};
+
+use crate::folio_parts::{KeyRoom, list_rooms, parts_at, parts_for_folio};
+use crate::folio_queues::FolioQueue;
+use crate::locked_folios::LockedFolio;
+use crate::prepared::Prepared;
+use crate::sale_scratches::{scratch_for_all, scratch_for_folio};
+use act_model::{Journal, JournalName};
+use gb_base::{FolioId, Key, NoMemory};
+use registrar::Verdict;
+use std::alloc::Global;
+use std::collections::BTreeMap;
+
+/// All that the journal is settled in without threads; `rooms` is the room at each of its keys.
+/// Wants memory (NoMemory).
+pub(crate) fn prepare_all(
+    alloc: Global,
+    journal: &Journal,
+    rooms: &BTreeMap<Key, usize>,
+) -> Result<Prepared, NoMemory>
+    requires { AreRooms journal.now.receipts rooms.now }
+    ensures { IfOk result (IsPrepared journal.now.receipts) }
+{
+    let keys = list_rooms(alloc, rooms)?;
+    let parts = parts_at(alloc, keys.as_slice())?;
+    let scratch = scratch_for_all(alloc, journal, rooms, keys.as_slice())?;
+    let verdicts = no_verdicts(alloc, journal.len() as usize)?;
+    let folios = titled_folios(alloc, keys.as_slice())?;
+    Ok(Prepared {
+        alloc,
+        parts,
+        scratch,
+        verdicts,
+        folios,
+    })
+}
+
+/// The folios of the journal's queues, each with what lies behind its lock, in the order of the
+/// queues; `rooms` is the room at each of the journal's keys. Wants memory (NoMemory).
+pub(crate) fn lock_folios<N: JournalName>(
+    alloc: Global,
+    journal: &Journal,
+    rooms: &BTreeMap<Key, usize>,
+    queues: &[FolioQueue],
+) -> Result<Vec<LockedFolio<N>>, NoMemory>
+    requires named { journal.now.receipts ≡ N.receipts }
+    requires rooms { AreRooms journal.now.receipts rooms.now }
+    ensures { IfOk result (λ folios. map (λ f. f.folio) folios.items ≡ map (λ q. q.folio) queues.now) }
+{
+    let mut folios = Vec::with_capacity(alloc, queues.len())?;
+    for queue in queues {
+        folios.push(lock_folio(alloc, journal, rooms, queue.folio)?)?;
+    }
+    Ok(folios)
+}
+
+/// What lies behind the lock of a folio of which no item is settled.
+fn lock_folio<N: JournalName>(
+    alloc: Global,
+    journal: &Journal,
+    rooms: &BTreeMap<Key, usize>,
+    folio: FolioId,
+) -> Result<LockedFolio<N>, NoMemory>
+    requires named { journal.now.receipts ≡ N.receipts }
+    requires rooms { AreRooms journal.now.receipts rooms.now }
+    ensures { IfOk result (λ locked. locked.folio ≡ folio) }
+{
+    // Called for its clause.
+    journal.len();
+    let parts = parts_for_folio(alloc, rooms, folio)?;
+    let scratch = scratch_for_folio(alloc, journal, rooms, folio)?;
+    Ok(LockedFolio::new(folio, parts, scratch))
+}
+
+/// So many verdicts, that say nothing yet.
+pub(crate) fn no_verdicts(alloc: Global, count: usize) -> Result<Vec<Verdict>, NoMemory>
+    ensures { IfOk result (λ verdicts. length verdicts.items ≡ count) }
+{
+    let mut verdicts = Vec::with_capacity(alloc, count)?;
+    for _item in 0..count {
+        verdicts.push(Verdict::NotPending)?;
+    }
+    Ok(verdicts)
+}
+
+/// The folios whose title is among these keys, in their order.
+fn titled_folios(alloc: Global, keys: &[KeyRoom]) -> Result<Vec<FolioId>, NoMemory>
+    ensures { IfOk result (λ folios. folios.items ≡ filter_map (λ r. titled_folio r.key) keys.now) }
+{
+    keys.iter()
+        .filter_map(|wanted| titled_folio(&wanted.key))
+        .collect(alloc)
+}
+
+/// The folio of a title; None where the key is of no title.
+fn titled_folio(key: &Key) -> Option<FolioId>
+    ensures { result ≡ titled_folio key.now }
+{
+    match key {
+        Key::Title(folio) => Some(*folio),
+        _ => None,
+    }
+}
