@@ -23,6 +23,7 @@ pub mod PreparedRuns
 pub mod PreparedScratches
 pub mod RoomGrows
 pub mod RoomsSuffice
+pub mod RoundKeys
 pub mod RoundOrders
 pub mod SaleRoom
 pub mod Saying

@@ -13,11 +13,14 @@ ghost use Rattle.registrar.specs.OpenFolios.{open_folios};
 ghost use Rattle.registrar.specs.Settling.{registrar};
 
 use crate::boards::Board;
-use crate::folio_parts::KeyRoom;
+use crate::building_queues::build_queues;
+use crate::folio_parts::{KeyRoom, list_rooms};
 use crate::folio_queues::FolioQueue;
+use crate::key_rooms::count_rooms;
 use crate::locked_folios::LockedFolio;
 use crate::orders::is_permitted;
 use crate::prepared::Prepared;
+use crate::preparing::{lock_folios, prepare_all};
 use crate::seats::Seat;
 use act_model::{Journal, JournalName};
 use conflict_queue::Docket;
@@ -67,6 +70,31 @@ impl<'a, N: JournalName> Model for Round<'a, N> {
 }
 
 impl<'a, N: JournalName> Round<'a, N> {
+    /// All that the items of the journal are settled in. Wants memory (NoMemory).
+    pub fn prepare(alloc: Global, journal: &'a Journal) -> Result<Round<'a, N>, NoMemory>
+        requires { journal.now.receipts ≡ N.receipts }
+    {
+        let docket = Docket::build(alloc, journal)?;
+        let queues = build_queues(alloc, journal, &docket)?;
+        let rooms = count_rooms(alloc, journal, &docket)?;
+        let folios = lock_folios(alloc, journal, &rooms, queues.as_slice())?;
+        let receipts = list_receipts(alloc, journal)?;
+        let board = Board::new(alloc, &docket, queues.as_slice(), receipts.as_slice())?;
+        Ok(Round {
+            journal,
+            docket,
+            keys: list_rooms(alloc, &rooms)?,
+            back: Vec::with_capacity(alloc, queues.len())?,
+            queues,
+            folios: put_behind_locks(alloc, folios)?,
+            board,
+            seats: list_seats(alloc)?,
+            prepared: prepare_all(alloc, journal, &rooms)?,
+            passed: list_unpassed(alloc, receipts.len())?,
+            receipts,
+        })
+    }
+
     /// Settles the journal in the order of its receipts.
     pub fn alone(self) -> Register
         ensures settled { HasSettled N.receipts result }
