@@ -15,6 +15,7 @@ pub mod LinksServed
 pub mod LinksTaken
 pub mod NoBook
 pub mod ReceivedItems
+pub mod SettledClerks
 pub mod TakenBooks
 pub mod TakenTurns
 pub mod ToldLinks

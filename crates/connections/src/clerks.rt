@@ -1,5 +1,5 @@
 //! The clerk, who answers requests and keeps the open book between them.
-ghost use Rattle.std.specs.Prelude.{◌≡◌, ◌⊎◌, ◌≤◌, ◌==◌, ◌+◌, ℕ, List, Option, Some, None, length, IfOk, IfErr, IfSome, IsSome, OnErr, OnOk, IsTrue, is_ok, true, false};
+ghost use Rattle.std.specs.Prelude.{◌≡◌, ◌⊎◌, ◌≤◌, ◌==◌, ◌+◌, ℕ, List, Option, Some, None, length, IfOk, IfErr, IfSome, IsSome, OnErr, OnOk, IsTrue, is_ok, option_map, true, false};
 ghost use Rattle.gb_base.specs.DayMinute.{DayMinute};
 ghost use Rattle.gb_outside.specs.Faults.{Counts};
 ghost use Rattle.gb_outside.specs.Images.{Only, Torn};
@@ -23,13 +23,15 @@ use crate::receiving::receive;
 use crate::replies::Reply;
 use act_json::read_item;
 use act_model::Item;
-use gb_outside::{Clock, Disk};
+use gb_outside::{Clock, DeskGate, Disk};
 use intake_requests::SenderReference;
 use receipt_journal::BookFault;
 use registry_http::{Request, Route, route};
 use settled_book::SettledBook;
 use std::alloc::Global;
 use std::marker::Model;
+use std::sync::Wait;
+use std::thread::Threads;
 
 /// Answers requests, and keeps the open book between them. The disk and the clock are lent to each
 /// call.
@@ -73,6 +75,22 @@ impl Clerk {
     {
         let book = SettledBook::open(alloc, disk)?;
         Ok(Clerk { book: Some(book) })
+    }
+
+    /// Settles the journal of the book that is open at so many desks, 1 to 64, where nothing of it is
+    /// settled yet. Where no memory is found for that, the next request that reads it settles it.
+    pub fn settle<R: AllocGlobal + Threads + Wait + Sync, G: DeskGate>(
+        &mut self,
+        rt: &R,
+        desks: u16,
+        gate: &G,
+    )
+        requires desks { (1 ≤ desks) × (desks ≤ 64) }
+        ensures book { option_map (λ settled. settled.book) self.new ≡ option_map (λ settled. settled.book) self.old }
+    {
+        if let Some(book) = &mut self.book {
+            book.settle(rt, desks, gate);
+        }
     }
 
     /// Takes out the book that is open, if it works.

@@ -19,6 +19,7 @@ mod preparing;
 mod rounds;
 mod sale_scratches;
 mod seats;
+mod settling;
 mod shared_rounds;
 mod taking_back;
 mod taking_over;
@@ -26,3 +27,4 @@ mod together;
 mod touched_folios;
 
 pub use rounds::Round;
+pub use settling::settle_at_desks;

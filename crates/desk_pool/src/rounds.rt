@@ -1,6 +1,6 @@
 //! A round: a journal whose items are settled, by desks in threads or by one registrar.
 //! Why so: docs/DECISIONS.md, "A round keeps its room twice".
-ghost use Rattle.std.specs.Prelude.{◌≡◌, ◌↔◌, false, All, IfOk, IfSome, IsSome, length};
+ghost use Rattle.std.specs.Prelude.{◌≡◌, ◌↔◌, ◌≤◌, false, All, IfOk, IfSome, IsSome, length};
 ghost use Rattle.gb_base.specs.declared.keys.Key.{Key};
 ghost use Rattle.conflict_queue.specs.Schedules.{IsPermitted, in_receipt_order};
 ghost use Rattle.folio_sections.specs.Entries.{at};
@@ -14,6 +14,7 @@ ghost use Rattle.registrar.specs.Settling.{registrar};
 
 use crate::boards::Board;
 use crate::building_queues::build_queues;
+use crate::finishing::finish;
 use crate::folio_parts::{KeyRoom, list_rooms};
 use crate::folio_queues::FolioQueue;
 use crate::key_rooms::count_rooms;
@@ -22,15 +23,19 @@ use crate::orders::is_permitted;
 use crate::prepared::Prepared;
 use crate::preparing::{lock_folios, prepare_all};
 use crate::seats::Seat;
+use crate::taking_back::take_back;
+use crate::together::settle_together;
 use act_model::{Journal, JournalName};
 use conflict_queue::Docket;
 use conflict_queue::laws::receipts_in_turn;
 use folio_sections::MapParts;
 use gb_base::{NoMemory, ReceiptNo};
+use gb_outside::DeskGate;
 use registrar::Register;
 use std::alloc::Global;
 use std::marker::Model;
-use std::sync::Mutex;
+use std::sync::{Mutex, Wait};
+use std::thread::Threads;
 
 /// How many desks there are at most.
 const MOST_DESKS: usize = 64;
@@ -59,14 +64,14 @@ pub struct Round<'a, N: JournalName> {
 }
 
 impl<'a, N: JournalName> Model for Round<'a, N> {
-    ghost use Rattle.std.specs.Prelude.{List, ℕ};
+    ghost use Rattle.std.specs.Prelude.{List, ℕ, length};
     ghost use Rattle.desk_pool.specs.Rounds.{IsRound};
 
     ghost Value = { List ℕ };
 
     ghost view = { λ a. a.receipts.items };
 
-    ghost invariant = { λ a. IsRound N.receipts a.journal.now.receipts a.docket a.queues.items a.keys.items a.back.items a.prepared a.receipts.items a.passed.items };
+    ghost invariant = { λ a. IsRound N.receipts a.journal.now.receipts a.docket a.queues.items a.keys.items a.back.items a.prepared (length a.seats.items) a.receipts.items a.passed.items };
 }
 
 impl<'a, N: JournalName> Round<'a, N> {
@@ -141,6 +146,63 @@ impl<'a, N: JournalName> Round<'a, N> {
             return None;
         }
         Some(prepared.settle_in(journal, order))
+    }
+}
+
+impl<'a, N: JournalName + Send + Sync> Round<'a, N> {
+    /// Settles the journal at so many desks, 1 to 64, each in a thread of its own where one can be
+    /// had. `gate` is called with each item while its folios are locked. Whatever the desks do, the
+    /// register is that of one registrar (GBO § 17): what they left undone is settled behind them.
+    pub fn run<R: Threads + Wait + Sync, G: DeskGate>(
+        self,
+        rt: &R,
+        desks: u16,
+        gate: &G,
+    ) -> Register
+        requires desks { (1 ≤ desks) × (desks ≤ 64) }
+        ensures settled { HasSettled N.receipts result }
+        ensures whole { IsRegisterOf N.receipts result }
+        ensures entries { entries_at result.parts ≡ at (registrar N.receipts).entries }
+        ensures verdicts { result.verdicts ≡ (registrar N.receipts).verdicts }
+        ensures folios { result.folios ≡ open_folios (registrar N.receipts).entries }
+        ensures held { (k : Key) → is_held result.parts k ≡ is_given (keys_of_first N.receipts (length N.receipts)) k }
+        ensures kept { Kept N.receipts (entries_at result.parts) }
+        ensures awards { AwardsKept N.receipts (entries_at result.parts) }
+    {
+        let Round {
+            journal,
+            docket,
+            queues,
+            keys,
+            folios,
+            mut back,
+            board,
+            mut seats,
+            prepared,
+            receipts,
+            ..
+        } = self;
+        let verdicts = settle_together(
+            rt,
+            gate,
+            journal,
+            &docket,
+            queues.as_slice(),
+            folios.as_slice(),
+            board,
+            &mut seats[..desks as usize],
+        );
+        let is_back = take_back(folios, queues.as_slice(), &mut back);
+        let back = is_back.then_some(back);
+        finish::<N>(
+            journal,
+            prepared,
+            verdicts,
+            back,
+            queues.as_slice(),
+            keys.as_slice(),
+            receipts.as_slice(),
+        )
     }
 }
 

@@ -25,10 +25,12 @@ use registry_office::{Status, run};
 use std::io;
 use std::process::ExitCode;
 use std::rc::RcStr;
+use std::sync::Wait;
+use std::thread::Threads;
 
 fn main(rt: HostRuntime) -> ExitCode {
     let status = match words::words(&rt) {
-        Ok(words) => office(&rt, words.as_slice()),
+        Ok(words) => office(&rt, &rt, words.as_slice()),
         Err(status) => status,
     };
     endings::tell(&rt, status);
@@ -36,15 +38,19 @@ fn main(rt: HostRuntime) -> ExitCode {
 }
 
 /// Runs the office over standard input and output, the journal's file of the current folder, the
-/// system's clock and the office's port.
-fn office(rt: &HostRuntime, words: &[RcStr]) -> Status {
+/// system's clock and the office's port. `threads` is the same runtime, as what starts desks.
+fn office<R: AllocGlobal + Threads + Wait + Sync>(
+    rt: &HostRuntime,
+    threads: &R,
+    words: &[RcStr],
+) -> Status {
     let mut source = Input::new(rt.reader());
     let mut sink = Output::new(io::writer(rt));
     let mut disk = JournalFile::new(rt);
     let mut clock = SystemClock::new(rt);
     let mut door = TcpDoor::new(rt);
     run(
-        rt,
+        threads,
         words,
         &mut source,
         &mut sink,

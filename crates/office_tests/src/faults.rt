@@ -3,10 +3,12 @@
 use crate::runs::{Run, disk_of, settles};
 use registry_office::Status;
 use std::process::Abort;
+use std::sync::Wait;
 use std::test::Fail;
+use std::thread::Threads;
 
 /// The run is made twice over one disk, and writes these texts; the report is that of one run.
-pub fn stands_once<R: AllocGlobal + Abort>(
+pub fn stands_once<R: AllocGlobal + Threads + Wait + Sync + Abort>(
     rt: &R,
     run: &Run<'_>,
     first: &[u8],
@@ -22,7 +24,7 @@ pub fn stands_once<R: AllocGlobal + Abort>(
 /// Opening an empty disk takes nine calls, and each receipt four, of which two are syncs. Each
 /// fails in turn. `in_part` is written where a call of the second receipt fails, and nothing
 /// before.
-pub fn disk_fails<R: AllocGlobal + Abort>(
+pub fn disk_fails<R: AllocGlobal + Threads + Wait + Sync + Abort>(
     rt: &R,
     run: &Run<'_>,
     in_part: &[u8],
@@ -38,7 +40,7 @@ pub fn disk_fails<R: AllocGlobal + Abort>(
 }
 
 /// A run of which this call of the disk fails writes this text.
-fn call_fails<R: AllocGlobal + Abort>(
+fn call_fails<R: AllocGlobal + Threads + Wait + Sync + Abort>(
     rt: &R,
     run: &Run<'_>,
     call: u32,
@@ -52,7 +54,7 @@ fn call_fails<R: AllocGlobal + Abort>(
 }
 
 /// Each of the three writes fails in turn.
-pub fn sink_fails<R: AllocGlobal + Abort>(
+pub fn sink_fails<R: AllocGlobal + Threads + Wait + Sync + Abort>(
     rt: &R,
     run: &Run<'_>,
     report: &[u8],
@@ -68,7 +70,7 @@ pub fn sink_fails<R: AllocGlobal + Abort>(
 }
 
 /// A run that is cut ends with this status, and the run that follows it with Ok.
-pub fn received_again<R: AllocGlobal + Abort>(
+pub fn received_again<R: AllocGlobal + Threads + Wait + Sync + Abort>(
     rt: &R,
     cut: &Run<'_>,
     whole: &Run<'_>,

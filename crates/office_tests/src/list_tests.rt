@@ -3,7 +3,9 @@ use crate::faults::{disk_fails, sink_fails, stands_once};
 use crate::runs::{Run, disk_of, run_of, settles};
 use registry_office::Status;
 use std::process::Abort;
+use std::sync::Wait;
 use std::test::Fail;
+use std::thread::Threads;
 
 const LIST: &[u8] =
     b"folio,district,parcel,sub,area,owner\n7,12,345,6,800,10\n7,12\n8,12,346,0,500,11\n";
@@ -43,7 +45,7 @@ fn a_list_with_another_header_receives_nothing(rt: HostRuntime) -> Result<(), Fa
 }
 
 /// These words are no command: nothing is written, neither to the sink nor to the disk.
-fn is_no_command<R: AllocGlobal + Abort>(rt: &R, words: &[&str]) -> Result<(), Fail> {
+fn is_no_command<R: AllocGlobal + Threads + Wait + Sync + Abort>(rt: &R, words: &[&str]) -> Result<(), Fail> {
     let mut disk = disk_of(rt, &[], &[])?;
     run_of(words, LIST).writes(rt, &mut disk, Status::Usage, b"")?;
     assert!(rt; disk.bytes().is_empty());
@@ -80,7 +82,7 @@ fn a_list_is_received_again_after_a_fault_of_the_disk(rt: HostRuntime) -> Result
 }
 
 /// A list of which this read fails receives nothing, however much of it came.
-fn is_cut<R: AllocGlobal + Abort>(rt: &R, read: u32) -> Result<(), Fail> {
+fn is_cut<R: AllocGlobal + Threads + Wait + Sync + Abort>(rt: &R, read: u32) -> Result<(), Fail> {
     let mut disk = disk_of(rt, &[], &[])?;
     let run = Run {
         failing_reads: &[read],

@@ -4,7 +4,9 @@ use gb_outside::{Disk, ListClock, MemDisk, MemSink, MemSource, OpenGate, SureLis
 use registry_office::{Status, run};
 use std::process::Abort;
 use std::rc::RcStr;
+use std::sync::Wait;
 use std::test::Fail;
+use std::thread::Threads;
 
 /// The words of a run, its input, and which reads and writes of it fail.
 #[derive(Clone, Copy)]
@@ -17,7 +19,7 @@ pub struct Run<'a> {
 
 impl Run<'_> {
     /// How the run over the disk ended, and what was written.
-    pub fn done<R: AllocGlobal, D: Disk>(
+    pub fn done<R: AllocGlobal + Threads + Wait + Sync, D: Disk>(
         &self,
         rt: &R,
         disk: &mut D,
@@ -43,7 +45,7 @@ impl Run<'_> {
     }
 
     /// The run over the disk ends with this status, whatever it writes.
-    pub fn ends<R: AllocGlobal + Abort>(
+    pub fn ends<R: AllocGlobal + Threads + Wait + Sync + Abort>(
         &self,
         rt: &R,
         disk: &mut MemDisk,
@@ -55,7 +57,7 @@ impl Run<'_> {
     }
 
     /// The run over the disk ends with this status, and writes this text.
-    pub fn writes<R: AllocGlobal + Abort, D: Disk>(
+    pub fn writes<R: AllocGlobal + Threads + Wait + Sync + Abort, D: Disk>(
         &self,
         rt: &R,
         disk: &mut D,
@@ -80,7 +82,7 @@ pub fn run_of<'a>(command: &'a [&'a str], input: &'a [u8]) -> Run<'a> {
 }
 
 /// The journal of a disk is settled at two desks.
-pub fn settles<R: AllocGlobal + Abort>(
+pub fn settles<R: AllocGlobal + Threads + Wait + Sync + Abort>(
     rt: &R,
     disk: &mut MemDisk,
     report: &[u8],

@@ -2,7 +2,9 @@
 use crate::runs::{Run, disk_of};
 use registry_office::Status;
 use std::process::Abort;
+use std::sync::Wait;
 use std::test::Fail;
+use std::thread::Threads;
 
 /// The summary of each journal of one receipt, which opens a folio.
 const OF_ONE: &[u8] =
@@ -13,7 +15,7 @@ const OF_200: &[u8] =
     b"receipts 200\nentered 160\nrejected 0\ninterim 19\ncured 7\nother 14\nfolios 13\nrights 83\ncapital 1982000.00\npaid 0.00\n";
 
 /// A run of `sample` with these numbers. It uses no input and no disk: their first calls would fail.
-fn sampled<R: AllocGlobal + Abort>(
+fn sampled<R: AllocGlobal + Threads + Wait + Sync + Abort>(
     rt: &R,
     [seed, size, desks]: [&str; 3],
     status: Status,

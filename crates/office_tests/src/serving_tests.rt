@@ -6,7 +6,9 @@ use registry_office::{Status, run};
 use std::alloc::Global;
 use std::process::Abort;
 use std::rc::RcStr;
+use std::sync::Wait;
 use std::test::Fail;
+use std::thread::Threads;
 
 /// A request that the opening of folio 7 be received.
 const POST: &[u8] =
@@ -46,7 +48,7 @@ fn door_of<'a>(
 }
 
 /// Serves what comes through the door.
-fn served<R: AllocGlobal>(
+fn served<R: AllocGlobal + Threads + Wait + Sync>(
     rt: &R,
     disk: &mut MemDisk,
     door: &mut MemListener,
@@ -94,7 +96,7 @@ const fn unfailing<'a>(sent: [&'a [u8]; 2], requests: &'a str) -> Asked<'a> {
 
 impl Asked<'_> {
     /// Serving them ends with this status, and these are written to the links that came.
-    fn ends<R: AllocGlobal + Abort>(
+    fn ends<R: AllocGlobal + Threads + Wait + Sync + Abort>(
         &self,
         rt: &R,
         status: Status,
@@ -142,7 +144,7 @@ fn a_file_that_is_no_journal_is_met_before_the_first_link(rt: HostRuntime) -> Re
 }
 
 /// Where this call of the disk fails, these are written to two links that ask for one receipt.
-fn receives<R: AllocGlobal + Abort>(
+fn receives<R: AllocGlobal + Threads + Wait + Sync + Abort>(
     rt: &R,
     failing: u32,
     status: Status,
@@ -173,7 +175,7 @@ fn a_receipt_is_kept_once_whichever_call_of_the_disk_fails(rt: HostRuntime) -> R
 }
 
 /// Whether two links are served whole: an item is received, or repeated, and its folio is read.
-fn serves_whole<R: AllocGlobal + Abort>(rt: &R, disk: &mut MemDisk) -> Result<bool, NoMemory> {
+fn serves_whole<R: AllocGlobal + Threads + Wait + Sync + Abort>(rt: &R, disk: &mut MemDisk) -> Result<bool, NoMemory> {
     let mut door = door_of(rt.alloc(), [POST, READ], &[])?;
     let status = served(rt, disk, &mut door, "9")?;
     assert!(rt; matches!(status, Status::Ok | Status::Memory));

@@ -12,7 +12,9 @@ use receipt_journal::{Book, Received};
 use registry_office::Status;
 use std::alloc::Global;
 use std::process::Abort;
+use std::sync::Wait;
 use std::test::Fail;
+use std::thread::Threads;
 
 /// The file of a journal with one lapse, of filing 2.
 const LAPSE: &[u8] =
@@ -44,7 +46,7 @@ fn received(alloc: Global, disk: &mut MemDisk, line: &[u8]) -> Result<Received, 
 }
 
 /// `settle` over the disk ends with this status and writes this text; it reads no input.
-fn settles<R: AllocGlobal + Abort>(
+fn settles<R: AllocGlobal + Threads + Wait + Sync + Abort>(
     rt: &R,
     disk: &mut MemDisk,
     status: Status,
@@ -61,7 +63,7 @@ fn settles<R: AllocGlobal + Abort>(
 
 /// `settle` over a disk with this file, of which the numbered calls fail, ends with this status,
 /// writes this text, and leaves this file.
-fn leaves<R: AllocGlobal + Abort>(
+fn leaves<R: AllocGlobal + Threads + Wait + Sync + Abort>(
     rt: &R,
     file: &[u8],
     fail: &[u32],

@@ -6,7 +6,9 @@ use gb_outside::SureDisk;
 use registry_office::Status;
 use std::alloc::Global;
 use std::process::Abort;
+use std::sync::Wait;
 use std::test::Fail;
+use std::thread::Threads;
 
 /// The opening without a document.
 const BARE_OPENING: &[u8] =
@@ -25,7 +27,7 @@ fn input_of(alloc: Global, lines: &[&[u8]]) -> Result<Vec<u8>, NoMemory> {
 }
 
 /// A run over the lines writes these replies and then this report.
-fn settles<R: AllocGlobal + Abort>(
+fn settles<R: AllocGlobal + Threads + Wait + Sync + Abort>(
     rt: &R,
     lines: &[&[u8]],
     replies: &[u8],
@@ -38,7 +40,7 @@ fn settles<R: AllocGlobal + Abort>(
 }
 
 /// A run over the opening and the charge of which these reads and writes fail ends so.
-fn fails<R: AllocGlobal + Abort>(
+fn fails<R: AllocGlobal + Threads + Wait + Sync + Abort>(
     rt: &R,
     failing_reads: &[u32],
     failing_writes: &[u32],

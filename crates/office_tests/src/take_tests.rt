@@ -5,7 +5,9 @@ use crate::worked_lines::REPORT;
 use receipt_journal::Book;
 use registry_office::Status;
 use std::process::Abort;
+use std::sync::Wait;
 use std::test::Fail;
+use std::thread::Threads;
 
 const LINES: &[u8] =
     b"{\"sender\":1,\"reference\":1,\"item\":{\"kind\":\"filing\",\"applicant\":10,\"conditional\":false,\"acts\":[{\"act\":\"open\",\"folio\":7,\"district\":12,\"parcel\":345,\"sub\":6,\"area\":800,\"owners\":[10]}],\"docs\":[{\"doc\":\"consent\",\"act\":1,\"person\":10,\"form\":\"certified\"}]}}\n \n{}\n{\"sender\":1,\"reference\":2,\"item\":{\"kind\":\"filing\",\"applicant\":10,\"conditional\":false,\"acts\":[{\"act\":\"create\",\"folio\":7,\"kind\":\"land-charge\",\"rate\":500,\"capital\":10000000,\"holder\":20,\"group\":1}],\"docs\":[{\"doc\":\"consent\",\"act\":1,\"person\":10,\"form\":\"certified\"}]}}";
@@ -48,7 +50,7 @@ fn lines_are_taken_again_after_a_fault_of_source_or_sink(rt: HostRuntime) -> Res
 }
 
 /// The number of the first call that an opening of this file does not make.
-fn calls_of_an_opening<R: AllocGlobal>(rt: &R, file: &[u8]) -> Result<u32, Fail> {
+fn calls_of_an_opening<R: AllocGlobal + Threads + Wait + Sync>(rt: &R, file: &[u8]) -> Result<u32, Fail> {
     for call in 1..64 {
         let mut disk = disk_of(rt, file, &[call])?;
         if Book::open(rt.alloc(), &mut disk).is_ok() {
@@ -59,7 +61,7 @@ fn calls_of_an_opening<R: AllocGlobal>(rt: &R, file: &[u8]) -> Result<u32, Fail>
 }
 
 /// The number of the first call that `settle` over this file does not make.
-fn calls_of_settling<R: AllocGlobal>(rt: &R, file: &[u8]) -> Result<u32, Fail> {
+fn calls_of_settling<R: AllocGlobal + Threads + Wait + Sync>(rt: &R, file: &[u8]) -> Result<u32, Fail> {
     for call in 1..64 {
         let mut disk = disk_of(rt, file, &[call])?;
         let (status, _) = run_of(&["settle", "--desks", "1"], &[]).done(rt, &mut disk)?;
@@ -81,7 +83,7 @@ fn the_journal_is_opened_once(rt: HostRuntime) -> Result<(), Fail> {
 }
 
 /// This file is made, and is then the journal of nothing.
-fn is_made<R: AllocGlobal + Abort>(rt: &R, file: &[u8]) -> Result<(), Fail> {
+fn is_made<R: AllocGlobal + Threads + Wait + Sync + Abort>(rt: &R, file: &[u8]) -> Result<(), Fail> {
     let mut disk = disk_of(rt, file, &[])?;
     let text = b"end receipts 0 folios 0\n";
     run_of(&["settle", "--desks", "1"], &[]).writes(rt, &mut disk, Status::Ok, text)?;

@@ -1,6 +1,5 @@
 //! The journal of a book is settled, and the command that settles the journal of the disk.
 //! Why so: docs/DECISIONS.md, "The office has no rules of its own".
-//! Why so: docs/DECISIONS.md, "`settle` takes its desks and their gate, and uses neither".
 ghost use Rattle.std.specs.Prelude.{◌≡◌, ◌≤◌, ℕ, List, true, false, IsTrue};
 ghost use Rattle.std.specs.Io.KnownBytes.{Appends};
 ghost use Rattle.gb_outside.specs.Bytes.{AppendsFront};
@@ -18,28 +17,34 @@ use crate::statuses::{Status, status_of_opening, status_of_writing};
 use act_model::Journal;
 use gb_outside::{DeskGate, Disk, Sink};
 use receipt_journal::Book;
-use std::alloc::Global;
+use std::sync::Wait;
+use std::thread::Threads;
 
 /// Settles a journal at so many desks, 1 to 64, and writes the report. It answers `Ok`, `WriteFault`
 /// or `Memory`. The number of desks never changes what is written.
-pub fn settle<R: AllocGlobal, K: Sink, G: DeskGate>(
+pub fn settle<R: AllocGlobal + Threads + Wait + Sync, K: Sink, G: DeskGate>(
     rt: &R,
     journal: &Journal,
     sink: &mut K,
-    _desks: u16,
-    _gate: &G,
+    desks: u16,
+    gate: &G,
 ) -> Status
-    requires desks { (1 ≤ _desks) × (_desks ≤ 64) }
+    requires desks { (1 ≤ desks) × (desks ≤ 64) }
     ensures written { result ≡ Status.Ok → Appends (K.written sink.old) (K.written sink.new) (report_of journal.now.receipts) }
     ensures part { AppendsFront (K.written sink.old) (K.written sink.new) (report_of journal.now.receipts) }
     ensures write { Counts (K.faults sink.old) (K.faults sink.new) (write_fault result) }
     ensures others { IsTrue (is_of_writing result) }
 {
-    status_of_writing(write_report(rt.alloc(), journal, sink))
+    status_of_writing(write_report(rt, journal, sink, desks, gate))
 }
 
 /// Opens the journal of the disk and settles it.
-pub(crate) fn settle_disk<R: AllocGlobal, D: Disk, K: Sink, G: DeskGate>(
+pub(crate) fn settle_disk<
+    R: AllocGlobal + Threads + Wait + Sync,
+    D: Disk,
+    K: Sink,
+    G: DeskGate,
+>(
     rt: &R,
     disk: &mut D,
     sink: &mut K,

@@ -9,27 +9,28 @@ ghost use Rattle.registry_office.specs.Outcomes.{sample_output};
 ghost use Rattle.registry_office.specs.Statuses.{read_fault, write_fault, disk_fault, door_fault, is_no_journal};
 
 use crate::statuses::{Status, status_of_writing};
+use desk_pool::settle_at_desks;
 use folio_extract::summary;
 use gb_base::NoMemory;
 use gb_outside::{DeskGate, Sink};
 use intake::{OutputFault, write_all};
-use registrar::alone;
 use sample_journals::sample_journal;
-use std::alloc::Global;
+use std::sync::Wait;
+use std::thread::Threads;
 
 /// Makes the generated journal of this seed, with so many receipts, 1 to 200,000, settles it at so
 /// many desks, 1 to 64, and writes its summary. It answers `Ok`, `WriteFault` or `Memory`. The number
 /// of desks never changes what is written.
-pub(crate) fn settle_sample<R: AllocGlobal, K: Sink, G: DeskGate>(
+pub(crate) fn settle_sample<R: AllocGlobal + Threads + Wait + Sync, K: Sink, G: DeskGate>(
     rt: &R,
     seed: u64,
     size: u32,
     sink: &mut K,
-    _desks: u16,
-    _gate: &G,
+    desks: u16,
+    gate: &G,
 ) -> Status
     requires size { (1 ≤ size) × (size ≤ most_receipts) }
-    requires desks { (1 ≤ _desks) × (_desks ≤ 64) }
+    requires desks { (1 ≤ desks) × (desks ≤ 64) }
     ensures written { result ≡ Status.Ok → Appends (K.written sink.old) (K.written sink.new) (sample_output seed size) }
     ensures part { AppendsFront (K.written sink.old) (K.written sink.new) (sample_output seed size) }
     ensures write { Counts (K.faults sink.old) (K.faults sink.new) (write_fault result) }
@@ -38,31 +39,41 @@ pub(crate) fn settle_sample<R: AllocGlobal, K: Sink, G: DeskGate>(
     ensures no_input { (read_fault result ≡ false) × (result ≡ Status.InputTooLong → ⊥) }
     ensures no_door { door_fault result ≡ false }
 {
-    status_of_writing(write_summary(rt.alloc(), seed, size, sink))
+    status_of_writing(write_summary(rt, seed, size, sink, desks, gate))
 }
 
 /// Settles the generated journal and writes its summary.
-fn write_summary<K: Sink>(
-    alloc: Global,
+fn write_summary<R: AllocGlobal + Threads + Wait + Sync, K: Sink, G: DeskGate>(
+    rt: &R,
     seed: u64,
     size: u32,
     sink: &mut K,
+    desks: u16,
+    gate: &G,
 ) -> Result<(), OutputFault>
     requires size { (1 ≤ size) × (size ≤ most_receipts) }
+    requires desks { (1 ≤ desks) × (desks ≤ 64) }
     ensures whole { OnOk result (Appends (K.written sink.old) (K.written sink.new) (sample_output seed size)) }
     ensures part { OnErr result (AppendsFront (K.written sink.old) (K.written sink.new) (sample_output seed size)) }
     ensures cause { Counts (K.faults sink.old) (K.faults sink.new) (output_failed result) }
 {
-    let text = summary_text(alloc, seed, size)?;
+    let text = summary_text(rt, seed, size, desks, gate)?;
     write_all(sink, text.as_slice())
 }
 
-/// The summary of the generated journal, as one registrar leaves its register.
-fn summary_text(alloc: Global, seed: u64, size: u32) -> Result<Vec<u8>, NoMemory>
+/// The summary of the generated journal, settled at so many desks.
+fn summary_text<R: AllocGlobal + Threads + Wait + Sync, G: DeskGate>(
+    rt: &R,
+    seed: u64,
+    size: u32,
+    desks: u16,
+    gate: &G,
+) -> Result<Vec<u8>, NoMemory>
     requires size { (1 ≤ size) × (size ≤ most_receipts) }
+    requires desks { (1 ≤ desks) × (desks ≤ 64) }
     ensures { IfOk result (λ text. text.items ≡ sample_output seed size) }
 {
-    let journal = sample_journal(alloc, seed, size)?;
-    let register = alone(alloc, &journal)?;
-    summary(alloc, &register, &journal)
+    let journal = sample_journal(rt.alloc(), seed, size)?;
+    let register = settle_at_desks(rt, &journal, desks, gate)?;
+    summary(rt.alloc(), &register, &journal)
 }

@@ -1,5 +1,5 @@
 //! The commands that answer requests over links: a whole door, or one connection.
-//! Why so: docs/DECISIONS.md, "`settle` takes its desks and their gate, and uses neither".
+//! Why so: docs/DECISIONS.md, "One connection settles as one registrar does".
 ghost use Rattle.std.specs.Prelude.{◌≡◌, ◌≤◌, ℕ, List, Some, IsSome, IsTrue, true, false};
 ghost use Rattle.std.specs.List.{AllZip};
 ghost use Rattle.gb_outside.specs.Faults.{Counts, Rose};
@@ -22,6 +22,8 @@ ghost use Rattle.registry_office.specs.inner.Ends.{status_of_door};
 use crate::statuses::{Status, status_of_opening};
 use connections::{Clerk, DoorEnd, Served};
 use gb_outside::{Clock, DeskGate, Disk, Link, Listener};
+use std::sync::Wait;
+use std::thread::Threads;
 
 /// Serves one connection, up to `left` replies: its requests are answered one after another, each
 /// from the journal that the one before left. The disk is opened at the first request that needs it;
@@ -49,19 +51,25 @@ pub fn serve_connection<R: AllocGlobal, L: Link, D: Disk, C: Clock, G: DeskGate>
     clerk.serve_link(rt.alloc(), link, disk, clock, left)
 }
 
-/// Opens the journal of the disk, and serves what comes through the door, up to so many replies and
-/// as many links. The journal and its register are handed from one link to the next. A link that
+/// Opens the journal of the disk, settles it at so many desks, 1 to 64, and serves what comes
+/// through the door, up to so many replies and as many links. The journal and its register are handed from one link to the next. A link that
 /// fails, and a request in which the disk fails, end nothing else.
-pub(crate) fn serve<R: AllocGlobal, D: Disk, C: Clock, L: Listener, G: DeskGate>(
+pub(crate) fn serve<
+    R: AllocGlobal + Threads + Wait + Sync,
+    D: Disk,
+    C: Clock,
+    L: Listener,
+    G: DeskGate,
+>(
     rt: &R,
-    _desks: u16,
+    desks: u16,
     requests: u32,
     disk: &mut D,
     clock: &mut C,
     door: &mut L,
-    _gate: &G,
+    gate: &G,
 ) -> Status
-    requires desks { (1 ≤ _desks) × (_desks ≤ 64) }
+    requires desks { (1 ≤ desks) × (desks ≤ 64) }
     ensures serves { IsTrue D.tells → (held : Held) (waiting : List (List ℕ)) (asked : List LinkRequests)
         → IsHeld (D.reads disk.old) (C.ticks clock.old) held → L.waiting door.old ≡ Some waiting → AllZip AskSo waiting asked
         → ServesOffice D.reads D.images D.moment D.since D.faults disk.old disk.new held requests waiting asked (L.waiting door.new) (L.served door.old) (L.served door.new) (C.ticks clock.new) result }
@@ -82,12 +90,12 @@ pub(crate) fn serve<R: AllocGlobal, D: Disk, C: Clock, L: Listener, G: DeskGate>
     ensures no_input { (read_fault result ≡ false) × (result ≡ Status.InputTooLong → ⊥) }
     ensures no_output { write_fault result ≡ false }
 {
-    match Clerk::open(rt.alloc(), disk) {
-        Ok(mut clerk) => {
-            status_of_door(clerk.serve_door(rt.alloc(), door, disk, clock, requests))
-        }
-        Err(fault) => status_of_opening(fault),
-    }
+    let mut clerk = match Clerk::open(rt.alloc(), disk) {
+        Ok(clerk) => clerk,
+        Err(fault) => return status_of_opening(fault),
+    };
+    clerk.settle(rt, desks, gate);
+    status_of_door(clerk.serve_door(rt.alloc(), door, disk, clock, requests))
 }
 
 /// The status of a door that was served.

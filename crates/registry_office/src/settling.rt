@@ -10,20 +10,29 @@ ghost use Rattle.intake.specs.Sessions.{ended_requests, Took, most_input};
 ghost use Rattle.intake.specs.declared.lines.LineKind.TheVariants.{Stamped};
 
 use act_model::Journal;
+use desk_pool::settle_at_desks;
 use folio_extract::report;
 use gb_base::NoMemory;
-use gb_outside::{Sink, Source};
+use gb_outside::{DeskGate, Sink, Source};
 use intake::{LineKind, OutputFault, SessionFault, answer_lines, write_all};
-use registrar::alone;
-use std::alloc::Global;
+use std::sync::Wait;
+use std::thread::Threads;
 
 /// Receives the stamped lines of the input into a journal in memory, with a reply line for each,
-/// and writes the report of that journal.
-pub(crate) fn settle_lines<S: Source, K: Sink>(
-    alloc: Global,
+/// settles that journal at so many desks, 1 to 64, and writes the report.
+pub(crate) fn settle_lines<
+    R: AllocGlobal + Threads + Wait + Sync,
+    S: Source,
+    K: Sink,
+    G: DeskGate,
+>(
+    rt: &R,
     source: &mut S,
     sink: &mut K,
+    desks: u16,
+    gate: &G,
 ) -> Result<(), SessionFault>
+    requires desks { (1 ≤ desks) × (desks ≤ 64) }
     ensures output { OnOk result (IfSome (S.left source.old) (λ input.
         Appends (K.written sink.old) (K.written sink.new) (settle_lines_output input))) }
     ensures at_end { OnOk result (IfSome (S.left source.old) (λ _. S.left source.new ≡ Some [])) }
@@ -40,30 +49,39 @@ pub(crate) fn settle_lines<S: Source, K: Sink>(
     ensures read_cause { Counts (S.faults source.old) (S.faults source.new) (session_input_failed result) }
     ensures write_cause { Counts (K.faults sink.old) (K.faults sink.new) (session_output_failed result) }
 {
-    let mut journal = Journal::new(alloc);
-    answer_lines(alloc, LineKind::Stamped, &mut journal, source, sink)?;
-    write_report(alloc, &journal, sink)?;
+    let mut journal = Journal::new(rt.alloc());
+    answer_lines(rt.alloc(), LineKind::Stamped, &mut journal, source, sink)?;
+    write_report(rt, &journal, sink, desks, gate)?;
     Ok(())
 }
 
-/// Settles the journal and writes the report.
-pub(crate) fn write_report<K: Sink>(
-    alloc: Global,
+/// Settles the journal at so many desks, 1 to 64, and writes the report.
+pub(crate) fn write_report<R: AllocGlobal + Threads + Wait + Sync, K: Sink, G: DeskGate>(
+    rt: &R,
     journal: &Journal,
     sink: &mut K,
+    desks: u16,
+    gate: &G,
 ) -> Result<(), OutputFault>
+    requires desks { (1 ≤ desks) × (desks ≤ 64) }
     ensures whole { OnOk result (Appends (K.written sink.old) (K.written sink.new) (report_of journal.now.receipts)) }
     ensures part { OnErr result (AppendsFront (K.written sink.old) (K.written sink.new) (report_of journal.now.receipts)) }
     ensures cause { Counts (K.faults sink.old) (K.faults sink.new) (output_failed result) }
 {
-    let text = report_text(alloc, journal)?;
+    let text = report_text(rt, journal, desks, gate)?;
     write_all(sink, text.as_slice())
 }
 
-/// The report of the journal, as one registrar leaves its register.
-fn report_text(alloc: Global, journal: &Journal) -> Result<Vec<u8>, NoMemory>
+/// The report of the journal, settled at so many desks.
+fn report_text<R: AllocGlobal + Threads + Wait + Sync, G: DeskGate>(
+    rt: &R,
+    journal: &Journal,
+    desks: u16,
+    gate: &G,
+) -> Result<Vec<u8>, NoMemory>
+    requires desks { (1 ≤ desks) × (desks ≤ 64) }
     ensures { IfOk result (λ text. text.items ≡ report_of journal.now.receipts) }
 {
-    let register = alone(alloc, journal)?;
-    report(alloc, &register, journal)
+    let register = settle_at_desks(rt, journal, desks, gate)?;
+    report(rt.alloc(), &register, journal)
 }

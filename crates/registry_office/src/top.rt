@@ -34,6 +34,8 @@ use crate::statuses::{Status, status_of};
 use command_words::{Command, WordsFault, read_words};
 use gb_outside::{Clock, DeskGate, Disk, Listener, Sink, Source};
 use std::rc::RcStr;
+use std::sync::Wait;
+use std::thread::Threads;
 
 /// The office: does what the words say, over the objects that are handed in.
 ///
@@ -52,7 +54,15 @@ use std::rc::RcStr;
 ///     status => panic!("{status:?}"),
 /// }
 /// ```
-pub fn run<R: AllocGlobal, S: Source, K: Sink, D: Disk, C: Clock, L: Listener, G: DeskGate>(
+pub fn run<
+    R: AllocGlobal + Threads + Wait + Sync,
+    S: Source,
+    K: Sink,
+    D: Disk,
+    C: Clock,
+    L: Listener,
+    G: DeskGate,
+>(
     rt: &R,
     words: &[RcStr],
     source: &mut S,
@@ -178,7 +188,9 @@ pub fn run<R: AllocGlobal, S: Source, K: Sink, D: Disk, C: Clock, L: Listener, G
         Err(WordsFault::Usage) => Status::Usage,
         Err(WordsFault::Memory) => Status::Memory,
         Ok(Command::Settle { desks }) => settle_disk(rt, disk, sink, desks, gate),
-        Ok(Command::SettleLines { .. }) => status_of(settle_lines(rt.alloc(), source, sink)),
+        Ok(Command::SettleLines { desks }) => {
+            status_of(settle_lines(rt, source, sink, desks, gate))
+        }
         Ok(Command::Receive { intake }) => receive_disk(rt, intake, source, sink, disk, clock),
         Ok(Command::Serve { desks, requests }) => {
             serve(rt, desks, requests, disk, clock, door, gate)

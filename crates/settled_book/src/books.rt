@@ -1,6 +1,6 @@
 //! A book with the register of its journal.
 //! Why so: docs/DECISIONS.md, "A register that is not there is made of the whole journal".
-ghost use Rattle.std.specs.Prelude.{◌≡◌, ◌↔◌, ◌+◌, ◌||◌, true, false, IsTrue, IsSomeAnd, IfOk, IfErr, OnOk, length, option_map};
+ghost use Rattle.std.specs.Prelude.{◌≡◌, ◌↔◌, ◌≤◌, ◌+◌, ◌||◌, None, true, false, IfSome, IsSome, IsTrue, IsSomeAnd, IfOk, IfErr, OnOk, length, option_map};
 ghost use Rattle.gb_outside.specs.Faults.{Counts};
 ghost use Rattle.gb_outside.specs.Images.{Holds, Torn, Only, LeavesOnly};
 ghost use Rattle.act_model.specs.WellFormed.{well_formed};
@@ -16,14 +16,17 @@ ghost use Rattle.settled_book.specs.Texts.{reads_register, text_of};
 use crate::settling::settle_rest;
 use crate::texts::text_of;
 use act_model::Item;
+use desk_pool::settle_at_desks;
 use gb_base::{NoMemory, Stamp};
-use gb_outside::Disk;
+use gb_outside::{DeskGate, Disk};
 use receipt_journal::{Book, BookFault, Received};
 use registrar::laws::later_receipts_change_nothing;
 use registrar::{Register, Scratch, alone};
 use registry_http::Route;
 use std::alloc::Global;
 use std::marker::Model;
+use std::sync::Wait;
+use std::thread::Threads;
 
 /// The journal of the office on its disk, and the register of its first receipts, which goes on by
 /// what came since when a text is read. The disk is lent to each call.
@@ -81,6 +84,24 @@ impl SettledBook {
         ensures { result.now ≡ self.now.book }
     {
         &self.book
+    }
+
+    /// Settles the journal at so many desks, 1 to 64, where nothing of it is settled yet. Where no
+    /// memory is found for that, the next text settles it.
+    pub fn settle<R: AllocGlobal + Threads + Wait + Sync, G: DeskGate>(
+        &mut self,
+        rt: &R,
+        desks: u16,
+        gate: &G,
+    )
+        requires desks { (1 ≤ desks) × (desks ≤ 64) }
+        ensures book { self.new.book ≡ self.old.book }
+        ensures register { IsSome self.old.register → self.new.register ≡ self.old.register }
+        ensures settled { self.old.register ≡ None → IfSome self.new.register (IsRegisterOf self.old.book.journal) }
+    {
+        if self.register.is_none() {
+            self.register = settle_at_desks(rt, self.book.journal(), desks, gate).ok();
+        }
     }
 
     /// Receives an item, as `Book::receive` does. What was settled stays settled.

@@ -13,6 +13,7 @@ invariant_of-result-3 g c =
     c.in_ok-list_rooms.ensures.value
     c.in_ok-with_capacity.ensures.items
     c.in_ok-prepare_all.ensures
+    c.in_ok-list_seats.ensures
     c.in_ok-receipts.ensures
     c.in_ok-list_unpassed.ensures.none
     (c.in_ok-list_unpassed.ensures.count ∙ c.len-2.ensures ∙ c.in_ok-receipts.receipts.ok.0)
