@@ -20,7 +20,7 @@ MOST_OF_A_CRATE = 12
 MOST_OF_ALL = 240
 
 # Libraries that stand ahead of those which will use them.
-NOT_USED_YET = ["desk_pool"]
+NOT_USED_YET = []
 
 # What tests are made of. No code outside tests uses it.
 MADE_FOR_TESTS = ["test_items", "test_registers"]

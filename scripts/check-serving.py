@@ -17,6 +17,7 @@ import socket
 import struct
 import subprocess
 import tempfile
+import threading
 import time
 
 import checks
@@ -260,22 +261,26 @@ def check_story(look):
 
 
 def acknowledged(child, after):
-    """How many filings were acknowledged, in order, until the program was killed after so many seconds."""
-    last = time.monotonic() + after
+    """How many filings were acknowledged, in order, until the program was killed, which it is after so
+    many seconds, whatever it has in hand then."""
+    connected().close()
     client = http.client.HTTPConnection(HOST, PORT, timeout=checks.LIMIT)
+    killer = threading.Timer(after, child.send_signal, [signal.SIGKILL])
+    killer.start()
     count = 0
     try:
-        connected().close()
-        while time.monotonic() < last:
+        while True:
             client.request("POST", "/receipts", checks.plain(count + 1))
             answer = client.getresponse()
             if (answer.status, answer.read()) != (201, f"accepted {count + 1}\n".encode()):
                 return None
             count += 1
+    except (OSError, http.client.HTTPException):
+        # The program is gone, perhaps in the midst of a receipt, or of its reply.
+        return count
     finally:
-        child.send_signal(signal.SIGKILL)
+        killer.join()
         client.close()
-    return count
 
 
 def check_kills(look):

@@ -9,7 +9,8 @@ pub enum Command {
     /// Receive the stamped lines of the input into a journal in memory, settle it at so many desks
     /// and write the report.
     SettleLines { desks: u16 },
-    /// Settle the journal of the disk at so many desks, and answer so many requests over it.
+    /// Settle the journal of the disk at so many desks, and serve over it until so many replies are
+    /// written, or as many connections served.
     Serve { desks: u16, requests: u32 },
     /// Receive what the input has into the journal of the disk.
     Receive { intake: Intake },

@@ -55,7 +55,7 @@ replies_of (Some (Receive intake)) held requests = replies OnDisk held requests
 replies_of (Some (Serve desks most)) held requests = []
 replies_of (Some (Sample seed size desks)) held requests = []
 
--- what a command writes, and the journal of the disk and the clock's ticks after it; of one that serves, `ServesOffice` says more
+-- what a command writes, and the journal of the disk and the clock's ticks after it; of one that serves only that it writes nothing is meant here, and `ServesOffice` says what it leaves
 pub record Outcome : Type 0 where
   pub written : List ℕ
   pub journal : List Receipt
