@@ -17,7 +17,7 @@ PROMISES = checks.ROOT / "docs" / "promises.md"
 
 # No crate has more edits, nor have all of them together.
 MOST_OF_A_CRATE = 12
-MOST_OF_ALL = 240
+MOST_OF_ALL = 252
 
 # Libraries that stand ahead of those which will use them.
 NOT_USED_YET = []
