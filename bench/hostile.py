@@ -32,10 +32,10 @@ SIZES = [50_000, 100_000, 200_000]
 LONGEST = 600
 
 
-def run(program, words, longest, **how):
-    """Seconds and greatest memory in MiB of one run; None where it took too long."""
+def run(program, desks, words, longest, **how):
+    """Seconds and greatest memory in MiB of one run at so many desks; None where it took too long."""
     start = time.monotonic()
-    child = subprocess.Popen([program, "settle", "--desks", "1", *words], **how)
+    child = subprocess.Popen([program, "settle", "--desks", str(desks), *words], **how)
     while True:
         pid, status, used = os.wait4(child.pid, os.WNOHANG)
         seconds = time.monotonic() - start
@@ -75,9 +75,9 @@ def measure(peer, shape, size, folder, disk, longest):
         text = folder / f"text{len(texts)}"
         with lines.open("rb") as source, text.open("wb") as sink:
             if disk:
-                said.append(run(program, [], longest, cwd=folder, stdin=subprocess.DEVNULL, stdout=sink))
+                said.append(run(program, 1, [], longest, cwd=folder, stdin=subprocess.DEVNULL, stdout=sink))
             else:
-                said.append(run(program, ["--lines"], longest, stdin=source, stdout=sink))
+                said.append(run(program, 1, ["--lines"], longest, stdin=source, stdout=sink))
         texts.append(text)
     line = f"{shape} {size}: {shown(said[0], longest)}"
     if peer:
@@ -100,4 +100,5 @@ def main():
                 measure(given.peer, shape, int(size), pathlib.Path(folder), given.disk, given.longest)
 
 
-main()
+if __name__ == "__main__":
+    main()
