@@ -29,6 +29,8 @@ pub(crate) struct Board<N: JournalName> {
     settled: Vec<usize>,
     /// How many items desks have in hand.
     in_hand: usize,
+    /// How many desks wait.
+    waiting: usize,
     of: PhantomData<N>,
 }
 
@@ -59,6 +61,7 @@ impl<N: JournalName> Board<N> {
             waits: count_folios(alloc, docket, items)?,
             settled: vec![in alloc; 0; queues.len()]?,
             in_hand: 0,
+            waiting: 0,
             of: PhantomData,
         };
         board.begin_nowhere(items);
@@ -99,6 +102,22 @@ impl<N: JournalName> Board<N> {
     /// hand behind which some may be.
     pub fn must_wait(&self) -> bool {
         self.ready.is_empty() && self.in_hand > 0
+    }
+
+    /// Whether desks that wait have to look again, where the one that asks takes an item that is
+    /// ready itself: more are ready, or nothing is left to wait for.
+    pub fn wakes_others(&self) -> bool {
+        self.waiting > 0 && (self.ready.len() > 1 || (self.ready.is_empty() && self.in_hand == 0))
+    }
+
+    /// A desk begins to wait.
+    pub fn begin_waiting(&mut self) {
+        self.waiting = self.waiting.saturating_add(1);
+    }
+
+    /// A desk waits no longer.
+    pub fn end_waiting(&mut self) {
+        self.waiting = self.waiting.saturating_sub(1);
     }
 
     /// Hands out an item that is ready.

@@ -8,6 +8,7 @@ ghost use Rattle.desk_pool.specs.FolioQueues.{queue_of};
 ghost use Rattle.registrar.specs.RegisterState.{verdict_among};
 ghost use Rattle.registrar.specs.Settling.{registrar};
 
+use crate::boards::Board;
 use crate::folio_queues::place_of;
 use crate::locked_folios::LockedFolio;
 use crate::nowhere::settle_nowhere;
@@ -19,7 +20,7 @@ use act_model::JournalName;
 use gb_base::{FolioId, Key, ReceiptNo};
 use gb_outside::DeskGate;
 use registrar::Verdict;
-use std::sync::Wait;
+use std::sync::{MutexGuard, Wait};
 
 /// Settles items until none is left: while others have items in hand behind which more may be, it
 /// waits.
@@ -42,8 +43,7 @@ pub(crate) fn work<N: JournalName, G: DeskGate, R: Wait>(
 /// The first item of a desk.
 fn begin<N: JournalName, R: Wait>(rt: &R, round: &SharedRound<'_, N>) -> Option<ReceiptNo> {
     let board = round.board.lock(rt);
-    let mut board = round.moved.wait_while(rt, board, |board| board.must_wait());
-    board.take()
+    take_next(rt, round, board)
 }
 
 /// Puts an item back, and takes the next one.
@@ -58,8 +58,24 @@ fn go_on<N: JournalName, R: Wait>(
     let keys = keys_of(round, item).unwrap_or(&[]);
     let mut board = round.board.lock(rt);
     board.put(round.queues, keys, item, verdict);
-    round.moved.notify_all();
+    if board.wakes_others() {
+        round.moved.notify_all();
+    }
+    take_next(rt, round, board)
+}
+
+/// The next item, once one is ready; None once none is left.
+fn take_next<'a, N: JournalName, R: Wait>(
+    rt: &R,
+    round: &SharedRound<'a, N>,
+    mut board: MutexGuard<'a, Board<N>>,
+) -> Option<ReceiptNo> {
+    if !board.must_wait() {
+        return board.take();
+    }
+    board.begin_waiting();
     let mut board = round.moved.wait_while(rt, board, |board| board.must_wait());
+    board.end_waiting();
     board.take()
 }
 

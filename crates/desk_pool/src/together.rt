@@ -21,11 +21,7 @@ use std::thread::Threads;
 
 /// Lets a desk work at each seat, in a thread of its own where one can be had, until no item is
 /// left. What they enter stands in the folios; the verdicts come back where each is said.
-pub(crate) fn settle_together<
-    N: JournalName + Send + Sync,
-    G: DeskGate,
-    R: Threads + Wait + Sync,
->(
+pub(crate) fn settle_together<N: JournalName + Send + Sync, G: DeskGate, R: Threads + Wait + Sync>(
     rt: &R,
     gate: &G,
     journal: &Journal,
