@@ -2,7 +2,7 @@
 use crate::runs::disk_of;
 use gb_base::{Day, NoMemory, Stamp};
 use gb_outside::{ListClock, MemDisk, MemLink, MemListener, MemSource, OpenGate, SureSink};
-use registry_office::{Status, run};
+use registry_office::{Status, run, serve_connection};
 use std::alloc::Global;
 use std::process::Abort;
 use std::rc::RcStr;
@@ -143,6 +143,23 @@ fn a_file_that_is_no_journal_is_met_before_the_first_link(rt: HostRuntime) -> Re
     foreign.ends(&rt, Status::NotJournal, &[])
 }
 
+/// One connection, with a disk of its own, reads what it posted.
+#[test]
+fn a_connection_reads_what_it_posted(rt: HostRuntime) -> Result<(), Fail> {
+    let mut sent = Vec::from_slice(rt.alloc(), POST)?;
+    sent.extend_from_slice(READ)?;
+    let mut wanted = Vec::from_slice(rt.alloc(), ACCEPTED)?;
+    wanted.extend_from_slice(EXTRACT)?;
+    let mut link = MemLink::new(rt.alloc(), sent.as_slice(), 4_096, &[])?;
+    let mut disk = disk_of(&rt, MADE, &[])?;
+    let stamps = [Stamp::new(Day::new(19_783).unwrap(), 540).unwrap()];
+    let mut clock = ListClock::new(&stamps);
+    let served = serve_connection(&rt, &mut link, &mut disk, &mut clock, 2, &OpenGate, 9);
+    assert_eq!(&rt; served.replies, 2);
+    assert_eq!(&rt; link.written(), wanted.as_slice());
+    Ok(())
+}
+
 /// Where this call of the disk fails, these are written to two links that ask for one receipt.
 fn receives<R: AllocGlobal + Threads + Wait + Sync + Abort>(
     rt: &R,
@@ -175,7 +192,10 @@ fn a_receipt_is_kept_once_whichever_call_of_the_disk_fails(rt: HostRuntime) -> R
 }
 
 /// Whether two links are served whole: an item is received, or repeated, and its folio is read.
-fn serves_whole<R: AllocGlobal + Threads + Wait + Sync + Abort>(rt: &R, disk: &mut MemDisk) -> Result<bool, NoMemory> {
+fn serves_whole<R: AllocGlobal + Threads + Wait + Sync + Abort>(
+    rt: &R,
+    disk: &mut MemDisk,
+) -> Result<bool, NoMemory> {
     let mut door = door_of(rt.alloc(), [POST, READ], &[])?;
     let status = served(rt, disk, &mut door, "9")?;
     assert!(rt; matches!(status, Status::Ok | Status::Memory));
