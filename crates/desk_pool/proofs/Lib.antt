@@ -32,6 +32,7 @@ pub mod StandsSince
 pub mod TakingBack
 pub mod TakingOver
 pub mod TouchedKeys
+pub mod TurnedNeighbours
 pub mod Turns
 pub mod WaitingBehind
 pub mod WaitingInTurn

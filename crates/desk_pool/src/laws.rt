@@ -1,5 +1,5 @@
 //! What holds of the orders in which desks take items, and of the room that a round keeps.
-ghost use Rattle.std.specs.Prelude.{◌≡◌, ◌⊎◌, ◌↔◌, ◌+◌, ◌-◌, ◌<◌, ◌≤◌, ℕ, false, List, length, sum_by, Contains};
+ghost use Rattle.std.specs.Prelude.{◌≡◌, ◌⊎◌, ◌↔◌, ◌+◌, ◌-◌, ◌<◌, ◌≤◌, ◌∷◌, ◌++◌, ℕ, false, List, length, sum_by, Contains};
 ghost use Rattle.gb_base.specs.Keys.{folio_of_key};
 ghost use Rattle.gb_base.specs.declared.keys.Key.{Key};
 ghost use Rattle.gb_base.specs.declared.keys.Key.TheVariants.{Right};
@@ -8,7 +8,7 @@ ghost use Rattle.act_model.specs.SaleKeys.{earlier_rights};
 ghost use Rattle.act_model.specs.declared.receipts.Receipt.{Receipt};
 ghost use Rattle.conflict_queue.specs.Dockets.{has_key};
 ghost use Rattle.conflict_queue.specs.ItemKeys.{keys_of_item};
-ghost use Rattle.conflict_queue.specs.Schedules.{IsPermitted};
+ghost use Rattle.conflict_queue.specs.Schedules.{Conflicts, IsPermitted};
 ghost use Rattle.desk_pool.specs.RoundRooms.{room_of_first};
 ghost use Rattle.desk_pool.specs.Turns.{WaitsInTurn};
 ghost use Rattle.folio_line.specs.FolioLine.{all_rises};
@@ -22,6 +22,12 @@ use kept_registers::laws::empty_register_is_kept;
 /// orders (GBO § 17).
 pub fn waiting_in_turn()
     ensures just { (journal : List Receipt) (order : List ℕ) → IsPermitted journal order ↔ WaitsInTurn journal order }
+{}
+
+/// Two neighbours in a permitted order that have no key in common may change places (GBO § 17).
+pub fn neighbours_may_change_places()
+    ensures turned { (journal : List Receipt) (before after : List ℕ) (i j : ℕ) → IsPermitted journal (before ++ i ∷ j ∷ after)
+        → (Conflicts journal i j → ⊥) → IsPermitted journal (before ++ j ∷ i ∷ after) }
 {}
 
 /// An item touches two folios at most: where two of its keys are of different ones, any other is of
