@@ -45,7 +45,10 @@ fn a_list_with_another_header_receives_nothing(rt: HostRuntime) -> Result<(), Fa
 }
 
 /// These words are no command: nothing is written, neither to the sink nor to the disk.
-fn is_no_command<R: AllocGlobal + Threads + Wait + Sync + Abort>(rt: &R, words: &[&str]) -> Result<(), Fail> {
+fn is_no_command<R: AllocGlobal + Threads + Wait + Sync + Abort>(
+    rt: &R,
+    words: &[&str],
+) -> Result<(), Fail> {
     let mut disk = disk_of(rt, &[], &[])?;
     run_of(words, LIST).writes(rt, &mut disk, Status::Usage, b"")?;
     assert!(rt; disk.bytes().is_empty());

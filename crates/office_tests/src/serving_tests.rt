@@ -175,7 +175,10 @@ fn a_receipt_is_kept_once_whichever_call_of_the_disk_fails(rt: HostRuntime) -> R
 }
 
 /// Whether two links are served whole: an item is received, or repeated, and its folio is read.
-fn serves_whole<R: AllocGlobal + Threads + Wait + Sync + Abort>(rt: &R, disk: &mut MemDisk) -> Result<bool, NoMemory> {
+fn serves_whole<R: AllocGlobal + Threads + Wait + Sync + Abort>(
+    rt: &R,
+    disk: &mut MemDisk,
+) -> Result<bool, NoMemory> {
     let mut door = door_of(rt.alloc(), [POST, READ], &[])?;
     let status = served(rt, disk, &mut door, "9")?;
     assert!(rt; matches!(status, Status::Ok | Status::Memory));

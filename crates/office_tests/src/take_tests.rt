@@ -50,7 +50,10 @@ fn lines_are_taken_again_after_a_fault_of_source_or_sink(rt: HostRuntime) -> Res
 }
 
 /// The number of the first call that an opening of this file does not make.
-fn calls_of_an_opening<R: AllocGlobal + Threads + Wait + Sync>(rt: &R, file: &[u8]) -> Result<u32, Fail> {
+fn calls_of_an_opening<R: AllocGlobal + Threads + Wait + Sync>(
+    rt: &R,
+    file: &[u8],
+) -> Result<u32, Fail> {
     for call in 1..64 {
         let mut disk = disk_of(rt, file, &[call])?;
         if Book::open(rt.alloc(), &mut disk).is_ok() {
@@ -61,7 +64,10 @@ fn calls_of_an_opening<R: AllocGlobal + Threads + Wait + Sync>(rt: &R, file: &[u
 }
 
 /// The number of the first call that `settle` over this file does not make.
-fn calls_of_settling<R: AllocGlobal + Threads + Wait + Sync>(rt: &R, file: &[u8]) -> Result<u32, Fail> {
+fn calls_of_settling<R: AllocGlobal + Threads + Wait + Sync>(
+    rt: &R,
+    file: &[u8],
+) -> Result<u32, Fail> {
     for call in 1..64 {
         let mut disk = disk_of(rt, file, &[call])?;
         let (status, _) = run_of(&["settle", "--desks", "1"], &[]).done(rt, &mut disk)?;
@@ -83,7 +89,10 @@ fn the_journal_is_opened_once(rt: HostRuntime) -> Result<(), Fail> {
 }
 
 /// This file is made, and is then the journal of nothing.
-fn is_made<R: AllocGlobal + Threads + Wait + Sync + Abort>(rt: &R, file: &[u8]) -> Result<(), Fail> {
+fn is_made<R: AllocGlobal + Threads + Wait + Sync + Abort>(
+    rt: &R,
+    file: &[u8],
+) -> Result<(), Fail> {
     let mut disk = disk_of(rt, file, &[])?;
     let text = b"end receipts 0 folios 0\n";
     run_of(&["settle", "--desks", "1"], &[]).writes(rt, &mut disk, Status::Ok, text)?;
