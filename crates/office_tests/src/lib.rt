@@ -4,6 +4,8 @@
 #[cfg(test)]
 mod faults;
 #[cfg(test)]
+mod gate_tests;
+#[cfg(test)]
 mod list_tests;
 #[cfg(test)]
 mod row_tests;

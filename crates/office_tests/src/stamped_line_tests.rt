@@ -62,6 +62,19 @@ fn an_opening_and_a_charge_are_entered(rt: HostRuntime) -> Result<(), Fail> {
     settles(&rt, &[OPENING, CHARGE], b"accepted 1\naccepted 2\n", REPORT)
 }
 
+/// The number of desks is in no text.
+#[test]
+fn any_number_of_desks_writes_the_same(rt: HostRuntime) -> Result<(), Fail> {
+    let input = input_of(rt.alloc(), &[OPENING, CHARGE])?;
+    let mut text = Vec::from_slice(rt.alloc(), b"accepted 1\naccepted 2\n")?;
+    text.extend_from_slice(REPORT)?;
+    for desks in ["1", "2", "8", "64"] {
+        let words = ["settle", "--desks", desks, "--lines"];
+        run_of(&words, &input).writes(&rt, &mut SureDisk::new(), Status::Ok, &text)?;
+    }
+    Ok(())
+}
+
 #[test]
 fn a_line_sent_twice_acts_once(rt: HostRuntime) -> Result<(), Fail> {
     let lines = [OPENING, CHARGE, CHARGE];

@@ -2,14 +2,15 @@
 ghost use Rattle.std.specs.Prelude.{◌≤◌, length};
 ghost use Rattle.schedule_tests.specs.KeptParts.{AreKept};
 
-use crate::stepping::{empty_parts, entries_of, settle};
+use crate::stepping::{empty_parts, settle};
 use act_model::Journal;
 use conflict_queue::touches;
-use folio_sections::{Entry, MapParts};
+use folio_sections::MapParts;
 use gb_base::{Key, ReceiptNo};
 use registrar::{Register, Scratch, Verdict, alone};
 use std::alloc::Global;
 use std::process::Abort;
+use test_registers::agree_at;
 
 /// What settling in some order comes to.
 #[derive(Clone, Copy, Debug, PartialEq, Eq)]
@@ -154,23 +155,17 @@ fn agree_at_item(
     let item = ReceiptNo::new(n).expect(rt, "a number");
     let keys = touches(alloc, journal, item).ok().expect(rt, "memory");
     keys.iter()
-        .all(|key| agree_at(rt, alloc, parts, register, key))
+        .all(|key| is_same_at(rt, alloc, parts, register, key))
 }
 
-/// Whether the same entries stand at a key.
-fn agree_at(
+fn is_same_at(
     rt: &impl Abort,
     alloc: Global,
     parts: &MapParts,
     register: &Register,
     key: &Key,
 ) -> bool {
-    let first = entries_text(rt, alloc, entries_of(parts, key));
-    let second = entries_text(rt, alloc, entries_of(register, key));
-    first.as_str() == second.as_str()
-}
-
-/// `Entry` has no equality, and its `Debug` text has every field.
-fn entries_text(rt: &impl Abort, alloc: Global, entries: Option<&[Entry]>) -> String {
-    format!(in alloc; "{entries:?}").ok().expect(rt, "memory")
+    agree_at(alloc, parts, register, key)
+        .ok()
+        .expect(rt, "memory")
 }

@@ -1,5 +1,5 @@
 //! Items settled one by one on the same parts, in whatever order they come.
-ghost use Rattle.std.specs.Prelude.{◌≡◌, ◌≤◌, ◌&&◌, nat_lt, length, Contains, IfOk, IfSome, IsTrue, OnOk, is_some};
+ghost use Rattle.std.specs.Prelude.{◌≡◌, ◌≤◌, ◌&&◌, nat_lt, length, Contains, IfOk, IsTrue, OnOk};
 ghost use Rattle.std.specs.List.{list_all};
 ghost use Rattle.gb_base.specs.declared.keys.Key.{Key};
 ghost use Rattle.conflict_queue.specs.Dockets.{keys_touched};
@@ -10,12 +10,13 @@ ghost use Rattle.schedule_tests.specs.KeptParts.{AreKept};
 
 use act_model::Journal;
 use conflict_queue::touches;
-use folio_sections::{Entry, MapParts, Parts};
+use folio_sections::{Entry, MapParts};
 use gb_base::{Key, NoMemory, ReceiptNo};
 use kept_registers::laws::empty_register_is_kept;
 use registrar::{Scratch, Verdict, make_room, make_scratch, step};
 use std::alloc::Global;
 use std::process::Abort;
+use test_registers::entries_of;
 
 /// Parts at which nothing is entered yet.
 pub fn empty_parts(alloc: Global, journal: &Journal) -> Result<MapParts, NoMemory>
@@ -112,25 +113,4 @@ fn all_earlier(entries: &[Entry], item: ReceiptNo) -> bool
     ensures { result ≡ list_all (λ e. nat_lt e.receipt item) entries.now }
 {
     entries.iter().all(|entry| entry.receipt < item)
-}
-
-/// What stands at a key; None where it is not held.
-pub fn entries_of<'a, P: Parts>(parts: &'a P, key: &Key) -> Option<&'a [Entry]>
-    ensures held { is_some result ≡ P.holds parts.now key.now }
-    ensures value { IfSome result (λ entries. entries.now ≡ P.at parts.now key.now) }
-{
-    match key {
-        Key::Title(folio) => match parts.title(*folio) {
-            Some(part) => Some(part.entries()),
-            None => None,
-        },
-        Key::Right(folio, right) => match parts.right(*folio, *right) {
-            Some(part) => Some(part.entries()),
-            None => None,
-        },
-        Key::Case(folio) => match parts.case(*folio) {
-            Some(part) => Some(part.entries()),
-            None => None,
-        },
-    }
 }

@@ -1,8 +1,10 @@
 //! Parts of folios and rights for tests. No code outside tests uses it.
 #![tactic(auto)]
 
+mod entries;
 mod held;
 mod rights;
 
+pub use entries::{agree_at, entries_of};
 pub use held::are_held;
 pub use rights::full_right;

@@ -1,0 +1,113 @@
+//! Gates at the desks: for which items they are called, and that one which stays long changes nothing.
+ghost use Rattle.std.specs.Prelude.{◌≤◌};
+
+use crate::crowded_journals::crowded_journal;
+use crate::gates::{Slow, WatchingGate};
+use crate::journals::{assigned_and_charged, of_lapses, sold_beside_a_cure};
+use crate::registers::{in_order, left_by, register_of, say_the_same};
+use act_model::Journal;
+use conflict_queue::Docket;
+use gb_base::ReceiptNo;
+use std::process::Abort;
+use std::sync::Wait;
+use std::thread::Threads;
+use test_items::{folio, receipt};
+
+/// A gate that stays long at these items is passed by one, two and eight desks.
+fn is_passed<R: AllocGlobal + Threads + Wait + Sync + Abort>(
+    rt: &R,
+    journal: &Journal,
+    slow: Slow,
+) {
+    for desks in [1, 2, 8] {
+        is_passed_by(rt, journal, desks, slow);
+    }
+}
+
+/// So many desks leave what the one registrar leaves, and call the gate once for each item, of two
+/// with a key in common for the earlier one first.
+fn is_passed_by<R: AllocGlobal + Threads + Wait + Sync + Abort>(
+    rt: &R,
+    journal: &Journal,
+    desks: u16,
+    slow: Slow,
+)
+    requires { (1 ≤ desks) × (desks ≤ 64) }
+{
+    let docket = Docket::build(rt.alloc(), journal).ok().expect(rt, "memory");
+    let gate = WatchingGate::new(rt.alloc(), &docket, slow)
+        .ok()
+        .expect(rt, "memory");
+    let left = left_by(rt, journal, desks, &gate);
+    let wanted = register_of(rt, rt.alloc(), journal);
+    assert!(rt;
+        say_the_same(rt, rt.alloc(), journal, &wanted, &left),
+        "{desks} desks, {slow:?}"
+    );
+    let order = gate.order(rt.alloc()).ok().expect(rt, "memory");
+    assert_eq!(rt; gate.calls(), docket.len());
+    assert!(rt;
+        has_each_once(order.as_slice(), journal.len()),
+        "{desks} desks, {slow:?}"
+    );
+    assert!(rt; in_order(rt, rt.alloc(), journal, order.as_slice()).is_some());
+}
+
+/// Whether the numbers up to this one stand in a list, each once.
+fn has_each_once(list: &[ReceiptNo], most: u32) -> bool {
+    for number in 0..most {
+        if list.iter().filter(|item| item.get() - 1 == number).count() != 1 {
+            return false;
+        }
+    }
+    true
+}
+
+#[test]
+fn a_gate_is_called_once_for_each_item(rt: HostRuntime) {
+    is_passed(&rt, &Journal::new(rt.alloc()), Slow::Never);
+    is_passed(&rt, &of_lapses(&rt, rt.alloc()), Slow::Never);
+    is_passed(&rt, &assigned_and_charged(&rt, rt.alloc()), Slow::Never);
+    is_passed(&rt, &sold_beside_a_cure(&rt, rt.alloc()), Slow::Never);
+    for seed in 0..4 {
+        is_passed(&rt, &crowded_journal(rt.alloc(), seed, 8, 60), Slow::Never);
+    }
+}
+
+/// Each item in turn, so that the others of the folio wait for it.
+#[test]
+fn a_gate_that_stays_long_at_one_item(rt: HostRuntime) {
+    let journal = sold_beside_a_cure(&rt, rt.alloc());
+    for number in 1..11 {
+        is_passed(&rt, &journal, Slow::At(receipt(number)));
+    }
+}
+
+#[test]
+fn a_gate_that_stays_long_in_one_folio(rt: HostRuntime) {
+    let journal = sold_beside_a_cure(&rt, rt.alloc());
+    is_passed(&rt, &journal, Slow::In(folio(7)));
+    is_passed(&rt, &journal, Slow::In(folio(8)));
+    for seed in 10..14 {
+        let crowded = crowded_journal(rt.alloc(), seed, 4, 60);
+        is_passed(&rt, &crowded, Slow::In(folio(1)));
+        is_passed(&rt, &crowded, Slow::In(folio(3)));
+    }
+}
+
+#[test]
+fn a_gate_that_stays_long_at_drawn_items(rt: HostRuntime) {
+    for seed in 20..26 {
+        let crowded = crowded_journal(rt.alloc(), seed, 6, 60);
+        is_passed(&rt, &crowded, Slow::Drawn(seed));
+    }
+}
+
+/// All items of one folio, so that only one desk has something to do at a time.
+#[test]
+fn a_gate_that_stays_long_where_there_is_one_folio(rt: HostRuntime) {
+    for seed in 30..33 {
+        let journal = crowded_journal(rt.alloc(), seed, 1, 40);
+        is_passed(&rt, &journal, Slow::In(folio(1)));
+    }
+}

@@ -1,0 +1,19 @@
+//! Tests of settling a journal at desks and in given orders, by what `desk_pool` exports.
+#![tactic(auto)]
+
+#[cfg(test)]
+mod crowded_journals;
+#[cfg(test)]
+mod crowded_tests;
+#[cfg(test)]
+mod gate_tests;
+#[cfg(test)]
+mod gates;
+#[cfg(test)]
+mod journals;
+#[cfg(test)]
+mod order_tests;
+#[cfg(test)]
+mod registers;
+#[cfg(test)]
+mod settling_tests;

@@ -1,0 +1,75 @@
+//! The orders in which a round settles a journal, and those that it refuses.
+use crate::journals::assigned_and_charged;
+use crate::registers::{by_a_round, in_order, register_of, say_the_same};
+use act_model::Journal;
+use gb_base::ReceiptNo;
+use std::alloc::Global;
+use std::process::Abort;
+use test_items::receipt;
+
+/// Whether a round in this order leaves of that journal what the one registrar leaves.
+fn leaves_the_same(rt: &impl Abort, alloc: Global, order: &[ReceiptNo]) -> bool {
+    let journal = assigned_and_charged(rt, alloc);
+    let wanted = register_of(rt, alloc, &journal);
+    match in_order(rt, alloc, &journal, order) {
+        Some(left) => say_the_same(rt, alloc, &journal, &wanted, &left),
+        None => false,
+    }
+}
+
+/// Whether a round of that journal refuses this order.
+fn is_refused(rt: &impl Abort, alloc: Global, order: &[ReceiptNo]) -> bool {
+    let journal = assigned_and_charged(rt, alloc);
+    in_order(rt, alloc, &journal, order).is_none()
+}
+
+/// The assignment of one charge and the creation of another may be settled in either order.
+#[test]
+fn an_assignment_and_a_charge_in_either_order(rt: HostRuntime) {
+    let as_received = [receipt(1), receipt(2), receipt(3), receipt(4)];
+    let turned = [receipt(1), receipt(2), receipt(4), receipt(3)];
+    assert!(&rt; leaves_the_same(&rt, rt.alloc(), &as_received));
+    assert!(&rt; leaves_the_same(&rt, rt.alloc(), &turned));
+}
+
+/// The assignment may not come ahead of the charge that it names.
+#[test]
+fn an_assignment_ahead_of_its_charge_is_refused(rt: HostRuntime) {
+    let order = [receipt(1), receipt(3), receipt(2), receipt(4)];
+    assert!(&rt; is_refused(&rt, rt.alloc(), &order));
+}
+
+/// An order has each of the four receipts once, and nothing else.
+#[test]
+fn what_is_no_order_of_the_journal_is_refused(rt: HostRuntime) {
+    for order in [
+        [receipt(1), receipt(2), receipt(3), receipt(3)].as_slice(),
+        [receipt(1), receipt(1), receipt(2), receipt(3), receipt(4)].as_slice(),
+        [receipt(1), receipt(2), receipt(3), receipt(4), receipt(4)].as_slice(),
+        [receipt(1), receipt(2), receipt(3)].as_slice(),
+        [receipt(1), receipt(2), receipt(4)].as_slice(),
+        [receipt(1), receipt(2), receipt(3), receipt(5)].as_slice(),
+        [receipt(1), receipt(2), receipt(3), receipt(4), receipt(5)].as_slice(),
+        [].as_slice(),
+    ] {
+        assert!(&rt; is_refused(&rt, rt.alloc(), order), "{order:?}");
+    }
+}
+
+#[test]
+fn no_item_in_no_order(rt: HostRuntime) {
+    let journal = Journal::new(rt.alloc());
+    let left = in_order(&rt, rt.alloc(), &journal, &[]).expect(&rt, "a register");
+    assert!(&rt; left.verdicts().is_empty());
+    assert!(&rt; left.folios().is_empty());
+    assert!(&rt; in_order(&rt, rt.alloc(), &journal, &[receipt(1)]).is_none());
+}
+
+/// Without desks and without an order a round settles in the order of receipts.
+#[test]
+fn a_round_without_desks(rt: HostRuntime) {
+    let journal = assigned_and_charged(&rt, rt.alloc());
+    let wanted = register_of(&rt, rt.alloc(), &journal);
+    let left = by_a_round(&rt, rt.alloc(), &journal);
+    assert!(&rt; say_the_same(&rt, rt.alloc(), &journal, &wanted, &left));
+}
