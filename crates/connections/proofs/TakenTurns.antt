@@ -16,7 +16,7 @@ use Rattle.connections.specs.Holding.{IsNoJournal}
 use Rattle.connections.specs.Replies.{ReplyParts}
 use Rattle.connections.specs.Served.{IsLeftIn}
 use Rattle.connections.specs.Serving as serving
-use Rattle.connections.specs.Serving.{fate_of, is_answered, lacks_journal, lacks_memory}
+use Rattle.connections.specs.Serving.{CountsTurns, fate_of, is_answered, lacks_journal, lacks_memory}
 use Rattle.connections.specs.Turns.{Taken, Answering, Refusing, held_behind}
 use Rattle.connections.proofs.ByDiskAlone.{counts_still}
 use Rattle.connections.proofs.DiskReplies.{disk_by_reply, journal_by_reply}
@@ -25,7 +25,7 @@ use Rattle.connections.proofs.TurnLists.{left_first, left_later, left_one, told_
 
 -- ---- counts
 
-pub counts_both : (a b c : ℕ) (x y : Bool) → Counts a b x → Counts b c y → Counts a c (x || y)
+counts_both : (a b c : ℕ) (x y : Bool) → Counts a b x → Counts b c y → Counts a c (x || y)
 counts_both a b c false y first second = subst (λ n. Counts n c y) (first.else_same refl) second
 counts_both a b c true y first second = record {
   never_falls = le_trans first.never_falls second.never_falls;
@@ -50,6 +50,16 @@ is_journal turn = lacks_journal (fate_of turn)
 abbrev is_memory : Taken → Bool
 is_memory turn = lacks_memory (fate_of turn)
 
+-- one list of turns after another
+counts_more : (a b c : ℕ) (xs ys : List Taken) → CountsTurns a xs b → CountsTurns b ys c → CountsTurns a (xs ++ ys) c
+counts_more a b c [] ys first second = subst (λ n. CountsTurns n ys c) first second
+counts_more a b c (x ∷ xs) ys first second = (first.0, first.1, counts_more first.0 b c xs ys first.2 second)
+
+-- over all of them the count rose just where it did in one
+counts_any : (before now : ℕ) (xs : List Taken) → CountsTurns before xs now → Counts before now (list_any is_disk xs)
+counts_any before now [] same = subst (λ n. Counts before n false) (sym same) (counts_still before)
+counts_any before now (x ∷ xs) counts = counts_both before counts.0 now (is_disk x) (list_any is_disk xs) counts.1 (counts_any counts.0 now xs counts.2)
+
 all_answered : (xs : List Taken) → list_any is_disk xs ≡ false → list_any is_journal xs ≡ false → list_any is_memory xs ≡ false → list_all (λ turn. is_answered (fate_of turn)) xs ≡ true
 all_answered [] disk journal memory = refl
 all_answered (x ∷ xs) disk journal memory =
@@ -58,10 +68,10 @@ all_answered (x ∷ xs) disk journal memory =
     let m = or_parts _ _ memory in
     rw (answered_if (fate_of x) d.0 j.0 m.0) (all_answered xs d.1 j.1 m.1)
 
-pub answered_by : (before now : ℕ) (xs : List Taken) → Counts before now (list_any is_disk xs) → list_any is_journal xs ≡ false → (Rose before now → ⊥) → list_any is_memory xs ≡ false
+pub answered_by : (before now : ℕ) (xs : List Taken) → CountsTurns before xs now → list_any is_journal xs ≡ false → (Rose before now → ⊥) → list_any is_memory xs ≡ false
     → list_all (λ turn. is_answered (fate_of turn)) xs ≡ true
 answered_by before now xs counts journal quiet memory =
-    ⊎_elim (λ (failed : list_any is_disk xs ≡ true). absurd (quiet (counts.failed_rose failed)))
+    ⊎_elim (λ (failed : list_any is_disk xs ≡ true). absurd (quiet ((counts_any before now xs counts).failed_rose failed)))
     (λ (sound : list_any is_disk xs ≡ false). all_answered xs sound journal memory) (cases_Bool (list_any is_disk xs))
 
 -- ---- turns
@@ -75,7 +85,7 @@ module _ {D : Type 0} (images : D → List ℕ → Type 0) (moment : D → ℕ) 
     left = started moment since disk (λ file. images disk file ⊎ IsLeftIn held [] file) (λ file left. inl (only_now file left));
     kept = λ front all. all;
     told = tt;
-    disk = counts_still (faults disk);
+    disk = refl;
     journal = refl;
   }
 
@@ -84,7 +94,7 @@ module _ {D : Type 0} (images : D → List ℕ → Type 0) (moment : D → ℕ) 
     left = started moment since disk (λ file. images disk file ⊎ IsLeftIn held (Refusing reply ∷ []) file) (λ file left. inl (only_now file left));
     kept = λ front all. all;
     told = (λ from_disk. not_from_disk reply _ silent from_disk, tt);
-    disk = counts_still (faults disk);
+    disk = (faults disk, counts_still (faults disk), refl);
     journal = refl;
   }
 
@@ -93,13 +103,12 @@ module _ {D : Type 0} (images : D → List ℕ → Type 0) (moment : D → ℕ) 
       → Takes old new held (Answering request is.asked is.fate ∷ [])
   takes_one reads old new request held reply HoldsNow is stands none counts =
       let status : (answer_by is.fate held (answer held request.body is.asked)).reply.status ≡ reply.status = sym (ap (λ (r : ReplyParts). r.status) is.reply_is) in
-      let failed : (reply.status == 503) ≡ list_any is_disk (Answering request is.asked is.fate ∷ []) =
-      ap (λ n. n == 503) (sym status) ∙ disk_by_reply held request.body is.asked is.fate ∙ or_none (has_disk_failed is.fate) in record {
+      let failed : (reply.status == 503) ≡ has_disk_failed is.fate = ap (λ n. n == 503) (sym status) ∙ disk_by_reply held request.body is.asked is.fate in record {
         left = weakened moment since old new (λ file. images old file ⊎ _) (λ file. images old file ⊎ IsLeftIn held (Answering request is.asked is.fate ∷ []) file)
             (λ file has. ⊎_elim (λ image. inl image) (λ grown. inr (left_one held request is.asked is.fate file grown)) has) is.left;
         kept = is.kept;
         told = (λ from_disk. is.told (ap is_from_disk is.reply_is ∙ from_disk), tt);
-        disk = subst (λ b. Counts (faults old) (faults new) b) failed counts;
+        disk = (faults new, subst (λ b. Counts (faults old) (faults new) b) failed counts, refl);
         journal = sym (or_none (lacks_journal is.fate)) ∙ journal_by_reply (reads old) held.journal held request.body is.asked is.fate stands (λ is500. none (sym status ∙ is500));
       }
     where
@@ -118,6 +127,6 @@ module _ {D : Type 0} (images : D → List ℕ → Type 0) (moment : D → ℕ) 
         left = followed moment since old mid new P before behind;
         kept = λ front all. second.kept front (first.kept front all);
         told = told_more (images new) held xs ys (told_still (images mid) (images new) held xs second.kept first.told) second.told;
-        disk = subst (λ b. Counts (faults old) (faults new) b) (sym (list_any-append is_disk xs ys)) (counts_both (faults old) (faults mid) (faults new) _ _ first.disk second.disk);
+        disk = counts_more (faults old) (faults mid) (faults new) xs ys first.disk second.disk;
         journal = list_any-append is_journal xs ys ∙ ap (λ b. b || list_any is_journal ys) first.journal ∙ second.journal;
       }

@@ -44,18 +44,23 @@ abbrev pub fate_of : Taken → Fate
 fate_of (Answering request asked fate) = fate
 fate_of (Refusing reply) = Answered
 
+-- The disk's count of faults rises in each of these turns in which a call of it failed, and in no other.
+abbrev pub CountsTurns : ℕ → List Taken → ℕ → Type 0
+CountsTurns before [] now = now ≡ before
+CountsTurns before (turn ∷ turns) now = (mid : ℕ) × Counts before mid (has_disk_failed (fate_of turn)) × CountsTurns mid turns now
+
 -- Each image begins with each journal that a text of these turns was read of, or an item received into.
 abbrev pub AllTold : (List ℕ → Type 0) → Held → List Taken → Type 0
 AllTold images held [] = Unit {0}
 AllTold images held (turn ∷ turns) =
     (is_from_disk (answer_in held turn).reply ≡ true → AllBegin (answer_in held turn).held.journal images) × AllTold images (answer_in held turn).held turns
 
--- What these turns did to the disk: what a stop leaves, what is kept of the file and told of it, and that its count of faults rose just where a call of it failed. None finds that the file is no journal.
+-- What these turns did to the disk: what a stop leaves, what is kept of the file and told of it, and that its count of faults rose in each turn in which a call of it failed. None finds that the file is no journal.
 pub record TakesTurns {D : Type 0} (images : D → List ℕ → Type 0) (moment : D → ℕ) (since : D → ℕ → List ℕ → Type 0) (faults : D → ℕ) (old new : D) (held : Held) (taken : List Taken) : Type 0 where
   pub left : LeavesOnly moment since old new (λ file. images old file ⊎ IsLeftIn held taken file)
   pub kept : (front : List Receipt) → AllBegin front (images old) → AllBegin front (images new)
   pub told : AllTold (images new) held taken
-  pub disk : Counts (faults old) (faults new) (list_any (λ turn. has_disk_failed (fate_of turn)) taken)
+  pub disk : CountsTurns (faults old) taken (faults new)
   pub journal : list_any (λ turn. lacks_journal (fate_of turn)) taken ≡ false
 
 -- A connection of these turns was served: what became of it, what was written, what is held behind it, and what was done to the disk. Where it is finished it is whole; else it is cut off, and its whole replies alone are counted. Where no memory was found for a reply nothing of it was written. Where no count of the disk rose and no memory was wanting, each turn was answered as it asks.

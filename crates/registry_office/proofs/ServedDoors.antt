@@ -31,10 +31,6 @@ use Rattle.registry_office.proofs.Opened.{kept_journal}
 left_ahead : (held : Held) (taken : List Taken) (file : List ℕ) → StandsForJournal file held.journal → IsLeftIn held taken file
 left_ahead held taken file stands = record { done = []; next = []; rest = taken; all = refl; one = omega arith; left = grown_at held.journal file stands }
 
--- a count that the opening left and the door went on with
-counts_on : (before mid now : ℕ) (failed : Bool) → Counts before mid false → Counts mid now failed → Counts before now failed
-counts_on before mid now failed first second = subst (λ n. Counts n now failed) (first.else_same refl) second
-
 -- a count that the opening left rises behind it alone
 rose_on : (before mid now : ℕ) → Counts before mid false → (Rose before now → ⊥) → Rose mid now → ⊥
 rose_on before mid now first never = subst (λ n. Rose n now → ⊥) (sym (first.else_same refl)) never
@@ -81,7 +77,9 @@ module _ {D : Type 0} (reads : D → List ℕ) (images : D → List ℕ → Type
           holds = record { stands = d.serves.holds.file; clock = d.serves.holds.clock };
           left = left_on old mid new held _ counts stands first d.serves.disk.left;
           kept = d.serves.disk.told;
-          disk = counts_on (faults old) (faults mid) (faults new) _ quiet d.serves.disk.disk;
+          opened = faults mid;
+          opening = quiet;
+          disk = d.serves.disk.disk;
           journal = d.serves.disk.journal;
           done = λ ok. d.done refl;
           memory = λ lacks. ap status_of_door (d.memory lacks);
@@ -97,7 +95,9 @@ module _ {D : Type 0} (reads : D → List ℕ) (images : D → List ℕ → Type
           holds = record { stands = d.serves.holds.file; clock = d.serves.holds.clock };
           left = left_on old mid new held _ counts stands first d.serves.disk.left;
           kept = d.serves.disk.told;
-          disk = counts_on (faults old) (faults mid) (faults new) _ quiet d.serves.disk.disk;
+          opened = faults mid;
+          opening = quiet;
+          disk = d.serves.disk.disk;
           journal = d.serves.disk.journal;
           done = λ ok. absurd cc;
           memory = λ lacks. ap status_of_door (d.memory lacks);
@@ -113,7 +113,9 @@ module _ {D : Type 0} (reads : D → List ℕ) (images : D → List ℕ → Type
           holds = record { stands = d.serves.holds.file; clock = d.serves.holds.clock };
           left = left_on old mid new held _ counts stands first d.serves.disk.left;
           kept = d.serves.disk.told;
-          disk = counts_on (faults old) (faults mid) (faults new) _ quiet d.serves.disk.disk;
+          opened = faults mid;
+          opening = quiet;
+          disk = d.serves.disk.disk;
           journal = d.serves.disk.journal;
           done = λ ok. absurd cc;
           memory = λ lacks. refl;
@@ -149,7 +151,9 @@ module _ {D : Type 0} (reads : D → List ℕ) (images : D → List ℕ → Type
           holds = holds;
           left = ⊎_elim (λ none. inl none) (λ first. inr (first_left first)) answers;
           kept = tt;
-          disk = counts;
+          opened = faults new;
+          opening = counts;
+          disk = refl;
           journal = refl;
           done = λ ok. absurd cc;
           memory = λ lacks. absurd lacks;
@@ -165,7 +169,9 @@ module _ {D : Type 0} (reads : D → List ℕ) (images : D → List ℕ → Type
           holds = holds;
           left = first_left answers;
           kept = tt;
-          disk = counts;
+          opened = faults new;
+          opening = counts;
+          disk = refl;
           journal = refl;
           done = λ ok. absurd cc;
           memory = λ lacks. absurd lacks;
@@ -181,7 +187,9 @@ module _ {D : Type 0} (reads : D → List ℕ) (images : D → List ℕ → Type
           holds = holds;
           left = first_left answers;
           kept = tt;
-          disk = counts;
+          opened = faults new;
+          opening = counts;
+          disk = refl;
           journal = refl;
           done = λ ok. absurd cc;
           memory = λ lacks. absurd lacks;
@@ -197,7 +205,9 @@ module _ {D : Type 0} (reads : D → List ℕ) (images : D → List ℕ → Type
           holds = holds;
           left = first_left answers;
           kept = tt;
-          disk = counts;
+          opened = faults new;
+          opening = counts;
+          disk = refl;
           journal = refl;
           done = λ ok. absurd cc;
           memory = λ lacks. absurd lacks;
