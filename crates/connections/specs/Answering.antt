@@ -1,5 +1,5 @@
 -- What answering a request does.
-use Rattle.std.specs.Prelude.{◌≡◌, ◌⊎◌, ℕ, ◌==◌, ◌||◌, Bool, true, false, List, Option, None, is_ok}
+use Rattle.std.specs.Prelude.{◌≡◌, ◌⊎◌, ℕ, ◌==◌, ◌||◌, Bool, true, false, List, Option, None, IsSome, is_ok}
 use Rattle.gb_outside.specs.Images.{LeavesOnly}
 use Rattle.act_json.specs.Lines.{item_of}
 use Rattle.act_model.specs.declared.receipts.Receipt.{Receipt}
@@ -26,6 +26,10 @@ is_refusal reply = reply.status == 400 || reply.status == 405 || reply.status ==
 abbrev pub tells_of_journal : ReplyParts → Bool
 tells_of_journal reply = reply.status == 200 || reply.status == 201 || reply.status == 403 || reply.status == 409
 
+-- the status says that something failed: a call of the disk, an opening, or the search for memory
+abbrev pub is_failed : ReplyParts → Bool
+is_failed reply = reply.status == 500 || reply.status == 503 || reply.status == 507
+
 -- the disk may be called for it: a text is read, or the body is an item
 abbrev pub may_call_disk : Asked → List ℕ → Bool
 may_call_disk (AskedFor Post) body = is_ok (item_of body)
@@ -49,6 +53,12 @@ pub record AnswersRequest {D : Type 0} (images : D → List ℕ → Type 0) (mom
   pub left : LeavesOnly moment since old new (λ file. images old file ⊎ GrownFrom held.journal (answer held request.body asked).held.journal file)
   pub kept : (front : List Receipt) → AllBegin front (images old) → AllBegin front (images new)
   pub told : is_from_disk reply ≡ true → AllBegin (answer_by fate held (answer held request.body asked)).held.journal (images new)
+
+-- Behind a request for which the disk may be called a book is open that works, unless something failed in it.
+pub record LeavesOpen (request : RequestParts) (reply : ReplyParts) (at_hand : Option SettledBookState) : Type 0 where
+  pub asked : Asked
+  pub asks : Asks request asked
+  pub works : may_call_disk asked request.body ≡ true → is_failed reply ≡ false → IsSome (working at_hand)
 
 -- ---- where no book is open and the file stands for no journal
 
