@@ -9,6 +9,7 @@ pub mod DoorRounds
 pub mod EndsBy
 pub mod Grows
 pub mod ItemEnds
+pub mod LeftThen
 pub mod LinkEnds
 pub mod LinkTurns
 pub mod LinksServed

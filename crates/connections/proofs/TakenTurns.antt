@@ -5,7 +5,7 @@ use Rattle.std.proofs.lemmas.Bool.{cases_Bool, or_parts}
 use Rattle.std.proofs.lemmas.List.Folds.{list_any-append}
 use Rattle.std.specs.List.{list_all, list_any}
 use Rattle.gb_outside.specs.Faults.{Counts, Rose}
-use Rattle.gb_outside.proofs.Moments.{followed, started, weakened}
+use Rattle.intake.specs.Grown.{GrownFrom}
 use Rattle.intake.specs.Requests.{Held}
 use Rattle.receipt_journal.specs.Standing.{StandsForJournal}
 use Rattle.registry_http.specs.RequestParts.{RequestParts}
@@ -21,6 +21,7 @@ use Rattle.connections.specs.Turns.{Taken, Answering, Refusing, held_behind}
 use Rattle.connections.proofs.ByDiskAlone.{counts_still}
 use Rattle.connections.proofs.DiskReplies.{disk_by_reply, journal_by_reply}
 use Rattle.connections.proofs.EndsBy.{not_from_disk}
+use Rattle.connections.proofs.LeftThen.{then_more, then_still, then_weakened}
 use Rattle.connections.proofs.TurnLists.{left_first, left_later, left_one, told_more, told_still}
 
 -- ---- counts
@@ -82,7 +83,7 @@ module _ {D : Type 0} (images : D → List ℕ → Type 0) (moment : D → ℕ) 
 
   pub takes_none : (disk : D) (held : Held) → ((file : List ℕ) → since disk (moment disk) file → images disk file) → Takes disk disk held []
   takes_none disk held only_now = record {
-    left = started moment since disk (λ file. images disk file ⊎ IsLeftIn held [] file) (λ file left. inl (only_now file left));
+    left = then_still images moment since disk (IsLeftIn held []) only_now;
     kept = λ front all. all;
     told = tt;
     disk = refl;
@@ -91,7 +92,7 @@ module _ {D : Type 0} (images : D → List ℕ → Type 0) (moment : D → ℕ) 
 
   pub takes_refusal : (disk : D) (held : Held) (reply : ReplyParts) → is_from_disk reply ≡ false → ((file : List ℕ) → since disk (moment disk) file → images disk file) → Takes disk disk held (Refusing reply ∷ [])
   takes_refusal disk held reply silent only_now = record {
-    left = started moment since disk (λ file. images disk file ⊎ IsLeftIn held (Refusing reply ∷ []) file) (λ file left. inl (only_now file left));
+    left = then_still images moment since disk (IsLeftIn held (Refusing reply ∷ [])) only_now;
     kept = λ front all. all;
     told = (λ from_disk. not_from_disk reply _ silent from_disk, tt);
     disk = (faults disk, counts_still (faults disk), refl);
@@ -104,8 +105,8 @@ module _ {D : Type 0} (images : D → List ℕ → Type 0) (moment : D → ℕ) 
   takes_one reads old new request held reply HoldsNow is stands none counts =
       let status : (answer_by is.fate held (answer held request.body is.asked)).reply.status ≡ reply.status = sym (ap (λ (r : ReplyParts). r.status) is.reply_is) in
       let failed : (reply.status == 503) ≡ has_disk_failed is.fate = ap (λ n. n == 503) (sym status) ∙ disk_by_reply held request.body is.asked is.fate in record {
-        left = weakened moment since old new (λ file. images old file ⊎ _) (λ file. images old file ⊎ IsLeftIn held (Answering request is.asked is.fate ∷ []) file)
-            (λ file has. ⊎_elim (λ image. inl image) (λ grown. inr (left_one held request is.asked is.fate file grown)) has) is.left;
+        left = then_weakened images moment since old new (GrownFrom held.journal (answer held request.body is.asked).held.journal) (IsLeftIn held (Answering request is.asked is.fate ∷ []))
+            (λ file grown. left_one held request is.asked is.fate file grown) is.left;
         kept = is.kept;
         told = (λ from_disk. is.told (ap is_from_disk is.reply_is ∙ from_disk), tt);
         disk = (faults new, subst (λ b. Counts (faults old) (faults new) b) failed counts, refl);
@@ -119,12 +120,10 @@ module _ {D : Type 0} (images : D → List ℕ → Type 0) (moment : D → ℕ) 
   pub takes_then : (old mid new : D) (held : Held) (xs ys : List Taken) → ((t : ℕ) (c : List ℕ) → t ≤ moment mid → images mid c → since mid t c)
       → Takes old mid held xs → Takes mid new (held_behind held xs) ys → Takes old new held (xs ++ ys)
   takes_then old mid new held xs ys counts first second =
-      let P : List ℕ → Type 0 = λ file. images old file ⊎ IsLeftIn held (xs ++ ys) file in
-      let before = weakened moment since old mid (λ file. images old file ⊎ IsLeftIn held xs file) P
-      (λ file has. ⊎_elim (λ image. inl image) (λ left. inr (left_first held xs ys file left)) has) first.left in
-      let behind = weakened moment since mid new (λ file. images mid file ⊎ IsLeftIn (held_behind held xs) ys file) P
-      (λ file has. ⊎_elim (λ image. before.each file (counts (moment old) file before.later image)) (λ left. inr (left_later held xs ys file left)) has) second.left in record {
-        left = followed moment since old mid new P before behind;
+      let P : List ℕ → Type 0 = IsLeftIn held (xs ++ ys) in
+      let before = then_weakened images moment since old mid (IsLeftIn held xs) P (λ file left. left_first held xs ys file left) first.left in
+      let behind = then_weakened images moment since mid new (IsLeftIn (held_behind held xs) ys) P (λ file left. left_later held xs ys file left) second.left in record {
+        left = then_more images moment since old mid new P counts before behind;
         kept = λ front all. second.kept front (first.kept front all);
         told = told_more (images new) held xs ys (told_still (images mid) (images new) held xs second.kept first.told) second.told;
         disk = counts_more (faults old) (faults mid) (faults new) xs ys first.disk second.disk;

@@ -1,12 +1,11 @@
 -- What serving a connection does.
-use Rattle.std.specs.Prelude.{◌≡◌, ◌⊎◌, ℕ, Bool, true, false, List, [], ◌∷◌, length, Option}
+use Rattle.std.specs.Prelude.{◌≡◌, ℕ, Bool, true, false, List, [], ◌∷◌, length, Option}
 use Rattle.std.specs.Io.KnownBytes.{Appends}
 use Rattle.std.specs.List.{list_all, list_any}
 use Rattle.gb_outside.specs.Faults.{Counts, Rose}
-use Rattle.gb_outside.specs.Images.{LeavesOnly}
 use Rattle.act_model.specs.declared.receipts.Receipt.{Receipt}
 use Rattle.intake.specs.Requests.{Held}
-use Rattle.connections.specs.Answering.{AllBegin, is_from_disk}
+use Rattle.connections.specs.Answering.{AllBegin, LeavesOldThen, is_from_disk}
 use Rattle.connections.specs.Fates.{Fate, Answered, Failed, DiskFailed, NoJournal, OutOfMemory, has_disk_failed}
 use Rattle.connections.specs.Served.{Connection, IsCutOff, IsLeftIn, IsOfTurns, IsUnwritten, IsWhole, held_by, replies_of, taken_of, written_by}
 use Rattle.connections.specs.Turns.{Turn, Taken, Answering, Refusing, answer_in}
@@ -55,9 +54,9 @@ AllTold images held [] = Unit {0}
 AllTold images held (turn ∷ turns) =
     (is_from_disk (answer_in held turn).reply ≡ true → AllBegin (answer_in held turn).held.journal images) × AllTold images (answer_in held turn).held turns
 
--- What these turns did to the disk: what a stop leaves, what is kept of the file and told of it, and that its count of faults rose in each turn in which a call of it failed. None finds that the file is no journal.
+-- What these turns did to the disk: what a stop leaves, that is what it might have left before or, from some moment on, only files that it leaves in these turns, what is kept of the file and told of it, and that its count of faults rose in each turn in which a call of it failed. None finds that the file is no journal.
 pub record TakesTurns {D : Type 0} (images : D → List ℕ → Type 0) (moment : D → ℕ) (since : D → ℕ → List ℕ → Type 0) (faults : D → ℕ) (old new : D) (held : Held) (taken : List Taken) : Type 0 where
-  pub left : LeavesOnly moment since old new (λ file. images old file ⊎ IsLeftIn held taken file)
+  pub left : LeavesOldThen images moment since old new (IsLeftIn held taken)
   pub kept : (front : List Receipt) → AllBegin front (images old) → AllBegin front (images new)
   pub told : AllTold (images new) held taken
   pub disk : CountsTurns (faults old) taken (faults new)

@@ -13,6 +13,7 @@ use Rattle.receipt_journal.specs.declared.faults.BookFault.TheVariants as fault
 use Rattle.intake.specs.Requests.{Held}
 use Rattle.intake.proofs.Replies.{grown_at}
 use Rattle.settled_book.specs.SettledBookState.{SettledBookState}
+use Rattle.connections.specs.Answering.{LeavesOldThen}
 use Rattle.connections.specs.Doors.{LinkRequests, ServesDoor}
 use Rattle.connections.specs.Holding.{Holds}
 use Rattle.connections.specs.Served.{IsLeftIn}
@@ -41,17 +42,20 @@ none_told None = tt
 none_told (Some before) = ap (λ (l : List (List ℕ × ℕ)). Some l) (sym (append-nil before))
 
 module _ {D : Type 0} (reads : D → List ℕ) (images : D → List ℕ → Type 0) (moment : D → ℕ) (since : D → ℕ → List ℕ → Type 0) (faults : D → ℕ) where
+  -- what might be left before is of the kind that is left then
+  left_behind : (mid new : D) (P : List ℕ → Type 0) → ((file : List ℕ) → images mid file → P file) → LeavesOldThen images moment since mid new P → LeavesOnly moment since mid new P
+  left_behind mid new P has (inl before) = weakened moment since mid new (images mid) P has before
+  left_behind mid new P has (inr run) = followed moment since mid run.from new P (weakened moment since mid run.from (images mid) P has run.until) run.then
+
   left_on : (old mid new : D) (held : Held) (taken : List Taken) → ((t : ℕ) (c : List ℕ) → t ≤ moment mid → images mid c → since mid t c) → StandsForJournal (reads old) held.journal
-      → SyncsFirst reads images moment since old mid → LeavesOnly moment since mid new (λ file. images mid file ⊎ IsLeftIn held taken file) → LeavesSynced reads images moment since old new (IsLeftIn held taken)
+      → SyncsFirst reads images moment since old mid → LeavesOldThen images moment since mid new (IsLeftIn held taken) → LeavesSynced reads images moment since old new (IsLeftIn held taken)
   left_on old mid new held taken counts stands first second =
       let kept : LeavesOnly moment since first.synced mid (IsLeftIn held taken) = weakened moment since first.synced mid (IsKept (reads old)) (IsLeftIn held taken)
       (λ c kept. left_ahead held taken c (kept_journal (reads old) c held.journal stands kept)) first.then in record {
         synced = first.synced;
         until = first.until;
         only = first.only;
-        then = followed moment since first.synced mid new (IsLeftIn held taken) kept
-            (weakened moment since mid new (λ file. images mid file ⊎ IsLeftIn held taken file) (IsLeftIn held taken)
-            (λ file has. ⊎_elim (λ image. kept.each file (counts (moment first.synced) file kept.later image)) (λ left. left) has) second);
+        then = followed moment since first.synced mid new (IsLeftIn held taken) kept (left_behind mid new (IsLeftIn held taken) (λ file image. kept.each file (counts (moment first.synced) file kept.later image)) second);
       }
 
   module _ (old new : D) (held : Held) (most : ℕ) (waiting : List (List ℕ)) (asked : List LinkRequests) (served_old : Option (List (List ℕ × ℕ))) (known : Option (List DayMinute)) where
