@@ -1,5 +1,5 @@
 -- How answering a request ends, by what it found of the book.
-use Rattle.std.proofs.Common.{◌≡◌, ◌⊎◌, inl, inr, ⊎_elim, ℕ, true, false, List, Option, IsSome, refl, sym, ◌∙◌, ap}
+use Rattle.std.proofs.Common.{◌≡◌, ℕ, true, false, List, Option, IsSome, refl, sym, ◌∙◌, ap}
 use Rattle.gb_base.specs.DayMinute.{DayMinute}
 use Rattle.act_model.specs.declared.receipts.Receipt.{Receipt}
 use Rattle.intake.specs.Grown.{GrownFrom, IsFront}

@@ -1,5 +1,5 @@
 -- What a stop leaves, call by call: what it might have left before, and from some moment on files of one kind.
-use Rattle.std.proofs.Common.{◌⊎◌, inl, inr, ⊎_elim, ℕ, ◌≤◌, List}
+use Rattle.std.proofs.Common.{◌⊎◌, inl, inr, ℕ, ◌≤◌, List}
 use Rattle.gb_outside.specs.Images.{LeavesOnly}
 use Rattle.gb_outside.proofs.Moments.{followed, started, weakened}
 use Rattle.connections.specs.Answering as answering

@@ -15,6 +15,7 @@ pub mod LinkTurns
 pub mod LinksServed
 pub mod LinksTaken
 pub mod NoBook
+pub mod NoneTaken
 pub mod ReceivedItems
 pub mod SettledClerks
 pub mod TakenBooks

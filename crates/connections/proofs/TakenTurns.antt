@@ -1,5 +1,5 @@
 -- What turns do to the disk, one list of them after another.
-use Rattle.std.proofs.Common.{◌≡◌, ◌⊎◌, inl, inr, ⊎_elim, ℕ, ◌≤◌, ◌==◌, Bool, true, false, ◌||◌, List, [], ◌∷◌, ◌++◌, refl, sym, ◌∙◌, ap, subst}
+use Rattle.std.proofs.Common.{◌≡◌, ⊎_elim, ℕ, ◌≤◌, ◌==◌, Bool, true, false, ◌||◌, List, [], ◌∷◌, ◌++◌, refl, sym, ◌∙◌, ap, subst}
 use Rattle.std.proofs.Math.Nat.{le_trans}
 use Rattle.std.proofs.lemmas.Bool.{cases_Bool, or_parts}
 use Rattle.std.proofs.lemmas.List.Folds.{list_any-append}
@@ -22,6 +22,7 @@ use Rattle.connections.proofs.ByDiskAlone.{counts_still}
 use Rattle.connections.proofs.DiskReplies.{disk_by_reply, journal_by_reply}
 use Rattle.connections.proofs.EndsBy.{not_from_disk}
 use Rattle.connections.proofs.LeftThen.{then_more, then_still, then_weakened}
+use Rattle.connections.proofs.LinkEnds.{TurnTaken}
 use Rattle.connections.proofs.TurnLists.{left_first, left_later, left_one, told_more, told_still}
 
 -- ---- counts
@@ -52,7 +53,7 @@ abbrev is_memory : Taken → Bool
 is_memory turn = lacks_memory (fate_of turn)
 
 -- one list of turns after another
-counts_more : (a b c : ℕ) (xs ys : List Taken) → CountsTurns a xs b → CountsTurns b ys c → CountsTurns a (xs ++ ys) c
+pub counts_more : (a b c : ℕ) (xs ys : List Taken) → CountsTurns a xs b → CountsTurns b ys c → CountsTurns a (xs ++ ys) c
 counts_more a b c [] ys first second = subst (λ n. CountsTurns n ys c) first second
 counts_more a b c (x ∷ xs) ys first second = (first.0, first.1, counts_more first.0 b c xs ys first.2 second)
 
@@ -69,7 +70,7 @@ all_answered (x ∷ xs) disk journal memory =
     let m = or_parts _ _ memory in
     rw (answered_if (fate_of x) d.0 j.0 m.0) (all_answered xs d.1 j.1 m.1)
 
-pub answered_by : (before now : ℕ) (xs : List Taken) → CountsTurns before xs now → list_any is_journal xs ≡ false → (Rose before now → ⊥) → list_any is_memory xs ≡ false
+answered_by : (before now : ℕ) (xs : List Taken) → CountsTurns before xs now → list_any is_journal xs ≡ false → (Rose before now → ⊥) → list_any is_memory xs ≡ false
     → list_all (λ turn. is_answered (fate_of turn)) xs ≡ true
 answered_by before now xs counts journal quiet memory =
     ⊎_elim (λ (failed : list_any is_disk xs ≡ true). absurd (quiet ((counts_any before now xs counts).failed_rose failed)))
@@ -88,6 +89,7 @@ module _ {D : Type 0} (images : D → List ℕ → Type 0) (moment : D → ℕ) 
     told = tt;
     disk = refl;
     journal = refl;
+    answered = λ quiet memory. refl;
   }
 
   pub takes_refusal : (disk : D) (held : Held) (reply : ReplyParts) → is_from_disk reply ≡ false → ((file : List ℕ) → since disk (moment disk) file → images disk file) → Takes disk disk held (Refusing reply ∷ [])
@@ -97,6 +99,7 @@ module _ {D : Type 0} (images : D → List ℕ → Type 0) (moment : D → ℕ) 
     told = (λ from_disk. not_from_disk reply _ silent from_disk, tt);
     disk = (faults disk, counts_still (faults disk), refl);
     journal = refl;
+    answered = λ quiet memory. refl;
   }
 
   pub takes_one : (reads : D → List ℕ) (old new : D) (request : RequestParts) (held : Held) (reply : ReplyParts) (HoldsNow : Held → Type 0) (is : AnswersRequest images moment since old new request held reply HoldsNow)
@@ -104,13 +107,17 @@ module _ {D : Type 0} (images : D → List ℕ → Type 0) (moment : D → ℕ) 
       → Takes old new held (Answering request is.asked is.fate ∷ [])
   takes_one reads old new request held reply HoldsNow is stands none counts =
       let status : (answer_by is.fate held (answer held request.body is.asked)).reply.status ≡ reply.status = sym (ap (λ (r : ReplyParts). r.status) is.reply_is) in
-      let failed : (reply.status == 503) ≡ has_disk_failed is.fate = ap (λ n. n == 503) (sym status) ∙ disk_by_reply held request.body is.asked is.fate in record {
+      let failed : (reply.status == 503) ≡ has_disk_failed is.fate = ap (λ n. n == 503) (sym status) ∙ disk_by_reply held request.body is.asked is.fate in
+      let rose : CountsTurns (faults old) (Answering request is.asked is.fate ∷ []) (faults new) = (faults new, subst (λ b. Counts (faults old) (faults new) b) failed counts, refl) in
+      let found : list_any is_journal (Answering request is.asked is.fate ∷ []) ≡ false =
+      sym (or_none (lacks_journal is.fate)) ∙ journal_by_reply (reads old) held.journal held request.body is.asked is.fate stands (λ is500. none (sym status ∙ is500)) in record {
         left = then_weakened images moment since old new (GrownFrom held.journal (answer held request.body is.asked).held.journal) (IsLeftIn held (Answering request is.asked is.fate ∷ []))
             (λ file grown. left_one held request is.asked is.fate file grown) is.left;
         kept = is.kept;
         told = (λ from_disk. is.told (ap is_from_disk is.reply_is ∙ from_disk), tt);
-        disk = (faults new, subst (λ b. Counts (faults old) (faults new) b) failed counts, refl);
-        journal = sym (or_none (lacks_journal is.fate)) ∙ journal_by_reply (reads old) held.journal held request.body is.asked is.fate stands (λ is500. none (sym status ∙ is500));
+        disk = rose;
+        journal = found;
+        answered = λ quiet memory. answered_by _ _ (Answering request is.asked is.fate ∷ []) rose found quiet memory;
       }
     where
       or_none : (b : Bool) → b ≡ (b || false)
@@ -122,10 +129,25 @@ module _ {D : Type 0} (images : D → List ℕ → Type 0) (moment : D → ℕ) 
   takes_then old mid new held xs ys counts first second =
       let P : List ℕ → Type 0 = IsLeftIn held (xs ++ ys) in
       let before = then_weakened images moment since old mid (IsLeftIn held xs) P (λ file left. left_first held xs ys file left) first.left in
-      let behind = then_weakened images moment since mid new (IsLeftIn (held_behind held xs) ys) P (λ file left. left_later held xs ys file left) second.left in record {
+      let behind = then_weakened images moment since mid new (IsLeftIn (held_behind held xs) ys) P (λ file left. left_later held xs ys file left) second.left in
+      let rose : CountsTurns (faults old) (xs ++ ys) (faults new) = counts_more (faults old) (faults mid) (faults new) xs ys first.disk second.disk in
+      let found : list_any is_journal (xs ++ ys) ≡ false = list_any-append is_journal xs ys ∙ ap (λ b. b || list_any is_journal ys) first.journal ∙ second.journal in record {
         left = then_more images moment since old mid new P counts before behind;
         kept = λ front all. second.kept front (first.kept front all);
         told = told_more (images new) held xs ys (told_still (images mid) (images new) held xs second.kept first.told) second.told;
-        disk = counts_more (faults old) (faults mid) (faults new) xs ys first.disk second.disk;
-        journal = list_any-append is_journal xs ys ∙ ap (λ b. b || list_any is_journal ys) first.journal ∙ second.journal;
+        disk = rose;
+        journal = found;
+        answered = λ quiet memory. answered_by _ _ (xs ++ ys) rose found quiet memory;
       }
+
+  pub turn_taken : (reads : D → List ℕ) (old new : D) (request : RequestParts) (held : Held) (reply : ReplyParts) (HoldsNow : Held → Type 0) (is : AnswersRequest images moment since old new request held reply HoldsNow)
+      → StandsForJournal (reads old) held.journal → (reply.status ≡ 500 → IsNoJournal (reads old)) → Counts (faults old) (faults new) (reply.status == 503)
+      → TurnTaken Takes old new held request reply HoldsNow
+  turn_taken reads old new request held reply HoldsNow is stands none counts = record {
+    asked = is.asked;
+    fate = is.fate;
+    is = (refl, is.asks, is.unfailed);
+    reply_is = is.reply_is;
+    holds = is.holds;
+    takes = takes_one reads old new request held reply HoldsNow is stands none counts;
+  }

@@ -88,7 +88,7 @@ module _ {D : Type 0} (reads : D → List ℕ) (images : D → List ℕ → Type
           done = λ ok. d.done refl;
           memory = λ lacks. ap status_of_door (d.memory lacks);
           wanting = λ is. absurd cc;
-          answered = λ never. d.answered (rose_on (faults old) (faults mid) (faults new) quiet never);
+          answered = λ never. d.serves.disk.answered (rose_on (faults old) (faults mid) (faults new) quiet never);
         }
         by door.DoorFault d = record {
           links = d.links;
@@ -106,7 +106,7 @@ module _ {D : Type 0} (reads : D → List ℕ) (images : D → List ℕ → Type
           done = λ ok. absurd cc;
           memory = λ lacks. ap status_of_door (d.memory lacks);
           wanting = λ is. absurd cc;
-          answered = λ never. d.answered (rose_on (faults old) (faults mid) (faults new) quiet never);
+          answered = λ never. d.serves.disk.answered (rose_on (faults old) (faults mid) (faults new) quiet never);
         }
         by door.Memory d = record {
           links = d.links;
@@ -124,7 +124,7 @@ module _ {D : Type 0} (reads : D → List ℕ) (images : D → List ℕ → Type
           done = λ ok. absurd cc;
           memory = λ lacks. refl;
           wanting = λ is. inr (d.wanting refl);
-          answered = λ never. d.answered (rose_on (faults old) (faults mid) (faults new) quiet never);
+          answered = λ never. d.serves.disk.answered (rose_on (faults old) (faults mid) (faults new) quiet never);
         }
 
     -- no book was opened, and nothing was accepted
@@ -220,10 +220,9 @@ module _ {D : Type 0} (reads : D → List ℕ) (images : D → List ℕ → Type
         }
 
 -- what a served link leaves is held, whatever book is open
-pub link_held : {D : Type 0} (images : D → List ℕ → Type 0) (moment : D → ℕ) (since : D → ℕ → List ℕ → Type 0) (faults : D → ℕ) (old new : D) (held : Held) (w v : Option (List ℕ)) (turns : List Turn) (served : Served)
-    (at_hand : Option SettledBookState) (reads : List ℕ) (known : Option (List DayMinute)) → ServesLink images moment since faults old new held w v turns served (λ h. Holds at_hand reads (images new) known h)
-    → ServesLink images moment since faults old new held w v turns served (IsHeld reads known)
-link_held images moment since faults old new held w v turns served at_hand reads known s = record {
+pub link_held : {D : Type 0} (Takes : D → D → Held → List Taken → Type 0) (old new : D) (held : Held) (w v : Option (List ℕ)) (turns : List Turn) (served : Served) (at_hand : Option SettledBookState) (reads : List ℕ)
+    (images : List ℕ → Type 0) (known : Option (List DayMinute)) → ServesLink Takes old new held w v turns served (λ h. Holds at_hand reads images known h) → ServesLink Takes old new held w v turns served (IsHeld reads known)
+link_held Takes old new held w v turns served at_hand reads images known s = record {
   became = s.became;
   of_turns = s.of_turns;
   written = s.written;
@@ -233,5 +232,4 @@ link_held images moment since faults old new held w v turns served at_hand reads
   unfinished = s.unfinished;
   cut_off = s.cut_off;
   unwritten = s.unwritten;
-  answered = s.answered;
 }
