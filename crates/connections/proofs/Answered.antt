@@ -17,6 +17,7 @@ use Rattle.connections.specs.Holding.{Begins, Holds, IsOpenOn, working}
 use Rattle.connections.specs.Replies.{ReplyParts}
 use Rattle.connections.specs.inner.Ends as ends
 use Rattle.connections.proofs.DiskReplies.{disk_by_reply}
+use Rattle.connections.proofs.LeftThen.{then_each}
 
 -- a working book has its journal in each image
 all_begin : (book : Option SettledBookState) (reads : List ℕ) (images : List ℕ → Type 0) (journal : List Receipt) → IsSome book → IfSome book (λ settled. IsOpenOn settled reads images journal) → AllBegin journal images
@@ -48,6 +49,6 @@ module _ {D : Type 0} (reads : D → List ℕ) (images : D → List ℕ → Type
     kept = λ front all file now.
         ⊎_elim (λ before. all file before)
         (λ grown. begins_by front held.journal (answer held request.body asked).held.journal file (front_held front held.journal stands all) grown)
-        (end.left.each file (counts (moment old) file end.left.later now));
+        (then_each images moment since old new (GrownFrom held.journal (answer held request.body asked).held.journal) counts end.left file now);
     told = λ tells. all_begin (working at_hand) (reads new) (images new) _ (end.works tells) end.holds.book;
   }

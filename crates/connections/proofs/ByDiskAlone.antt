@@ -1,17 +1,20 @@
 -- What a reply is by the book and the disk alone.
 use Rattle.std.proofs.Common.{◌≡◌, inl, inr, ℕ, ◌==◌, Bool, true, false, List, Option, Some, None, Err, IfSome, IsSome, refl, sym, ◌∙◌, ap, subst, IsTrue, arith, eq-eqb}
+use Rattle.std.proofs.lemmas.Bool.{or_parts}
 use Rattle.gb_outside.specs.Faults.{Counts}
 use Rattle.act_model.specs.declared.receipts.Receipt.{Receipt}
 use Rattle.intake.specs.Requests.{is_fault}
 use Rattle.receipt_journal.specs.Opening.{BookRefuses, book_opening_disk_failed}
-use Rattle.receipt_journal.specs.Receiving.{receiving_disk_failed}
+use Rattle.receipt_journal.specs.Receiving.{is_received, receiving_disk_failed}
 use Rattle.receipt_journal.specs.Standing.{Stands, StandsForJournal}
 use Rattle.receipt_journal.specs.declared.faults.BookFault.{BookFault}
 use Rattle.receipt_journal.specs.declared.faults.BookFault.TheVariants as fault
 use Rattle.receipt_journal.specs.declared.received.Received.{Received}
 use Rattle.receipt_journal.specs.declared.received.Received.TheVariants as answers
 use Rattle.settled_book.specs.SettledBookState.{SettledBookState}
-use Rattle.connections.specs.Answering.{OpensNone, is_refusal, tells_of_journal}
+use Rattle.connections.specs.Answering.{IsFailure, OpensNone, is_failed, is_refusal, tells_of_journal}
+use Rattle.connections.specs.Answers.{status_of}
+use Rattle.connections.specs.Fates.{Failure, DiskFailed, NoJournal, OutOfMemory, failure_reply}
 use Rattle.connections.specs.Holding.{StandsForNone, StandsOpen, working}
 use Rattle.connections.specs.Replies.{ReplyParts, is_reply_status, out_of_memory}
 use Rattle.connections.specs.inner.Ends.{Serves}
@@ -31,7 +34,7 @@ counts_still count = record { never_falls = omega arith; failed_rose = λ failed
 
 -- ---- no book was opened
 
-none_open : (at_hand : Option SettledBookState) (P : Type 0) → at_hand ≡ None → IsSome at_hand → P
+pub none_open : (at_hand : Option SettledBookState) (P : Type 0) → at_hand ≡ None → IsSome at_hand → P
 none_open at_hand P none some = let never : IsSome {T = SettledBookState} None = subst (λ (o : Option SettledBookState). IsSome o) none some in absurd cc
 
 module _ {D : Type 0} (tells : Bool) (reads : D → List ℕ) (images : D → List ℕ → Type 0) (moment : D → ℕ) (since : D → ℕ → List ℕ → Type 0) (faults : D → ℕ) (old new : D) (book : Option SettledBookState) where
@@ -66,6 +69,20 @@ module _ {D : Type 0} (tells : Bool) (reads : D → List ℕ) (images : D → Li
     not_opened = λ told was no_file. let found = journal told was in absurd (no_file found.0 found.1);
     no_book = λ told was no_file. let found = journal told was in absurd (no_file found.0 found.1);
   }
+
+-- ---- what failed
+
+failure_fails : (failure : Failure) → is_failed (failure_reply failure) ≡ true
+failure_fails DiskFailed = refl
+failure_fails NoJournal = refl
+failure_fails OutOfMemory = refl
+
+-- the reply to what failed says so
+pub failed_so : (reply : ReplyParts) (P : Type 0) → IsFailure reply → is_failed reply ≡ false → P
+failed_so reply P failure sound = never_true (is_failed reply) P sound (ap is_failed failure.1 ∙ failure_fails failure.0)
+
+pub no_disk_failed_in : (reply : ReplyParts) → is_failed reply ≡ false → (reply.status == 503) ≡ false
+no_disk_failed_in reply sound = let parts = or_parts _ _ (or_parts _ _ sound).0 in parts.1
 
 -- a request for which no book was opened is not refused
 late_by : (f : BookFault) → is_refusal (opening_reply f) ≡ false
@@ -135,3 +152,27 @@ status_of_item answer reply opened (inr (sound, is)) = subst (λ r. HasStatus r 
 pub stands_behind : (settled : SettledBookState) (reads : List ℕ) (images : List ℕ → Type 0) (failed : Bool) → settled.book.log.failed ≡ failed → (failed ≡ false → Stands settled.book reads images) → StandsOpen (Some settled) reads images
 stands_behind settled reads images true is stands = subst (λ (o : Option SettledBookState). IfSome o (λ s. Stands s.book reads images)) (sym (failed_is settled is)) tt
 stands_behind settled reads images false is stands = to_working settled (λ s. Stands s.book reads images) (stands refl)
+
+-- ---- an item that was not received
+
+no_receipt : (answer : Received) → (status_of answer == 201) ≡ false → is_received answer ≡ false
+no_receipt (answers.Accepted n) other = absurd cc
+no_receipt (answers.Repeated n) other = refl
+no_receipt (answers.Differs n) other = refl
+no_receipt answers.Full other = refl
+no_receipt answers.Disk other = refl
+no_receipt answers.MustReopen other = refl
+no_receipt answers.Memory other = refl
+
+reply_status : (answer : Received) → (received_reply answer).status ≡ status_of answer
+reply_status (answers.Accepted n) = refl
+reply_status (answers.Repeated n) = refl
+reply_status (answers.Differs n) = refl
+reply_status answers.Full = refl
+reply_status answers.Disk = refl
+reply_status answers.MustReopen = refl
+reply_status answers.Memory = refl
+
+pub not_received : (answer : Received) (reply : ReplyParts) → IsReplyTo answer reply → (reply.status == 201) ≡ false → is_failed reply ≡ false → is_received answer ≡ false
+not_received answer reply (inl is) other sound = no_receipt answer (ap (λ n. n == 201) (sym (reply_status answer)) ∙ sym (ap (λ (r : ReplyParts). r.status == 201) is) ∙ other)
+not_received answer reply (inr (no_fault, is)) other sound = failed_so reply _ (OutOfMemory, is) sound

@@ -80,7 +80,7 @@ module _ {D : Type 0} (images : D → List ℕ → Type 0) (moment : D → ℕ) 
   one_asked : (old new : D) (held : Held) (left : ℕ) (bytes : List ℕ) (waiting : List (List ℕ)) (first : LinkRequests) (asked : List LinkRequests) (waiting_new : Option (List (List ℕ)))
       (served_old served_mid served_new : Option Pairs) (w0 w1 : Option (List ℕ)) (link_faults : ℕ) (HoldsNow : Held → Type 0) (served : Served)
       → 1 ≤ left → served.replies ≤ left → waiting_new ≡ Some waiting → served_mid ≡ served_old → NothingWritten served_old w0 → Counts 0 link_faults (is_link_fault served.ended) → doors.Serves served_mid served_new w1 link_faults
-      → ServesLink images moment since faults old new held w0 w1 (turns left first.requests first.end) served HoldsNow
+      → ServesLink (TakesTurns images moment since faults) old new held w0 w1 (turns left first.requests first.end) served HoldsNow
       → OneServed old new held left (bytes ∷ waiting) (first ∷ asked) waiting_new served_old served_new HoldsNow served
   one_asked old new held left bytes waiting first asked waiting_new served_old served_mid served_new w0 w1 link_faults HoldsNow served some few waits same none failed told is =
       let c = is.became in
@@ -115,7 +115,7 @@ module _ {D : Type 0} (images : D → List ℕ → Type 0) (moment : D → ℕ) 
       → 1 ≤ left → served.replies ≤ left → AllZip AskSo waiting asked → waiting_old ≡ Some waiting → TakesFirst waiting_old waiting_mid link_left → waiting_new ≡ waiting_mid → served_mid ≡ served_old → NothingWritten served_old w0
       → faults0 ≡ 0 → Counts faults0 faults1 (is_link_fault served.ended) → doors.Serves served_mid served_new w1 faults1
       → ((input : List ℕ) (requests : List RequestParts) (end : AtFront) → link_left ≡ Some input → AreRequests input requests end
-      → ServesLink images moment since faults old new held w0 w1 (turns left requests end) served HoldsNow)
+      → ServesLink (TakesTurns images moment since faults) old new held w0 w1 (turns left requests end) served HoldsNow)
       → OneServed old new held left waiting asked waiting_new served_old served_new HoldsNow served
   links_one old new held left waiting asked waiting_old waiting_mid waiting_new served_old served_mid served_new link_left w0 w1 faults0 faults1 HoldsNow served some few ask waits takes later same none sound counts told serves =
       let first : TakesFirst (Some waiting) waiting_mid link_left = subst (λ (w : Option (List (List ℕ))). TakesFirst w waiting_mid link_left) waits takes in

@@ -11,7 +11,6 @@ use Rattle.connections.specs.declared.serving.Served.{Served}
 use Rattle.connections.specs.inner.LinkRounds.{IsRound, behind_end, behind_link}
 use Rattle.connections.proofs.DoorLinks.{OneServed, links_none, links_then}
 use Rattle.connections.proofs.LinksTaken.{drop_more, lacks_later, lacks_more, left_more}
-use Rattle.connections.proofs.TakenTurns.{answered_by}
 
 abbrev Pairs : Type 0
 Pairs = List (List ℕ × ℕ)
@@ -125,7 +124,6 @@ module _ {D : Type 0} (images : D → List ℕ → Type 0) (moment : D → ℕ) 
       done = λ done. inr (inr (sym (drop_more went.links round.links waiting) ∙ round.done (is ∙ ap (λ (e : DoorEnd). Err e) done)));
       memory = λ lacks. ap or_done (sym is ∙ lacks_now lacks);
       wanting = λ memory. lacks_later went.links round.links (round.wanting (is ∙ ap (λ (e : DoorEnd). Err e) memory));
-      answered = λ quiet memory. answered_by _ _ (turns_taken (went.links ++ round.links)) all_links.disk.disk all_links.disk.journal quiet memory;
     }
 
   -- no reply is left, or no link more is to be served
@@ -139,5 +137,4 @@ module _ {D : Type 0} (images : D → List ℕ → Type 0) (moment : D → ℕ) 
     done = λ done. ⊎_elim (λ none. inl (went.left_is ∙ none)) (λ all. inr (inl (omega (arith, went.count_is, few, all)))) over;
     memory = λ lacks. absurd (went.sound lacks);
     wanting = λ memory. absurd cc;
-    answered = λ quiet memory. answered_by _ _ (turns_taken went.links) went.serves.disk.disk went.serves.disk.journal quiet memory;
   }

@@ -1,20 +1,19 @@
 -- How answering a request ends, by what it found of the book.
-use Rattle.std.proofs.Common.{◌≡◌, ◌⊎◌, inl, inr, ⊎_elim, ℕ, true, false, List, Option, IsSome, refl, sym, ◌∙◌, ap}
+use Rattle.std.proofs.Common.{◌≡◌, ℕ, true, false, List, Option, IsSome, refl, sym, ◌∙◌, ap}
 use Rattle.gb_base.specs.DayMinute.{DayMinute}
-use Rattle.gb_outside.specs.Images.{LeavesOnly}
-use Rattle.gb_outside.proofs.Moments.{started, weakened}
 use Rattle.act_model.specs.declared.receipts.Receipt.{Receipt}
 use Rattle.intake.specs.Grown.{GrownFrom, IsFront}
 use Rattle.intake.specs.Requests.{Held}
 use Rattle.intake.proofs.Durable.{front_refl}
 use Rattle.receipt_journal.specs.Standing.{StandsForJournal}
 use Rattle.settled_book.specs.SettledBookState.{SettledBookState}
-use Rattle.connections.specs.Answering.{is_from_disk}
+use Rattle.connections.specs.Answering.{LeavesOldThen, is_from_disk}
 use Rattle.connections.specs.Answers.{Answer, only}
 use Rattle.connections.specs.Fates.{Failure, DiskFailed, NoJournal, OutOfMemory, Answered, Failed, NotBegun, failure_reply}
 use Rattle.connections.specs.Holding.{Holds, working}
 use Rattle.connections.specs.Replies.{ReplyParts}
 use Rattle.connections.specs.inner.Ends as ends
+use Rattle.connections.proofs.LeftThen.{then_still, then_weakened}
 
 -- a file that stands for the journal that was held has grown by nothing
 pub grown_none : (from to : List Receipt) (file : List ℕ) → IsFront from to → StandsForJournal file from → GrownFrom from to file
@@ -32,15 +31,14 @@ not_from_disk reply P silent tells = let never : true ≡ false = sym tells ∙ 
 module _ {D : Type 0} (reads : D → List ℕ) (images : D → List ℕ → Type 0) (moment : D → ℕ) (since : D → ℕ → List ℕ → Type 0) where
   -- what a stop leaves where no item was received
   abbrev pub LeavesHeld : D → D → List Receipt → Type 0
-  LeavesHeld old new journal = LeavesOnly moment since old new (λ file. images old file ⊎ StandsForJournal file journal)
+  LeavesHeld old new journal = LeavesOldThen images moment since old new (λ file. StandsForJournal file journal)
 
-  pub leaves_grown : (old new : D) (from to : List Receipt) → IsFront from to → LeavesHeld old new from → LeavesOnly moment since old new (λ file. images old file ⊎ GrownFrom from to file)
-  leaves_grown old new from to front run = weakened moment since old new (λ file. images old file ⊎ StandsForJournal file from) (λ file. images old file ⊎ GrownFrom from to file)
-      (λ file has. ⊎_elim (λ image. inl image) (λ stands. inr (grown_none from to file front stands)) has) run
+  pub leaves_grown : (old new : D) (from to : List Receipt) → IsFront from to → LeavesHeld old new from → LeavesOldThen images moment since old new (GrownFrom from to)
+  leaves_grown old new from to front run = then_weakened images moment since old new (λ file. StandsForJournal file from) (GrownFrom from to) (λ file stands. grown_none from to file front stands) run
 
   -- no call of the disk was made
   pub leaves_now : (disk : D) (journal : List Receipt) → ((file : List ℕ) → since disk (moment disk) file → images disk file) → LeavesHeld disk disk journal
-  leaves_now disk journal only_now = started moment since disk (λ file. images disk file ⊎ StandsForJournal file journal) (λ file left. inl (only_now file left))
+  leaves_now disk journal only_now = then_still images moment since disk (λ file. StandsForJournal file journal) only_now
 
   -- it is answered by this, which leaves what is held
   pub ends_only : (old new : D) (held : Held) (reply : ReplyParts) (at_hand : Option SettledBookState) (known : Option (List DayMinute))

@@ -1,5 +1,5 @@
 -- What is held behind an answer begins with the journal that was held.
-use Rattle.std.proofs.Common.{◌≡◌, true, refl, List, ℕ, Result, Ok, Err, [], ◌∷◌, None}
+use Rattle.std.proofs.Common.{◌≡◌, true, false, is_ok, refl, List, ℕ, Result, Ok, Err, [], ◌∷◌, None}
 use Rattle.act_json.specs.Lines.{item_of}
 use Rattle.act_json.specs.declared.lines.LineFault.{LineFault}
 use Rattle.act_model.specs.declared.items.Item.{Item}
@@ -46,3 +46,14 @@ reading_calls body (route.Ranks f) other = refl
 reading_calls body (route.Plan n) other = refl
 reading_calls body (route.PlanCsv n) other = refl
 reading_calls body route.Report other = refl
+
+-- where the disk is not called, what is held stays
+body_held : (held : Held) (read : Result (ℕ × ℕ × Item) LineFault) → is_ok read ≡ false → (body_answer held read).held ≡ held
+body_held held (Ok found) none = absurd cc
+body_held held (Err fault) none = refl
+
+pub uncalled_held : (held : Held) (body : List ℕ) (asked : Asked) → may_call_disk asked body ≡ false → (answer held body asked).held ≡ held
+uncalled_held held body (AskedFor route.Post) none = body_held held (item_of body) none
+uncalled_held held body (AskedFor other) none = refl
+uncalled_held held body NoRoute none = refl
+uncalled_held held body WrongMethod none = refl

@@ -1,8 +1,6 @@
 -- How receiving an item ends, by its answer.
 use Rattle.std.proofs.Common.{◌≡◌, ◌⊎◌, inl, inr, ℕ, true, false, List, Option, Some, IsSome, IfSome, is_some, refl, sym, ◌∙◌, ap, subst}
 use Rattle.gb_base.specs.DayMinute.{DayMinute}
-use Rattle.gb_outside.specs.Images.{LeavesOnly}
-use Rattle.gb_outside.proofs.Moments.{followed, weakened}
 use Rattle.act_model.specs.declared.items.Item.{Item}
 use Rattle.intake.specs.Grown.{GrownFrom}
 use Rattle.intake.specs.Requests.{Held, holding, is_fault}
@@ -12,7 +10,7 @@ use Rattle.receipt_journal.specs.Standing.{StandsForJournal}
 use Rattle.receipt_journal.specs.declared.received.Received.{Received}
 use Rattle.receipt_journal.specs.declared.received.Received.TheVariants as answers
 use Rattle.settled_book.specs.SettledBookState.{SettledBookState}
-use Rattle.connections.specs.Answering.{is_from_disk}
+use Rattle.connections.specs.Answering.{LeavesOldThen, is_from_disk}
 use Rattle.connections.specs.Answers.{item_answer, item_reply}
 use Rattle.connections.specs.Fates.{DiskFailed, OutOfMemory, Answered, Failed, Received as IsReceived, Stamped}
 use Rattle.connections.specs.Holding.{Holds, IsOpenOn, working}
@@ -21,6 +19,7 @@ use Rattle.connections.specs.inner.Ends as ends
 use Rattle.connections.specs.inner.Taking.{IsReplyTo, Receives, received_reply}
 use Rattle.connections.proofs.EndsBy.{LeavesHeld, leaves_grown, not_from_disk}
 use Rattle.connections.proofs.Grows.{item_grows}
+use Rattle.connections.proofs.LeftThen.{then_only}
 use Rattle.connections.proofs.ReceivedItems.{no_disk_failed}
 use Rattle.connections.proofs.TakenBooks.{failed_is, to_working, works_is}
 
@@ -52,11 +51,9 @@ module _ {D : Type 0} (reads : D → List ℕ) (images : D → List ℕ → Type
   abbrev IsTaken : Received → Type 0
   IsTaken answer = Receives reads images moment since mid new held from item answer settled known
 
-  left_by : (answer : Received) → IsTaken answer → LeavesOnly moment since old new (λ file. images old file ⊎ GrownFrom held.journal (item_answer held from item).held.journal file)
-  left_by answer takes = followed moment since old mid new (λ file. images old file ⊎ GrownFrom held.journal (item_answer held from item).held.journal file)
-      (leaves_grown reads images moment since old mid held.journal (item_answer held from item).held.journal (item_grows held from item) first)
-      (weakened moment since mid new (GrownFrom held.journal (item_answer held from item).held.journal) (λ file. images old file ⊎ GrownFrom held.journal (item_answer held from item).held.journal file)
-      (λ file grown. inr grown) takes.left)
+  left_by : (answer : Received) → IsTaken answer → LeavesOldThen images moment since old new (GrownFrom held.journal (item_answer held from item).held.journal)
+  left_by answer takes = then_only images moment since old mid new (GrownFrom held.journal (item_answer held from item).held.journal)
+      (leaves_grown reads images moment since old mid held.journal (item_answer held from item).held.journal (item_grows held from item) first) takes.left
 
   -- an answer that is no fault
   answered : (answer : Received) → IsTaken answer → is_fault answer ≡ false → received_reply answer ≡ item_reply answer → settled.book.log.failed ≡ receiving_disk_failed answer → IsReplyTo answer reply → IsEnd

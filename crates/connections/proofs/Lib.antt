@@ -9,11 +9,13 @@ pub mod DoorRounds
 pub mod EndsBy
 pub mod Grows
 pub mod ItemEnds
+pub mod LeftThen
 pub mod LinkEnds
 pub mod LinkTurns
 pub mod LinksServed
 pub mod LinksTaken
 pub mod NoBook
+pub mod NoneTaken
 pub mod ReceivedItems
 pub mod SettledClerks
 pub mod TakenBooks

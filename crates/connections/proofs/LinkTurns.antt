@@ -11,13 +11,12 @@ use Rattle.registry_http.specs.Requests.{AtFront, Whole, Nothing, Cut, HeadFault
 use Rattle.registry_http.specs.declared.requests.Next.{Next}
 use Rattle.registry_http.proofs.InTurn.{in_turn}
 use Rattle.connections.specs.Replies.{bytes_of}
-use Rattle.connections.specs.Serving.{ServesLink, TakesTurns}
+use Rattle.connections.specs.Serving.{ServesLink}
 use Rattle.connections.specs.Turns.{Turn, Taken, Request, IsOf, answer_in, held_behind, last_turn, replies_in, turns}
 use Rattle.connections.specs.declared.serving.Ended.TheVariants as ended
 use Rattle.connections.specs.declared.serving.Served.{Served}
 use Rattle.connections.specs.inner.Rounds.{GoesOn}
 use Rattle.connections.proofs.LinksServed.{served_later, served_none}
-use Rattle.connections.proofs.TakenTurns.{takes_none, takes_then}
 use Rattle.connections.proofs.TurnLists.{bytes_more, held_more, zip_push}
 
 -- ---- the turns that are left
@@ -77,7 +76,7 @@ comes_next None left_new kept_old kept_new input answer requests end is reads ar
 -- ---- how far the connection has come
 
 -- All turns so far were replied to whole, and these requests are left.
-pub record Went {D : Type 0} (images : D → List ℕ → Type 0) (moment : D → ℕ) (since : D → ℕ → List ℕ → Type 0) (faults : D → ℕ) (old now : D) (held : Held) (w0 w1 : Option (List ℕ))
+pub record Went {D : Type 0} (Takes : D → D → Held → List Taken → Type 0) (old now : D) (held : Held) (w0 w1 : Option (List ℕ))
     (us : List Turn) (most replies : ℕ) (end : AtFront) (MeetsNow : Held → List RequestParts → Type 0) : Type 0 where
   pub done : List Taken
   pub ahead : List Turn
@@ -87,7 +86,7 @@ pub record Went {D : Type 0} (images : D → List ℕ → Type 0) (moment : D �
   pub count : replies ≡ length done
   pub written : Appends w0 w1 (bytes_of (replies_in held done))
   pub meets : MeetsNow (held_behind held done) requests
-  pub disk : TakesTurns images moment since faults old now held done
+  pub disk : Takes old now held done
 
 length_zip : (xs : List Turn) (ys : List Taken) → AllZip IsOf xs ys → length xs ≡ length ys
 length_zip [] [] are = refl
@@ -95,10 +94,10 @@ length_zip [] (y ∷ ys) are = absurd are
 length_zip (x ∷ xs) [] are = absurd are
 length_zip (x ∷ xs) (y ∷ ys) are = omega (arith, length_zip xs ys are.1)
 
-module _ {D : Type 0} (images : D → List ℕ → Type 0) (moment : D → ℕ) (since : D → ℕ → List ℕ → Type 0) (faults : D → ℕ) where
+module _ {D : Type 0} (Takes : D → D → Held → List Taken → Type 0) where
   pub went_none : (disk : D) (held : Held) (w : Option (List ℕ)) (most : ℕ) (requests : List RequestParts) (end : AtFront) (MeetsNow : Held → List RequestParts → Type 0)
-      → ((file : List ℕ) → since disk (moment disk) file → images disk file) → MeetsNow held requests → Went images moment since faults disk disk held w w (turns most requests end) most 0 end MeetsNow
-  went_none disk held w most requests end MeetsNow only_now meets = record {
+      → Takes disk disk held [] → MeetsNow held requests → Went Takes disk disk held w w (turns most requests end) most 0 end MeetsNow
+  went_none disk held w most requests end MeetsNow none meets = record {
     done = [];
     ahead = [];
     requests = requests;
@@ -107,7 +106,7 @@ module _ {D : Type 0} (images : D → List ℕ → Type 0) (moment : D → ℕ) 
     count = refl;
     written = Appends-nil w;
     meets = meets;
-    disk = takes_none images moment since faults disk held only_now;
+    disk = none;
   }
 
   turn_off : (n m : ℕ) (request : RequestParts) (others requests : List RequestParts) (end : AtFront) → 0 < n → m ≡ n - 1 → requests ≡ request ∷ others → request.last ≡ false
@@ -117,10 +116,10 @@ module _ {D : Type 0} (images : D → List ℕ → Type 0) (moment : D → ℕ) 
       ∙ ap (λ (b : Bool). Request request ∷ (if b then [] else turns (n - 1) others end)) more ∙ ap (λ k. Request request ∷ turns k others end) (sym less)
 
   pub went_on : (old mid new : D) (held : Held) (w0 w1 w2 : Option (List ℕ)) (us : List Turn) (most replies : ℕ) (end : AtFront) (MeetsNow MeetsThen : Held → List RequestParts → Type 0)
-      → ((t : ℕ) (c : List ℕ) → t ≤ moment mid → images mid c → since mid t c) → replies < most
-      → (went : Went images moment since faults old mid held w0 w1 us most replies end MeetsNow) → GoesOn images moment since faults mid new (held_behind held went.done) w1 w2 went.requests MeetsThen
-      → Went images moment since faults old new held w0 w2 us most (replies + 1) end MeetsThen
-  went_on old mid new held w0 w1 w2 us most replies end MeetsNow MeetsThen counts less went turn = record {
+      → ((done xs : List Taken) → Takes old mid held done → Takes mid new (held_behind held done) xs → Takes old new held (done ++ xs)) → replies < most
+      → (went : Went Takes old mid held w0 w1 us most replies end MeetsNow) → GoesOn Takes mid new (held_behind held went.done) w1 w2 went.requests MeetsThen
+      → Went Takes old new held w0 w2 us most (replies + 1) end MeetsThen
+  went_on old mid new held w0 w1 w2 us most replies end MeetsNow MeetsThen joins less went turn = record {
     done = went.done ++ turn.taken ∷ [];
     ahead = went.ahead ++ Request turn.request ∷ [];
     requests = turn.others;
@@ -131,31 +130,31 @@ module _ {D : Type 0} (images : D → List ℕ → Type 0) (moment : D → ℕ) 
     written = subst (λ bytes. Appends w0 w2 bytes) (sym (bytes_more held went.done (turn.taken ∷ [])))
         (Appends-trans w0 w1 w2 (bytes_of (replies_in held went.done)) (bytes_of ((answer_in (held_behind held went.done) turn.taken).reply ∷ [])) went.written turn.written);
     meets = subst (λ (h : Held). MeetsThen h turn.others) (sym (held_more held went.done (turn.taken ∷ []))) turn.meets;
-    disk = takes_then images moment since faults old mid new held went.done (turn.taken ∷ []) counts went.disk turn.disk;
+    disk = joins went.done (turn.taken ∷ []) went.disk turn.disk;
   }
 
   -- the turn behind those was the last
   pub went_to_end : (old mid new : D) (held : Held) (w0 w1 w2 : Option (List ℕ)) (us : List Turn) (most replies : ℕ) (end : AtFront) (MeetsNow : Held → List RequestParts → Type 0) (HoldsNow : Held → Type 0) (served all : Served)
-      → ((t : ℕ) (c : List ℕ) → t ≤ moment mid → images mid c → since mid t c) → replies < most
-      → (went : Went images moment since faults old mid held w0 w1 us most replies end MeetsNow)
-      → ((n : ℕ) → (n == 0) ≡ false → ServesLink images moment since faults mid new (held_behind held went.done) w1 w2 (turns n went.requests end) served HoldsNow)
-      → all.ended ≡ served.ended → all.replies ≡ replies + served.replies → ServesLink images moment since faults old new held w0 w2 us all HoldsNow
-  went_to_end old mid new held w0 w1 w2 us most replies end MeetsNow HoldsNow served all counts less went last ends adds =
-      subst (λ l. ServesLink images moment since faults old new held w0 w2 l all HoldsNow) (sym went.whole)
-      (served_later images moment since faults old mid new w0 w1 w2 held went.ahead (turns (most - replies) went.requests end) went.done HoldsNow served all counts went.are
+      → ((done xs : List Taken) → Takes old mid held done → Takes mid new (held_behind held done) xs → Takes old new held (done ++ xs)) → replies < most
+      → (went : Went Takes old mid held w0 w1 us most replies end MeetsNow)
+      → ((n : ℕ) → (n == 0) ≡ false → ServesLink Takes mid new (held_behind held went.done) w1 w2 (turns n went.requests end) served HoldsNow)
+      → all.ended ≡ served.ended → all.replies ≡ replies + served.replies → ServesLink Takes old new held w0 w2 us all HoldsNow
+  went_to_end old mid new held w0 w1 w2 us most replies end MeetsNow HoldsNow served all joins less went last ends adds =
+      subst (λ l. ServesLink Takes old new held w0 w2 l all HoldsNow) (sym went.whole)
+      (served_later Takes old mid new w0 w1 w2 held went.ahead (turns (most - replies) went.requests end) went.done HoldsNow served all (joins went.done) went.are
       (length_zip went.ahead went.done went.are) went.written went.disk (last (most - replies) (some_left (most - replies) (omega (arith, less)))) ends (omega (arith, adds, went.count)))
 
   -- no turn is left
   pub went_out : (old now : D) (held : Held) (w0 w1 : Option (List ℕ)) (us : List Turn) (most replies : ℕ) (end : AtFront) (MeetsNow : Held → List RequestParts → Type 0) (HoldsNow : Held → Type 0) (all : Served)
-      → ((file : List ℕ) → since now (moment now) file → images now file) → ((t : ℕ) (c : List ℕ) → t ≤ moment now → images now c → since now t c) → most ≤ replies
-      → ((h : Held) (requests : List RequestParts) → MeetsNow h requests → HoldsNow h) → Went images moment since faults old now held w0 w1 us most replies end MeetsNow
-      → all.ended ≡ ended.Finished → all.replies ≡ replies → ServesLink images moment since faults old now held w0 w1 us all HoldsNow
-  went_out old now held w0 w1 us most replies end MeetsNow HoldsNow all only_now counts over holds went is adds =
-      let none : most - replies ≡ 0 = omega (arith, over) in
-      let whole : went.ahead ++ [] ≡ us = sym (went.whole ∙ ap (λ n. went.ahead ++ turns n went.requests end) none ∙ ap (λ l. went.ahead ++ l) (no_turns went.requests end)) in
-      subst (λ l. ServesLink images moment since faults old now held w0 w1 l all HoldsNow) whole
-      (served_later images moment since faults old now now w0 w1 w1 held went.ahead [] went.done HoldsNow (record { replies = 0; ended = ended.Finished }) all counts went.are
+      → ((h : Held) → Takes now now h []) → ((done xs : List Taken) → Takes old now held done → Takes now now (held_behind held done) xs → Takes old now held (done ++ xs)) → most ≤ replies
+      → ((h : Held) (requests : List RequestParts) → MeetsNow h requests → HoldsNow h) → Went Takes old now held w0 w1 us most replies end MeetsNow
+      → all.ended ≡ ended.Finished → all.replies ≡ replies → ServesLink Takes old now held w0 w1 us all HoldsNow
+  went_out old now held w0 w1 us most replies end MeetsNow HoldsNow all none joins over holds went is adds =
+      let out : most - replies ≡ 0 = omega (arith, over) in
+      let whole : went.ahead ++ [] ≡ us = sym (went.whole ∙ ap (λ n. went.ahead ++ turns n went.requests end) out ∙ ap (λ l. went.ahead ++ l) (no_turns went.requests end)) in
+      subst (λ l. ServesLink Takes old now held w0 w1 l all HoldsNow) whole
+      (served_later Takes old now now w0 w1 w1 held went.ahead [] went.done HoldsNow (record { replies = 0; ended = ended.Finished }) all (joins went.done) went.are
       (length_zip went.ahead went.done went.are) went.written went.disk
-      (served_none images moment since faults now now w1 w1 (record { replies = 0; ended = ended.Finished }) (held_behind held went.done) [] HoldsNow (holds (held_behind held went.done) went.requests went.meets)
-      (takes_none images moment since faults now (held_behind held went.done) only_now) refl (λ finished. refl) (λ no. absurd (no refl)) (λ memory. absurd cc) refl)
+      (served_none Takes now now w1 w1 (record { replies = 0; ended = ended.Finished }) (held_behind held went.done) [] HoldsNow (holds (held_behind held went.done) went.requests went.meets)
+      (none (held_behind held went.done)) refl (λ finished. refl) (λ no. absurd (no refl)) (λ memory. absurd cc) refl)
       is (omega (arith, adds, went.count)))

@@ -1,5 +1,5 @@
 -- What became of a connection: its one turn, or what no memory was found for; and turns that were taken ahead of it.
-use Rattle.std.proofs.Common.{◌≡◌, ◌⊎◌, inl, inr, ⊎_elim, ℕ, ◌+◌, ◌<◌, ◌≤◌, false, List, [], ◌∷◌, ◌++◌, length, take, Option, refl, sym, ◌∙◌, ap, subst, arith, append_assoc, append-nil, length-append}
+use Rattle.std.proofs.Common.{◌≡◌, ◌⊎◌, inl, inr, ⊎_elim, ℕ, ◌+◌, ◌<◌, false, List, [], ◌∷◌, ◌++◌, length, take, Option, refl, sym, ◌∙◌, ap, subst, arith, append_assoc, append-nil, length-append}
 use Rattle.std.proofs.KnownBytes.{Appends-nil, Appends-trans}
 use Rattle.std.specs.Io.KnownBytes.{Appends}
 use Rattle.std.specs.List.{AllZip, list_any}
@@ -9,13 +9,11 @@ use Rattle.registry_http.specs.Replies.{AppendsPart}
 use Rattle.connections.specs.Replies.{ReplyParts, bytes_of, out_of_memory}
 use Rattle.connections.specs.Served.{Connection, IsClosing, next_reply, taken_of, written_by}
 use Rattle.connections.specs.Serving as serving
-use Rattle.connections.specs.Serving.{TakesTurns}
 use Rattle.connections.specs.Turns.{Turn, Taken, IsOf, answer_in, held_behind, is_owed, replies_in}
 use Rattle.connections.specs.declared.serving.Ended.{Ended}
 use Rattle.connections.specs.declared.serving.Ended.TheVariants as ended
 use Rattle.connections.specs.declared.serving.Served.{Served}
 use Rattle.connections.specs.inner.Rounds.{EndsWith}
-use Rattle.connections.proofs.TakenTurns.{answered_by, takes_then}
 use Rattle.connections.proofs.TurnLists.{bytes_more, held_more, turns_behind, zip_more}
 
 -- the connection is finished or not
@@ -73,15 +71,12 @@ behind done c = became_of (done ++ c.replied) c.begun c.closing c.front
 none_owed : (us : List Turn) → us ≡ [] → list_any is_owed us ≡ false
 none_owed us none = ap (λ (l : List Turn). list_any is_owed l) none
 
-module _ {D : Type 0} (images : D → List ℕ → Type 0) (moment : D → ℕ) (since : D → ℕ → List ℕ → Type 0) (faults : D → ℕ) (old new : D) (w0 w1 : Option (List ℕ)) (served : Served) where
+module _ {D : Type 0} (Takes : D → D → Held → List Taken → Type 0) (old new : D) (w0 w1 : Option (List ℕ)) (served : Served) where
   abbrev Serves : Held → List Turn → (Held → Type 0) → Type 0
-  Serves held us HoldsNow = serving.ServesLink images moment since faults old new held w0 w1 us served HoldsNow
-
-  abbrev Takes : Held → List Taken → Type 0
-  Takes held xs = TakesTurns images moment since faults old new held xs
+  Serves held us HoldsNow = serving.ServesLink Takes old new held w0 w1 us served HoldsNow
 
   -- nothing was written, and no turn taken up: none is owed a reply, or the link failed
-  pub served_none : (held : Held) (us : List Turn) (HoldsNow : Held → Type 0) → HoldsNow held → Takes held [] → w1 ≡ w0 → (served.ended ≡ ended.Finished → list_any is_owed us ≡ false)
+  pub served_none : (held : Held) (us : List Turn) (HoldsNow : Held → Type 0) → HoldsNow held → Takes old new held [] → w1 ≡ w0 → (served.ended ≡ ended.Finished → list_any is_owed us ≡ false)
       → ((served.ended ≡ ended.Finished → ⊥) → 0 < length us) → (served.ended ≡ ended.Memory → ⊥) → served.replies ≡ 0 → Serves held us HoldsNow
   served_none held us HoldsNow holds disk same all more sound none = record {
     became = became_of [] [] [] [];
@@ -93,11 +88,10 @@ module _ {D : Type 0} (images : D → List ℕ → Type 0) (moment : D → ℕ) 
     unfinished = λ no. none;
     cut_off = λ no. record { left = more no; short = inl refl };
     unwritten = λ is. absurd (sound is);
-    answered = λ quiet memory. answered_by _ _ [] disk.disk disk.journal quiet memory;
   }
 
   -- the reply that says that no memory was found for what comes next
-  pub served_close : (held : Held) (us : List Turn) (HoldsNow : Held → Type 0) → HoldsNow held → Takes held [] → 0 < length us → EndsWith w0 w1 out_of_memory served → Serves held us HoldsNow
+  pub served_close : (held : Held) (us : List Turn) (HoldsNow : Held → Type 0) → HoldsNow held → Takes old new held [] → 0 < length us → EndsWith w0 w1 out_of_memory served → Serves held us HoldsNow
   served_close held us HoldsNow holds disk more ends =
       ⊎_elim (λ (is : served.ended ≡ ended.Finished). let whole = ends.whole is in record {
         became = became_of [] [] (out_of_memory ∷ []) (bytes_of (out_of_memory ∷ []));
@@ -109,7 +103,6 @@ module _ {D : Type 0} (images : D → List ℕ → Type 0) (moment : D → ℕ) 
         unfinished = λ no. absurd (no is);
         cut_off = λ no. absurd (no is);
         unwritten = λ memory. let never : ended.Finished ≡ ended.Memory = sym is ∙ memory in absurd cc;
-        answered = λ quiet memory. answered_by _ _ [] disk.disk disk.journal quiet memory;
       })
       (λ (no : served.ended ≡ ended.Finished → ⊥). let cut = ends.part no in let part = part_by w0 w1 (bytes_of (out_of_memory ∷ [])) served.ended cut.0 ends.nothing in record {
         became = became_of [] [] (out_of_memory ∷ []) part.front;
@@ -121,11 +114,10 @@ module _ {D : Type 0} (images : D → List ℕ → Type 0) (moment : D → ℕ) 
         unfinished = λ still. cut.1;
         cut_off = λ still. record { left = more; short = inr part.short };
         unwritten = λ memory. record { owed = λ none. absurd cc; nothing = part.nothing memory };
-        answered = λ quiet memory. answered_by _ _ [] disk.disk disk.journal quiet memory;
       }) (cases_ended served.ended)
 
   -- the one turn that is left was taken up, or the first of more where its reply was not written whole
-  pub served_turn : (held : Held) (u : Turn) (us : List Turn) (t : Taken) (HoldsNow : Held → Type 0) → IsOf u t → HoldsNow (answer_in held t).held → Takes held (t ∷ [])
+  pub served_turn : (held : Held) (u : Turn) (us : List Turn) (t : Taken) (HoldsNow : Held → Type 0) → IsOf u t → HoldsNow (answer_in held t).held → Takes old new held (t ∷ [])
       → (served.ended ≡ ended.Finished → us ≡ []) → EndsWith w0 w1 (answer_in held t).reply served → Serves held (u ∷ us) HoldsNow
   served_turn held u us t HoldsNow is_of holds disk all ends =
       let reply = bytes_of ((answer_in held t).reply ∷ []) in
@@ -139,7 +131,6 @@ module _ {D : Type 0} (images : D → List ℕ → Type 0) (moment : D → ℕ) 
         unfinished = λ no. absurd (no is);
         cut_off = λ no. absurd (no is);
         unwritten = λ memory. let never : ended.Finished ≡ ended.Memory = sym is ∙ memory in absurd cc;
-        answered = λ quiet memory. answered_by _ _ (t ∷ []) disk.disk disk.journal quiet memory;
       })
       (λ (no : served.ended ≡ ended.Finished → ⊥). let cut = ends.part no in let part = part_by w0 w1 reply served.ended cut.0 ends.nothing in record {
         became = became_of [] (t ∷ []) [] part.front;
@@ -151,7 +142,6 @@ module _ {D : Type 0} (images : D → List ℕ → Type 0) (moment : D → ℕ) 
         unfinished = λ still. cut.1;
         cut_off = λ still. record { left = omega arith; short = inr part.short };
         unwritten = λ memory. record { owed = λ none. absurd cc; nothing = part.nothing memory };
-        answered = λ quiet memory. answered_by _ _ (t ∷ []) disk.disk disk.journal quiet memory;
       }) (cases_ended served.ended)
 
 closes_later : (ahead us : List Turn) (done replied : List Taken) (closing : List ReplyParts) → length ahead ≡ length done → IsClosing us replied closing → IsClosing (ahead ++ us) (done ++ replied) closing
@@ -159,17 +149,17 @@ closes_later ahead us done replied closing same (inl none) = inl none
 closes_later ahead us done replied closing same (inr closes) = inr (closes.0, omega (arith, length-append done replied, length-append ahead us, same, closes.1))
 
 -- some turns were replied to, and then a connection was served
-pub served_later : {D : Type 0} (images : D → List ℕ → Type 0) (moment : D → ℕ) (since : D → ℕ → List ℕ → Type 0) (faults : D → ℕ) (old mid new : D) (w0 w1 w2 : Option (List ℕ)) (held : Held)
-    (ahead us : List Turn) (done : List Taken) (HoldsNow : Held → Type 0) (served all : Served) → ((t : ℕ) (c : List ℕ) → t ≤ moment mid → images mid c → since mid t c)
-    → AllZip IsOf ahead done → length ahead ≡ length done → Appends w0 w1 (bytes_of (replies_in held done)) → TakesTurns images moment since faults old mid held done
-    → serving.ServesLink images moment since faults mid new (held_behind held done) w1 w2 us served HoldsNow → all.ended ≡ served.ended → all.replies ≡ length done + served.replies
-    → serving.ServesLink images moment since faults old new held w0 w2 (ahead ++ us) all HoldsNow
-served_later images moment since faults old mid new w0 w1 w2 held ahead us done HoldsNow served all counts are same wrote first is ends adds =
+pub served_later : {D : Type 0} (Takes : D → D → Held → List Taken → Type 0) (old mid new : D) (w0 w1 w2 : Option (List ℕ)) (held : Held)
+    (ahead us : List Turn) (done : List Taken) (HoldsNow : Held → Type 0) (served all : Served) → ((xs : List Taken) → Takes old mid held done → Takes mid new (held_behind held done) xs → Takes old new held (done ++ xs))
+    → AllZip IsOf ahead done → length ahead ≡ length done → Appends w0 w1 (bytes_of (replies_in held done)) → Takes old mid held done
+    → serving.ServesLink Takes mid new (held_behind held done) w1 w2 us served HoldsNow → all.ended ≡ served.ended → all.replies ≡ length done + served.replies
+    → serving.ServesLink Takes old new held w0 w2 (ahead ++ us) all HoldsNow
+served_later Takes old mid new w0 w1 w2 held ahead us done HoldsNow served all joins are same wrote first is ends adds =
     let c = is.became in
     let next : next_reply (held_behind held done) c ≡ next_reply held (behind done c) = ap (λ (h : Held). replies_in h c.begun ++ c.closing) (sym (held_more held done c.replied)) in
     let taken : done ++ taken_of c ≡ taken_of (behind done c) = sym (append_assoc done c.replied c.begun) in
-    let disk : TakesTurns images moment since faults old new held (taken_of (behind done c)) =
-    subst (λ l. TakesTurns images moment since faults old new held l) taken (takes_then images moment since faults old mid new held done (taken_of c) counts first is.disk) in record {
+    let disk : Takes old new held (taken_of (behind done c)) =
+    subst (λ l. Takes old new held l) taken (joins (taken_of c) first is.disk) in record {
       became = behind done c;
       of_turns = record {
         are = subst (λ l. AllZip IsOf (take (length l) (ahead ++ us)) l) taken (zip_more ahead us done (taken_of c) are is.of_turns.are);
@@ -200,5 +190,4 @@ served_later images moment since faults old mid new w0 w1 w2 held ahead us done 
         owed = λ empty. none.owed (next ∙ empty);
         nothing = none.nothing;
       };
-      answered = λ quiet memory. answered_by _ _ (taken_of (behind done c)) disk.disk disk.journal quiet memory;
     }

@@ -1,6 +1,6 @@
 -- What taking the book finds, whether it is at hand or has to be opened.
-use Rattle.std.proofs.Common.{◌≡◌, ◌⊎◌, inl, inr, ⊎_elim, ℕ, Bool, true, false, cond, List, Option, Some, None, Result, Ok, Err, IfOk, IfSome, OnOk, refl, subst}
-use Rattle.gb_outside.proofs.Moments.{followed, weakened}
+use Rattle.std.proofs.Common.{◌≡◌, inl, inr, ⊎_elim, ℕ, Bool, true, false, cond, List, Option, Some, None, Result, Ok, Err, IfOk, IfSome, OnOk, refl, subst}
+use Rattle.gb_outside.proofs.Moments.{weakened}
 use Rattle.act_model.specs.declared.receipts.Receipt.{Receipt}
 use Rattle.journal_disk.specs.Opening.{AnswersSynced, IsKept, SyncsFirst}
 use Rattle.intake.specs.Grown.{IsDurable}
@@ -32,15 +32,14 @@ opened_on file reads images journal settled stands opens records =
 
 module _ {D : Type 0} (reads : D → List ℕ) (images : D → List ℕ → Type 0) (moment : D → ℕ) (since : D → ℕ → List ℕ → Type 0) where
   synced_left : (old new : D) (journal : List Receipt) → StandsForJournal (reads old) journal → SyncsFirst reads images moment since old new → LeavesHeld reads images moment since old new journal
-  synced_left old new journal stands first = followed moment since old first.synced new (λ file. images old file ⊎ StandsForJournal file journal)
-      (weakened moment since old first.synced (images old) (λ file. images old file ⊎ StandsForJournal file journal) (λ file image. inl image) first.until)
-      (weakened moment since first.synced new (IsKept (reads old)) (λ file. images old file ⊎ StandsForJournal file journal)
-      (λ file kept. inr (kept_journal (reads old) file journal stands kept)) first.then)
+  synced_left old new journal stands first = inr (record {
+    from = first.synced;
+    until = first.until;
+    then = weakened moment since first.synced new (IsKept (reads old)) (λ file. StandsForJournal file journal) (λ file kept. kept_journal (reads old) file journal stands kept) first.then;
+  })
 
   opening_left : (old new : D) (journal : List Receipt) (failed : Bool) → StandsForJournal (reads old) journal → AnswersSynced reads images moment since old new failed → LeavesHeld reads images moment since old new journal
-  opening_left old new journal true stands answers = ⊎_elim
-      (λ none. weakened moment since old new (images old) (λ file. images old file ⊎ StandsForJournal file journal) (λ file image. inl image) none)
-      (λ first. synced_left old new journal stands first) answers
+  opening_left old new journal true stands answers = ⊎_elim (λ none. inl none) (λ first. synced_left old new journal stands first) answers
   opening_left old new journal false stands answers = synced_left old new journal stands answers
 
   pub finds_by_opening : (old new : D) (journal : List Receipt) (opened : Result SettledBookState BookFault) → StandsForJournal (reads old) journal

@@ -1,11 +1,11 @@
 -- What turns do to the disk, one list of them after another.
-use Rattle.std.proofs.Common.{◌≡◌, ◌⊎◌, inl, inr, ⊎_elim, ℕ, ◌≤◌, ◌==◌, Bool, true, false, ◌||◌, List, [], ◌∷◌, ◌++◌, refl, sym, ◌∙◌, ap, subst}
+use Rattle.std.proofs.Common.{◌≡◌, ⊎_elim, ℕ, ◌≤◌, ◌==◌, Bool, true, false, ◌||◌, List, [], ◌∷◌, ◌++◌, refl, sym, ◌∙◌, ap, subst}
 use Rattle.std.proofs.Math.Nat.{le_trans}
 use Rattle.std.proofs.lemmas.Bool.{cases_Bool, or_parts}
 use Rattle.std.proofs.lemmas.List.Folds.{list_any-append}
 use Rattle.std.specs.List.{list_all, list_any}
 use Rattle.gb_outside.specs.Faults.{Counts, Rose}
-use Rattle.gb_outside.proofs.Moments.{followed, started, weakened}
+use Rattle.intake.specs.Grown.{GrownFrom}
 use Rattle.intake.specs.Requests.{Held}
 use Rattle.receipt_journal.specs.Standing.{StandsForJournal}
 use Rattle.registry_http.specs.RequestParts.{RequestParts}
@@ -16,16 +16,18 @@ use Rattle.connections.specs.Holding.{IsNoJournal}
 use Rattle.connections.specs.Replies.{ReplyParts}
 use Rattle.connections.specs.Served.{IsLeftIn}
 use Rattle.connections.specs.Serving as serving
-use Rattle.connections.specs.Serving.{fate_of, is_answered, lacks_journal, lacks_memory}
+use Rattle.connections.specs.Serving.{CountsTurns, fate_of, is_answered, lacks_journal, lacks_memory}
 use Rattle.connections.specs.Turns.{Taken, Answering, Refusing, held_behind}
 use Rattle.connections.proofs.ByDiskAlone.{counts_still}
 use Rattle.connections.proofs.DiskReplies.{disk_by_reply, journal_by_reply}
 use Rattle.connections.proofs.EndsBy.{not_from_disk}
+use Rattle.connections.proofs.LeftThen.{then_more, then_still, then_weakened}
+use Rattle.connections.proofs.LinkEnds.{TurnTaken}
 use Rattle.connections.proofs.TurnLists.{left_first, left_later, left_one, told_more, told_still}
 
 -- ---- counts
 
-pub counts_both : (a b c : ℕ) (x y : Bool) → Counts a b x → Counts b c y → Counts a c (x || y)
+counts_both : (a b c : ℕ) (x y : Bool) → Counts a b x → Counts b c y → Counts a c (x || y)
 counts_both a b c false y first second = subst (λ n. Counts n c y) (first.else_same refl) second
 counts_both a b c true y first second = record {
   never_falls = le_trans first.never_falls second.never_falls;
@@ -50,6 +52,16 @@ is_journal turn = lacks_journal (fate_of turn)
 abbrev is_memory : Taken → Bool
 is_memory turn = lacks_memory (fate_of turn)
 
+-- one list of turns after another
+pub counts_more : (a b c : ℕ) (xs ys : List Taken) → CountsTurns a xs b → CountsTurns b ys c → CountsTurns a (xs ++ ys) c
+counts_more a b c [] ys first second = subst (λ n. CountsTurns n ys c) first second
+counts_more a b c (x ∷ xs) ys first second = (first.0, first.1, counts_more first.0 b c xs ys first.2 second)
+
+-- over all of them the count rose just where it did in one
+counts_any : (before now : ℕ) (xs : List Taken) → CountsTurns before xs now → Counts before now (list_any is_disk xs)
+counts_any before now [] same = subst (λ n. Counts before n false) (sym same) (counts_still before)
+counts_any before now (x ∷ xs) counts = counts_both before counts.0 now (is_disk x) (list_any is_disk xs) counts.1 (counts_any counts.0 now xs counts.2)
+
 all_answered : (xs : List Taken) → list_any is_disk xs ≡ false → list_any is_journal xs ≡ false → list_any is_memory xs ≡ false → list_all (λ turn. is_answered (fate_of turn)) xs ≡ true
 all_answered [] disk journal memory = refl
 all_answered (x ∷ xs) disk journal memory =
@@ -58,10 +70,10 @@ all_answered (x ∷ xs) disk journal memory =
     let m = or_parts _ _ memory in
     rw (answered_if (fate_of x) d.0 j.0 m.0) (all_answered xs d.1 j.1 m.1)
 
-pub answered_by : (before now : ℕ) (xs : List Taken) → Counts before now (list_any is_disk xs) → list_any is_journal xs ≡ false → (Rose before now → ⊥) → list_any is_memory xs ≡ false
+answered_by : (before now : ℕ) (xs : List Taken) → CountsTurns before xs now → list_any is_journal xs ≡ false → (Rose before now → ⊥) → list_any is_memory xs ≡ false
     → list_all (λ turn. is_answered (fate_of turn)) xs ≡ true
 answered_by before now xs counts journal quiet memory =
-    ⊎_elim (λ (failed : list_any is_disk xs ≡ true). absurd (quiet (counts.failed_rose failed)))
+    ⊎_elim (λ (failed : list_any is_disk xs ≡ true). absurd (quiet ((counts_any before now xs counts).failed_rose failed)))
     (λ (sound : list_any is_disk xs ≡ false). all_answered xs sound journal memory) (cases_Bool (list_any is_disk xs))
 
 -- ---- turns
@@ -72,20 +84,22 @@ module _ {D : Type 0} (images : D → List ℕ → Type 0) (moment : D → ℕ) 
 
   pub takes_none : (disk : D) (held : Held) → ((file : List ℕ) → since disk (moment disk) file → images disk file) → Takes disk disk held []
   takes_none disk held only_now = record {
-    left = started moment since disk (λ file. images disk file ⊎ IsLeftIn held [] file) (λ file left. inl (only_now file left));
+    left = then_still images moment since disk (IsLeftIn held []) only_now;
     kept = λ front all. all;
     told = tt;
-    disk = counts_still (faults disk);
+    disk = refl;
     journal = refl;
+    answered = λ quiet memory. refl;
   }
 
   pub takes_refusal : (disk : D) (held : Held) (reply : ReplyParts) → is_from_disk reply ≡ false → ((file : List ℕ) → since disk (moment disk) file → images disk file) → Takes disk disk held (Refusing reply ∷ [])
   takes_refusal disk held reply silent only_now = record {
-    left = started moment since disk (λ file. images disk file ⊎ IsLeftIn held (Refusing reply ∷ []) file) (λ file left. inl (only_now file left));
+    left = then_still images moment since disk (IsLeftIn held (Refusing reply ∷ [])) only_now;
     kept = λ front all. all;
     told = (λ from_disk. not_from_disk reply _ silent from_disk, tt);
-    disk = counts_still (faults disk);
+    disk = (faults disk, counts_still (faults disk), refl);
     journal = refl;
+    answered = λ quiet memory. refl;
   }
 
   pub takes_one : (reads : D → List ℕ) (old new : D) (request : RequestParts) (held : Held) (reply : ReplyParts) (HoldsNow : Held → Type 0) (is : AnswersRequest images moment since old new request held reply HoldsNow)
@@ -93,14 +107,17 @@ module _ {D : Type 0} (images : D → List ℕ → Type 0) (moment : D → ℕ) 
       → Takes old new held (Answering request is.asked is.fate ∷ [])
   takes_one reads old new request held reply HoldsNow is stands none counts =
       let status : (answer_by is.fate held (answer held request.body is.asked)).reply.status ≡ reply.status = sym (ap (λ (r : ReplyParts). r.status) is.reply_is) in
-      let failed : (reply.status == 503) ≡ list_any is_disk (Answering request is.asked is.fate ∷ []) =
-      ap (λ n. n == 503) (sym status) ∙ disk_by_reply held request.body is.asked is.fate ∙ or_none (has_disk_failed is.fate) in record {
-        left = weakened moment since old new (λ file. images old file ⊎ _) (λ file. images old file ⊎ IsLeftIn held (Answering request is.asked is.fate ∷ []) file)
-            (λ file has. ⊎_elim (λ image. inl image) (λ grown. inr (left_one held request is.asked is.fate file grown)) has) is.left;
+      let failed : (reply.status == 503) ≡ has_disk_failed is.fate = ap (λ n. n == 503) (sym status) ∙ disk_by_reply held request.body is.asked is.fate in
+      let rose : CountsTurns (faults old) (Answering request is.asked is.fate ∷ []) (faults new) = (faults new, subst (λ b. Counts (faults old) (faults new) b) failed counts, refl) in
+      let found : list_any is_journal (Answering request is.asked is.fate ∷ []) ≡ false =
+      sym (or_none (lacks_journal is.fate)) ∙ journal_by_reply (reads old) held.journal held request.body is.asked is.fate stands (λ is500. none (sym status ∙ is500)) in record {
+        left = then_weakened images moment since old new (GrownFrom held.journal (answer held request.body is.asked).held.journal) (IsLeftIn held (Answering request is.asked is.fate ∷ []))
+            (λ file grown. left_one held request is.asked is.fate file grown) is.left;
         kept = is.kept;
         told = (λ from_disk. is.told (ap is_from_disk is.reply_is ∙ from_disk), tt);
-        disk = subst (λ b. Counts (faults old) (faults new) b) failed counts;
-        journal = sym (or_none (lacks_journal is.fate)) ∙ journal_by_reply (reads old) held.journal held request.body is.asked is.fate stands (λ is500. none (sym status ∙ is500));
+        disk = rose;
+        journal = found;
+        answered = λ quiet memory. answered_by _ _ (Answering request is.asked is.fate ∷ []) rose found quiet memory;
       }
     where
       or_none : (b : Bool) → b ≡ (b || false)
@@ -110,14 +127,27 @@ module _ {D : Type 0} (images : D → List ℕ → Type 0) (moment : D → ℕ) 
   pub takes_then : (old mid new : D) (held : Held) (xs ys : List Taken) → ((t : ℕ) (c : List ℕ) → t ≤ moment mid → images mid c → since mid t c)
       → Takes old mid held xs → Takes mid new (held_behind held xs) ys → Takes old new held (xs ++ ys)
   takes_then old mid new held xs ys counts first second =
-      let P : List ℕ → Type 0 = λ file. images old file ⊎ IsLeftIn held (xs ++ ys) file in
-      let before = weakened moment since old mid (λ file. images old file ⊎ IsLeftIn held xs file) P
-      (λ file has. ⊎_elim (λ image. inl image) (λ left. inr (left_first held xs ys file left)) has) first.left in
-      let behind = weakened moment since mid new (λ file. images mid file ⊎ IsLeftIn (held_behind held xs) ys file) P
-      (λ file has. ⊎_elim (λ image. before.each file (counts (moment old) file before.later image)) (λ left. inr (left_later held xs ys file left)) has) second.left in record {
-        left = followed moment since old mid new P before behind;
+      let P : List ℕ → Type 0 = IsLeftIn held (xs ++ ys) in
+      let before = then_weakened images moment since old mid (IsLeftIn held xs) P (λ file left. left_first held xs ys file left) first.left in
+      let behind = then_weakened images moment since mid new (IsLeftIn (held_behind held xs) ys) P (λ file left. left_later held xs ys file left) second.left in
+      let rose : CountsTurns (faults old) (xs ++ ys) (faults new) = counts_more (faults old) (faults mid) (faults new) xs ys first.disk second.disk in
+      let found : list_any is_journal (xs ++ ys) ≡ false = list_any-append is_journal xs ys ∙ ap (λ b. b || list_any is_journal ys) first.journal ∙ second.journal in record {
+        left = then_more images moment since old mid new P counts before behind;
         kept = λ front all. second.kept front (first.kept front all);
         told = told_more (images new) held xs ys (told_still (images mid) (images new) held xs second.kept first.told) second.told;
-        disk = subst (λ b. Counts (faults old) (faults new) b) (sym (list_any-append is_disk xs ys)) (counts_both (faults old) (faults mid) (faults new) _ _ first.disk second.disk);
-        journal = list_any-append is_journal xs ys ∙ ap (λ b. b || list_any is_journal ys) first.journal ∙ second.journal;
+        disk = rose;
+        journal = found;
+        answered = λ quiet memory. answered_by _ _ (xs ++ ys) rose found quiet memory;
       }
+
+  pub turn_taken : (reads : D → List ℕ) (old new : D) (request : RequestParts) (held : Held) (reply : ReplyParts) (HoldsNow : Held → Type 0) (is : AnswersRequest images moment since old new request held reply HoldsNow)
+      → StandsForJournal (reads old) held.journal → (reply.status ≡ 500 → IsNoJournal (reads old)) → Counts (faults old) (faults new) (reply.status == 503)
+      → TurnTaken Takes old new held request reply HoldsNow
+  turn_taken reads old new request held reply HoldsNow is stands none counts = record {
+    asked = is.asked;
+    fate = is.fate;
+    is = (refl, is.asks, is.unfailed);
+    reply_is = is.reply_is;
+    holds = is.holds;
+    takes = takes_one reads old new request held reply HoldsNow is stands none counts;
+  }

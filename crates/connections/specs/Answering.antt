@@ -1,5 +1,5 @@
 -- What answering a request does.
-use Rattle.std.specs.Prelude.{◌≡◌, ◌⊎◌, ℕ, ◌==◌, ◌||◌, Bool, true, false, List, Option, None, is_ok}
+use Rattle.std.specs.Prelude.{◌≡◌, ◌⊎◌, ℕ, ◌==◌, ◌||◌, Bool, true, false, List, Option, None, IsSome, is_ok}
 use Rattle.gb_outside.specs.Images.{LeavesOnly}
 use Rattle.act_json.specs.Lines.{item_of}
 use Rattle.act_model.specs.declared.receipts.Receipt.{Receipt}
@@ -26,6 +26,10 @@ is_refusal reply = reply.status == 400 || reply.status == 405 || reply.status ==
 abbrev pub tells_of_journal : ReplyParts → Bool
 tells_of_journal reply = reply.status == 200 || reply.status == 201 || reply.status == 403 || reply.status == 409
 
+-- the status says that something failed: a call of the disk, an opening, or the search for memory
+abbrev pub is_failed : ReplyParts → Bool
+is_failed reply = reply.status == 500 || reply.status == 503 || reply.status == 507
+
 -- the disk may be called for it: a text is read, or the body is an item
 abbrev pub may_call_disk : Asked → List ℕ → Bool
 may_call_disk (AskedFor Post) body = is_ok (item_of body)
@@ -37,7 +41,17 @@ may_call_disk WrongMethod body = false
 abbrev pub AllBegin : List Receipt → (List ℕ → Type 0) → Type 0
 AllBegin front images = (file : List ℕ) → images file → Begins front file
 
--- A request was answered by what it asks for and by what became of it; that is what is held behind it. The disk is called only where it may be, and no call of it failed where it is not. At each moment since, a stop leaves what it might have left before, or the journal that was held, with the receipt of this request or without it. What every image began with each begins with still, and with all that a text was read of or an item was received into.
+-- Until some moment a stop leaves what it might have left before, and from then on a file of this kind.
+pub record LeavesThen {D : Type 0} (images : D → List ℕ → Type 0) (moment : D → ℕ) (since : D → ℕ → List ℕ → Type 0) (old new : D) (left : List ℕ → Type 0) : Type 0 where
+  pub from : D
+  pub until : LeavesOnly moment since old from (images old)
+  pub then : LeavesOnly moment since from new left
+
+-- so, or that moment has not come
+abbrev pub LeavesOldThen : {D : Type 0} → (D → List ℕ → Type 0) → (D → ℕ) → (D → ℕ → List ℕ → Type 0) → D → D → (List ℕ → Type 0) → Type 0
+LeavesOldThen images moment since old new left = LeavesOnly moment since old new (images old) ⊎ LeavesThen images moment since old new left
+
+-- A request was answered by what it asks for and by what became of it; that is what is held behind it. The disk is called only where it may be, and no call of it failed where it is not. A stop leaves what it might have left before, or, from some moment on, nothing but the journal that was held, with the receipt of this request or without it. What every image began with each begins with still, and with all that a text was read of or an item was received into.
 pub record AnswersRequest {D : Type 0} (images : D → List ℕ → Type 0) (moment : D → ℕ) (since : D → ℕ → List ℕ → Type 0) (old new : D) (request : RequestParts) (held : Held) (reply : ReplyParts) (HoldsNow : Held → Type 0) : Type 0 where
   pub asked : Asked
   pub fate : Fate
@@ -46,9 +60,15 @@ pub record AnswersRequest {D : Type 0} (images : D → List ℕ → Type 0) (mom
   pub holds : HoldsNow (answer_by fate held (answer held request.body asked)).held
   pub uncalled : may_call_disk asked request.body ≡ false → new ≡ old
   pub unfailed : may_call_disk asked request.body ≡ false → has_disk_failed fate ≡ false
-  pub left : LeavesOnly moment since old new (λ file. images old file ⊎ GrownFrom held.journal (answer held request.body asked).held.journal file)
+  pub left : LeavesOldThen images moment since old new (GrownFrom held.journal (answer held request.body asked).held.journal)
   pub kept : (front : List Receipt) → AllBegin front (images old) → AllBegin front (images new)
   pub told : is_from_disk reply ≡ true → AllBegin (answer_by fate held (answer held request.body asked)).held.journal (images new)
+
+-- Behind a request for which the disk may be called a book is open that works, unless something failed in it.
+pub record LeavesOpen (request : RequestParts) (reply : ReplyParts) (at_hand : Option SettledBookState) : Type 0 where
+  pub asked : Asked
+  pub asks : Asks request asked
+  pub works : may_call_disk asked request.body ≡ true → is_failed reply ≡ false → IsSome (working at_hand)
 
 -- ---- where no book is open and the file stands for no journal
 

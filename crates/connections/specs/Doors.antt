@@ -1,13 +1,12 @@
 -- Links that are served one after another, each from what the one before left.
 use Rattle.std.specs.Prelude.{◌≡◌, ◌⊎◌, Bool, true, false, ℕ, ◌-◌, ◌≤◌, List, [], ◌∷◌, ◌++◌, drop, flat_map, length, Option, Some, IfSome}
-use Rattle.std.specs.List.{list_all, list_any}
-use Rattle.gb_outside.specs.Faults.{Counts, Rose}
+use Rattle.gb_outside.specs.Faults.{Counts}
 use Rattle.intake.specs.Requests.{Held}
 use Rattle.registry_http.specs.RequestLists.{AreRequests}
 use Rattle.registry_http.specs.RequestParts.{RequestParts}
 use Rattle.registry_http.specs.Requests.{AtFront}
 use Rattle.connections.specs.Served.{Connection, IsCutOff, IsOfTurns, IsUnwritten, IsWhole, held_by, replies_of, taken_of, written_by}
-use Rattle.connections.specs.Serving.{TakesTurns, fate_of, is_answered, is_link_fault, lacks_memory}
+use Rattle.connections.specs.Serving.{TakesTurns, is_link_fault}
 use Rattle.connections.specs.Turns.{Turn, Taken, held_behind, turns}
 use Rattle.connections.specs.declared.doors.DoorEnd.{DoorEnd}
 use Rattle.connections.specs.declared.doors.DoorEnd.TheVariants as door
@@ -94,7 +93,7 @@ pub record ServesLinks {D : Type 0} (images : D → List ℕ → Type 0) (moment
   pub holds : HoldsNow (held_behind held (turns_taken links))
   pub disk : TakesTurns images moment since faults old new held (turns_taken links)
 
--- The door was served, at which links waited that ask so, up to so many replies and so many links. It is done where all replies were written, as many links were served, or no more came; and memory is wanting just where none was found for a reply to the last link. Where no count of the disk rose and no memory was wanting, each turn was answered as it asks.
+-- The door was served, at which links waited that ask so, up to so many replies and so many links. It is done where all replies were written, as many links were served, or no more came; and memory is wanting just where none was found for a reply to the last link.
 pub record ServesDoor {D : Type 0} (images : D → List ℕ → Type 0) (moment : D → ℕ) (since : D → ℕ → List ℕ → Type 0) (faults : D → ℕ) (old new : D) (held : Held) (most : ℕ)
     (waiting : List (List ℕ)) (asked : List LinkRequests) (waiting_new : Option (List (List ℕ))) (served_old served_new : Option (List (List ℕ × ℕ))) (result : DoorEnd) (HoldsNow : Held → Type 0) : Type 0 where
   pub links : List LinkServed
@@ -103,5 +102,3 @@ pub record ServesDoor {D : Type 0} (images : D → List ℕ → Type 0) (moment 
   pub done : result ≡ door.Done → (left_behind most links ≡ 0) ⊎ ((length links ≡ most) ⊎ (drop (length links) waiting ≡ []))
   pub memory : LacksMemory links → result ≡ door.Memory
   pub wanting : result ≡ door.Memory → LacksMemory links
-  pub answered : (Rose (faults old) (faults new) → ⊥) → list_any (λ turn. lacks_memory (fate_of turn)) (turns_taken links) ≡ false
-      → list_all (λ turn. is_answered (fate_of turn)) (turns_taken links) ≡ true

@@ -1,13 +1,12 @@
 -- What serving a connection does.
-use Rattle.std.specs.Prelude.{◌≡◌, ◌⊎◌, ℕ, Bool, true, false, List, [], ◌∷◌, length, Option}
+use Rattle.std.specs.Prelude.{◌≡◌, ℕ, Bool, true, false, List, [], ◌∷◌, length, Option, All}
 use Rattle.std.specs.Io.KnownBytes.{Appends}
 use Rattle.std.specs.List.{list_all, list_any}
 use Rattle.gb_outside.specs.Faults.{Counts, Rose}
-use Rattle.gb_outside.specs.Images.{LeavesOnly}
 use Rattle.act_model.specs.declared.receipts.Receipt.{Receipt}
 use Rattle.intake.specs.Requests.{Held}
-use Rattle.connections.specs.Answering.{AllBegin, is_from_disk}
-use Rattle.connections.specs.Fates.{Fate, Answered, Failed, DiskFailed, NoJournal, OutOfMemory, has_disk_failed}
+use Rattle.connections.specs.Answering.{AllBegin, LeavesOldThen, is_from_disk, may_call_disk}
+use Rattle.connections.specs.Fates.{Failure, Fate, Answered, Failed, DiskFailed, NoJournal, NotBegun, OutOfMemory, has_disk_failed}
 use Rattle.connections.specs.Served.{Connection, IsCutOff, IsLeftIn, IsOfTurns, IsUnwritten, IsWhole, held_by, replies_of, taken_of, written_by}
 use Rattle.connections.specs.Turns.{Turn, Taken, Answering, Refusing, answer_in}
 use Rattle.connections.specs.declared.serving.Ended.{Ended}
@@ -44,31 +43,45 @@ abbrev pub fate_of : Taken → Fate
 fate_of (Answering request asked fate) = fate
 fate_of (Refusing reply) = Answered
 
+-- The disk's count of faults rises in each of these turns in which a call of it failed, and in no other.
+abbrev pub CountsTurns : ℕ → List Taken → ℕ → Type 0
+CountsTurns before [] now = now ≡ before
+CountsTurns before (turn ∷ turns) now = (mid : ℕ) × Counts before mid (has_disk_failed (fate_of turn)) × CountsTurns mid turns now
+
 -- Each image begins with each journal that a text of these turns was read of, or an item received into.
 abbrev pub AllTold : (List ℕ → Type 0) → Held → List Taken → Type 0
 AllTold images held [] = Unit {0}
 AllTold images held (turn ∷ turns) =
     (is_from_disk (answer_in held turn).reply ≡ true → AllBegin (answer_in held turn).held.journal images) × AllTold images (answer_in held turn).held turns
 
--- What these turns did to the disk: what a stop leaves, what is kept of the file and told of it, and that its count of faults rose just where a call of it failed. None finds that the file is no journal.
+-- What these turns did to the disk: what a stop leaves, that is what it might have left before or, from some moment on, only files that it leaves in these turns, what is kept of the file and told of it, and that its count of faults rose in each turn in which a call of it failed. None finds that the file is no journal. Where no count rose and no memory was wanting, each was answered as it asks.
 pub record TakesTurns {D : Type 0} (images : D → List ℕ → Type 0) (moment : D → ℕ) (since : D → ℕ → List ℕ → Type 0) (faults : D → ℕ) (old new : D) (held : Held) (taken : List Taken) : Type 0 where
-  pub left : LeavesOnly moment since old new (λ file. images old file ⊎ IsLeftIn held taken file)
+  pub left : LeavesOldThen images moment since old new (IsLeftIn held taken)
   pub kept : (front : List Receipt) → AllBegin front (images old) → AllBegin front (images new)
   pub told : AllTold (images new) held taken
-  pub disk : Counts (faults old) (faults new) (list_any (λ turn. has_disk_failed (fate_of turn)) taken)
+  pub disk : CountsTurns (faults old) taken (faults new)
   pub journal : list_any (λ turn. lacks_journal (fate_of turn)) taken ≡ false
+  pub answered : (Rose (faults old) (faults new) → ⊥) → list_any (λ turn. lacks_memory (fate_of turn)) taken ≡ false → list_all (λ turn. is_answered (fate_of turn)) taken ≡ true
 
--- A connection of these turns was served: what became of it, what was written, what is held behind it, and what was done to the disk. Where it is finished it is whole; else it is cut off, and its whole replies alone are counted. Where no memory was found for a reply nothing of it was written. Where no count of the disk rose and no memory was wanting, each turn was answered as it asks.
-pub record ServesLink {D : Type 0} (images : D → List ℕ → Type 0) (moment : D → ℕ) (since : D → ℕ → List ℕ → Type 0) (faults : D → ℕ) (old new : D) (held : Held)
+-- Where the disk may be called for it, something failed in it, and nothing was begun.
+abbrev pub FailsUnbegun : Taken → Type 0
+FailsUnbegun (Answering request asked fate) = may_call_disk asked request.body ≡ true → (failure : Failure) × (fate ≡ Failed failure NotBegun)
+FailsUnbegun (Refusing reply) = Unit {0}
+
+-- What these turns did to a disk whose file stands for no journal, where no book is open: each failed for which it may be called, and its count of faults rose in each turn in which a call of it failed.
+pub record TakesNone {D : Type 0} (faults : D → ℕ) (old new : D) (held : Held) (taken : List Taken) : Type 0 where
+  pub failed : All FailsUnbegun taken
+  pub disk : CountsTurns (faults old) taken (faults new)
+
+-- A connection of these turns was served: what became of it, what was written, what is held behind it, and what was done to the disk. Where it is finished it is whole; else it is cut off, and its whole replies alone are counted. Where no memory was found for a reply nothing of it was written.
+pub record ServesLink {D : Type 0} (Takes : D → D → Held → List Taken → Type 0) (old new : D) (held : Held)
     (written_old written_new : Option (List ℕ)) (turns : List Turn) (served : Served) (HoldsNow : Held → Type 0) : Type 0 where
   pub became : Connection
   pub of_turns : IsOfTurns held turns became
   pub written : Appends written_old written_new (written_by held became)
   pub holds : HoldsNow (held_by held became)
-  pub disk : TakesTurns images moment since faults old new held (taken_of became)
+  pub disk : Takes old new held (taken_of became)
   pub finished : served.ended ≡ ended.Finished → IsWhole turns became × (served.replies ≡ replies_of became)
   pub unfinished : (served.ended ≡ ended.Finished → ⊥) → served.replies ≡ length became.replied
   pub cut_off : (served.ended ≡ ended.Finished → ⊥) → IsCutOff held turns became
   pub unwritten : served.ended ≡ ended.Memory → IsUnwritten held became
-  pub answered : (Rose (faults old) (faults new) → ⊥) → list_any (λ turn. lacks_memory (fate_of turn)) (taken_of became) ≡ false
-      → list_all (λ turn. is_answered (fate_of turn)) (taken_of became) ≡ true

@@ -1,5 +1,5 @@
 //! The clerk, who answers requests and keeps the open book between them.
-ghost use Rattle.std.specs.Prelude.{◌≡◌, ◌⊎◌, ◌≤◌, ◌==◌, ◌+◌, ℕ, List, Option, Some, None, length, IfOk, IfErr, IfSome, IsSome, OnErr, OnOk, IsTrue, is_ok, option_map, true, false};
+ghost use Rattle.std.specs.Prelude.{◌≡◌, ◌≢◌, ◌⊎◌, ◌≤◌, ◌==◌, ◌+◌, ℕ, List, Option, Some, None, length, IfOk, IfErr, IfSome, IsSome, OnErr, OnOk, IsTrue, is_ok, option_map, true, false};
 ghost use Rattle.gb_base.specs.DayMinute.{DayMinute};
 ghost use Rattle.gb_outside.specs.Faults.{Counts};
 ghost use Rattle.gb_outside.specs.Images.{Only, Torn};
@@ -11,7 +11,9 @@ ghost use Rattle.journal_disk.specs.Layout.{first_gate, the_heading, made_from, 
 ghost use Rattle.journal_disk.specs.Opening.{AnswersSynced, IsKept};
 ghost use Rattle.receipt_journal.specs.Opening.{BookRefuses, book_opening_disk_failed};
 ghost use Rattle.receipt_journal.specs.Standing.{Stands, StandsForJournal};
-ghost use Rattle.connections.specs.Answering.{AnswersNone, AnswersRequest, IsFailure, OpensNone, is_refusal, may_call_disk, tells_of_journal};
+ghost use Rattle.registry_http.specs.Routes.{method_of};
+ghost use Rattle.registry_http.specs.declared.routes.Route.TheVariants.{Post};
+ghost use Rattle.connections.specs.Answering.{AnswersNone, AnswersRequest, IsFailure, LeavesOpen, OpensNone, is_failed, is_refusal, may_call_disk, tells_of_journal};
 ghost use Rattle.connections.specs.Answers.{answer, body_answer, item_answer, only, read_reply};
 ghost use Rattle.connections.specs.Asking.{AskedFor};
 ghost use Rattle.connections.specs.Holding.{Holds, IsNoJournal, IsOpenOn, StandsForNone, StandsOpen, working};
@@ -118,6 +120,7 @@ impl Clerk {
         ensures taken { self.new ≡ None }
         ensures refused { IsTrue D.tells → IfErr result (BookRefuses (D.reads disk.old)) }
         ensures had_none { OnErr result (working self.old ≡ None) }
+        ensures untouched { IsSome (working self.old) → disk.new ≡ disk.old }
         ensures journal { IsTrue D.tells → working self.old ≡ None → OnOk result ((journal : List Receipt) × StandsForJournal (D.reads disk.old) journal) }
         ensures no_book { IsTrue D.tells → working self.old ≡ None → StandsForNone (D.reads disk.old) → OpensNone D.reads D.images D.moment D.since disk.old disk.new self.new }
         ensures cause { Counts (D.faults disk.old) (D.faults disk.new) (book_opening_disk_failed result) }
@@ -136,6 +139,8 @@ impl Clerk {
         ensures serves { Serves D.tells D.reads D.images D.moment D.since D.faults disk.old disk.new self.old self.new result }
         ensures late { is_refusal result ≡ false }
         ensures unfound { IsTrue D.tells → working self.old ≡ None → StandsForNone (D.reads disk.old) → IsFailure result }
+        ensures works { is_failed result ≡ false → IsSome (working self.new) }
+        ensures untouched { IsSome (working self.old) → disk.new ≡ disk.old }
     {
         let mut book = match self.take_book(alloc, disk) {
             Ok(book) => book,
@@ -162,6 +167,8 @@ impl Clerk {
         ensures serves { Serves D.tells D.reads D.images D.moment D.since D.faults disk.old disk.new self.old self.new result }
         ensures late { is_refusal result ≡ false }
         ensures unfound { IsTrue D.tells → working self.old ≡ None → StandsForNone (D.reads disk.old) → IsFailure result }
+        ensures works { is_failed result ≡ false → IsSome (working self.new) }
+        ensures unreceived { IsSome (working self.old) → (result.status == 201) ≡ false → is_failed result ≡ false → disk.new ≡ disk.old }
     {
         let mut book = match self.take_book(alloc, disk) {
             Ok(book) => book,
@@ -188,6 +195,8 @@ impl Clerk {
         ensures apart { is_refusal result ≡ true → (self.new ≡ self.old) × (disk.new ≡ disk.old) × (clock.new ≡ clock.old) }
         ensures uncalled { is_ok (item_of body.now) ≡ false → (disk.new ≡ disk.old) × ((result.status == 503) ≡ false) }
         ensures unfound { IsTrue D.tells → working self.old ≡ None → StandsForNone (D.reads disk.old) → is_ok (item_of body.now) ≡ true → IsFailure result }
+        ensures works { is_ok (item_of body.now) ≡ true → is_failed result ≡ false → IsSome (working self.new) }
+        ensures unreceived { IsSome (working self.old) → (result.status == 201) ≡ false → is_failed result ≡ false → disk.new ≡ disk.old }
         ensures refused { is_ok (item_of body.now) ≡ false → ((held : Held) → result ≡ (body_answer held (item_of body.now)).reply) ⊎ (result ≡ out_of_memory) }
     {
         let (sender, reference, item) = match read_item(alloc, body) {
@@ -215,6 +224,9 @@ impl Clerk {
         ensures apart { is_refusal result ≡ true → (self.new ≡ self.old) × (disk.new ≡ disk.old) × (clock.new ≡ clock.old) }
         ensures uncalled { may_call_disk (AskedFor route) body.now ≡ false → (disk.new ≡ disk.old) × ((result.status == 503) ≡ false) }
         ensures unfound { IsTrue D.tells → working self.old ≡ None → StandsForNone (D.reads disk.old) → may_call_disk (AskedFor route) body.now ≡ true → IsFailure result }
+        ensures works { may_call_disk (AskedFor route) body.now ≡ true → is_failed result ≡ false → IsSome (working self.new) }
+        ensures untouched { IsSome (working self.old) → (route ≡ Post → ⊥) → disk.new ≡ disk.old }
+        ensures unreceived { IsSome (working self.old) → (result.status == 201) ≡ false → is_failed result ≡ false → disk.new ≡ disk.old }
         ensures refused { may_call_disk (AskedFor route) body.now ≡ false → ((held : Held) → result ≡ (answer held body.now (AskedFor route)).reply) ⊎ (result ≡ out_of_memory) }
     {
         match &route {
@@ -239,11 +251,16 @@ impl Clerk {
             → AnswersRequest D.images D.moment D.since disk.old disk.new request.now held result (Holds self.new (D.reads disk.new) (D.images disk.new) (C.ticks clock.new)) }
         ensures stands_open { IsTrue D.tells → StandsOpen self.new (D.reads disk.new) (D.images disk.new) }
         ensures kept_open { IsSome (working self.old) → (result.status == 503) ≡ false → IsSome (working self.new) }
+        ensures left_open { LeavesOpen request.now result self.new }
         ensures disk { Counts (D.faults disk.old) (D.faults disk.new) (result.status == 503) }
         ensures status { IsTrue (is_reply_status result.status) }
 
         // What is refused by its method or by its body calls neither the disk nor the clock.
         ensures apart { is_refusal result ≡ true → (self.new ≡ self.old) × (disk.new ≡ disk.old) × (clock.new ≡ clock.old) }
+
+        // While a book works the disk is written only where an item is received, and called only for a POST.
+        ensures untouched { IsSome (working self.old) → request.now.method ≢ method_of Post → disk.new ≡ disk.old }
+        ensures unreceived { IsSome (working self.old) → (result.status == 201) ≡ false → is_failed result ≡ false → disk.new ≡ disk.old }
 
         // Each answer about the file is by its standing, where a book had to be opened.
         ensures no_journal { IsTrue D.tells → result.status ≡ 500 → IsNoJournal (D.reads disk.old) }

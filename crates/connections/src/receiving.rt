@@ -2,7 +2,7 @@
 ghost use Rattle.std.specs.Prelude.{◌≡◌, false, Some, IsTrue};
 ghost use Rattle.gb_outside.specs.Faults.{Counts};
 ghost use Rattle.act_model.specs.WellFormed.{well_formed};
-ghost use Rattle.receipt_journal.specs.Receiving.{receiving_disk_failed};
+ghost use Rattle.receipt_journal.specs.Receiving.{is_received, receiving_disk_failed};
 ghost use Rattle.receipt_journal.specs.Standing.{Stands};
 ghost use Rattle.intake.specs.Requests.{Held};
 ghost use Rattle.connections.specs.Holding.{IsOpenOn};
@@ -32,6 +32,7 @@ pub(crate) fn receive<D: Disk, C: Clock>(
     ensures opened { result ≡ Received.MustReopen → ⊥ }
     ensures failed { book.new.book.log.failed ≡ receiving_disk_failed result }
     ensures stands { IsTrue D.tells → receiving_disk_failed result ≡ false → Stands book.new.book (D.reads disk.new) (D.images disk.new) }
+    ensures untouched { is_received result ≡ false → receiving_disk_failed result ≡ false → disk.new ≡ disk.old }
     ensures cause { Counts (D.faults disk.old) (D.faults disk.new) (receiving_disk_failed result) }
 {
     let stamp = clock.now();

@@ -11,7 +11,7 @@ ghost use Rattle.registry_http.specs.Requests.{AtFront};
 ghost use Rattle.connections.specs.Answering.{OpensNone};
 ghost use Rattle.connections.specs.Holding.{Holds, StandsForNone, StandsOpen, working};
 ghost use Rattle.connections.specs.Replies.{bytes_of};
-ghost use Rattle.connections.specs.Serving.{ServesLink, is_link_fault};
+ghost use Rattle.connections.specs.Serving.{ServesLink, TakesNone, TakesTurns, is_link_fault};
 ghost use Rattle.connections.specs.Turns.{turns};
 ghost use Rattle.connections.specs.declared.serving.Ended.TheVariants.{Finished, Memory};
 ghost use Rattle.connections.specs.inner.Rounds.{EndsWith, IsTurn, Meets, answering_ended, is_cut_off, sending_failed};
@@ -97,11 +97,13 @@ impl Clerk {
         requires stands_open { IsTrue D.tells → StandsOpen self.old (D.reads disk.old) (D.images disk.old) }
         ensures turn { IsTrue D.tells → (held : Held) (requests : List RequestParts) (end : AtFront)
             → Holds self.old (D.reads disk.old) (D.images disk.old) (C.ticks clock.old) held
-            → IsTurn D.images D.moment D.since D.faults disk.old disk.new held (L.written link.old) (L.written link.new) (request.now ∷ requests) end
+            → IsTurn (TakesTurns D.images D.moment D.since D.faults) disk.old disk.new held (L.written link.old) (L.written link.new) (request.now ∷ requests) end
             (λ h. Holds self.new (D.reads disk.new) (D.images disk.new) (C.ticks clock.new) h)
             (λ h others. Holds self.new (D.reads disk.new) (D.images disk.new) (C.ticks clock.new) h × (others ≡ requests)) result }
         ensures few { IfSome result (λ served. served.replies ≤ 1) }
         ensures stands_open { IsTrue D.tells → StandsOpen self.new (D.reads disk.new) (D.images disk.new) }
+        ensures none_turn { IsTrue D.tells → working self.old ≡ None → StandsForNone (D.reads disk.old) → (held all : Held) (requests : List RequestParts) (end : AtFront) → held ≡ all
+            → IsTurn (TakesNone D.faults) disk.old disk.new held (L.written link.old) (L.written link.new) (request.now ∷ requests) end (λ h. h ≡ all) (λ h others. (h ≡ all) × (others ≡ requests)) result }
         ensures no_book { IsTrue D.tells → working self.old ≡ None → StandsForNone (D.reads disk.old) → OpensNone D.reads D.images D.moment D.since disk.old disk.new self.new }
         ensures told { IsSome (L.written link.old) → IsSome (L.written link.new) }
         ensures left { L.left link.new ≡ L.left link.old }
@@ -133,12 +135,15 @@ impl Clerk {
     ) -> Option<Served>
         requires { IsTrue D.tells → StandsOpen self.old (D.reads disk.old) (D.images disk.old) }
         ensures turn { IsTrue D.tells → (held : Held) (requests : List RequestParts) (end : AtFront)
-            → Meets self.old (D.reads disk.old) (D.images disk.old) (C.ticks clock.old) (L.left link.old) rest.old.items end held requests
-            → IsTurn D.images D.moment D.since D.faults disk.old disk.new held (L.written link.old) (L.written link.new) requests end
+            → Meets (Holds self.old (D.reads disk.old) (D.images disk.old) (C.ticks clock.old)) (L.left link.old) rest.old.items end held requests
+            → IsTurn (TakesTurns D.images D.moment D.since D.faults) disk.old disk.new held (L.written link.old) (L.written link.new) requests end
             (λ h. Holds self.new (D.reads disk.new) (D.images disk.new) (C.ticks clock.new) h)
-            (λ h others. Meets self.new (D.reads disk.new) (D.images disk.new) (C.ticks clock.new) (L.left link.new) rest.new.items end h others) result }
+            (λ h others. Meets (Holds self.new (D.reads disk.new) (D.images disk.new) (C.ticks clock.new)) (L.left link.new) rest.new.items end h others) result }
         ensures few { IfSome result (λ served. served.replies ≤ 1) }
         ensures stands_open { IsTrue D.tells → StandsOpen self.new (D.reads disk.new) (D.images disk.new) }
+        ensures none_turn { IsTrue D.tells → working self.old ≡ None → StandsForNone (D.reads disk.old) → (held all : Held) (requests : List RequestParts) (end : AtFront)
+            → Meets (λ h. h ≡ all) (L.left link.old) rest.old.items end held requests
+            → IsTurn (TakesNone D.faults) disk.old disk.new held (L.written link.old) (L.written link.new) requests end (λ h. h ≡ all) (λ h others. Meets (λ k. k ≡ all) (L.left link.new) rest.new.items end h others) result }
         ensures no_book { IsTrue D.tells → working self.old ≡ None → StandsForNone (D.reads disk.old) → OpensNone D.reads D.images D.moment D.since disk.old disk.new self.new }
         ensures told { IsSome (L.written link.old) → IsSome (L.written link.new) }
         ensures cause { Counts (L.faults link.old) (L.faults link.new) (is_cut_off result) }
@@ -173,9 +178,12 @@ impl Clerk {
         requires { IsTrue D.tells → StandsOpen self.old (D.reads disk.old) (D.images disk.old) }
         ensures serves { IsTrue D.tells → (held : Held) (input : List ℕ) (requests : List RequestParts) (end : AtFront)
             → Holds self.old (D.reads disk.old) (D.images disk.old) (C.ticks clock.old) held → L.left link.old ≡ Some input → AreRequests input requests end
-            → ServesLink D.images D.moment D.since D.faults disk.old disk.new held (L.written link.old) (L.written link.new) (turns left requests end) result
+            → ServesLink (TakesTurns D.images D.moment D.since D.faults) disk.old disk.new held (L.written link.old) (L.written link.new) (turns left requests end) result
             (λ h. Holds self.new (D.reads disk.new) (D.images disk.new) (C.ticks clock.new) h) }
         ensures stands_open { IsTrue D.tells → StandsOpen self.new (D.reads disk.new) (D.images disk.new) }
+        ensures serves_none { IsTrue D.tells → working self.old ≡ None → StandsForNone (D.reads disk.old) → (held : Held) (input : List ℕ) (requests : List RequestParts) (end : AtFront)
+            → L.left link.old ≡ Some input → AreRequests input requests end
+            → ServesLink (TakesNone D.faults) disk.old disk.new held (L.written link.old) (L.written link.new) (turns left requests end) result (λ h. h ≡ held) }
         ensures no_book { IsTrue D.tells → working self.old ≡ None → StandsForNone (D.reads disk.old) → OpensNone D.reads D.images D.moment D.since disk.old disk.new self.new }
         ensures few { result.replies ≤ left }
         ensures told { IsSome (L.written link.old) → IsSome (L.written link.new) }

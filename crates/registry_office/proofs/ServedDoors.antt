@@ -13,6 +13,7 @@ use Rattle.receipt_journal.specs.declared.faults.BookFault.TheVariants as fault
 use Rattle.intake.specs.Requests.{Held}
 use Rattle.intake.proofs.Replies.{grown_at}
 use Rattle.settled_book.specs.SettledBookState.{SettledBookState}
+use Rattle.connections.specs.Answering.{LeavesOldThen}
 use Rattle.connections.specs.Doors.{LinkRequests, ServesDoor}
 use Rattle.connections.specs.Holding.{Holds}
 use Rattle.connections.specs.Served.{IsLeftIn}
@@ -31,10 +32,6 @@ use Rattle.registry_office.proofs.Opened.{kept_journal}
 left_ahead : (held : Held) (taken : List Taken) (file : List ℕ) → StandsForJournal file held.journal → IsLeftIn held taken file
 left_ahead held taken file stands = record { done = []; next = []; rest = taken; all = refl; one = omega arith; left = grown_at held.journal file stands }
 
--- a count that the opening left and the door went on with
-counts_on : (before mid now : ℕ) (failed : Bool) → Counts before mid false → Counts mid now failed → Counts before now failed
-counts_on before mid now failed first second = subst (λ n. Counts n now failed) (first.else_same refl) second
-
 -- a count that the opening left rises behind it alone
 rose_on : (before mid now : ℕ) → Counts before mid false → (Rose before now → ⊥) → Rose mid now → ⊥
 rose_on before mid now first never = subst (λ n. Rose n now → ⊥) (sym (first.else_same refl)) never
@@ -45,17 +42,20 @@ none_told None = tt
 none_told (Some before) = ap (λ (l : List (List ℕ × ℕ)). Some l) (sym (append-nil before))
 
 module _ {D : Type 0} (reads : D → List ℕ) (images : D → List ℕ → Type 0) (moment : D → ℕ) (since : D → ℕ → List ℕ → Type 0) (faults : D → ℕ) where
+  -- what might be left before is of the kind that is left then
+  left_behind : (mid new : D) (P : List ℕ → Type 0) → ((file : List ℕ) → images mid file → P file) → LeavesOldThen images moment since mid new P → LeavesOnly moment since mid new P
+  left_behind mid new P has (inl before) = weakened moment since mid new (images mid) P has before
+  left_behind mid new P has (inr run) = followed moment since mid run.from new P (weakened moment since mid run.from (images mid) P has run.until) run.then
+
   left_on : (old mid new : D) (held : Held) (taken : List Taken) → ((t : ℕ) (c : List ℕ) → t ≤ moment mid → images mid c → since mid t c) → StandsForJournal (reads old) held.journal
-      → SyncsFirst reads images moment since old mid → LeavesOnly moment since mid new (λ file. images mid file ⊎ IsLeftIn held taken file) → LeavesSynced reads images moment since old new (IsLeftIn held taken)
+      → SyncsFirst reads images moment since old mid → LeavesOldThen images moment since mid new (IsLeftIn held taken) → LeavesSynced reads images moment since old new (IsLeftIn held taken)
   left_on old mid new held taken counts stands first second =
       let kept : LeavesOnly moment since first.synced mid (IsLeftIn held taken) = weakened moment since first.synced mid (IsKept (reads old)) (IsLeftIn held taken)
       (λ c kept. left_ahead held taken c (kept_journal (reads old) c held.journal stands kept)) first.then in record {
         synced = first.synced;
         until = first.until;
         only = first.only;
-        then = followed moment since first.synced mid new (IsLeftIn held taken) kept
-            (weakened moment since mid new (λ file. images mid file ⊎ IsLeftIn held taken file) (IsLeftIn held taken)
-            (λ file has. ⊎_elim (λ image. kept.each file (counts (moment first.synced) file kept.later image)) (λ left. left) has) second);
+        then = followed moment since first.synced mid new (IsLeftIn held taken) kept (left_behind mid new (IsLeftIn held taken) (λ file image. kept.each file (counts (moment first.synced) file kept.later image)) second);
       }
 
   module _ (old new : D) (held : Held) (most : ℕ) (waiting : List (List ℕ)) (asked : List LinkRequests) (served_old : Option (List (List ℕ × ℕ))) (known : Option (List DayMinute)) where
@@ -81,12 +81,14 @@ module _ {D : Type 0} (reads : D → List ℕ) (images : D → List ℕ → Type
           holds = record { stands = d.serves.holds.file; clock = d.serves.holds.clock };
           left = left_on old mid new held _ counts stands first d.serves.disk.left;
           kept = d.serves.disk.told;
-          disk = counts_on (faults old) (faults mid) (faults new) _ quiet d.serves.disk.disk;
+          opened = faults mid;
+          opening = quiet;
+          disk = d.serves.disk.disk;
           journal = d.serves.disk.journal;
           done = λ ok. d.done refl;
           memory = λ lacks. ap status_of_door (d.memory lacks);
           wanting = λ is. absurd cc;
-          answered = λ never. d.answered (rose_on (faults old) (faults mid) (faults new) quiet never);
+          answered = λ never. d.serves.disk.answered (rose_on (faults old) (faults mid) (faults new) quiet never);
         }
         by door.DoorFault d = record {
           links = d.links;
@@ -97,12 +99,14 @@ module _ {D : Type 0} (reads : D → List ℕ) (images : D → List ℕ → Type
           holds = record { stands = d.serves.holds.file; clock = d.serves.holds.clock };
           left = left_on old mid new held _ counts stands first d.serves.disk.left;
           kept = d.serves.disk.told;
-          disk = counts_on (faults old) (faults mid) (faults new) _ quiet d.serves.disk.disk;
+          opened = faults mid;
+          opening = quiet;
+          disk = d.serves.disk.disk;
           journal = d.serves.disk.journal;
           done = λ ok. absurd cc;
           memory = λ lacks. ap status_of_door (d.memory lacks);
           wanting = λ is. absurd cc;
-          answered = λ never. d.answered (rose_on (faults old) (faults mid) (faults new) quiet never);
+          answered = λ never. d.serves.disk.answered (rose_on (faults old) (faults mid) (faults new) quiet never);
         }
         by door.Memory d = record {
           links = d.links;
@@ -113,12 +117,14 @@ module _ {D : Type 0} (reads : D → List ℕ) (images : D → List ℕ → Type
           holds = record { stands = d.serves.holds.file; clock = d.serves.holds.clock };
           left = left_on old mid new held _ counts stands first d.serves.disk.left;
           kept = d.serves.disk.told;
-          disk = counts_on (faults old) (faults mid) (faults new) _ quiet d.serves.disk.disk;
+          opened = faults mid;
+          opening = quiet;
+          disk = d.serves.disk.disk;
           journal = d.serves.disk.journal;
           done = λ ok. absurd cc;
           memory = λ lacks. refl;
           wanting = λ is. inr (d.wanting refl);
-          answered = λ never. d.answered (rose_on (faults old) (faults mid) (faults new) quiet never);
+          answered = λ never. d.serves.disk.answered (rose_on (faults old) (faults mid) (faults new) quiet never);
         }
 
     -- no book was opened, and nothing was accepted
@@ -149,7 +155,9 @@ module _ {D : Type 0} (reads : D → List ℕ) (images : D → List ℕ → Type
           holds = holds;
           left = ⊎_elim (λ none. inl none) (λ first. inr (first_left first)) answers;
           kept = tt;
-          disk = counts;
+          opened = faults new;
+          opening = counts;
+          disk = refl;
           journal = refl;
           done = λ ok. absurd cc;
           memory = λ lacks. absurd lacks;
@@ -165,7 +173,9 @@ module _ {D : Type 0} (reads : D → List ℕ) (images : D → List ℕ → Type
           holds = holds;
           left = first_left answers;
           kept = tt;
-          disk = counts;
+          opened = faults new;
+          opening = counts;
+          disk = refl;
           journal = refl;
           done = λ ok. absurd cc;
           memory = λ lacks. absurd lacks;
@@ -181,7 +191,9 @@ module _ {D : Type 0} (reads : D → List ℕ) (images : D → List ℕ → Type
           holds = holds;
           left = first_left answers;
           kept = tt;
-          disk = counts;
+          opened = faults new;
+          opening = counts;
+          disk = refl;
           journal = refl;
           done = λ ok. absurd cc;
           memory = λ lacks. absurd lacks;
@@ -197,7 +209,9 @@ module _ {D : Type 0} (reads : D → List ℕ) (images : D → List ℕ → Type
           holds = holds;
           left = first_left answers;
           kept = tt;
-          disk = counts;
+          opened = faults new;
+          opening = counts;
+          disk = refl;
           journal = refl;
           done = λ ok. absurd cc;
           memory = λ lacks. absurd lacks;
@@ -206,10 +220,9 @@ module _ {D : Type 0} (reads : D → List ℕ) (images : D → List ℕ → Type
         }
 
 -- what a served link leaves is held, whatever book is open
-pub link_held : {D : Type 0} (images : D → List ℕ → Type 0) (moment : D → ℕ) (since : D → ℕ → List ℕ → Type 0) (faults : D → ℕ) (old new : D) (held : Held) (w v : Option (List ℕ)) (turns : List Turn) (served : Served)
-    (at_hand : Option SettledBookState) (reads : List ℕ) (known : Option (List DayMinute)) → ServesLink images moment since faults old new held w v turns served (λ h. Holds at_hand reads (images new) known h)
-    → ServesLink images moment since faults old new held w v turns served (IsHeld reads known)
-link_held images moment since faults old new held w v turns served at_hand reads known s = record {
+pub link_held : {D : Type 0} (Takes : D → D → Held → List Taken → Type 0) (old new : D) (held : Held) (w v : Option (List ℕ)) (turns : List Turn) (served : Served) (at_hand : Option SettledBookState) (reads : List ℕ)
+    (images : List ℕ → Type 0) (known : Option (List DayMinute)) → ServesLink Takes old new held w v turns served (λ h. Holds at_hand reads images known h) → ServesLink Takes old new held w v turns served (IsHeld reads known)
+link_held Takes old new held w v turns served at_hand reads images known s = record {
   became = s.became;
   of_turns = s.of_turns;
   written = s.written;
@@ -219,5 +232,4 @@ link_held images moment since faults old new held w v turns served at_hand reads
   unfinished = s.unfinished;
   cut_off = s.cut_off;
   unwritten = s.unwritten;
-  answered = s.answered;
 }

@@ -12,7 +12,7 @@ ghost use Rattle.registry_http.specs.RequestParts.{RequestParts};
 ghost use Rattle.registry_http.specs.Requests.{AtFront};
 ghost use Rattle.connections.specs.Doors.{AskSo, LinkRequests};
 ghost use Rattle.connections.specs.Holding.{StandsForNone};
-ghost use Rattle.connections.specs.Serving.{ServesLink, is_link_fault};
+ghost use Rattle.connections.specs.Serving.{ServesLink, TakesNone, TakesTurns, is_link_fault};
 ghost use Rattle.connections.specs.Turns.{turns};
 ghost use Rattle.registry_office.specs.Disks.{FindsBy, IsJournalFile};
 ghost use Rattle.registry_office.specs.Servings.{IsHeld, ServesOffice};
@@ -41,8 +41,11 @@ pub fn serve_connection<R: AllocGlobal, L: Link, D: Disk, C: Clock, G: DeskGate>
     requires desks { (1 ≤ _desks) × (_desks ≤ 64) }
     ensures serves { IsTrue D.tells → (held : Held) (input : List ℕ) (requests : List RequestParts) (end : AtFront)
         → IsHeld (D.reads disk.old) (C.ticks clock.old) held → L.left link.old ≡ Some input → AreRequests input requests end
-        → ServesLink D.images D.moment D.since D.faults disk.old disk.new held (L.written link.old) (L.written link.new) (turns left requests end) result
+        → ServesLink (TakesTurns D.images D.moment D.since D.faults) disk.old disk.new held (L.written link.old) (L.written link.new) (turns left requests end) result
         (IsHeld (D.reads disk.new) (C.ticks clock.new)) }
+    ensures serves_none { IsTrue D.tells → StandsForNone (D.reads disk.old) → (held : Held) (input : List ℕ) (requests : List RequestParts) (end : AtFront)
+        → L.left link.old ≡ Some input → AreRequests input requests end
+        → ServesLink (TakesNone D.faults) disk.old disk.new held (L.written link.old) (L.written link.new) (turns left requests end) result (λ h. h ≡ held) }
     ensures kept { IsTrue D.tells → StandsForNone (D.reads disk.old) → (D.reads disk.new ≡ D.reads disk.old) × LeavesOnly D.moment D.since disk.old disk.new (D.images disk.old) }
     ensures few { result.replies ≤ left }
     ensures cause { Counts (L.faults link.old) (L.faults link.new) (is_link_fault result.ended) }

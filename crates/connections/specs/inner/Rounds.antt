@@ -1,7 +1,6 @@
 -- What one turn of a connection comes to.
 use Rattle.std.specs.Prelude.{◌≡◌, ℕ, ◌==◌, Bool, false, List, [], ◌∷◌, ◌++◌, Option, Some, None, Result, Ok, Err}
 use Rattle.std.specs.Io.KnownBytes.{Appends}
-use Rattle.gb_base.specs.DayMinute.{DayMinute}
 use Rattle.intake.specs.Requests.{Held}
 use Rattle.registry_http.specs.Replies.{AppendsPart}
 use Rattle.registry_http.specs.RequestLists.{AreRequests}
@@ -9,10 +8,8 @@ use Rattle.registry_http.specs.RequestParts.{RequestParts}
 use Rattle.registry_http.specs.Requests.{AtFront}
 use Rattle.registry_http.specs.declared.replies.ReplyFault.{ReplyFault}
 use Rattle.registry_http.specs.declared.replies.ReplyFault.TheVariants as fault
-use Rattle.settled_book.specs.SettledBookState.{SettledBookState}
-use Rattle.connections.specs.Holding.{Holds}
 use Rattle.connections.specs.Replies.{ReplyParts, bytes_of}
-use Rattle.connections.specs.Serving.{ServesLink, TakesTurns, is_link_fault}
+use Rattle.connections.specs.Serving.{ServesLink, is_link_fault}
 use Rattle.connections.specs.Turns.{Taken, Request, IsOf, answer_in, turns}
 use Rattle.connections.specs.declared.serving.Ended.{Ended}
 use Rattle.connections.specs.declared.serving.Ended.TheVariants as ended
@@ -40,15 +37,15 @@ pub record EndsWith (written_old written_new : Option (List ℕ)) (reply : Reply
   pub nothing : served.ended ≡ ended.Memory → written_new ≡ written_old
 
 -- What stands at a link ahead of a turn: what is held, and these requests in the bytes that were read and those to come.
-pub record Meets (at_hand : Option SettledBookState) (reads : List ℕ) (images : List ℕ → Type 0) (known : Option (List DayMinute)) (left : Option (List ℕ)) (kept : List ℕ) (end : AtFront)
+pub record Meets (HoldsNow : Held → Type 0) (left : Option (List ℕ)) (kept : List ℕ) (end : AtFront)
     (held : Held) (requests : List RequestParts) : Type 0 where
-  pub holds : Holds at_hand reads images known held
+  pub holds : HoldsNow held
   pub input : List ℕ
   pub left_is : left ≡ Some input
   pub are : AreRequests (kept ++ input) requests end
 
 -- A request was replied to that is not the last.
-pub record GoesOn {D : Type 0} (images : D → List ℕ → Type 0) (moment : D → ℕ) (since : D → ℕ → List ℕ → Type 0) (faults : D → ℕ) (old new : D) (held : Held)
+pub record GoesOn {D : Type 0} (Takes : D → D → Held → List Taken → Type 0) (old new : D) (held : Held)
     (written_old written_new : Option (List ℕ)) (requests : List RequestParts) (MeetsNow : Held → List RequestParts → Type 0) : Type 0 where
   pub request : RequestParts
   pub others : List RequestParts
@@ -58,12 +55,12 @@ pub record GoesOn {D : Type 0} (images : D → List ℕ → Type 0) (moment : D 
   pub is : IsOf (Request request) taken
   pub written : Appends written_old written_new (bytes_of ((answer_in held taken).reply ∷ []))
   pub meets : MeetsNow (answer_in held taken).held others
-  pub disk : TakesTurns images moment since faults old new held (taken ∷ [])
+  pub disk : Takes old new held (taken ∷ [])
 
 -- one turn was taken and more may follow, or the connection was served
-abbrev pub IsTurn : {D : Type 0} → (D → List ℕ → Type 0) → (D → ℕ) → (D → ℕ → List ℕ → Type 0) → (D → ℕ) → D → D → Held
+abbrev pub IsTurn : {D : Type 0} → (D → D → Held → List Taken → Type 0) → D → D → Held
     → Option (List ℕ) → Option (List ℕ) → List RequestParts → AtFront → (Held → Type 0) → (Held → List RequestParts → Type 0) → Option Served → Type 0
-IsTurn images moment since faults old new held written_old written_new requests end HoldsNow MeetsNow None =
-    GoesOn images moment since faults old new held written_old written_new requests MeetsNow
-IsTurn images moment since faults old new held written_old written_new requests end HoldsNow MeetsNow (Some served) =
-    (n : ℕ) → (n == 0) ≡ false → ServesLink images moment since faults old new held written_old written_new (turns n requests end) served HoldsNow
+IsTurn Takes old new held written_old written_new requests end HoldsNow MeetsNow None =
+    GoesOn Takes old new held written_old written_new requests MeetsNow
+IsTurn Takes old new held written_old written_new requests end HoldsNow MeetsNow (Some served) =
+    (n : ℕ) → (n == 0) ≡ false → ServesLink Takes old new held written_old written_new (turns n requests end) served HoldsNow

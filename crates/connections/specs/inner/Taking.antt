@@ -15,6 +15,7 @@ use Rattle.intake_requests.specs.declared.requests.SenderReference.{SenderRefere
 use Rattle.registry_http.specs.declared.finding.RouteFault.{RouteFault}
 use Rattle.registry_http.specs.declared.finding.RouteFault.TheVariants as routing
 use Rattle.settled_book.specs.SettledBookState.{SettledBookState}
+use Rattle.connections.specs.Answering.{LeavesOldThen}
 use Rattle.connections.specs.Answers.{item_answer, item_reply, received_by_clock}
 use Rattle.connections.specs.Fates.{Failure, DiskFailed, NoJournal, OutOfMemory, failure_reply}
 use Rattle.connections.specs.Holding.{IsOpenOn}
@@ -41,10 +42,10 @@ failure_of fault.Memory = OutOfMemory
 abbrev pub opening_reply : BookFault → ReplyParts
 opening_reply f = failure_reply (failure_of f)
 
--- A book was taken, or none was opened, of a file that stood for this journal: it stands for it still, and a stop leaves what it might have left before or a file that does.
+-- A book was taken, or none was opened, of a file that stood for this journal: it stands for it still, and a stop leaves what it might have left before or, from some moment on, nothing but a file that does.
 pub record Finds {D : Type 0} (reads : D → List ℕ) (images : D → List ℕ → Type 0) (moment : D → ℕ) (since : D → ℕ → List ℕ → Type 0) (old new : D) (journal : List Receipt) (taken : Result SettledBookState BookFault) : Type 0 where
   pub file : StandsForJournal (reads new) journal
-  pub left : LeavesOnly moment since old new (λ file. images old file ⊎ StandsForJournal file journal)
+  pub left : LeavesOldThen images moment since old new (λ file. StandsForJournal file journal)
   pub there : IfOk taken (λ settled. IsOpenOn settled (reads new) (images new) journal)
 
 -- ---- an item is received

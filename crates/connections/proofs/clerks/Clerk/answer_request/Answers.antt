@@ -1,12 +1,13 @@
 use Rattle.std.proofs.Common.{◌≡◌, ◌⊎◌, ◌∙◌, List, ℕ, ap, refl, sym, subst}
 use Rattle.intake.specs.Requests.{Held}
+use Rattle.registry_http.specs.Routes.{method_of}
 use Rattle.connections.specs.Answering.{may_call_disk}
 use Rattle.connections.specs.Answers.{answer}
 use Rattle.connections.specs.Asking.{AskedFor}
 use Rattle.connections.specs.Replies.{out_of_memory}
 use Rattle.connections.specs.inner.Ends.{EndsBy, Serves}
 use Rattle.connections.proofs.Answered.{answers}
-use Rattle.connections.proofs.ByDiskAlone.{still}
+use Rattle.connections.proofs.ByDiskAlone.{failed_so, still}
 use Rattle.connections.proofs.Unbegun.{apart_by_route, asks_none, asks_other, ends_unrouted, unrouted_none}
 use Rattle.connections.proofs.clerks.Clerk.answer_request.Goals as goal
 
@@ -80,3 +81,32 @@ returns-clause-kept_open g c = c.answer_route.ensures.serves.kept_open
 
 pub returns-clause-no_book : goal.returns-clause-no_book
 returns-clause-no_book g c = c.answer_route.ensures.serves.no_book
+
+-- ---- what it leaves
+
+pub returns-in-Err-clause-left_open : goal.returns-in-Err-clause-left_open
+returns-in-Err-clause-left_open g c =
+    let none = unrouted_none c.args.request.now c.in-Err.fault c.unrouted.result c.unrouted.ensures
+    (λ is. asks_none c.args.request.now c.path.result.now c.path.ensures (c.in-Err.ensures.not_found is))
+    (λ is. asks_other c.args.request.now c.path.result.now c.method.result.now c.path.ensures c.method.ensures (c.in-Err.ensures.wrong_method is)) in
+    record { asked = none.asked; asks = none.asks; works = λ calls sound. failed_so c.unrouted.result _ (none.failed calls) sound }
+
+pub returns-clause-left_open : goal.returns-clause-left_open
+returns-clause-left_open g c = record {
+  asked = AskedFor c.in-Ok.route;
+  asks = (c.in-Ok.ensures.found.0, sym c.path.ensures ∙ c.in-Ok.ensures.found.1, sym c.method.ensures ∙ c.in-Ok.ensures.found.2);
+  works = λ calls sound. c.answer_route.ensures.works (ap (λ (body : List ℕ). may_call_disk (AskedFor c.in-Ok.route) body) c.body.ensures ∙ calls) sound;
+}
+
+pub returns-in-Err-clause-untouched : goal.returns-in-Err-clause-untouched
+returns-in-Err-clause-untouched g c = λ works other. refl
+
+pub returns-clause-untouched : goal.returns-clause-untouched
+returns-clause-untouched g c = λ works other.
+    c.answer_route.ensures.untouched works (λ is. other (sym c.method.ensures ∙ c.in-Ok.ensures.found.2 ∙ ap method_of is))
+
+pub returns-in-Err-clause-unreceived : goal.returns-in-Err-clause-unreceived
+returns-in-Err-clause-unreceived g c = λ works other sound. refl
+
+pub returns-clause-unreceived : goal.returns-clause-unreceived
+returns-clause-unreceived g c = λ works other sound. c.answer_route.ensures.unreceived works other sound

@@ -39,3 +39,21 @@ returns-in-Post-clause-refused g c = λ none.
 
 pub returns-in_default-clause-refused : goal.returns-in_default-clause-refused
 returns-in_default-clause-refused g c = λ none. let never : true ≡ false = sym (reading_calls c.args.body.now c.args.route c.in_default.not-Post) ∙ none in absurd cc
+
+pub returns-in-Post-clause-works : goal.returns-in-Post-clause-works
+returns-in-Post-clause-works g c = λ calls sound. c.post.ensures.works (sym (ap (λ (r : Route). may_call_disk (AskedFor r) c.args.body.now) c.in-Post.is) ∙ calls) sound
+
+pub returns-in_default-clause-works : goal.returns-in_default-clause-works
+returns-in_default-clause-works g c = λ calls sound. c.read.ensures.works sound
+
+pub returns-in-Post-clause-untouched : goal.returns-in-Post-clause-untouched
+returns-in-Post-clause-untouched g c = λ works other. absurd (other c.in-Post.is)
+
+pub returns-in_default-clause-untouched : goal.returns-in_default-clause-untouched
+returns-in_default-clause-untouched g c = λ works other. c.read.ensures.untouched works
+
+pub returns-in-Post-clause-unreceived : goal.returns-in-Post-clause-unreceived
+returns-in-Post-clause-unreceived g c = λ works other sound. c.post.ensures.unreceived works other sound
+
+pub returns-in_default-clause-unreceived : goal.returns-in_default-clause-unreceived
+returns-in_default-clause-unreceived g c = λ works other sound. c.read.ensures.untouched works

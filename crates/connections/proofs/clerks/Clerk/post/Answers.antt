@@ -2,7 +2,7 @@ use Rattle.std.proofs.Common.{◌≡◌, ◌∙◌, true, false, ap, is_ok, refl
 use Rattle.act_json.specs.Lines.{item_of}
 use Rattle.connections.specs.Answers.{body_answer}
 use Rattle.connections.specs.inner.Ends.{EndsBy}
-use Rattle.connections.proofs.ByDiskAlone.{still}
+use Rattle.connections.proofs.ByDiskAlone.{failed_so, still}
 use Rattle.connections.proofs.Unbegun.{apart_by_body, body_end, refused_body, unfound_body}
 use Rattle.connections.proofs.clerks.Clerk.post.Goals as goal
 
@@ -39,3 +39,16 @@ returns-clause-unfound g c = λ tells was none item. c.post_item.ensures.unfound
 
 pub returns-clause-refused : goal.returns-clause-refused
 returns-clause-refused g c = λ no_item. let never : true ≡ false = sym (ap is_ok c.in-Ok.ensures.exact) ∙ no_item in absurd cc
+
+pub returns-in-Err-clause-works : goal.returns-in-Err-clause-works
+returns-in-Err-clause-works g c = λ item sound.
+    failed_so c.malformed.result _ (unfound_body (item_of c.args.body.now) c.in-Err.fault c.malformed.result c.in-Err.ensures.exact c.malformed.ensures item) sound
+
+pub returns-clause-works : goal.returns-clause-works
+returns-clause-works g c = λ item sound. c.post_item.ensures.works sound
+
+pub returns-in-Err-clause-unreceived : goal.returns-in-Err-clause-unreceived
+returns-in-Err-clause-unreceived g c = λ works other sound. refl
+
+pub returns-clause-unreceived : goal.returns-clause-unreceived
+returns-clause-unreceived g c = λ works other sound. c.post_item.ensures.unreceived works other sound

@@ -6,7 +6,7 @@ use Rattle.connections.specs.inner.Taking.{failure_of}
 use Rattle.connections.proofs.BookEnds.{ends_unopened}
 use Rattle.connections.proofs.Grows.{item_grows}
 use Rattle.connections.proofs.ItemEnds.{item_ends, some_works}
-use Rattle.connections.proofs.ByDiskAlone.{counts_then, opened, stands_behind, status_of_item, unopened, unopened_late}
+use Rattle.connections.proofs.ByDiskAlone.{counts_then, failed_so, no_disk_failed_in, not_received, opened, stands_behind, status_of_item, unopened, unopened_late}
 use Rattle.connections.proofs.clerks.Clerk.post_item.Goals as goal
 
 pub returns-in-Err-clause-ends : goal.returns-in-Err-clause-ends
@@ -51,3 +51,20 @@ returns-in-Err-clause-unfound g c = λ tells was none. (failure_of c.in-Err.faul
 
 pub returns-clause-unfound : goal.returns-clause-unfound
 returns-clause-unfound g c = λ tells was none. let found = c.in-Ok.ensures.journal tells was in absurd (none found.0 found.1)
+
+pub returns-in-Err-clause-works : goal.returns-in-Err-clause-works
+returns-in-Err-clause-works g c = λ sound. failed_so c.unopened.result _ (failure_of c.in-Err.fault, c.unopened.ensures) sound
+
+pub returns-clause-works : goal.returns-clause-works
+returns-clause-works g c = λ sound.
+    let status = status_of_item c.receive-answer.result c.received.result c.receive-answer.ensures.opened c.received.ensures in
+    some_works c.receive-answer.new.book (c.receive-answer.ensures.failed ∙ sym status.disk ∙ no_disk_failed_in c.received.result sound)
+
+pub returns-in-Err-clause-unreceived : goal.returns-in-Err-clause-unreceived
+returns-in-Err-clause-unreceived g c = λ works other sound. failed_so c.unopened.result _ (failure_of c.in-Err.fault, c.unopened.ensures) sound
+
+pub returns-clause-unreceived : goal.returns-clause-unreceived
+returns-clause-unreceived g c = λ works other sound.
+    let status = status_of_item c.receive-answer.result c.received.result c.receive-answer.ensures.opened c.received.ensures in
+    c.receive-answer.ensures.untouched (not_received c.receive-answer.result c.received.result c.received.ensures other sound) (sym status.disk ∙ no_disk_failed_in c.received.result sound)
+    ∙ c.take_book.ensures.untouched works

@@ -7,7 +7,7 @@ use Rattle.connections.specs.Answers.{only, read_reply}
 use Rattle.connections.specs.inner.Taking.{failure_of}
 use Rattle.connections.proofs.BookEnds.{ends_read, ends_unopened, read_status}
 use Rattle.connections.proofs.ItemEnds.{some_works}
-use Rattle.connections.proofs.ByDiskAlone.{opened, stands_behind, unopened, unopened_late}
+use Rattle.connections.proofs.ByDiskAlone.{failed_so, opened, stands_behind, unopened, unopened_late}
 use Rattle.connections.proofs.clerks.Clerk.read.Goals as goal
 
 pub returns-in-Err-clause-ends : goal.returns-in-Err-clause-ends
@@ -50,3 +50,9 @@ returns-in-Err-clause-unfound g c = λ tells was none. (failure_of c.in-Err.faul
 
 pub returns-clause-unfound : goal.returns-clause-unfound
 returns-clause-unfound g c = λ tells was none. let found = c.in-Ok.ensures.journal tells was in absurd (none found.0 found.1)
+
+pub returns-in-Err-clause-works : goal.returns-in-Err-clause-works
+returns-in-Err-clause-works g c = λ sound. failed_so c.unopened.result _ (failure_of c.in-Err.fault, c.unopened.ensures) sound
+
+pub returns-clause-works : goal.returns-clause-works
+returns-clause-works g c = λ sound. some_works c.text-text.new.self (ap (λ (b : BookState). b.log.failed) c.text-text.ensures.book ∙ c.in-Ok.ensures.works)

@@ -5,6 +5,7 @@ use Rattle.registry_http.specs.RequestParts.{RequestParts}
 use Rattle.registry_http.specs.Requests.{AtFront}
 use Rattle.connections.specs.Answering.{OpensNone}
 use Rattle.connections.specs.Holding.{Holds, StandsForNone, StandsOpen, working}
+use Rattle.connections.specs.Serving.{TakesNone, TakesTurns}
 use Rattle.connections.specs.Turns.{turns}
 use Rattle.connections.specs.inner.Rounds.{Meets}
 use Rattle.connections.proofs.LinkTurns.{Went}
@@ -22,6 +23,10 @@ invariant-loop-replies g l = record {
   quiet : g.L.Link.faults l.link ≡ g.L.Link.faults l.fn.link;
   went : IsTrue g.D.Disk.tells → (held : Held) (input : List ℕ) (requests : List RequestParts) (end : AtFront)
       → Holds l.fn.self (g.D.Disk.reads l.fn.disk) (g.D.Disk.images l.fn.disk) (g.C.Clock.ticks l.fn.clock) held → g.L.Link.left l.fn.link ≡ Some input → AreRequests input requests end
-      → Went g.D.Disk.images g.D.Disk.moment g.D.Disk.since g.D.Disk.faults l.fn.disk l.disk held (g.L.Link.written l.fn.link) (g.L.Link.written l.link) (turns l.left requests end) l.left l.replies end
-      (λ h others. Meets l.self (g.D.Disk.reads l.disk) (g.D.Disk.images l.disk) (g.C.Clock.ticks l.clock) (g.L.Link.left l.link) l.rest.items end h others);
+      → Went (TakesTurns g.D.Disk.images g.D.Disk.moment g.D.Disk.since g.D.Disk.faults) l.fn.disk l.disk held (g.L.Link.written l.fn.link) (g.L.Link.written l.link) (turns l.left requests end) l.left l.replies end
+      (λ h others. Meets (Holds l.self (g.D.Disk.reads l.disk) (g.D.Disk.images l.disk) (g.C.Clock.ticks l.clock)) (g.L.Link.left l.link) l.rest.items end h others);
+  went_none : IsTrue g.D.Disk.tells → working l.fn.self ≡ None → StandsForNone (g.D.Disk.reads l.fn.disk) → (held : Held) (input : List ℕ) (requests : List RequestParts) (end : AtFront)
+      → g.L.Link.left l.fn.link ≡ Some input → AreRequests input requests end
+      → Went (TakesNone g.D.Disk.faults) l.fn.disk l.disk held (g.L.Link.written l.fn.link) (g.L.Link.written l.link) (turns l.left requests end) l.left l.replies end
+      (λ h others. Meets (λ k. k ≡ held) (g.L.Link.left l.link) l.rest.items end h others);
 }
