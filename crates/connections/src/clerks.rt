@@ -13,6 +13,7 @@ ghost use Rattle.receipt_journal.specs.Opening.{BookRefuses, book_opening_disk_f
 ghost use Rattle.receipt_journal.specs.Standing.{Stands, StandsForJournal};
 ghost use Rattle.registry_http.specs.Routes.{method_of};
 ghost use Rattle.registry_http.specs.declared.routes.Route.TheVariants.{Post};
+ghost use Rattle.registrar.specs.HasSettled.{IsRegisterOf};
 ghost use Rattle.connections.specs.Answering.{AnswersNone, AnswersRequest, IsFailure, LeavesOpen, OpensNone, is_failed, is_refusal, may_call_disk, tells_of_journal};
 ghost use Rattle.connections.specs.Answers.{answer, body_answer, item_answer, only, read_reply};
 ghost use Rattle.connections.specs.Asking.{AskedFor};
@@ -89,6 +90,8 @@ impl Clerk {
     )
         requires desks { (1 ≤ desks) × (desks ≤ 64) }
         ensures book { option_map (λ settled. settled.book) self.new ≡ option_map (λ settled. settled.book) self.old }
+        ensures kept { IfSome self.old (λ settled. IsSome settled.register → self.new ≡ self.old) }
+        ensures settled { IfSome self.old (λ was. was.register ≡ None → IfSome self.new (λ settled. IfSome settled.register (IsRegisterOf was.book.journal))) }
     {
         if let Some(book) = &mut self.book {
             book.settle(rt, desks, gate);

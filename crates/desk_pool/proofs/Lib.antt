@@ -34,5 +34,6 @@ pub mod TakingOver
 pub mod TouchedKeys
 pub mod TurnedNeighbours
 pub mod Turns
+pub mod TurnsAtKeys
 pub mod WaitingBehind
 pub mod WaitingInTurn

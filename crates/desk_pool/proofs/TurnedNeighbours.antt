@@ -15,9 +15,10 @@ Pairs R (x ∷ xs) = ((y : ℕ) → In y xs → R x y) × Pairs R xs
 
 to_pairs : (R : ℕ → ℕ → Type 0) (xs : List ℕ) → AllPairs R xs → Pairs R xs
 to_pairs R [] all = 0
-to_pairs R (x ∷ xs) all =
-    ((λ y there. let found = contains_of_in xs y there in subst (R x) found.2 (all 0 (suc found.0) y (omega arith) (omega (arith, found.1)))),
-    to_pairs R xs (λ i j d less within. all (suc i) (suc j) d (omega (arith, less)) (omega (arith, within))))
+to_pairs R (x ∷ xs) all = (
+  (λ y there. let found = contains_of_in xs y there in subst (R x) found.2 (all 0 (suc found.0) y (omega arith) (omega (arith, found.1)))),
+  to_pairs R xs (λ i j d less within. all (suc i) (suc j) d (omega (arith, less)) (omega (arith, within))),
+)
 
 of_pairs : (R : ℕ → ℕ → Type 0) (xs : List ℕ) → Pairs R xs → AllPairs R xs
 of_pairs R [] pairs = λ i j d less within. absurd (omega arith)
@@ -39,9 +40,10 @@ conflict_back journal i j c = (c.4.0, c.1, c.4.1, c.4.2, (c.0, c.2, c.3))
 
 pub neighbours_turned : (journal : List Receipt) (before after : List ℕ) (i j : ℕ) → IsPermitted journal (before ++ i ∷ j ∷ after) → (Conflicts journal i j → ⊥) → IsPermitted journal (before ++ j ∷ i ∷ after)
 neighbours_turned journal before after i j permitted apart = record {
-  all = λ n.
-      ((λ there. (permitted.all n).0 (contains_of_in (before ++ i ∷ j ∷ after) n (in_turned before after i j n (in_of_contains (before ++ j ∷ i ∷ after) n there)))),
-      (λ range. contains_of_in (before ++ j ∷ i ∷ after) n (in_turned before after j i n (in_of_contains (before ++ i ∷ j ∷ after) n ((permitted.all n).1 range)))));
+  all = λ n. (
+    (λ there. (permitted.all n).0 (contains_of_in (before ++ i ∷ j ∷ after) n (in_turned before after i j n (in_of_contains (before ++ j ∷ i ∷ after) n there)))),
+    (λ range. contains_of_in (before ++ j ∷ i ∷ after) n (in_turned before after j i n (in_of_contains (before ++ i ∷ j ∷ after) n ((permitted.all n).1 range)))),
+  );
   once = of_pairs (λ x later. x ≡ later → ⊥) (before ++ j ∷ i ∷ after)
       (turned (λ x later. x ≡ later → ⊥) before after i j (λ unlike same. unlike (sym same)) (to_pairs (λ x later. x ≡ later → ⊥) (before ++ i ∷ j ∷ after) permitted.once));
   in_turn = of_pairs (λ x later. Conflicts journal x later → x < later) (before ++ j ∷ i ∷ after)

@@ -1,5 +1,5 @@
 //! The board that hands out the items whose turn has come.
-ghost use Rattle.std.specs.Prelude.{◌≡◌, ◌≤◌, ◌-◌, ℕ, Some, IfSome, length, slice_get};
+ghost use Rattle.std.specs.Prelude.{◌≡◌, ◌==◌, ◌&&◌, ◌≤◌, ◌-◌, ℕ, Some, IfSome, is_some, length, slice_get};
 ghost use Rattle.std.specs.List.{list_all};
 ghost use Rattle.registrar.specs.RegisterState.{verdict_among};
 ghost use Rattle.registrar.specs.Settling.{registrar};
@@ -89,7 +89,8 @@ impl<N: JournalName> Board<N> {
 
     /// The verdicts, where each is said: then they are those of the one registrar.
     pub fn into_verdicts(self) -> Option<Vec<Verdict>>
-        ensures { IfSome result (λ verdicts. (n : ℕ) → 1 ≤ n → n ≤ length verdicts.items
+        ensures all_said { is_some result ≡ (length self.said == length self.verdicts && list_all (λ one. one) self.said) }
+        ensures verdicts { IfSome result (λ verdicts. (n : ℕ) → 1 ≤ n → n ≤ length verdicts.items
             → slice_get verdicts.items (n - 1) ≡ verdict_among (registrar N.receipts).verdicts n) }
     {
         if self.said.len() != self.verdicts.len() || !are_all_said(self.said.as_slice()) {
@@ -104,10 +105,9 @@ impl<N: JournalName> Board<N> {
         self.ready.is_empty() && self.in_hand > 0
     }
 
-    /// Whether desks that wait have to look again, where the one that asks takes an item that is
-    /// ready itself: more are ready, or nothing is left to wait for.
+    /// Whether desks wait that have to no longer.
     pub fn wakes_others(&self) -> bool {
-        self.waiting > 0 && (self.ready.len() > 1 || (self.ready.is_empty() && self.in_hand == 0))
+        self.waiting > 0 && !self.must_wait()
     }
 
     /// A desk begins to wait.

@@ -58,25 +58,26 @@ fn go_on<N: JournalName, R: Wait>(
     let keys = keys_of(round, item).unwrap_or(&[]);
     let mut board = round.board.lock(rt);
     board.put(round.queues, keys, item, verdict);
-    if board.wakes_others() {
-        round.moved.notify_all();
-    }
     take_next(rt, round, board)
 }
 
-/// The next item, once one is ready; None once none is left.
+/// The next item, once one is ready; None once none is left. Whoever takes one wakes those who wait,
+/// where more are ready, and whoever finds none left wakes them too.
 fn take_next<'a, N: JournalName, R: Wait>(
     rt: &R,
     round: &SharedRound<'a, N>,
     mut board: MutexGuard<'a, Board<N>>,
 ) -> Option<ReceiptNo> {
-    if !board.must_wait() {
-        return board.take();
+    if board.must_wait() {
+        board.begin_waiting();
+        board = round.moved.wait_while(rt, board, |board| board.must_wait());
+        board.end_waiting();
     }
-    board.begin_waiting();
-    let mut board = round.moved.wait_while(rt, board, |board| board.must_wait());
-    board.end_waiting();
-    board.take()
+    let next = board.take();
+    if board.wakes_others() {
+        round.moved.notify_all();
+    }
+    next
 }
 
 /// The keys of an item; None where the journal has no such item.

@@ -1,14 +1,15 @@
 //! What holds of the orders in which desks take items, and of the room that a round keeps.
-ghost use Rattle.std.specs.Prelude.{◌≡◌, ◌⊎◌, ◌↔◌, ◌+◌, ◌-◌, ◌<◌, ◌≤◌, ◌∷◌, ◌++◌, ℕ, false, List, length, sum_by, Contains};
+ghost use Rattle.std.specs.Prelude.{◌≡◌, ◌⊎◌, ◌↔◌, ◌+◌, ◌-◌, ◌<◌, ◌≤◌, ◌∷◌, ◌++◌, ℕ, false, true, List, Some, length, sum_by, Contains};
 ghost use Rattle.gb_base.specs.Keys.{folio_of_key};
 ghost use Rattle.gb_base.specs.declared.keys.Key.{Key};
 ghost use Rattle.gb_base.specs.declared.keys.Key.TheVariants.{Right};
 ghost use Rattle.act_model.specs.Receiving.{IsJournal};
 ghost use Rattle.act_model.specs.SaleKeys.{earlier_rights};
 ghost use Rattle.act_model.specs.declared.receipts.Receipt.{Receipt};
-ghost use Rattle.conflict_queue.specs.Dockets.{has_key};
+ghost use Rattle.conflict_queue.specs.Dockets.{has_key, previous};
 ghost use Rattle.conflict_queue.specs.ItemKeys.{keys_of_item};
 ghost use Rattle.conflict_queue.specs.Schedules.{Conflicts, IsPermitted};
+ghost use Rattle.desk_pool.specs.FolioQueues.{is_next, last_taken, queue_of};
 ghost use Rattle.desk_pool.specs.RoundRooms.{room_of_first};
 ghost use Rattle.desk_pool.specs.Turns.{WaitsInTurn};
 ghost use Rattle.folio_line.specs.FolioLine.{all_rises};
@@ -22,6 +23,13 @@ use kept_registers::laws::empty_register_is_kept;
 /// orders (GBO § 17).
 pub fn waiting_in_turn()
     ensures just { (journal : List Receipt) (order : List ℕ) → IsPermitted journal order ↔ WaitsInTurn journal order }
+{}
+
+/// Whoever settles an item that is the next of a folio finds the item settled that was before it at
+/// each of its keys there (GBO § 17).
+pub fn next_items_have_their_turn()
+    ensures settled { (journal : List Receipt) (folio taken i p : ℕ) (k : Key) → is_next (queue_of journal folio) taken i ≡ true → folio_of_key k ≡ folio
+        → Contains (keys_of_item journal i) k → previous journal i k ≡ Some p → p ≤ last_taken (queue_of journal folio) taken }
 {}
 
 /// Two neighbours in a permitted order that have no key in common may change places (GBO § 17).

@@ -151,8 +151,10 @@ impl<'a, N: JournalName> Round<'a, N> {
 
 impl<'a, N: JournalName + Send + Sync> Round<'a, N> {
     /// Settles the journal at so many desks, 1 to 64, each in a thread of its own where one can be
-    /// had. `gate` is called with each item while its folios are locked. Whatever the desks do, the
-    /// register is that of one registrar (GBO § 17): what they left undone is settled behind them.
+    /// had; more desks than folios would have nothing to do, so they do not begin. `gate` is called
+    /// with each item while its folios are locked. Whatever the desks do, the register is that of
+    /// one registrar (GBO § 17): where they leave something undone, the whole journal is settled
+    /// anew.
     pub fn run<R: Threads + Wait + Sync, G: DeskGate>(
         self,
         rt: &R,
@@ -190,7 +192,7 @@ impl<'a, N: JournalName + Send + Sync> Round<'a, N> {
             queues.as_slice(),
             folios.as_slice(),
             board,
-            &mut seats[..desks as usize],
+            &mut seats[..desks_wanted(desks, queues.len())],
         );
         let is_back = take_back(folios, queues.as_slice(), &mut back);
         let back = is_back.then_some(back);
@@ -204,6 +206,15 @@ impl<'a, N: JournalName + Send + Sync> Round<'a, N> {
             receipts.as_slice(),
         )
     }
+}
+
+/// How many of the desks have something to do in so many folios: one at least.
+fn desks_wanted(desks: u16, folios: usize) -> usize
+    requires { 1 ≤ desks }
+    ensures least { 1 ≤ result }
+    ensures most { result ≤ desks }
+{
+    (desks as usize).min(folios.max(1))
 }
 
 /// The items of a journal, in the order of their receipts.

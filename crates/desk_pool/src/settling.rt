@@ -13,17 +13,18 @@ ghost use Rattle.registrar.specs.Settling.{registrar};
 
 use crate::rounds::Round;
 use act_model::{Journal, JournalName};
-use gb_base::NoMemory;
+use gb_base::{NoMemory, ReceiptNo};
 use gb_outside::DeskGate;
-use registrar::Register;
+use registrar::{Register, alone};
 use std::marker::Brand;
 use std::sync::Wait;
 use std::thread::Threads;
 
 /// Settles a journal at so many desks, 1 to 64, each in a thread of its own where one can be had.
-/// `gate` is called with each item while a desk has its folios locked. Whatever the desks do, the
-/// register is the one that `registrar::alone` gives (GBO § 17). Wants memory (NoMemory), all of it
-/// before the first item is settled.
+/// `gate` is called with each item ahead of its entries, while its desk has the item's folios to
+/// itself: one desk alone has all of them, others lock them. Whatever the desks do, the register is
+/// the one that `registrar::alone` gives (GBO § 17). Wants memory (NoMemory); several desks want all
+/// of it before the first item is settled.
 pub fn settle_at_desks<R: AllocGlobal + Threads + Wait + Sync, G: DeskGate>(
     rt: &R,
     journal: &Journal,
@@ -40,7 +41,19 @@ pub fn settle_at_desks<R: AllocGlobal + Threads + Wait + Sync, G: DeskGate>(
     ensures kept { IfOk result (λ register. Kept journal.now.receipts (entries_at register.parts)) }
     ensures awards { IfOk result (λ register. AwardsKept journal.now.receipts (entries_at register.parts)) }
 {
+    if desks == 1 {
+        // One desk has every folio from the start, and wants no room twice.
+        call_with_each(journal, gate);
+        return alone(rt.alloc(), journal);
+    }
     settle_named::<Brand, R, G>(rt, journal, desks, gate)
+}
+
+/// Calls the gate with each item, in the order of receipts.
+fn call_with_each<G: DeskGate>(journal: &Journal, gate: &G) {
+    for index in 0..journal.len() {
+        gate.at(ReceiptNo::new(index + 1).unwrap());
+    }
 }
 
 /// The same of a journal that has a name.

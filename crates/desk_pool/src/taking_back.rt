@@ -1,6 +1,7 @@
 //! What comes back from behind the locks of the folios.
 //! Why so: docs/DECISIONS.md, "A round keeps its room twice".
-ghost use Rattle.std.specs.Prelude.{◌≡◌, IsTrue, [], length};
+ghost use Rattle.std.specs.Prelude.{◌≡◌, ◌==◌, ◌&&◌, nat_lt, false, IsTrue, [], length, slice_get, vec_len, vec_capacity};
+ghost use Rattle.std.specs.Option.{option_map_or};
 ghost use Rattle.desk_pool.specs.FolioQueues.{AreQueues};
 ghost use Rattle.desk_pool.specs.FoliosBack.{AllBack};
 
@@ -38,6 +39,8 @@ fn take_one_back<N: JournalName>(
     requires queues { AreQueues N.receipts queues.now }
     requires back { AllBack N.receipts queues.now back.old.items }
     ensures back { IsTrue result → AllBack N.receipts queues.now back.new.items }
+    ensures taken { result ≡ option_map_or (λ queue. (folio.folio == queue.folio) && ((folio.taken == length queue.items.items) && nat_lt (vec_len back.old) (vec_capacity back.old)))
+        (slice_get queues.now (length back.old.items)) false }
 {
     let Some(queue) = queues.get(back.len()) else {
         return false;

@@ -39,12 +39,7 @@ pub fn settle<R: AllocGlobal + Threads + Wait + Sync, K: Sink, G: DeskGate>(
 }
 
 /// Opens the journal of the disk and settles it.
-pub(crate) fn settle_disk<
-    R: AllocGlobal + Threads + Wait + Sync,
-    D: Disk,
-    K: Sink,
-    G: DeskGate,
->(
+pub(crate) fn settle_disk<R: AllocGlobal + Threads + Wait + Sync, D: Disk, K: Sink, G: DeskGate>(
     rt: &R,
     disk: &mut D,
     sink: &mut K,

@@ -27,8 +27,8 @@ use std::thread::Threads;
 
 /// Serves one connection, up to `left` replies: its requests are answered one after another, each
 /// from the journal that the one before left. The disk is opened at the first request that needs it;
-/// a file that stands for no journal stays as it is. It settles at so many desks, 1 to 64, on whose
-/// number nothing that is written depends.
+/// a file that stands for no journal stays as it is. One connection is settled as one registrar does;
+/// nothing that is written depends on the desks and their gate, which it leaves alone.
 pub fn serve_connection<R: AllocGlobal, L: Link, D: Disk, C: Clock, G: DeskGate>(
     rt: &R,
     link: &mut L,
@@ -63,15 +63,7 @@ pub(crate) fn serve<
     C: Clock,
     L: Listener,
     G: DeskGate,
->(
-    rt: &R,
-    desks: u16,
-    requests: u32,
-    disk: &mut D,
-    clock: &mut C,
-    door: &mut L,
-    gate: &G,
-) -> Status
+>(rt: &R, desks: u16, requests: u32, disk: &mut D, clock: &mut C, door: &mut L, gate: &G) -> Status
     requires desks { (1 ≤ desks) × (desks ≤ 64) }
     ensures serves { IsTrue D.tells → (held : Held) (waiting : List (List ℕ)) (asked : List LinkRequests)
         → IsHeld (D.reads disk.old) (C.ticks clock.old) held → L.waiting door.old ≡ Some waiting → AllZip AskSo waiting asked

@@ -20,12 +20,7 @@ use std::thread::Threads;
 
 /// Receives the stamped lines of the input into a journal in memory, with a reply line for each,
 /// settles that journal at so many desks, 1 to 64, and writes the report.
-pub(crate) fn settle_lines<
-    R: AllocGlobal + Threads + Wait + Sync,
-    S: Source,
-    K: Sink,
-    G: DeskGate,
->(
+pub(crate) fn settle_lines<R: AllocGlobal + Threads + Wait + Sync, S: Source, K: Sink, G: DeskGate>(
     rt: &R,
     source: &mut S,
     sink: &mut K,
