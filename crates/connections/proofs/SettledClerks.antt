@@ -31,9 +31,9 @@ pub holds_still : {old new : Option SettledBookState} {reads : List ℕ} {images
 holds_still {old} {new} {reads} {images} {known} {held} same holds = record {
   file = holds.file;
   clock = holds.clock;
-  book = working_still (λ s. IsOpenOn s reads images held.journal) old new same (λ s t books open. record {
-    journal_is = subst (λ b. b.journal ≡ held.journal) (sym books) open.journal_is;
-    durable = subst (λ b. IsDurable b reads images) (sym books) open.durable;
-    stands = open.stands;
+  book = working_still (λ s. IsOpenOn s reads images held.journal) old new same (λ s t books stood. record {
+    journal_is = subst (λ b. b.journal ≡ held.journal) (sym books) stood.journal_is;
+    durable = subst (λ b. IsDurable b reads images) (sym books) stood.durable;
+    stands = stood.stands;
   }) holds.book;
 }
