@@ -177,7 +177,7 @@ impl<'a, N: JournalName + Send + Sync> Round<'a, N> {
             queues,
             keys,
             folios,
-            mut back,
+            back,
             board,
             mut seats,
             prepared,
@@ -194,8 +194,7 @@ impl<'a, N: JournalName + Send + Sync> Round<'a, N> {
             board,
             &mut seats[..desks_wanted(desks, queues.len())],
         );
-        let is_back = take_back(folios, queues.as_slice(), &mut back);
-        let back = is_back.then_some(back);
+        let back = take_back(folios, queues.as_slice(), back);
         finish::<N>(
             journal,
             prepared,

@@ -1,7 +1,6 @@
 //! What comes back from behind the locks of the folios.
 //! Why so: docs/DECISIONS.md, "A round keeps its room twice".
-ghost use Rattle.std.specs.Prelude.{◌≡◌, ◌==◌, ◌&&◌, nat_lt, false, IsTrue, [], length, slice_get, vec_len, vec_capacity};
-ghost use Rattle.std.specs.Option.{option_map_or};
+ghost use Rattle.std.specs.Prelude.{◌≡◌, IfSome, IsTrue, [], length};
 ghost use Rattle.desk_pool.specs.FolioQueues.{AreQueues};
 ghost use Rattle.desk_pool.specs.FoliosBack.{AllBack};
 
@@ -11,23 +10,27 @@ use act_model::JournalName;
 use folio_sections::MapParts;
 use std::sync::Mutex;
 
-/// Puts the parts of all folios into a list, one for each queue, where each is the folio of its queue
-/// and all its items are settled. False where one is not, or where the list has no room.
+/// Puts the parts of all folios into this list, one for each queue, where each is the folio of its
+/// queue and all its items are settled. None where one is not, or where the list has no room.
 pub(crate) fn take_back<N: JournalName>(
     folios: Vec<Mutex<LockedFolio<N>>>,
     queues: &[FolioQueue],
-    back: &mut Vec<MapParts>,
-) -> bool
+    mut back: Vec<MapParts>,
+) -> Option<Vec<MapParts>>
     requires queues { AreQueues N.receipts queues.now }
-    requires none { back.old.items ≡ [] }
-    ensures back { IsTrue result → AllBack N.receipts queues.now back.new.items }
+    requires none { back.items ≡ [] }
+    ensures { IfSome result (λ back. AllBack N.receipts queues.now back.items) }
 {
     for folio in folios {
-        if !take_one_back(folio.into_inner(), queues, back) {
-            return false;
+        if !take_one_back(folio.into_inner(), queues, &mut back) {
+            return None;
         }
     }
-    back.len() == queues.len()
+    if back.len() == queues.len() {
+        Some(back)
+    } else {
+        None
+    }
 }
 
 /// The same of one folio, which is that of the queue behind those that are back.
@@ -39,8 +42,6 @@ fn take_one_back<N: JournalName>(
     requires queues { AreQueues N.receipts queues.now }
     requires back { AllBack N.receipts queues.now back.old.items }
     ensures back { IsTrue result → AllBack N.receipts queues.now back.new.items }
-    ensures taken { result ≡ option_map_or (λ queue. (folio.folio == queue.folio) && ((folio.taken == length queue.items.items) && nat_lt (vec_len back.old) (vec_capacity back.old)))
-        (slice_get queues.now (length back.old.items)) false }
 {
     let Some(queue) = queues.get(back.len()) else {
         return false;
