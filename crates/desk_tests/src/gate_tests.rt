@@ -18,7 +18,7 @@ use test_items::{folio, receipt};
 fn is_passed<R: AllocGlobal + Threads + Wait + Sync + Abort>(
     rt: &R,
     journal: &Journal,
-    slow: Slow,
+    slow: &Slow,
 ) {
     for desks in [1, 2, 8] {
         is_passed_by(rt, journal, desks, slow);
@@ -30,7 +30,7 @@ fn is_passed_by<R: AllocGlobal + Threads + Wait + Sync + Abort>(
     rt: &R,
     journal: &Journal,
     desks: u16,
-    slow: Slow,
+    slow: &Slow,
 )
     requires { (1 ≤ desks) × (desks ≤ 64) }
 {
@@ -44,7 +44,11 @@ fn docket_of<R: AllocGlobal + Abort>(rt: &R, journal: &Journal) -> Docket {
     Docket::build(rt.alloc(), journal).ok().expect(rt, "memory")
 }
 
-fn gate_of<'a, R: AllocGlobal + Abort>(rt: &R, docket: &'a Docket, slow: Slow) -> WatchingGate<'a> {
+fn gate_of<'a, R: AllocGlobal + Abort>(
+    rt: &R,
+    docket: &'a Docket,
+    slow: &'a Slow,
+) -> WatchingGate<'a> {
     WatchingGate::new(rt.alloc(), docket, slow)
         .ok()
         .expect(rt, "memory")
@@ -79,12 +83,12 @@ fn has_each_once(list: &[ReceiptNo], most: u32) -> bool {
 
 #[test]
 fn a_gate_is_called_once_for_each_item(rt: HostRuntime) {
-    is_passed(&rt, &Journal::new(rt.alloc()), Slow::Never);
-    is_passed(&rt, &of_lapses(&rt, rt.alloc()), Slow::Never);
-    is_passed(&rt, &assigned_and_charged(&rt, rt.alloc()), Slow::Never);
-    is_passed(&rt, &sold_beside_a_cure(&rt, rt.alloc()), Slow::Never);
+    is_passed(&rt, &Journal::new(rt.alloc()), &Slow::Never);
+    is_passed(&rt, &of_lapses(&rt, rt.alloc()), &Slow::Never);
+    is_passed(&rt, &assigned_and_charged(&rt, rt.alloc()), &Slow::Never);
+    is_passed(&rt, &sold_beside_a_cure(&rt, rt.alloc()), &Slow::Never);
     for seed in 0..4 {
-        is_passed(&rt, &crowded_journal(rt.alloc(), seed, 8, 60), Slow::Never);
+        is_passed(&rt, &crowded_journal(rt.alloc(), seed, 8, 60), &Slow::Never);
     }
 }
 
@@ -94,7 +98,7 @@ fn a_round_of_one_desk(rt: HostRuntime) {
     for seed in 40..44 {
         let journal = crowded_journal(rt.alloc(), seed, 4, 30);
         let docket = docket_of(&rt, &journal);
-        let gate = gate_of(&rt, &docket, Slow::Never);
+        let gate = gate_of(&rt, &docket, &Slow::Never);
         let left = by_a_round_of(&rt, &journal, 1, &gate);
         is_left_alike(&rt, &journal, &left, &gate);
     }
@@ -105,19 +109,19 @@ fn a_round_of_one_desk(rt: HostRuntime) {
 fn a_gate_that_stays_long_at_one_item(rt: HostRuntime) {
     let journal = sold_beside_a_cure(&rt, rt.alloc());
     for number in 1..11 {
-        is_passed(&rt, &journal, Slow::At(receipt(number)));
+        is_passed(&rt, &journal, &Slow::At(receipt(number)));
     }
 }
 
 #[test]
 fn a_gate_that_stays_long_in_one_folio(rt: HostRuntime) {
     let journal = sold_beside_a_cure(&rt, rt.alloc());
-    is_passed(&rt, &journal, Slow::In(folio(7)));
-    is_passed(&rt, &journal, Slow::In(folio(8)));
+    is_passed(&rt, &journal, &Slow::In(folio(7)));
+    is_passed(&rt, &journal, &Slow::In(folio(8)));
     for seed in 10..14 {
         let crowded = crowded_journal(rt.alloc(), seed, 4, 60);
-        is_passed(&rt, &crowded, Slow::In(folio(1)));
-        is_passed(&rt, &crowded, Slow::In(folio(3)));
+        is_passed(&rt, &crowded, &Slow::In(folio(1)));
+        is_passed(&rt, &crowded, &Slow::In(folio(3)));
     }
 }
 
@@ -125,7 +129,7 @@ fn a_gate_that_stays_long_in_one_folio(rt: HostRuntime) {
 fn a_gate_that_stays_long_at_drawn_items(rt: HostRuntime) {
     for seed in 20..26 {
         let crowded = crowded_journal(rt.alloc(), seed, 6, 60);
-        is_passed(&rt, &crowded, Slow::Drawn(seed));
+        is_passed(&rt, &crowded, &Slow::Drawn(seed));
     }
 }
 
@@ -134,6 +138,6 @@ fn a_gate_that_stays_long_at_drawn_items(rt: HostRuntime) {
 fn a_gate_that_stays_long_where_there_is_one_folio(rt: HostRuntime) {
     for seed in 30..33 {
         let journal = crowded_journal(rt.alloc(), seed, 1, 40);
-        is_passed(&rt, &journal, Slow::In(folio(1)));
+        is_passed(&rt, &journal, &Slow::In(folio(1)));
     }
 }
