@@ -1,5 +1,5 @@
 -- An item that is the next of a folio finds settled what was before it at its keys there.
-use Rattle.std.proofs.Common.{◌≡◌, ⊎_elim, ℕ, ◌-◌, ◌<◌, ◌≤◌, true, List, filter, Some, Contains, sym, ◌∙◌, arith}
+use Rattle.std.proofs.Common.{◌≡◌, ⊎_elim, ℕ, ◌-◌, ◌<◌, ◌≤◌, Bool, true, List, filter, Some, Contains, sym, ◌∙◌, arith}
 use Rattle.std.specs.List.{range_with_len}
 use Rattle.std.proofs.lemmas.Bool.{cases_lt, false≢true}
 use Rattle.gb_base.proofs.Members.{of_range}
@@ -17,7 +17,7 @@ pub settled_before : (journal : List Receipt) (folio taken i p : ℕ) (k : Key) 
     → Contains (keys_of_item journal i) k → previous journal i k ≡ Some p → p ≤ last_taken (queue_of journal folio) taken
 settled_before journal folio taken i p k is own there last =
     let comes = turn_comes journal folio taken i (next_found (queue_of journal folio) taken i is) in
-    let touches = λ n. has_key k (keys_of_item journal n) in
+    let touches : ℕ → Bool = λ n. has_key k (keys_of_item journal n) in
     let passed = of_filter touches (range_with_len 1 (i - 1)) p (last_in p (filter touches (range_with_len 1 (i - 1))) last) in
     let range = of_range 1 (i - 1) p passed.0 in
     let low = comes.low in

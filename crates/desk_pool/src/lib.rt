@@ -1,6 +1,7 @@
 //! Desks that settle a journal at once, and leave the register of the one registrar.
 #![tactic(auto)]
 
+mod at_desks;
 mod boards;
 mod building_queues;
 mod desks;
@@ -19,12 +20,11 @@ mod preparing;
 mod rounds;
 mod sale_scratches;
 mod seats;
-mod settling;
 mod shared_rounds;
 mod taking_back;
 mod taking_over;
 mod together;
 mod touched_folios;
 
+pub use at_desks::settle_at_desks;
 pub use rounds::Round;
-pub use settling::settle_at_desks;
