@@ -4,10 +4,11 @@ ghost use Rattle.std.specs.Prelude.{◌≤◌};
 use crate::crowded_journals::crowded_journal;
 use crate::gates::{Slow, WatchingGate};
 use crate::journals::{assigned_and_charged, of_lapses, sold_beside_a_cure};
-use crate::registers::{in_order, left_by, register_of, say_the_same};
+use crate::registers::{by_a_round_of, in_order, left_by, register_of, say_the_same};
 use act_model::Journal;
 use conflict_queue::Docket;
 use gb_base::ReceiptNo;
+use registrar::Register;
 use std::process::Abort;
 use std::sync::Wait;
 use std::thread::Threads;
@@ -17,40 +18,57 @@ use test_items::{folio, receipt};
 fn is_passed<R: AllocGlobal + Threads + Wait + Sync + Abort>(
     rt: &R,
     journal: &Journal,
-    slow: Slow,
+    slow: &Slow,
 ) {
     for desks in [1, 2, 8] {
         is_passed_by(rt, journal, desks, slow);
     }
 }
 
-/// So many desks leave what the one registrar leaves, and call the gate once for each item, of two
-/// with a key in common for the earlier one first.
+/// So many desks do.
 fn is_passed_by<R: AllocGlobal + Threads + Wait + Sync + Abort>(
     rt: &R,
     journal: &Journal,
     desks: u16,
-    slow: Slow,
+    slow: &Slow,
 )
     requires { (1 ≤ desks) × (desks ≤ 64) }
 {
-    let docket = Docket::build(rt.alloc(), journal).ok().expect(rt, "memory");
-    let gate = WatchingGate::new(rt.alloc(), &docket, slow)
-        .ok()
-        .expect(rt, "memory");
+    let docket = docket_of(rt, journal);
+    let gate = gate_of(rt, &docket, slow);
     let left = left_by(rt, journal, desks, &gate);
-    let wanted = register_of(rt, rt.alloc(), journal);
-    assert!(rt;
-        say_the_same(rt, rt.alloc(), journal, &wanted, &left),
-        "{desks} desks, {slow:?}"
-    );
-    let order = gate.order(rt.alloc()).ok().expect(rt, "memory");
-    assert_eq!(rt; gate.calls(), docket.len());
-    assert!(rt;
-        has_each_once(order.as_slice(), journal.len()),
-        "{desks} desks, {slow:?}"
-    );
-    assert!(rt; in_order(rt, rt.alloc(), journal, order.as_slice()).is_some());
+    is_left_alike(rt, journal, &left, &gate);
+}
+
+fn docket_of<R: AllocGlobal + Abort>(rt: &R, journal: &Journal) -> Docket {
+    Docket::build(rt.alloc(), journal).ok().expect(rt, "memory")
+}
+
+fn gate_of<'a, R: AllocGlobal + Abort>(
+    rt: &R,
+    docket: &'a Docket,
+    slow: &'a Slow,
+) -> WatchingGate<'a> {
+    WatchingGate::new(rt.alloc(), docket, slow)
+        .ok()
+        .expect(rt, "memory")
+}
+
+/// The register is the one that the one registrar leaves, and the gate was called once for each item,
+/// of two with a key in common for the earlier one first.
+fn is_left_alike<R: AllocGlobal + Abort>(
+    rt: &R,
+    journal: &Journal,
+    left: &Register,
+    gate: &WatchingGate<'_>,
+) {
+    let alloc = rt.alloc();
+    let wanted = register_of(rt, alloc, journal);
+    assert!(rt; say_the_same(rt, alloc, journal, &wanted, left));
+    let order = gate.order(alloc).ok().expect(rt, "memory");
+    assert_eq!(rt; gate.calls(), journal.len() as usize);
+    assert!(rt; has_each_once(order.as_slice(), journal.len()));
+    assert!(rt; in_order(rt, alloc, journal, order.as_slice()).is_some());
 }
 
 /// Whether the numbers up to this one stand in a list, each once.
@@ -65,12 +83,24 @@ fn has_each_once(list: &[ReceiptNo], most: u32) -> bool {
 
 #[test]
 fn a_gate_is_called_once_for_each_item(rt: HostRuntime) {
-    is_passed(&rt, &Journal::new(rt.alloc()), Slow::Never);
-    is_passed(&rt, &of_lapses(&rt, rt.alloc()), Slow::Never);
-    is_passed(&rt, &assigned_and_charged(&rt, rt.alloc()), Slow::Never);
-    is_passed(&rt, &sold_beside_a_cure(&rt, rt.alloc()), Slow::Never);
+    is_passed(&rt, &Journal::new(rt.alloc()), &Slow::Never);
+    is_passed(&rt, &of_lapses(&rt, rt.alloc()), &Slow::Never);
+    is_passed(&rt, &assigned_and_charged(&rt, rt.alloc()), &Slow::Never);
+    is_passed(&rt, &sold_beside_a_cure(&rt, rt.alloc()), &Slow::Never);
     for seed in 0..4 {
-        is_passed(&rt, &crowded_journal(rt.alloc(), seed, 8, 60), Slow::Never);
+        is_passed(&rt, &crowded_journal(rt.alloc(), seed, 8, 60), &Slow::Never);
+    }
+}
+
+/// One desk of a round takes its items from the board, as several do.
+#[test]
+fn a_round_of_one_desk(rt: HostRuntime) {
+    for seed in 40..44 {
+        let journal = crowded_journal(rt.alloc(), seed, 4, 30);
+        let docket = docket_of(&rt, &journal);
+        let gate = gate_of(&rt, &docket, &Slow::Never);
+        let left = by_a_round_of(&rt, &journal, 1, &gate);
+        is_left_alike(&rt, &journal, &left, &gate);
     }
 }
 
@@ -79,19 +109,19 @@ fn a_gate_is_called_once_for_each_item(rt: HostRuntime) {
 fn a_gate_that_stays_long_at_one_item(rt: HostRuntime) {
     let journal = sold_beside_a_cure(&rt, rt.alloc());
     for number in 1..11 {
-        is_passed(&rt, &journal, Slow::At(receipt(number)));
+        is_passed(&rt, &journal, &Slow::At(receipt(number)));
     }
 }
 
 #[test]
 fn a_gate_that_stays_long_in_one_folio(rt: HostRuntime) {
     let journal = sold_beside_a_cure(&rt, rt.alloc());
-    is_passed(&rt, &journal, Slow::In(folio(7)));
-    is_passed(&rt, &journal, Slow::In(folio(8)));
+    is_passed(&rt, &journal, &Slow::In(folio(7)));
+    is_passed(&rt, &journal, &Slow::In(folio(8)));
     for seed in 10..14 {
         let crowded = crowded_journal(rt.alloc(), seed, 4, 60);
-        is_passed(&rt, &crowded, Slow::In(folio(1)));
-        is_passed(&rt, &crowded, Slow::In(folio(3)));
+        is_passed(&rt, &crowded, &Slow::In(folio(1)));
+        is_passed(&rt, &crowded, &Slow::In(folio(3)));
     }
 }
 
@@ -99,7 +129,7 @@ fn a_gate_that_stays_long_in_one_folio(rt: HostRuntime) {
 fn a_gate_that_stays_long_at_drawn_items(rt: HostRuntime) {
     for seed in 20..26 {
         let crowded = crowded_journal(rt.alloc(), seed, 6, 60);
-        is_passed(&rt, &crowded, Slow::Drawn(seed));
+        is_passed(&rt, &crowded, &Slow::Drawn(seed));
     }
 }
 
@@ -108,6 +138,6 @@ fn a_gate_that_stays_long_at_drawn_items(rt: HostRuntime) {
 fn a_gate_that_stays_long_where_there_is_one_folio(rt: HostRuntime) {
     for seed in 30..33 {
         let journal = crowded_journal(rt.alloc(), seed, 1, 40);
-        is_passed(&rt, &journal, Slow::In(folio(1)));
+        is_passed(&rt, &journal, &Slow::In(folio(1)));
     }
 }

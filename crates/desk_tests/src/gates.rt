@@ -27,7 +27,7 @@ pub enum Slow {
 #[derive(Drop)]
 pub struct WatchingGate<'a> {
     docket: &'a Docket,
-    slow: Slow,
+    slow: &'a Slow,
     /// For each call the item, as far as there are as many calls as items.
     called: Vec<AtomicU32>,
     calls: AtomicUsize,
@@ -40,7 +40,7 @@ impl<'a> WatchingGate<'a> {
     pub fn new(
         alloc: Global,
         docket: &'a Docket,
-        slow: Slow,
+        slow: &'a Slow,
     ) -> Result<WatchingGate<'a>, NoMemory> {
         let mut called = Vec::with_capacity(alloc, docket.len())?;
         for _item in 0..docket.len() {
@@ -74,8 +74,8 @@ impl<'a> WatchingGate<'a> {
     fn is_slow_at(&self, item: ReceiptNo) -> bool {
         match self.slow {
             Slow::Never => false,
-            Slow::At(one) => item == one,
-            Slow::In(folio) => self.is_in(item, folio),
+            Slow::At(one) => item == *one,
+            Slow::In(folio) => self.is_in(item, *folio),
             Slow::Drawn(seed) => {
                 let seed = seed.wrapping_add(u64::from(item.get()));
                 Draws::new(seed).one_in(3)

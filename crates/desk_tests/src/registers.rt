@@ -72,6 +72,33 @@ fn named_by_a_round<N: JournalName, R: Abort>(rt: &R, alloc: Global, journal: &J
     round.alone()
 }
 
+/// The register that a round of so many desks leaves, with this gate. It has a board and locks also
+/// where one desk is wanted.
+pub fn by_a_round_of<R: AllocGlobal + Threads + Wait + Sync + Abort, G: DeskGate>(
+    rt: &R,
+    journal: &Journal,
+    desks: u16,
+    gate: &G,
+) -> Register
+    requires { (1 ≤ desks) × (desks ≤ 64) }
+{
+    named_by_a_round_of::<Brand, R, G>(rt, journal, desks, gate)
+}
+
+fn named_by_a_round_of<
+    N: JournalName + Send + Sync,
+    R: AllocGlobal + Threads + Wait + Sync + Abort,
+    G: DeskGate,
+>(rt: &R, journal: &Journal, desks: u16, gate: &G) -> Register
+    requires named { journal.now.receipts ≡ N.receipts }
+    requires desks { (1 ≤ desks) × (desks ≤ 64) }
+{
+    let round = Round::<N>::prepare(rt.alloc(), journal)
+        .ok()
+        .expect(rt, "memory");
+    round.run(rt, desks, gate)
+}
+
 /// Whether two registers of a journal say the same of each item, have the same entries at each key
 /// that an item touches, and the same open folios.
 pub fn say_the_same(

@@ -26,9 +26,10 @@ fn input_of(alloc: Global, lines: &[&[u8]]) -> Result<Vec<u8>, NoMemory> {
     Ok(input)
 }
 
-/// A run over the lines writes these replies and then this report.
-fn settles<R: AllocGlobal + Threads + Wait + Sync + Abort>(
+/// A run at so many desks over the lines writes these replies and then this report.
+fn settles_at<R: AllocGlobal + Threads + Wait + Sync + Abort>(
     rt: &R,
+    desks: &str,
     lines: &[&[u8]],
     replies: &[u8],
     report: &[u8],
@@ -36,7 +37,18 @@ fn settles<R: AllocGlobal + Threads + Wait + Sync + Abort>(
     let input = input_of(rt.alloc(), lines)?;
     let mut text = Vec::from_slice(rt.alloc(), replies)?;
     text.extend_from_slice(report)?;
-    run_of(COMMAND, &input).writes(rt, &mut SureDisk::new(), Status::Ok, &text)
+    let words = ["settle", "--desks", desks, "--lines"];
+    run_of(&words, &input).writes(rt, &mut SureDisk::new(), Status::Ok, &text)
+}
+
+/// The same at two desks.
+fn settles<R: AllocGlobal + Threads + Wait + Sync + Abort>(
+    rt: &R,
+    lines: &[&[u8]],
+    replies: &[u8],
+    report: &[u8],
+) -> Result<(), Fail> {
+    settles_at(rt, "2", lines, replies, report)
 }
 
 /// A run over the opening and the charge of which these reads and writes fail ends so.
@@ -65,12 +77,9 @@ fn an_opening_and_a_charge_are_entered(rt: HostRuntime) -> Result<(), Fail> {
 /// The number of desks is in no text.
 #[test]
 fn any_number_of_desks_writes_the_same(rt: HostRuntime) -> Result<(), Fail> {
-    let input = input_of(rt.alloc(), &[OPENING, CHARGE])?;
-    let mut text = Vec::from_slice(rt.alloc(), b"accepted 1\naccepted 2\n")?;
-    text.extend_from_slice(REPORT)?;
     for desks in ["1", "2", "8", "64"] {
-        let words = ["settle", "--desks", desks, "--lines"];
-        run_of(&words, &input).writes(&rt, &mut SureDisk::new(), Status::Ok, &text)?;
+        let lines = [OPENING, CHARGE];
+        settles_at(&rt, desks, &lines, b"accepted 1\naccepted 2\n", REPORT)?;
     }
     Ok(())
 }
