@@ -7,6 +7,7 @@ pub mod DiskReplies
 pub mod DoorLinks
 pub mod DoorRounds
 pub mod EndsBy
+pub mod GrownWrites
 pub mod Grows
 pub mod ItemEnds
 pub mod LeftThen

@@ -48,7 +48,7 @@ impl Clerk {
         requires stands_open { IsTrue D.tells → StandsOpen self.old (D.reads disk.old) (D.images disk.old) }
         ensures round { IsTrue D.tells → (held : Held) (waiting : List (List ℕ)) (asked : List LinkRequests)
             → Holds self.old (D.reads disk.old) (D.images disk.old) (C.ticks clock.old) held → L.waiting door.old ≡ Some waiting → AllZip AskSo waiting asked
-            → IsRound D.images D.moment D.since D.faults disk.old disk.new held left waiting asked (L.waiting door.new) (L.served door.old) (L.served door.new)
+            → IsRound D.reads D.images D.moment D.since D.faults disk.old disk.new held left waiting asked (L.waiting door.new) (L.served door.old) (L.served door.new)
             (λ h. Holds self.new (D.reads disk.new) (D.images disk.new) (C.ticks clock.new) h) result }
         ensures few { IfOk result (λ replies. replies ≤ left) }
         ensures stands_open { IsTrue D.tells → StandsOpen self.new (D.reads disk.new) (D.images disk.new) }
@@ -80,7 +80,7 @@ impl Clerk {
         requires { IsTrue D.tells → StandsOpen self.old (D.reads disk.old) (D.images disk.old) }
         ensures serves { IsTrue D.tells → (held : Held) (waiting : List (List ℕ)) (asked : List LinkRequests)
             → Holds self.old (D.reads disk.old) (D.images disk.old) (C.ticks clock.old) held → L.waiting door.old ≡ Some waiting → AllZip AskSo waiting asked
-            → ServesDoor D.images D.moment D.since D.faults disk.old disk.new held most waiting asked (L.waiting door.new) (L.served door.old) (L.served door.new) result
+            → ServesDoor D.reads D.images D.moment D.since D.faults disk.old disk.new held most waiting asked (L.waiting door.new) (L.served door.old) (L.served door.new) result
             (λ h. Holds self.new (D.reads disk.new) (D.images disk.new) (C.ticks clock.new) h) }
         ensures stands_open { IsTrue D.tells → StandsOpen self.new (D.reads disk.new) (D.images disk.new) }
         ensures no_book { IsTrue D.tells → working self.old ≡ None → StandsForNone (D.reads disk.old) → OpensNone D.reads D.images D.moment D.since disk.old disk.new self.new }

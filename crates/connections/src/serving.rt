@@ -97,7 +97,7 @@ impl Clerk {
         requires stands_open { IsTrue D.tells → StandsOpen self.old (D.reads disk.old) (D.images disk.old) }
         ensures turn { IsTrue D.tells → (held : Held) (requests : List RequestParts) (end : AtFront)
             → Holds self.old (D.reads disk.old) (D.images disk.old) (C.ticks clock.old) held
-            → IsTurn (TakesTurns D.images D.moment D.since D.faults) disk.old disk.new held (L.written link.old) (L.written link.new) (request.now ∷ requests) end
+            → IsTurn (TakesTurns D.reads D.images D.moment D.since D.faults) disk.old disk.new held (L.written link.old) (L.written link.new) (request.now ∷ requests) end
             (λ h. Holds self.new (D.reads disk.new) (D.images disk.new) (C.ticks clock.new) h)
             (λ h others. Holds self.new (D.reads disk.new) (D.images disk.new) (C.ticks clock.new) h × (others ≡ requests)) result }
         ensures few { IfSome result (λ served. served.replies ≤ 1) }
@@ -136,7 +136,7 @@ impl Clerk {
         requires { IsTrue D.tells → StandsOpen self.old (D.reads disk.old) (D.images disk.old) }
         ensures turn { IsTrue D.tells → (held : Held) (requests : List RequestParts) (end : AtFront)
             → Meets (Holds self.old (D.reads disk.old) (D.images disk.old) (C.ticks clock.old)) (L.left link.old) rest.old.items end held requests
-            → IsTurn (TakesTurns D.images D.moment D.since D.faults) disk.old disk.new held (L.written link.old) (L.written link.new) requests end
+            → IsTurn (TakesTurns D.reads D.images D.moment D.since D.faults) disk.old disk.new held (L.written link.old) (L.written link.new) requests end
             (λ h. Holds self.new (D.reads disk.new) (D.images disk.new) (C.ticks clock.new) h)
             (λ h others. Meets (Holds self.new (D.reads disk.new) (D.images disk.new) (C.ticks clock.new)) (L.left link.new) rest.new.items end h others) result }
         ensures few { IfSome result (λ served. served.replies ≤ 1) }
@@ -178,7 +178,7 @@ impl Clerk {
         requires { IsTrue D.tells → StandsOpen self.old (D.reads disk.old) (D.images disk.old) }
         ensures serves { IsTrue D.tells → (held : Held) (input : List ℕ) (requests : List RequestParts) (end : AtFront)
             → Holds self.old (D.reads disk.old) (D.images disk.old) (C.ticks clock.old) held → L.left link.old ≡ Some input → AreRequests input requests end
-            → ServesLink (TakesTurns D.images D.moment D.since D.faults) disk.old disk.new held (L.written link.old) (L.written link.new) (turns left requests end) result
+            → ServesLink (TakesTurns D.reads D.images D.moment D.since D.faults) disk.old disk.new held (L.written link.old) (L.written link.new) (turns left requests end) result
             (λ h. Holds self.new (D.reads disk.new) (D.images disk.new) (C.ticks clock.new) h) }
         ensures stands_open { IsTrue D.tells → StandsOpen self.new (D.reads disk.new) (D.images disk.new) }
         ensures serves_none { IsTrue D.tells → working self.old ≡ None → StandsForNone (D.reads disk.old) → (held : Held) (input : List ℕ) (requests : List RequestParts) (end : AtFront)

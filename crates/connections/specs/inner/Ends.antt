@@ -5,7 +5,7 @@ use Rattle.gb_outside.specs.Faults.{Counts}
 use Rattle.intake.specs.Grown.{GrownFrom}
 use Rattle.intake.specs.Requests.{Held}
 use Rattle.settled_book.specs.SettledBookState.{SettledBookState}
-use Rattle.connections.specs.Answering.{LeavesOldThen, OpensNone, is_from_disk, tells_of_journal}
+use Rattle.connections.specs.Answering.{LeavesOldThen, OpensNone, WritesGrown, is_from_disk, tells_of_journal}
 use Rattle.connections.specs.Answers.{Answer}
 use Rattle.connections.specs.Fates.{Fate, answer_by}
 use Rattle.connections.specs.Holding.{Holds, IsNoJournal, StandsForNone, StandsOpen, working}
@@ -18,6 +18,7 @@ pub record EndsBy {D : Type 0} (reads : D → List ℕ) (images : D → List ℕ
   pub reply_is : reply ≡ (answer_by fate held wanted).reply
   pub holds : Holds at_hand (reads new) (images new) known (answer_by fate held wanted).held
   pub left : LeavesOldThen images moment since old new (GrownFrom held.journal wanted.held.journal)
+  pub written : WritesGrown held.journal wanted.held.journal (reads old) (reads new)
   pub works : is_from_disk reply ≡ true → IsSome (working at_hand)
 
 -- What a reply is by the book and the disk alone, whatever is held.

@@ -12,7 +12,7 @@ pub returns-clause-serves : goal.returns-clause-serves
 returns-clause-serves g c = λ tells held waiting asked is waits asks.
     served_opened g.D.Disk.reads g.D.Disk.images g.D.Disk.moment g.D.Disk.since g.D.Disk.faults c.args.disk.now c.serve_door.new.disk held c.args.requests waiting asked (g.L.Listener.served c.args.door.now) (g.C.Clock.ticks c.serve_door.new.clock)
     c.open.new.disk (g.L.Listener.waiting c.serve_door.new.door) (g.L.Listener.served c.serve_door.new.door) c.serve_door.new.self c.serve_door.result c.status_of_door.result
-    (λ t file le image. g.met.D.Disk.counts_now c.open.new.disk t file tells le image) is.stands (c.in-Ok.ensures.any_moment tells) c.in-Ok.ensures.cause
+    (λ t file le image. g.met.D.Disk.counts_now c.open.new.disk t file tells le image) is.stands (c.in-Ok.ensures.any_moment tells) c.in-Ok.ensures.cause (c.in-Ok.ensures.kept tells) (c.in-Ok.ensures.made tells) (c.in-Ok.ensures.torn tells)
     (c.serve_door.ensures.serves tells held waiting asked
     (subst (λ (known : Option (List DayMinute)). Holds c.settle.new.self (g.D.Disk.reads c.open.new.disk) (g.D.Disk.images c.open.new.disk) known held) (sym is.clock) (holds_still c.settle.ensures.book (c.in-Ok.ensures.holds tells held is.stands))) waits asks)
     c.status_of_door.ensures
@@ -20,4 +20,4 @@ returns-clause-serves g c = λ tells held waiting asked is waits asks.
 pub returns-in-Err-clause-serves : goal.returns-in-Err-clause-serves
 returns-in-Err-clause-serves g c = λ tells held waiting asked is waits asks.
     served_none g.D.Disk.reads g.D.Disk.images g.D.Disk.moment g.D.Disk.since g.D.Disk.faults c.args.disk.now c.open.new.disk held c.args.requests waiting asked (g.L.Listener.served c.args.door.now) (g.C.Clock.ticks c.args.clock.now)
-    c.in-Err.fault c.status_of_opening.result (c.in-Err.ensures.any_moment tells) c.in-Err.ensures.cause (c.in-Err.ensures.kept tells) is (g.L.Listener.waiting c.args.door.now) waits c.status_of_opening.ensures
+    c.in-Err.fault c.status_of_opening.result (c.in-Err.ensures.any_moment tells) c.in-Err.ensures.cause (c.in-Err.ensures.kept tells) (c.in-Err.ensures.torn tells) is (g.L.Listener.waiting c.args.door.now) waits c.status_of_opening.ensures

@@ -25,7 +25,7 @@ pub returns-clause-ends : goal.returns-clause-ends
 returns-clause-ends g c = λ tells held holds.
     let finds = c.in-Ok.ensures.finds tells held.journal holds.file holds.book in
     item_ends g.D.Disk.reads g.D.Disk.images g.D.Disk.moment g.D.Disk.since c.args.disk.now c.take_book.new.disk c.receive-answer.new.disk (g.met.D.Disk.reads_is_image c.receive-answer.new.disk tells)
-    held c.args.from c.args.item.now c.received.result c.receive-answer.new.book (g.C.Clock.ticks c.receive-answer.new.clock) finds.left
+    held c.args.from c.args.item.now c.received.result c.receive-answer.new.book (g.C.Clock.ticks c.receive-answer.new.clock) finds.left finds.written
     c.receive-answer.result (c.receive-answer.ensures.receives tells held holds.clock finds.there) c.receive-answer.ensures.opened c.receive-answer.ensures.failed c.received.ensures
 
 pub returns-clause-serves : goal.returns-clause-serves

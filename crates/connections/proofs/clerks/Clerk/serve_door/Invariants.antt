@@ -19,6 +19,6 @@ invariant-loop-left g l = record {
   quiet : g.L.Listener.faults l.door ≡ g.L.Listener.faults l.fn.door;
   went : IsTrue g.D.Disk.tells → (held : Held) (waiting : List (List ℕ)) (asked : List LinkRequests)
       → Holds l.fn.self (g.D.Disk.reads l.fn.disk) (g.D.Disk.images l.fn.disk) (g.C.Clock.ticks l.fn.clock) held → g.L.Listener.waiting l.fn.door ≡ Some waiting → AllZip AskSo waiting asked
-      → WentLinks g.D.Disk.images g.D.Disk.moment g.D.Disk.since g.D.Disk.faults l.fn.disk l.disk held l.most waiting asked (g.L.Listener.waiting l.door) (g.L.Listener.served l.fn.door) (g.L.Listener.served l.door)
+      → WentLinks g.D.Disk.reads g.D.Disk.images g.D.Disk.moment g.D.Disk.since g.D.Disk.faults l.fn.disk l.disk held l.most waiting asked (g.L.Listener.waiting l.door) (g.L.Listener.served l.fn.door) (g.L.Listener.served l.door)
       (λ h. Holds l.self (g.D.Disk.reads l.disk) (g.D.Disk.images l.disk) (g.C.Clock.ticks l.clock) h) l.left l.links;
 }

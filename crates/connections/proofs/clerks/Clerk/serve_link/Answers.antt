@@ -19,9 +19,9 @@ loop-replies-init g c = record {
   told = λ told. told;
   quiet = refl;
   went = λ tells held input requests end holds left are.
-      went_none (TakesTurns g.D.Disk.images g.D.Disk.moment g.D.Disk.since g.D.Disk.faults) c.args.disk.now held (g.L.Link.written c.args.link.now) c.args.left requests end
+      went_none (TakesTurns g.D.Disk.reads g.D.Disk.images g.D.Disk.moment g.D.Disk.since g.D.Disk.faults) c.args.disk.now held (g.L.Link.written c.args.link.now) c.args.left requests end
       (λ h others. Meets (Holds c.args.self.now (g.D.Disk.reads c.args.disk.now) (g.D.Disk.images c.args.disk.now) (g.C.Clock.ticks c.args.clock.now)) (g.L.Link.left c.args.link.now) c.new-rest.result.items end h others)
-      (takes_none g.D.Disk.images g.D.Disk.moment g.D.Disk.since g.D.Disk.faults c.args.disk.now held (λ file since. g.met.D.Disk.only_now c.args.disk.now file tells since))
+      (takes_none g.D.Disk.reads g.D.Disk.images g.D.Disk.moment g.D.Disk.since g.D.Disk.faults c.args.disk.now held (λ file since. g.met.D.Disk.only_now c.args.disk.now file tells since))
       (record { holds = holds; input = input; left_is = left; are = subst (λ l. AreRequests (l ++ input) requests end) (sym c.new-rest.ensures.items) are });
   went_none = λ tells was none held input requests end left are.
       went_none (TakesNone g.D.Disk.faults) c.args.disk.now held (g.L.Link.written c.args.link.now) c.args.left requests end (λ h others. Meets (λ k. k ≡ held) (g.L.Link.left c.args.link.now) c.new-rest.result.items end h others)
@@ -39,12 +39,12 @@ loop-replies-preserved g c = record {
   quiet = c.in-None.ensures.cause.else_same refl ∙ c.loop-replies.invariant.quiet;
   went = λ tells held input requests end holds left are.
       let before = c.loop-replies.invariant.went tells held input requests end holds left are in
-      went_on (TakesTurns g.D.Disk.images g.D.Disk.moment g.D.Disk.since g.D.Disk.faults) c.args.disk.now c.loop-replies.disk c.serve_next.new.disk held (g.L.Link.written c.args.link.now) (g.L.Link.written c.loop-replies.link)
+      went_on (TakesTurns g.D.Disk.reads g.D.Disk.images g.D.Disk.moment g.D.Disk.since g.D.Disk.faults) c.args.disk.now c.loop-replies.disk c.serve_next.new.disk held (g.L.Link.written c.args.link.now) (g.L.Link.written c.loop-replies.link)
       (g.L.Link.written c.serve_next.new.link) (turns c.args.left requests end) c.args.left c.loop-replies.replies end
       (λ h others. Meets (Holds c.loop-replies.self (g.D.Disk.reads c.loop-replies.disk) (g.D.Disk.images c.loop-replies.disk) (g.C.Clock.ticks c.loop-replies.clock)) (g.L.Link.left c.loop-replies.link) c.loop-replies.rest.items end h others)
       (λ h others. Meets (Holds c.serve_next.new.self (g.D.Disk.reads c.serve_next.new.disk) (g.D.Disk.images c.serve_next.new.disk) (g.C.Clock.ticks c.serve_next.new.clock)) (g.L.Link.left c.serve_next.new.link)
       c.serve_next.new.rest.items end h others)
-      (λ done xs first second. takes_then g.D.Disk.images g.D.Disk.moment g.D.Disk.since g.D.Disk.faults c.args.disk.now c.loop-replies.disk c.serve_next.new.disk held done xs (λ t file le image. g.met.D.Disk.counts_now c.loop-replies.disk t file tells le image) first second) c.loop-replies-test.true before
+      (λ done xs first second. takes_then g.D.Disk.reads g.D.Disk.images g.D.Disk.moment g.D.Disk.since g.D.Disk.faults c.args.disk.now c.loop-replies.disk c.serve_next.new.disk held done xs (λ t file le image. g.met.D.Disk.counts_now c.loop-replies.disk t file tells le image) first second) c.loop-replies-test.true before
       (c.in-None.ensures.turn tells (held_behind held before.done) before.requests end before.meets);
   went_none = λ tells was none held input requests end left are.
       let before = c.loop-replies.invariant.went_none tells was none held input requests end left are in
@@ -59,21 +59,21 @@ loop-replies-preserved g c = record {
 pub returns-in-Some-clause-serves : goal.returns-in-Some-clause-serves
 returns-in-Some-clause-serves g c = λ tells held input requests end holds left are.
     let before = c.loop-replies.invariant.went tells held input requests end holds left are in
-    went_to_end (TakesTurns g.D.Disk.images g.D.Disk.moment g.D.Disk.since g.D.Disk.faults) c.args.disk.now c.loop-replies.disk c.serve_next.new.disk held (g.L.Link.written c.args.link.now) (g.L.Link.written c.loop-replies.link)
+    went_to_end (TakesTurns g.D.Disk.reads g.D.Disk.images g.D.Disk.moment g.D.Disk.since g.D.Disk.faults) c.args.disk.now c.loop-replies.disk c.serve_next.new.disk held (g.L.Link.written c.args.link.now) (g.L.Link.written c.loop-replies.link)
     (g.L.Link.written c.serve_next.new.link) (turns c.args.left requests end) c.args.left c.loop-replies.replies end
     (λ h others. Meets (Holds c.loop-replies.self (g.D.Disk.reads c.loop-replies.disk) (g.D.Disk.images c.loop-replies.disk) (g.C.Clock.ticks c.loop-replies.clock)) (g.L.Link.left c.loop-replies.link) c.loop-replies.rest.items end h others)
     (λ h. Holds c.serve_next.new.self (g.D.Disk.reads c.serve_next.new.disk) (g.D.Disk.images c.serve_next.new.disk) (g.C.Clock.ticks c.serve_next.new.clock) h)
-    c.in-Some.last _ (λ done xs first second. takes_then g.D.Disk.images g.D.Disk.moment g.D.Disk.since g.D.Disk.faults c.args.disk.now c.loop-replies.disk c.serve_next.new.disk held done xs (λ t file le image. g.met.D.Disk.counts_now c.loop-replies.disk t file tells le image) first second) c.loop-replies-test.true before
+    c.in-Some.last _ (λ done xs first second. takes_then g.D.Disk.reads g.D.Disk.images g.D.Disk.moment g.D.Disk.since g.D.Disk.faults c.args.disk.now c.loop-replies.disk c.serve_next.new.disk held done xs (λ t file le image. g.met.D.Disk.counts_now c.loop-replies.disk t file tells le image) first second) c.loop-replies-test.true before
     (c.in-Some.ensures.turn tells (held_behind held before.done) before.requests end before.meets) refl refl
 
 pub returns-clause-serves : goal.returns-clause-serves
 returns-clause-serves g c = λ tells held input requests end holds left are.
-    went_out (TakesTurns g.D.Disk.images g.D.Disk.moment g.D.Disk.since g.D.Disk.faults) c.args.disk.now c.loop-replies.disk held (g.L.Link.written c.args.link.now) (g.L.Link.written c.loop-replies.link) (turns c.args.left requests end)
+    went_out (TakesTurns g.D.Disk.reads g.D.Disk.images g.D.Disk.moment g.D.Disk.since g.D.Disk.faults) c.args.disk.now c.loop-replies.disk held (g.L.Link.written c.args.link.now) (g.L.Link.written c.loop-replies.link) (turns c.args.left requests end)
     c.args.left c.loop-replies.replies end
     (λ h others. Meets (Holds c.loop-replies.self (g.D.Disk.reads c.loop-replies.disk) (g.D.Disk.images c.loop-replies.disk) (g.C.Clock.ticks c.loop-replies.clock)) (g.L.Link.left c.loop-replies.link) c.loop-replies.rest.items end h others)
     (λ h. Holds c.loop-replies.self (g.D.Disk.reads c.loop-replies.disk) (g.D.Disk.images c.loop-replies.disk) (g.C.Clock.ticks c.loop-replies.clock) h)
-    _ (λ h. takes_none g.D.Disk.images g.D.Disk.moment g.D.Disk.since g.D.Disk.faults c.loop-replies.disk h (λ file since. g.met.D.Disk.only_now c.loop-replies.disk file tells since))
-    (λ done xs first second. takes_then g.D.Disk.images g.D.Disk.moment g.D.Disk.since g.D.Disk.faults c.args.disk.now c.loop-replies.disk c.loop-replies.disk held done xs (λ t file le image. g.met.D.Disk.counts_now c.loop-replies.disk t file tells le image) first second)
+    _ (λ h. takes_none g.D.Disk.reads g.D.Disk.images g.D.Disk.moment g.D.Disk.since g.D.Disk.faults c.loop-replies.disk h (λ file since. g.met.D.Disk.only_now c.loop-replies.disk file tells since))
+    (λ done xs first second. takes_then g.D.Disk.reads g.D.Disk.images g.D.Disk.moment g.D.Disk.since g.D.Disk.faults c.args.disk.now c.loop-replies.disk c.loop-replies.disk held done xs (λ t file le image. g.met.D.Disk.counts_now c.loop-replies.disk t file tells le image) first second)
     (omega (arith, c.loop-replies-test.false)) (λ h others meets. meets.holds) (c.loop-replies.invariant.went tells held input requests end holds left are) refl refl
 
 pub returns-in-Some-clause-told : goal.returns-in-Some-clause-told

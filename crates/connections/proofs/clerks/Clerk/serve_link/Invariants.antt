@@ -23,7 +23,7 @@ invariant-loop-replies g l = record {
   quiet : g.L.Link.faults l.link ≡ g.L.Link.faults l.fn.link;
   went : IsTrue g.D.Disk.tells → (held : Held) (input : List ℕ) (requests : List RequestParts) (end : AtFront)
       → Holds l.fn.self (g.D.Disk.reads l.fn.disk) (g.D.Disk.images l.fn.disk) (g.C.Clock.ticks l.fn.clock) held → g.L.Link.left l.fn.link ≡ Some input → AreRequests input requests end
-      → Went (TakesTurns g.D.Disk.images g.D.Disk.moment g.D.Disk.since g.D.Disk.faults) l.fn.disk l.disk held (g.L.Link.written l.fn.link) (g.L.Link.written l.link) (turns l.left requests end) l.left l.replies end
+      → Went (TakesTurns g.D.Disk.reads g.D.Disk.images g.D.Disk.moment g.D.Disk.since g.D.Disk.faults) l.fn.disk l.disk held (g.L.Link.written l.fn.link) (g.L.Link.written l.link) (turns l.left requests end) l.left l.replies end
       (λ h others. Meets (Holds l.self (g.D.Disk.reads l.disk) (g.D.Disk.images l.disk) (g.C.Clock.ticks l.clock)) (g.L.Link.left l.link) l.rest.items end h others);
   went_none : IsTrue g.D.Disk.tells → working l.fn.self ≡ None → StandsForNone (g.D.Disk.reads l.fn.disk) → (held : Held) (input : List ℕ) (requests : List RequestParts) (end : AtFront)
       → g.L.Link.left l.fn.link ≡ Some input → AreRequests input requests end
