@@ -15,6 +15,7 @@ pub mod LinkEnds
 pub mod LinkTurns
 pub mod LinksServed
 pub mod LinksTaken
+pub mod MadeFiles
 pub mod NoBook
 pub mod NoneTaken
 pub mod ReceivedItems

@@ -7,7 +7,7 @@ ghost use Rattle.act_json.specs.Lines.{item_of, longest_line};
 ghost use Rattle.act_model.specs.WellFormed.{well_formed};
 ghost use Rattle.act_model.specs.declared.receipts.Receipt.{Receipt};
 ghost use Rattle.intake.specs.Requests.{Held};
-ghost use Rattle.journal_disk.specs.Layout.{first_gate, the_heading, made_from, IsUnmade};
+ghost use Rattle.journal_disk.specs.Layout.{first_gate, the_heading, made_from, IsMade, IsUnmade};
 ghost use Rattle.journal_disk.specs.Opening.{AnswersSynced, IsKept};
 ghost use Rattle.receipt_journal.specs.Opening.{BookRefuses, book_opening_disk_failed};
 ghost use Rattle.receipt_journal.specs.Standing.{Stands, StandsForJournal};
@@ -120,6 +120,7 @@ impl Clerk {
         ensures taken { self.new ≡ None }
         ensures refused { IsTrue D.tells → IfErr result (BookRefuses (D.reads disk.old)) }
         ensures had_none { OnErr result (working self.old ≡ None) }
+        ensures made { IsTrue D.tells → IsMade the_heading (D.reads disk.old) → IsMade the_heading (D.reads disk.new) }
         ensures untouched { IsSome (working self.old) → disk.new ≡ disk.old }
         ensures journal { IsTrue D.tells → working self.old ≡ None → OnOk result ((journal : List Receipt) × StandsForJournal (D.reads disk.old) journal) }
         ensures no_book { IsTrue D.tells → working self.old ≡ None → StandsForNone (D.reads disk.old) → OpensNone D.reads D.images D.moment D.since disk.old disk.new self.new }
@@ -261,6 +262,7 @@ impl Clerk {
         // While a book works the disk is written only where an item is received, and called only for a POST.
         ensures untouched { IsSome (working self.old) → request.now.method ≢ method_of Post → disk.new ≡ disk.old }
         ensures unreceived { IsSome (working self.old) → (result.status == 201) ≡ false → is_failed result ≡ false → disk.new ≡ disk.old }
+        ensures made { IsTrue D.tells → IsMade the_heading (D.reads disk.old) → IsMade the_heading (D.reads disk.new) }
 
         // Each answer about the file is by its standing, where a book had to be opened.
         ensures no_journal { IsTrue D.tells → result.status ≡ 500 → IsNoJournal (D.reads disk.old) }

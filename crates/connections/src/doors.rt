@@ -2,6 +2,7 @@
 ghost use Rattle.std.specs.Prelude.{◌≡◌, ℕ, ◌≤◌, List, None, Some, IfOk, IsSome, IsTrue};
 ghost use Rattle.std.specs.List.{AllZip};
 ghost use Rattle.gb_outside.specs.Faults.{Counts};
+ghost use Rattle.journal_disk.specs.Layout.{the_heading, IsMade};
 ghost use Rattle.intake.specs.Requests.{Held};
 ghost use Rattle.connections.specs.Answering.{OpensNone};
 ghost use Rattle.connections.specs.Doors.{AskSo, LinkRequests, ServesDoor, is_door_fault};
@@ -52,6 +53,7 @@ impl Clerk {
             (λ h. Holds self.new (D.reads disk.new) (D.images disk.new) (C.ticks clock.new) h) result }
         ensures few { IfOk result (λ replies. replies ≤ left) }
         ensures stands_open { IsTrue D.tells → StandsOpen self.new (D.reads disk.new) (D.images disk.new) }
+        ensures made { IsTrue D.tells → IsMade the_heading (D.reads disk.old) → IsMade the_heading (D.reads disk.new) }
         ensures no_book { IsTrue D.tells → working self.old ≡ None → StandsForNone (D.reads disk.old) → OpensNone D.reads D.images D.moment D.since disk.old disk.new self.new }
         ensures handed_back { IsSome (L.served door.old) → IsSome (L.served door.new) × (L.out door.new ≡ L.out door.old) }
         ensures cause { Counts (L.faults door.old) (L.faults door.new) (has_door_failed result) }
@@ -83,6 +85,7 @@ impl Clerk {
             → ServesDoor D.reads D.images D.moment D.since D.faults disk.old disk.new held most waiting asked (L.waiting door.new) (L.served door.old) (L.served door.new) result
             (λ h. Holds self.new (D.reads disk.new) (D.images disk.new) (C.ticks clock.new) h) }
         ensures stands_open { IsTrue D.tells → StandsOpen self.new (D.reads disk.new) (D.images disk.new) }
+        ensures made { IsTrue D.tells → IsMade the_heading (D.reads disk.old) → IsMade the_heading (D.reads disk.new) }
         ensures no_book { IsTrue D.tells → working self.old ≡ None → StandsForNone (D.reads disk.old) → OpensNone D.reads D.images D.moment D.since disk.old disk.new self.new }
         ensures handed_back { IsSome (L.served door.old) → IsSome (L.served door.new) × (L.out door.new ≡ L.out door.old) }
         ensures cause { Counts (L.faults door.old) (L.faults door.new) (is_door_fault result) }

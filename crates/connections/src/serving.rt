@@ -2,6 +2,7 @@
 ghost use Rattle.std.specs.Prelude.{◌≡◌, ◌≤◌, ℕ, List, [], ◌∷◌, None, Some, OnOk, OnErr, Err, IsSome, IsTrue, IfSome, length};
 ghost use Rattle.std.specs.Io.KnownBytes.{Appends};
 ghost use Rattle.gb_outside.specs.Faults.{Counts};
+ghost use Rattle.journal_disk.specs.Layout.{the_heading, IsMade};
 ghost use Rattle.act_json.specs.Lines.{longest_line};
 ghost use Rattle.intake.specs.Requests.{Held};
 ghost use Rattle.registry_http.specs.Replies.{AppendsPart};
@@ -104,6 +105,7 @@ impl Clerk {
         ensures stands_open { IsTrue D.tells → StandsOpen self.new (D.reads disk.new) (D.images disk.new) }
         ensures none_turn { IsTrue D.tells → working self.old ≡ None → StandsForNone (D.reads disk.old) → (held all : Held) (requests : List RequestParts) (end : AtFront) → held ≡ all
             → IsTurn (TakesNone D.faults) disk.old disk.new held (L.written link.old) (L.written link.new) (request.now ∷ requests) end (λ h. h ≡ all) (λ h others. (h ≡ all) × (others ≡ requests)) result }
+        ensures made { IsTrue D.tells → IsMade the_heading (D.reads disk.old) → IsMade the_heading (D.reads disk.new) }
         ensures no_book { IsTrue D.tells → working self.old ≡ None → StandsForNone (D.reads disk.old) → OpensNone D.reads D.images D.moment D.since disk.old disk.new self.new }
         ensures told { IsSome (L.written link.old) → IsSome (L.written link.new) }
         ensures left { L.left link.new ≡ L.left link.old }
@@ -144,6 +146,7 @@ impl Clerk {
         ensures none_turn { IsTrue D.tells → working self.old ≡ None → StandsForNone (D.reads disk.old) → (held all : Held) (requests : List RequestParts) (end : AtFront)
             → Meets (λ h. h ≡ all) (L.left link.old) rest.old.items end held requests
             → IsTurn (TakesNone D.faults) disk.old disk.new held (L.written link.old) (L.written link.new) requests end (λ h. h ≡ all) (λ h others. Meets (λ k. k ≡ all) (L.left link.new) rest.new.items end h others) result }
+        ensures made { IsTrue D.tells → IsMade the_heading (D.reads disk.old) → IsMade the_heading (D.reads disk.new) }
         ensures no_book { IsTrue D.tells → working self.old ≡ None → StandsForNone (D.reads disk.old) → OpensNone D.reads D.images D.moment D.since disk.old disk.new self.new }
         ensures told { IsSome (L.written link.old) → IsSome (L.written link.new) }
         ensures cause { Counts (L.faults link.old) (L.faults link.new) (is_cut_off result) }
@@ -184,6 +187,7 @@ impl Clerk {
         ensures serves_none { IsTrue D.tells → working self.old ≡ None → StandsForNone (D.reads disk.old) → (held : Held) (input : List ℕ) (requests : List RequestParts) (end : AtFront)
             → L.left link.old ≡ Some input → AreRequests input requests end
             → ServesLink (TakesNone D.faults) disk.old disk.new held (L.written link.old) (L.written link.new) (turns left requests end) result (λ h. h ≡ held) }
+        ensures made { IsTrue D.tells → IsMade the_heading (D.reads disk.old) → IsMade the_heading (D.reads disk.new) }
         ensures no_book { IsTrue D.tells → working self.old ≡ None → StandsForNone (D.reads disk.old) → OpensNone D.reads D.images D.moment D.since disk.old disk.new self.new }
         ensures few { result.replies ≤ left }
         ensures told { IsSome (L.written link.old) → IsSome (L.written link.new) }

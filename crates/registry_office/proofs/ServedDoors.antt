@@ -1,14 +1,14 @@
 -- What serving the office comes to: an opening, and then a door that was served; or no book was opened.
-use Rattle.std.proofs.Common.{◌≡◌, ◌⊎◌, ◌+◌, inl, inr, ⊎_elim, ℕ, ◌≤◌, Bool, false, List, [], ◌++◌, Option, Some, None, Err, IfSome, refl, sym, ap, subst, arith, append-nil}
+use Rattle.std.proofs.Common.{◌≡◌, ◌⊎◌, ◌+◌, inl, inr, ⊎_elim, ℕ, ◌≤◌, Bool, false, List, [], ◌++◌, Option, Some, None, Err, IfSome, IsSome, refl, sym, ap, subst, arith, append-nil}
 use Rattle.gb_base.specs.DayMinute.{DayMinute}
 use Rattle.gb_outside.specs.Faults.{Counts, Rose}
 use Rattle.gb_outside.specs.Images.{LeavesOnly, Torn}
 use Rattle.gb_outside.proofs.Moments.{followed, weakened}
-use Rattle.journal_disk.specs.Layout.{the_heading, first_gate, IsUnmade, made_from}
+use Rattle.journal_disk.specs.Layout.{the_heading, first_gate, IsMade, IsUnmade, made_from}
 use Rattle.journal_disk.specs.Opening.{AnswersSynced, IsKept, SyncsFirst}
 use Rattle.receipt_journal.specs.BookState.{BookState}
 use Rattle.receipt_journal.specs.Opening.{book_opening_disk_failed}
-use Rattle.receipt_journal.specs.Standing.{StandsForJournal}
+use Rattle.receipt_journal.specs.Standing.{Stands, StandsForJournal, records}
 use Rattle.receipt_journal.specs.declared.faults.BookFault.{BookFault}
 use Rattle.receipt_journal.specs.declared.faults.BookFault.TheVariants as fault
 use Rattle.intake.specs.Requests.{Held}
@@ -16,7 +16,7 @@ use Rattle.intake.proofs.Replies.{grown_at}
 use Rattle.settled_book.specs.SettledBookState.{SettledBookState}
 use Rattle.connections.specs.Answering.{LeavesOldThen}
 use Rattle.connections.specs.Doors.{LinkRequests, ServesDoor}
-use Rattle.connections.specs.Holding.{Holds}
+use Rattle.connections.specs.Holding.{Holds, StandsOpen, working}
 use Rattle.connections.specs.Served.{IsLeftIn}
 use Rattle.connections.specs.Serving.{ServesLink}
 use Rattle.connections.specs.Turns.{Turn, Taken}
@@ -27,7 +27,7 @@ use Rattle.registry_office.specs.Disks.{LeavesSynced}
 use Rattle.registry_office.specs.Servings.{IsHeld, ServesOffice}
 use Rattle.registry_office.specs.declared.statuses.Status.{Status}
 use Rattle.registry_office.specs.inner.Ends.{status_of_door, status_of_fault}
-use Rattle.registry_office.proofs.Opened.{kept_journal}
+use Rattle.registry_office.proofs.Opened.{kept_journal, made_of_journal}
 
 -- a file that stands for the journal that is held is left ahead of all turns
 left_ahead : (held : Held) (taken : List Taken) (file : List ℕ) → StandsForJournal file held.journal → IsLeftIn held taken file
@@ -41,6 +41,14 @@ rose_on before mid now first never = subst (λ n. Rose n now → ⊥) (sym (firs
 none_told : (served : Option (List (List ℕ × ℕ))) → IfSome served (λ before. served ≡ Some (before ++ []))
 none_told None = tt
 none_told (Some before) = ap (λ (l : List (List ℕ × ℕ)). Some l) (sym (append-nil before))
+
+-- where a book is open that works, its file is made
+pub made_open : (at_hand : Option SettledBookState) (reads : List ℕ) (images : List ℕ → Type 0) → IsSome (working at_hand) → StandsOpen at_hand reads images → IsMade the_heading reads
+made_open at_hand reads images some stands = by (working at_hand) some stands
+  where
+    by : (book : Option SettledBookState) → IsSome book → IfSome book (λ settled. Stands settled.book reads images) → IsMade the_heading reads
+    by None some stands = absurd cc
+    by (Some settled) some stands = made_of_journal (records settled.book.journal) reads stands.journal
 
 module _ {D : Type 0} (reads : D → List ℕ) (images : D → List ℕ → Type 0) (moment : D → ℕ) (since : D → ℕ → List ℕ → Type 0) (faults : D → ℕ) where
   -- what might be left before is of the kind that is left then

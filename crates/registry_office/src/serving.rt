@@ -4,6 +4,7 @@ ghost use Rattle.std.specs.Prelude.{◌≡◌, ◌≤◌, ℕ, List, Some, IsSom
 ghost use Rattle.std.specs.List.{AllZip};
 ghost use Rattle.gb_outside.specs.Faults.{Counts, Rose};
 ghost use Rattle.gb_outside.specs.Images.{LeavesOnly};
+ghost use Rattle.journal_disk.specs.Layout.{the_heading, IsMade};
 ghost use Rattle.journal_disk.specs.Opening.{AnswersSynced, IsKept};
 ghost use Rattle.receipt_journal.specs.Standing.{StandsForJournal};
 ghost use Rattle.intake.specs.Requests.{Held};
@@ -16,7 +17,7 @@ ghost use Rattle.connections.specs.Serving.{ServesLink, TakesNone, TakesTurns, i
 ghost use Rattle.connections.specs.Turns.{turns};
 ghost use Rattle.registry_office.specs.Disks.{FindsBy, IsJournalFile};
 ghost use Rattle.registry_office.specs.Servings.{IsHeld, ServesOffice};
-ghost use Rattle.registry_office.specs.Statuses.{read_fault, write_fault, disk_fault, door_fault, is_no_journal};
+ghost use Rattle.registry_office.specs.Statuses.{read_fault, write_fault, disk_fault, door_fault, is_no_journal, tells_of_opening};
 ghost use Rattle.registry_office.specs.inner.Ends.{status_of_door};
 
 use crate::statuses::{Status, status_of_opening};
@@ -80,6 +81,7 @@ pub(crate) fn serve<
 
     // What the file stood for; where it stood for no journal, nothing else is touched, and it stays.
     ensures found { IsTrue D.tells → FindsBy (D.reads disk.old) result }
+    ensures made { IsTrue D.tells → tells_of_opening result ≡ true → IsMade the_heading (D.reads disk.new) }
     ensures kept { IsTrue D.tells → (IsJournalFile (D.reads disk.old) → ⊥) → IsKept (D.reads disk.old) (D.reads disk.new) }
     ensures kept_any_moment { IsTrue D.tells → (IsJournalFile (D.reads disk.old) → ⊥)
         → AnswersSynced D.reads D.images D.moment D.since disk.old disk.new (disk_fault result) }

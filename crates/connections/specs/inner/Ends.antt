@@ -2,6 +2,7 @@
 use Rattle.std.specs.Prelude.{◌≡◌, ℕ, ◌==◌, Bool, true, false, List, Option, None, IsSome, IsTrue}
 use Rattle.gb_base.specs.DayMinute.{DayMinute}
 use Rattle.gb_outside.specs.Faults.{Counts}
+use Rattle.journal_disk.specs.Layout.{the_heading, IsMade}
 use Rattle.intake.specs.Grown.{GrownFrom}
 use Rattle.intake.specs.Requests.{Held}
 use Rattle.settled_book.specs.SettledBookState.{SettledBookState}
@@ -31,4 +32,5 @@ pub record Serves {D : Type 0} (tells : Bool) (reads : D → List ℕ) (images :
   pub had_none : reply.status ≡ 500 → working book_old ≡ None
   pub status : is_reply_status reply.status ≡ true
   pub not_opened : IsTrue tells → working book_old ≡ None → StandsForNone (reads old) → tells_of_journal reply ≡ false
+  pub made : IsTrue tells → IsMade the_heading (reads old) → IsMade the_heading (reads new)
   pub no_book : IsTrue tells → working book_old ≡ None → StandsForNone (reads old) → OpensNone reads images moment since old new book_new

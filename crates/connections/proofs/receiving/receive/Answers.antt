@@ -1,5 +1,6 @@
 use Rattle.std.proofs.Common.{◌∙◌, ◌||◌, ap, refl}
 use Rattle.receipt_journal.specs.Receiving.{receiving_disk_failed}
+use Rattle.connections.proofs.MadeFiles.{behind_first, made_torn}
 use Rattle.connections.proofs.ReceivedItems.{receives}
 use Rattle.connections.proofs.receiving.receive.Goals as goal
 
@@ -10,3 +11,7 @@ returns-clause-receives g c = λ tells held clock on.
     c.receive.ensures.untouched c.args.book.now.book.log.gate _ (c.receive.ensures.torn tells) (λ sound. c.receive.ensures.stands tells (c.receive.ensures.failed ∙ ap (λ b. b || receiving_disk_failed c.receive.result) c.requires.works ∙ sound))
     c.args.book.now held (g.C.Clock.ticks c.args.clock.now) (g.C.Clock.ticks c.now-stamp.new.self) clock c.now-stamp.ensures on refl refl (c.receive.ensures.answer c.requires.works) c.receive.ensures.journal
     (c.receive.ensures.any_moment tells c.requires.works)
+
+pub returns-clause-made : goal.returns-clause-made
+returns-clause-made g c = λ tells was.
+    made_torn (g.D.Disk.reads c.args.disk.now) (g.D.Disk.reads c.receive.new.disk) c.args.book.now.book.log.gate _ (behind_first _ c.args.book.now.book.log.gate (c.requires.stands tells).ends) (c.receive.ensures.torn tells) was

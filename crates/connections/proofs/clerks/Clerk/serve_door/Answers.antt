@@ -11,6 +11,7 @@ pub loop-left-init : goal.loop-left-init
 loop-left-init g c = record {
   few = omega arith;
   stands_open = c.requires;
+  made = λ tells was. was;
   no_book = λ tells was none.
       none_still g.D.Disk.reads g.D.Disk.images g.D.Disk.moment g.D.Disk.since c.args.disk.now c.args.self.now (λ file since. g.met.D.Disk.only_now c.args.disk.now file tells since) was;
   handed_back = λ told. (told, refl);
@@ -25,6 +26,7 @@ pub loop-left-preserved : goal.loop-left-preserved
 loop-left-preserved g c = record {
   few = omega (arith, c.if-links-most.true);
   stands_open = c.serve_first.ensures.stands_open;
+  made = λ tells was. c.serve_first.ensures.made tells (c.loop-left.invariant.made tells was);
   no_book = λ tells was none.
       none_then g.D.Disk.reads g.D.Disk.images g.D.Disk.moment g.D.Disk.since c.args.disk.now c.loop-left.disk c.serve_first.new.disk c.loop-left.self c.serve_first.new.self
       (λ t file le image. g.met.D.Disk.counts_now c.loop-left.disk t file tells le image) none (c.loop-left.invariant.no_book tells was none) (c.serve_first.ensures.no_book tells);

@@ -14,6 +14,7 @@ pub loop-replies-init : goal.loop-replies-init
 loop-replies-init g c = record {
   few = omega arith;
   stands_open = c.requires;
+  made = λ tells was. was;
   no_book = λ tells was none.
       none_still g.D.Disk.reads g.D.Disk.images g.D.Disk.moment g.D.Disk.since c.args.disk.now c.args.self.now (λ file since. g.met.D.Disk.only_now c.args.disk.now file tells since) was;
   told = λ told. told;
@@ -32,6 +33,7 @@ pub loop-replies-preserved : goal.loop-replies-preserved
 loop-replies-preserved g c = record {
   few = omega (arith, c.loop-replies-test.true);
   stands_open = c.serve_next.ensures.stands_open;
+  made = λ tells was. c.serve_next.ensures.made tells (c.loop-replies.invariant.made tells was);
   no_book = λ tells was none.
       none_then g.D.Disk.reads g.D.Disk.images g.D.Disk.moment g.D.Disk.since c.args.disk.now c.loop-replies.disk c.serve_next.new.disk c.loop-replies.self c.serve_next.new.self
       (λ t file le image. g.met.D.Disk.counts_now c.loop-replies.disk t file tells le image) none (c.loop-replies.invariant.no_book tells was none) (c.serve_next.ensures.no_book tells);

@@ -1,4 +1,5 @@
 use Rattle.std.proofs.Common.{◌≡◌, ℕ, ◌-◌, ◌≤◌, List, None, Some, IsSome, IsTrue}
+use Rattle.journal_disk.specs.Layout.{the_heading, IsMade}
 use Rattle.intake.specs.Requests.{Held}
 use Rattle.registry_http.specs.RequestLists.{AreRequests}
 use Rattle.registry_http.specs.RequestParts.{RequestParts}
@@ -18,6 +19,7 @@ abbrev pub invariant-loop-replies : goal.invariant-loop-replies
 invariant-loop-replies g l = record {
   few : l.replies ≤ l.left;
   stands_open : IsTrue g.D.Disk.tells → StandsOpen l.self (g.D.Disk.reads l.disk) (g.D.Disk.images l.disk);
+  made : IsTrue g.D.Disk.tells → IsMade the_heading (g.D.Disk.reads l.fn.disk) → IsMade the_heading (g.D.Disk.reads l.disk);
   no_book : IsTrue g.D.Disk.tells → working l.fn.self ≡ None → StandsForNone (g.D.Disk.reads l.fn.disk) → OpensNone g.D.Disk.reads g.D.Disk.images g.D.Disk.moment g.D.Disk.since l.fn.disk l.disk l.self;
   told : IsSome (g.L.Link.written l.fn.link) → IsSome (g.L.Link.written l.link);
   quiet : g.L.Link.faults l.link ≡ g.L.Link.faults l.fn.link;
