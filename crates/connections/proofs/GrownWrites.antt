@@ -2,7 +2,7 @@
 use Rattle.std.proofs.Common.{◌≡◌, ℕ, ◌+◌, ◌-◌, Bool, true, false, cond, List, [], ◌∷◌, ◌++◌, length, refl, sym, ◌∙◌, ap, subst, arith, length-append}
 use Rattle.gb_outside.specs.Images.{Torn}
 use Rattle.act_model.specs.declared.receipts.Receipt.{Receipt}
-use Rattle.journal_disk.specs.Layout.{the_heading, first_gate, IsUnmade}
+use Rattle.journal_disk.specs.Layout.{the_heading, first_gate}
 use Rattle.journal_disk.specs.Opening.{IsKept}
 use Rattle.journal_disk.proofs.Torn.{torn_nothing, torn_then, torn_within}
 use Rattle.receipt_journal.specs.Standing.{gate_behind}

@@ -1,5 +1,5 @@
 -- A made file stays made, whatever is written behind its heading.
-use Rattle.std.proofs.Common.{◌≡◌, ℕ, ◌+◌, ◌-◌, ◌<◌, ◌≤◌, List, [], ◌∷◌, ◌++◌, length, take, drop, refl, sym, ◌∙◌, ap, subst, arith, length-append, length-drop, take-append-drop, take-take, take_at}
+use Rattle.std.proofs.Common.{◌≡◌, ℕ, ◌<◌, ◌≤◌, List, [], ◌∷◌, ◌++◌, length, take, drop, refl, sym, ◌∙◌, ap, subst, arith, length-append, length-drop, take-append-drop, take-take, take_at}
 use Rattle.gb_outside.specs.Images.{Torn}
 use Rattle.journal_disk.specs.Layout.{the_heading, end_of, first_gate, IsMade, IsUnmade}
 use Rattle.journal_disk.specs.Opening.{IsKept}
