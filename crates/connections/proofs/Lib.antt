@@ -18,6 +18,7 @@ pub mod LinksTaken
 pub mod MadeFiles
 pub mod NoBook
 pub mod NoneTaken
+pub mod OrderedTurns
 pub mod ReceivedItems
 pub mod SettledClerks
 pub mod TakenBooks

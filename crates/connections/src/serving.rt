@@ -11,11 +11,12 @@ ghost use Rattle.registry_http.specs.RequestParts.{RequestParts};
 ghost use Rattle.registry_http.specs.Requests.{AtFront};
 ghost use Rattle.connections.specs.Answering.{OpensNone};
 ghost use Rattle.connections.specs.Holding.{Holds, StandsForNone, StandsOpen, working};
+ghost use Rattle.connections.specs.LinkOrder.{ServesInOrder};
 ghost use Rattle.connections.specs.Replies.{bytes_of};
 ghost use Rattle.connections.specs.Serving.{ServesLink, TakesNone, TakesTurns, is_link_fault};
 ghost use Rattle.connections.specs.Turns.{turns};
 ghost use Rattle.connections.specs.declared.serving.Ended.TheVariants.{Finished, Memory};
-ghost use Rattle.connections.specs.inner.Rounds.{EndsWith, IsTurn, Meets, answering_ended, is_cut_off, sending_failed};
+ghost use Rattle.connections.specs.inner.Rounds.{EndsWith, IsTurn, Meets, TurnsNext, WritesReply, answering_ended, is_cut_off, sending_failed};
 
 use crate::Clerk;
 use crate::replies::Reply;
@@ -72,6 +73,7 @@ fn send<L: Link>(alloc: Global, link: &mut L, reply: &Reply) -> Result<(), Ended
 fn close<L: Link>(alloc: Global, link: &mut L, reply: Reply) -> Served
     ensures ends { EndsWith (L.written link.old) (L.written link.new) reply result }
     ensures few { result.replies ≤ 1 }
+    ensures left { L.left link.new ≡ L.left link.old }
     ensures told { IsSome (L.written link.old) → IsSome (L.written link.new) }
     ensures cause { Counts (L.faults link.old) (L.faults link.new) (is_link_fault result.ended) }
 {
@@ -108,6 +110,7 @@ impl Clerk {
         ensures made { IsTrue D.tells → IsMade the_heading (D.reads disk.old) → IsMade the_heading (D.reads disk.new) }
         ensures no_book { IsTrue D.tells → working self.old ≡ None → StandsForNone (D.reads disk.old) → OpensNone D.reads D.images D.moment D.since disk.old disk.new self.new }
         ensures told { IsSome (L.written link.old) → IsSome (L.written link.new) }
+        ensures replied { WritesReply (L.written link.old) (L.written link.new) result }
         ensures left { L.left link.new ≡ L.left link.old }
         ensures cause { Counts (L.faults link.old) (L.faults link.new) (is_cut_off result) }
     {
@@ -148,6 +151,7 @@ impl Clerk {
             → IsTurn (TakesNone D.faults) disk.old disk.new held (L.written link.old) (L.written link.new) requests end (λ h. h ≡ all) (λ h others. Meets (λ k. k ≡ all) (L.left link.new) rest.new.items end h others) result }
         ensures made { IsTrue D.tells → IsMade the_heading (D.reads disk.old) → IsMade the_heading (D.reads disk.new) }
         ensures no_book { IsTrue D.tells → working self.old ≡ None → StandsForNone (D.reads disk.old) → OpensNone D.reads D.images D.moment D.since disk.old disk.new self.new }
+        ensures order { TurnsNext L.left L.written link.old rest.old.items link.new rest.new.items result }
         ensures told { IsSome (L.written link.old) → IsSome (L.written link.new) }
         ensures cause { Counts (L.faults link.old) (L.faults link.new) (is_cut_off result) }
     {
@@ -190,6 +194,7 @@ impl Clerk {
         ensures made { IsTrue D.tells → IsMade the_heading (D.reads disk.old) → IsMade the_heading (D.reads disk.new) }
         ensures no_book { IsTrue D.tells → working self.old ≡ None → StandsForNone (D.reads disk.old) → OpensNone D.reads D.images D.moment D.since disk.old disk.new self.new }
         ensures few { result.replies ≤ left }
+        ensures order { ServesInOrder L.left L.written link.old link.new result }
         ensures told { IsSome (L.written link.old) → IsSome (L.written link.new) }
         ensures cause { Counts (L.faults link.old) (L.faults link.new) (is_link_fault result.ended) }
     {

@@ -13,6 +13,7 @@ ghost use Rattle.registry_http.specs.RequestParts.{RequestParts};
 ghost use Rattle.registry_http.specs.Requests.{AtFront};
 ghost use Rattle.connections.specs.Doors.{AskSo, LinkRequests};
 ghost use Rattle.connections.specs.Holding.{StandsForNone};
+ghost use Rattle.connections.specs.LinkOrder.{ServesInOrder};
 ghost use Rattle.connections.specs.Serving.{ServesLink, TakesNone, TakesTurns, is_link_fault};
 ghost use Rattle.connections.specs.Turns.{turns};
 ghost use Rattle.registry_office.specs.Disks.{FindsBy, IsJournalFile};
@@ -49,6 +50,7 @@ pub fn serve_connection<R: AllocGlobal, L: Link, D: Disk, C: Clock, G: DeskGate>
         → ServesLink (TakesNone D.faults) disk.old disk.new held (L.written link.old) (L.written link.new) (turns left requests end) result (λ h. h ≡ held) }
     ensures kept { IsTrue D.tells → StandsForNone (D.reads disk.old) → (D.reads disk.new ≡ D.reads disk.old) × LeavesOnly D.moment D.since disk.old disk.new (D.images disk.old) }
     ensures few { result.replies ≤ left }
+    ensures order { ServesInOrder L.left L.written link.old link.new result }
     ensures cause { Counts (L.faults link.old) (L.faults link.new) (is_link_fault result.ended) }
 {
     let mut clerk = Clerk::new();

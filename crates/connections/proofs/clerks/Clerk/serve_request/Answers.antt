@@ -6,6 +6,8 @@ use Rattle.connections.specs.Serving.{TakesNone, TakesTurns}
 use Rattle.connections.proofs.LinkEnds.{request_ends, request_goes_on}
 use Rattle.connections.proofs.NoneTaken.{turn_none}
 use Rattle.connections.proofs.TakenTurns.{turn_taken}
+use Rattle.intake.proofs.Replies.{whole_front}
+use Rattle.connections.proofs.OrderedTurns.{part_front}
 use Rattle.connections.proofs.ToldLinks.{still_told}
 use Rattle.connections.proofs.clerks.Clerk.serve_request.Goals as goal
 
@@ -79,3 +81,14 @@ returns-then-is_last-clause-told g c = λ told. still_told (g.L.Link.written c.a
 
 pub returns-clause-told : goal.returns-clause-told
 returns-clause-told g c = λ told. still_told (g.L.Link.written c.args.link.now) (g.L.Link.written c.send.new.link) (bytes_of (c.answer_request-reply.result ∷ [])) c.in_default.ensures.whole told
+
+-- ---- what was written
+
+pub returns-in-Err-clause-replied : goal.returns-in-Err-clause-replied
+returns-in-Err-clause-replied g c = record { reply = c.answer_request-reply.result; whole = λ none. absurd cc; part = part_front (g.L.Link.written c.args.link.now) (g.L.Link.written c.send.new.link) (bytes_of (c.answer_request-reply.result ∷ [])) c.in-Err.ensures.part }
+
+pub returns-then-is_last-clause-replied : goal.returns-then-is_last-clause-replied
+returns-then-is_last-clause-replied g c = record { reply = c.answer_request-reply.result; whole = λ none. absurd cc; part = whole_front (g.L.Link.written c.args.link.now) (g.L.Link.written c.send.new.link) (bytes_of (c.answer_request-reply.result ∷ [])) c.in_default.ensures.whole }
+
+pub returns-clause-replied : goal.returns-clause-replied
+returns-clause-replied g c = record { reply = c.answer_request-reply.result; whole = λ none. c.in_default.ensures.whole; part = whole_front (g.L.Link.written c.args.link.now) (g.L.Link.written c.send.new.link) (bytes_of (c.answer_request-reply.result ∷ [])) c.in_default.ensures.whole }
