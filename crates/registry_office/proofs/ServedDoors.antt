@@ -1,5 +1,5 @@
 -- What serving the office comes to: an opening, and then a door that was served; or no book was opened.
-use Rattle.std.proofs.Common.{◌≡◌, ◌⊎◌, ◌+◌, inl, inr, ⊎_elim, ℕ, ◌≤◌, Bool, false, List, [], ◌++◌, Option, Some, None, Err, IfSome, IsSome, refl, sym, ap, subst, arith, append-nil}
+use Rattle.std.proofs.Common.{◌≡◌, ◌+◌, inl, inr, ⊎_elim, ℕ, ◌≤◌, false, List, [], ◌++◌, Option, Some, None, Err, IfSome, IsSome, refl, sym, ap, subst, arith, append-nil}
 use Rattle.gb_base.specs.DayMinute.{DayMinute}
 use Rattle.gb_outside.specs.Faults.{Counts, Rose}
 use Rattle.gb_outside.specs.Images.{LeavesOnly, Torn}
