@@ -36,7 +36,7 @@ module _ {D : Type 0} (reads : D → List ℕ) (images : D → List ℕ → Type
 
   pub answers : (request : RequestParts) (held : Held) (reply : ReplyParts) (at_hand : Option SettledBookState) (known : Option (List DayMinute)) (asked : Asked) → Asks request asked → (may_call_disk asked request.body ≡ false → (new ≡ old) × ((reply.status == 503) ≡ false))
       → StandsForJournal (reads old) held.journal → ends.EndsBy reads images moment since old new held (answer held request.body asked) reply at_hand known
-      → AnswersRequest images moment since old new request held reply (λ h. Holds at_hand (reads new) (images new) known h)
+      → AnswersRequest reads images moment since old new request held reply (λ h. Holds at_hand (reads new) (images new) known h)
   answers request held reply at_hand known asked asks uncalled stands end = record {
     asked = asked;
     fate = end.fate;
@@ -46,6 +46,7 @@ module _ {D : Type 0} (reads : D → List ℕ) (images : D → List ℕ → Type
     uncalled = λ none. (uncalled none).0;
     unfailed = λ none. sym (disk_by_reply held request.body asked end.fate) ∙ sym (ap (λ (r : ReplyParts). r.status == 503) end.reply_is) ∙ (uncalled none).1;
     left = end.left;
+    written = end.written;
     kept = λ front all file now.
         ⊎_elim (λ before. all file before)
         (λ grown. begins_by front held.journal (answer held request.body asked).held.journal file (front_held front held.journal stands all) grown)

@@ -42,7 +42,7 @@ module _ {D : Type 0} (reads : D → List ℕ) (images : D → List ℕ → Type
       → ends.EndsBy reads images moment since old new held wanted reply at_hand known
   ends_unopened wanted f reply at_hand is empty finds front =
       subst (λ (o : Option SettledBookState). ends.EndsBy reads images moment since old new held wanted reply o known) (sym empty)
-      (ends_failed reads images moment since old new held wanted (failure_of f) reply None known is (record { file = finds.file; clock = clock; book = tt }) finds.left front)
+      (ends_failed reads images moment since old new held wanted (failure_of f) reply None known is (record { file = finds.file; clock = clock; book = tt }) finds.left finds.written front)
 
   pub ends_read : {V E : Type 0} (items : V → List ℕ) (route : Route) (before settled : SettledBookState) (text : Result (Option V) E) (reply : ReplyParts) → images new (reads new)
       → Finds reads images moment since old new held.journal (Ok before) → before.book.log.failed ≡ false → settled.book ≡ before.book
@@ -53,9 +53,9 @@ module _ {D : Type 0} (reads : D → List ℕ) (images : D → List ℕ → Type
       let on = same_book settled before (reads new) (images new) held.journal same finds.there in
       let is : reply ≡ read_reply held.journal route = replied ∙ ap text_reply read ∙ ap (λ (j : List Receipt). read_reply j route) finds.there.journal_is in
       subst (λ r. ends.EndsBy reads images moment since old new held (only held r) reply (Some settled) known) is
-      (ends_only reads images moment since old new held reply (Some settled) known (holds_open settled (reads new) (images new) known held image clock on) finds.left
+      (ends_only reads images moment since old new held reply (Some settled) known (holds_open settled (reads new) (images new) known held image clock on) finds.left finds.written
       (λ tells. some_works settled (ap (λ (b : BookState). b.log.failed) same ∙ works)))
   ends_read items route before settled (Err e) reply image finds works same read replied fault =
       let on = same_book settled before (reads new) (images new) held.journal same finds.there in
       ends_failed reads images moment since old new held (only held (read_reply held.journal route)) OutOfMemory reply (Some settled) known fault
-      (holds_open settled (reads new) (images new) known held image clock on) finds.left (front_refl held.journal)
+      (holds_open settled (reads new) (images new) known held image clock on) finds.left finds.written (front_refl held.journal)

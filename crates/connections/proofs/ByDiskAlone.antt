@@ -3,6 +3,7 @@ use Rattle.std.proofs.Common.{◌≡◌, inl, inr, ℕ, ◌==◌, Bool, true, fa
 use Rattle.std.proofs.lemmas.Bool.{or_parts}
 use Rattle.gb_outside.specs.Faults.{Counts}
 use Rattle.act_model.specs.declared.receipts.Receipt.{Receipt}
+use Rattle.journal_disk.specs.Layout.{the_heading, IsMade}
 use Rattle.intake.specs.Requests.{is_fault}
 use Rattle.receipt_journal.specs.Opening.{BookRefuses, book_opening_disk_failed}
 use Rattle.receipt_journal.specs.Receiving.{is_received, receiving_disk_failed}
@@ -44,28 +45,32 @@ module _ {D : Type 0} (tells : Bool) (reads : D → List ℕ) (images : D → Li
   abbrev FindsNone : Option SettledBookState → Type 0
   FindsNone behind = IsTrue tells → working book ≡ None → StandsForNone (reads old) → OpensNone reads images moment since old new behind
 
-  unopened_by : (f : BookFault) → FindsNone None → (IsTrue tells → BookRefuses (reads old) f) → working book ≡ None → Counts (faults old) (faults new) (book_opening_disk_failed {A = SettledBookState} (Err f)) → Answers None (opening_reply f)
-  unopened_by fault.Disk finds refuses none counts = record { stands_open = λ told. tt; disk = counts; no_journal = λ told is. never_true (503 == 500) _ refl (eq-eqb 503 500 is); had_none = λ is. none; status = refl; not_opened = λ told was no_file. refl; no_book = finds; kept_open = λ some sound. none_open (working book) _ none some }
-  unopened_by fault.NotJournal finds refuses none counts = record { stands_open = λ told. tt; disk = counts; no_journal = λ told is. inl (refuses told); had_none = λ is. none; status = refl; not_opened = λ told was no_file. refl; no_book = finds; kept_open = λ some sound. none_open (working book) _ none some }
-  unopened_by (fault.BadRecord at) finds refuses none counts = record { stands_open = λ told. tt; disk = counts; no_journal = λ told is. inr (at, refuses told); had_none = λ is. none; status = refl; not_opened = λ told was no_file. refl; no_book = finds; kept_open = λ some sound. none_open (working book) _ none some }
-  unopened_by fault.Memory finds refuses none counts = record { stands_open = λ told. tt; disk = counts; no_journal = λ told is. never_true (507 == 500) _ refl (eq-eqb 507 500 is); had_none = λ is. none; status = refl; not_opened = λ told was no_file. refl; no_book = finds; kept_open = λ some sound. none_open (working book) _ none some }
+  abbrev KeepsMade : Type 0
+  KeepsMade = IsTrue tells → IsMade the_heading (reads old) → IsMade the_heading (reads new)
 
-  pub unopened : (reply : ReplyParts) (behind : Option SettledBookState) (f : BookFault) → reply ≡ opening_reply f → behind ≡ None → FindsNone behind → (IsTrue tells → BookRefuses (reads old) f) → working book ≡ None
+  unopened_by : (f : BookFault) → FindsNone None → KeepsMade → (IsTrue tells → BookRefuses (reads old) f) → working book ≡ None → Counts (faults old) (faults new) (book_opening_disk_failed {A = SettledBookState} (Err f)) → Answers None (opening_reply f)
+  unopened_by fault.Disk finds makes refuses none counts = record { stands_open = λ told. tt; disk = counts; no_journal = λ told is. never_true (503 == 500) _ refl (eq-eqb 503 500 is); had_none = λ is. none; status = refl; not_opened = λ told was no_file. refl; made = makes; no_book = finds; kept_open = λ some sound. none_open (working book) _ none some }
+  unopened_by fault.NotJournal finds makes refuses none counts = record { stands_open = λ told. tt; disk = counts; no_journal = λ told is. inl (refuses told); had_none = λ is. none; status = refl; not_opened = λ told was no_file. refl; made = makes; no_book = finds; kept_open = λ some sound. none_open (working book) _ none some }
+  unopened_by (fault.BadRecord at) finds makes refuses none counts = record { stands_open = λ told. tt; disk = counts; no_journal = λ told is. inr (at, refuses told); had_none = λ is. none; status = refl; not_opened = λ told was no_file. refl; made = makes; no_book = finds; kept_open = λ some sound. none_open (working book) _ none some }
+  unopened_by fault.Memory finds makes refuses none counts = record { stands_open = λ told. tt; disk = counts; no_journal = λ told is. never_true (507 == 500) _ refl (eq-eqb 507 500 is); had_none = λ is. none; status = refl; not_opened = λ told was no_file. refl; made = makes; no_book = finds; kept_open = λ some sound. none_open (working book) _ none some }
+
+  pub unopened : (reply : ReplyParts) (behind : Option SettledBookState) (f : BookFault) → reply ≡ opening_reply f → behind ≡ None → FindsNone behind → KeepsMade → (IsTrue tells → BookRefuses (reads old) f) → working book ≡ None
       → Counts (faults old) (faults new) (book_opening_disk_failed {A = SettledBookState} (Err f)) → Answers behind reply
-  unopened reply behind f is empty finds refuses none counts =
+  unopened reply behind f is empty finds makes refuses none counts =
       subst (λ r. Answers behind r) (sym is)
-      (subst (λ (o : Option SettledBookState). Answers o (opening_reply f)) (sym empty) (unopened_by f (subst (λ (o : Option SettledBookState). FindsNone o) empty finds) refuses none counts))
+      (subst (λ (o : Option SettledBookState). Answers o (opening_reply f)) (sym empty) (unopened_by f (subst (λ (o : Option SettledBookState). FindsNone o) empty finds) makes refuses none counts))
 
   -- a book was taken
   pub opened : (reply : ReplyParts) (settled : SettledBookState) → ((reply.status == 503) ≡ false → IsSome (working (Some settled))) → (IsTrue tells → StandsOpen (Some settled) (reads new) (images new)) → Counts (faults old) (faults new) (reply.status == 503) → (reply.status == 500) ≡ false
-      → is_reply_status reply.status ≡ true → (IsTrue tells → working book ≡ None → (journal : List Receipt) × StandsForJournal (reads old) journal) → Answers (Some settled) reply
-  opened reply settled works stands counts other known journal = record {
+      → is_reply_status reply.status ≡ true → KeepsMade → (IsTrue tells → working book ≡ None → (journal : List Receipt) × StandsForJournal (reads old) journal) → Answers (Some settled) reply
+  opened reply settled works stands counts other known makes journal = record {
     stands_open = stands;
     disk = counts;
     no_journal = λ told is. never_true (reply.status == 500) _ other (eq-eqb reply.status 500 is);
     had_none = λ is. never_true (reply.status == 500) _ other (eq-eqb reply.status 500 is);
     status = known;
     kept_open = λ some sound. works sound;
+    made = makes;
     not_opened = λ told was no_file. let found = journal told was in absurd (no_file found.0 found.1);
     no_book = λ told was no_file. let found = journal told was in absurd (no_file found.0 found.1);
   }
@@ -114,6 +119,7 @@ still tells reads images moment since faults disk at_hand reply only_now stands 
   status = apart.known;
   not_opened = λ told was no_file. apart.silent;
   kept_open = λ some sound. some;
+  made = λ told was. was;
   no_book = λ told was no_file. none_still reads images moment since disk at_hand (only_now told) was;
 }
 

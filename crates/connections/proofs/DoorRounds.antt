@@ -41,12 +41,12 @@ memory_is ended.Finished n is = absurd cc
 memory_is ended.LinkFault n is = absurd cc
 memory_is ended.Memory n is = refl
 
-module _ {D : Type 0} (images : D → List ℕ → Type 0) (moment : D → ℕ) (since : D → ℕ → List ℕ → Type 0) (faults : D → ℕ) where
+module _ {D : Type 0} (reads : D → List ℕ) (images : D → List ℕ → Type 0) (moment : D → ℕ) (since : D → ℕ → List ℕ → Type 0) (faults : D → ℕ) where
   -- ---- one round
 
   pub round_of_link : (old new : D) (held : Held) (left : ℕ) (waiting : List (List ℕ)) (asked : List LinkRequests) (waiting_new : Option (List (List ℕ))) (served_old served_new : Option Pairs)
-      (HoldsNow : Held → Type 0) (served : Served) (result : Result ℕ DoorEnd) → OneServed images moment since faults old new held left waiting asked waiting_new served_old served_new HoldsNow served
-      → result ≡ behind_link served → IsRound images moment since faults old new held left waiting asked waiting_new served_old served_new HoldsNow result
+      (HoldsNow : Held → Type 0) (served : Served) (result : Result ℕ DoorEnd) → OneServed reads images moment since faults old new held left waiting asked waiting_new served_old served_new HoldsNow served
+      → result ≡ behind_link served → IsRound reads images moment since faults old new held left waiting asked waiting_new served_old served_new HoldsNow result
   round_of_link old new held left waiting asked waiting_new served_old served_new HoldsNow served result one is = record {
     links = one.link ∷ [];
     serves = one.serves;
@@ -60,10 +60,10 @@ module _ {D : Type 0} (images : D → List ℕ → Type 0) (moment : D → ℕ) 
   -- no link came
   pub round_of_none : (disk : D) (held : Held) (left : ℕ) (waiting : List (List ℕ)) (asked : List LinkRequests) (waiting_new : Option (List (List ℕ))) (served_old served_new : Option Pairs) (HoldsNow : Held → Type 0) (end : DoorEnd)
       → ((file : List ℕ) → since disk (moment disk) file → images disk file) → waiting_new ≡ Some waiting → served_new ≡ served_old → HoldsNow held → (end ≡ door.Done → waiting ≡ []) → (end ≡ door.Memory → ⊥)
-      → IsRound images moment since faults disk disk held left waiting asked waiting_new served_old served_new HoldsNow (Err end)
+      → IsRound reads images moment since faults disk disk held left waiting asked waiting_new served_old served_new HoldsNow (Err end)
   round_of_none disk held left waiting asked waiting_new served_old served_new HoldsNow end only_now waits same holds done sound = record {
     links = [];
-    serves = links_none images moment since faults disk held left waiting asked waiting_new served_old served_new HoldsNow only_now waits same holds;
+    serves = links_none reads images moment since faults disk held left waiting asked waiting_new served_old served_new HoldsNow only_now waits same holds;
     few = omega arith;
     goes_on = λ replies on. absurd cc;
     done = λ on. done (ap or_done on);
@@ -77,7 +77,7 @@ module _ {D : Type 0} (images : D → List ℕ → Type 0) (moment : D → ℕ) 
   pub record WentLinks (old now : D) (held : Held) (most : ℕ) (waiting : List (List ℕ)) (asked : List LinkRequests) (waiting_now : Option (List (List ℕ))) (served_old served_now : Option Pairs)
       (HoldsNow : Held → Type 0) (left count : ℕ) : Type 0 where
     pub links : List LinkServed
-    pub serves : ServesLinks images moment since faults old now held most waiting asked waiting_now served_old served_now HoldsNow links
+    pub serves : ServesLinks reads images moment since faults old now held most waiting asked waiting_now served_old served_now HoldsNow links
     pub sound : LacksMemory links → ⊥
     pub left_is : left_behind most links ≡ left
     pub count_is : length links ≡ count
@@ -87,7 +87,7 @@ module _ {D : Type 0} (images : D → List ℕ → Type 0) (moment : D → ℕ) 
       → WentLinks disk disk held most waiting asked waiting_now served served HoldsNow most 0
   links_begun disk held most waiting asked waiting_now served HoldsNow only_now waits holds = record {
     links = [];
-    serves = links_none images moment since faults disk held most waiting asked waiting_now served served HoldsNow only_now waits refl holds;
+    serves = links_none reads images moment since faults disk held most waiting asked waiting_now served served HoldsNow only_now waits refl holds;
     sound = λ lacks. absurd lacks;
     left_is = refl;
     count_is = refl;
@@ -96,10 +96,10 @@ module _ {D : Type 0} (images : D → List ℕ → Type 0) (moment : D → ℕ) 
   module _ (old mid new : D) (held : Held) (most : ℕ) (waiting : List (List ℕ)) (asked : List LinkRequests) (waiting_mid waiting_new : Option (List (List ℕ))) (served_old served_mid served_new : Option Pairs)
       (HoldsMid HoldsNow : Held → Type 0) (left count : ℕ) (counts : (t : ℕ) (c : List ℕ) → t ≤ moment mid → images mid c → since mid t c) (less : count < most)
       (went : WentLinks old mid held most waiting asked waiting_mid served_old served_mid HoldsMid left count) (result : Result ℕ DoorEnd)
-      (round : IsRound images moment since faults mid new (held_behind held (turns_taken went.links)) left (drop (length went.links) waiting) (drop (length went.links) asked) waiting_new served_mid served_new HoldsNow result) where
-    all_links : ServesLinks images moment since faults old new held most waiting asked waiting_new served_old served_new HoldsNow (went.links ++ round.links)
-    all_links = links_then images moment since faults old mid new held most waiting asked waiting_mid waiting_new served_old served_mid served_new HoldsMid HoldsNow went.links round.links counts went.serves went.sound
-        (subst (λ n. ServesLinks images moment since faults mid new (held_behind held (turns_taken went.links)) n (drop (length went.links) waiting) (drop (length went.links) asked) waiting_new served_mid served_new HoldsNow
+      (round : IsRound reads images moment since faults mid new (held_behind held (turns_taken went.links)) left (drop (length went.links) waiting) (drop (length went.links) asked) waiting_new served_mid served_new HoldsNow result) where
+    all_links : ServesLinks reads images moment since faults old new held most waiting asked waiting_new served_old served_new HoldsNow (went.links ++ round.links)
+    all_links = links_then reads images moment since faults old mid new held most waiting asked waiting_mid waiting_new served_old served_mid served_new HoldsMid HoldsNow went.links round.links counts went.serves went.sound
+        (subst (λ n. ServesLinks reads images moment since faults mid new (held_behind held (turns_taken went.links)) n (drop (length went.links) waiting) (drop (length went.links) asked) waiting_new served_mid served_new HoldsNow
         round.links) (sym went.left_is) round.serves)
 
     lacks_now : LacksMemory (went.links ++ round.links) → result ≡ Err door.Memory
@@ -116,7 +116,7 @@ module _ {D : Type 0} (images : D → List ℕ → Type 0) (moment : D → ℕ) 
     }
 
     -- the last round
-    pub links_end : (end : DoorEnd) → result ≡ Err end → ServesDoor images moment since faults old new held most waiting asked waiting_new served_old served_new end HoldsNow
+    pub links_end : (end : DoorEnd) → result ≡ Err end → ServesDoor reads images moment since faults old new held most waiting asked waiting_new served_old served_new end HoldsNow
     links_end end is = record {
       links = went.links ++ round.links;
       serves = all_links;
@@ -129,7 +129,7 @@ module _ {D : Type 0} (images : D → List ℕ → Type 0) (moment : D → ℕ) 
   -- no reply is left, or no link more is to be served
   pub links_out : (old now : D) (held : Held) (most : ℕ) (waiting : List (List ℕ)) (asked : List LinkRequests) (waiting_now : Option (List (List ℕ))) (served_old served_now : Option Pairs)
       (HoldsNow : Held → Type 0) (left count : ℕ) → count ≤ most → (left ≡ 0) ⊎ (most ≤ count) → WentLinks old now held most waiting asked waiting_now served_old served_now HoldsNow left count
-      → ServesDoor images moment since faults old now held most waiting asked waiting_now served_old served_now door.Done HoldsNow
+      → ServesDoor reads images moment since faults old now held most waiting asked waiting_now served_old served_now door.Done HoldsNow
   links_out old now held most waiting asked waiting_now served_old served_now HoldsNow left count few over went = record {
     links = went.links;
     serves = went.serves;

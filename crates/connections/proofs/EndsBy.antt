@@ -7,12 +7,13 @@ use Rattle.intake.specs.Requests.{Held}
 use Rattle.intake.proofs.Durable.{front_refl}
 use Rattle.receipt_journal.specs.Standing.{StandsForJournal}
 use Rattle.settled_book.specs.SettledBookState.{SettledBookState}
-use Rattle.connections.specs.Answering.{LeavesOldThen, is_from_disk}
+use Rattle.connections.specs.Answering.{LeavesOldThen, WritesGrown, is_from_disk}
 use Rattle.connections.specs.Answers.{Answer, only}
 use Rattle.connections.specs.Fates.{Failure, DiskFailed, NoJournal, OutOfMemory, Answered, Failed, NotBegun, failure_reply}
 use Rattle.connections.specs.Holding.{Holds, working}
 use Rattle.connections.specs.Replies.{ReplyParts}
 use Rattle.connections.specs.inner.Ends as ends
+use Rattle.connections.proofs.GrownWrites.{writes_wider}
 use Rattle.connections.proofs.LeftThen.{then_still, then_weakened}
 
 -- a file that stands for the journal that was held has grown by nothing
@@ -42,24 +43,26 @@ module _ {D : Type 0} (reads : D → List ℕ) (images : D → List ℕ → Type
 
   -- it is answered by this, which leaves what is held
   pub ends_only : (old new : D) (held : Held) (reply : ReplyParts) (at_hand : Option SettledBookState) (known : Option (List DayMinute))
-      → Holds at_hand (reads new) (images new) known held → LeavesHeld old new held.journal → (is_from_disk reply ≡ true → IsSome (working at_hand))
+      → Holds at_hand (reads new) (images new) known held → LeavesHeld old new held.journal → WritesGrown held.journal held.journal (reads old) (reads new) → (is_from_disk reply ≡ true → IsSome (working at_hand))
       → ends.EndsBy reads images moment since old new held (only held reply) reply at_hand known
-  ends_only old new held reply at_hand known holds left works = record {
+  ends_only old new held reply at_hand known holds left written works = record {
     fate = Answered;
     reply_is = refl;
     holds = holds;
     left = leaves_grown old new held.journal held.journal (front_refl held.journal) left;
+    written = written;
     works = works;
   }
 
   -- something failed in it ahead of its receipt
   pub ends_failed : (old new : D) (held : Held) (wanted : Answer) (failure : Failure) (reply : ReplyParts) (at_hand : Option SettledBookState) (known : Option (List DayMinute))
-      → reply ≡ failure_reply failure → Holds at_hand (reads new) (images new) known held → LeavesHeld old new held.journal → IsFront held.journal wanted.held.journal
+      → reply ≡ failure_reply failure → Holds at_hand (reads new) (images new) known held → LeavesHeld old new held.journal → WritesGrown held.journal held.journal (reads old) (reads new) → IsFront held.journal wanted.held.journal
       → ends.EndsBy reads images moment since old new held wanted reply at_hand known
-  ends_failed old new held wanted failure reply at_hand known is holds left front = record {
+  ends_failed old new held wanted failure reply at_hand known is holds left written front = record {
     fate = Failed failure NotBegun;
     reply_is = is;
     holds = holds;
     left = leaves_grown old new held.journal wanted.held.journal front left;
+    written = writes_wider held.journal wanted.held.journal (reads old) (reads new) front written;
     works = λ tells. not_from_disk reply _ (ap is_from_disk is ∙ failed_tells_none failure) tells;
   }

@@ -10,7 +10,7 @@ use Rattle.receipt_journal.specs.Standing.{StandsForJournal}
 use Rattle.receipt_journal.specs.declared.received.Received.{Received}
 use Rattle.receipt_journal.specs.declared.received.Received.TheVariants as answers
 use Rattle.settled_book.specs.SettledBookState.{SettledBookState}
-use Rattle.connections.specs.Answering.{LeavesOldThen, is_from_disk}
+use Rattle.connections.specs.Answering.{LeavesOldThen, WritesGrown, is_from_disk}
 use Rattle.connections.specs.Answers.{item_answer, item_reply}
 use Rattle.connections.specs.Fates.{DiskFailed, OutOfMemory, Answered, Failed, Received as IsReceived, Stamped}
 use Rattle.connections.specs.Holding.{Holds, IsOpenOn, working}
@@ -18,6 +18,7 @@ use Rattle.connections.specs.Replies.{ReplyParts}
 use Rattle.connections.specs.inner.Ends as ends
 use Rattle.connections.specs.inner.Taking.{IsReplyTo, Receives, received_reply}
 use Rattle.connections.proofs.EndsBy.{LeavesHeld, leaves_grown, not_from_disk}
+use Rattle.connections.proofs.GrownWrites.{writes_then}
 use Rattle.connections.proofs.Grows.{item_grows}
 use Rattle.connections.proofs.LeftThen.{then_only}
 use Rattle.connections.proofs.ReceivedItems.{no_disk_failed}
@@ -44,7 +45,8 @@ pub some_works : (settled : SettledBookState) → settled.book.log.failed ≡ fa
 some_works settled works = ap is_some (works_is settled works)
 
 module _ {D : Type 0} (reads : D → List ℕ) (images : D → List ℕ → Type 0) (moment : D → ℕ) (since : D → ℕ → List ℕ → Type 0) (old mid new : D) (image : images new (reads new))
-    (held : Held) (from : SenderReference) (item : Item) (reply : ReplyParts) (settled : SettledBookState) (known : Option (List DayMinute)) (first : LeavesHeld reads images moment since old mid held.journal) where
+    (held : Held) (from : SenderReference) (item : Item) (reply : ReplyParts) (settled : SettledBookState) (known : Option (List DayMinute)) (first : LeavesHeld reads images moment since old mid held.journal)
+    (opened : WritesGrown held.journal held.journal (reads old) (reads mid)) where
   abbrev IsEnd : Type 0
   IsEnd = ends.EndsBy reads images moment since old new held (item_answer held from item) reply (Some settled) known
 
@@ -55,6 +57,9 @@ module _ {D : Type 0} (reads : D → List ℕ) (images : D → List ℕ → Type
   left_by answer takes = then_only images moment since old mid new (GrownFrom held.journal (item_answer held from item).held.journal)
       (leaves_grown reads images moment since old mid held.journal (item_answer held from item).held.journal (item_grows held from item) first) takes.left
 
+  written_by : (answer : Received) → IsTaken answer → WritesGrown held.journal (item_answer held from item).held.journal (reads old) (reads new)
+  written_by answer takes = writes_then held.journal (item_answer held from item).held.journal (reads old) (reads mid) (reads new) (item_grows held from item) opened takes.written takes.same
+
   -- an answer that is no fault
   answered : (answer : Received) → IsTaken answer → is_fault answer ≡ false → received_reply answer ≡ item_reply answer → settled.book.log.failed ≡ receiving_disk_failed answer → IsReplyTo answer reply → IsEnd
   answered answer takes sound same failed (inl is) = record {
@@ -62,6 +67,7 @@ module _ {D : Type 0} (reads : D → List ℕ) (images : D → List ℕ → Type
     reply_is = is ∙ same ∙ ap item_reply (takes.expected sound);
     holds = holds_open settled (reads new) (images new) known (item_answer held from item).held image takes.clock (takes.answered sound);
     left = left_by answer takes;
+    written = written_by answer takes;
     works = λ tells. some_works settled (failed ∙ no_disk_failed answer sound);
   }
   answered answer takes sound same failed (inr (no_fault, is)) = record {
@@ -69,6 +75,7 @@ module _ {D : Type 0} (reads : D → List ℕ) (images : D → List ℕ → Type
     reply_is = is;
     holds = holds_open settled (reads new) (images new) known (item_answer held from item).held image takes.clock (takes.answered sound);
     left = left_by answer takes;
+    written = written_by answer takes;
     works = λ tells. not_from_disk reply _ (ap is_from_disk is) tells;
   }
 
@@ -78,6 +85,7 @@ module _ {D : Type 0} (reads : D → List ℕ) (images : D → List ℕ → Type
     reply_is = is;
     holds = holds_open settled (reads new) (images new) known (holding held.journal (item_answer held from item).held.ticks) image takes.clock (takes.unreceived refl);
     left = left_by answers.Memory takes;
+    written = written_by answers.Memory takes;
     works = λ tells. not_from_disk reply _ (ap is_from_disk is) tells;
   }
   wants_memory takes (inr (no_fault, is)) = let never : true ≡ false = no_fault in absurd cc
@@ -89,6 +97,7 @@ module _ {D : Type 0} (reads : D → List ℕ) (images : D → List ℕ → Type
     reply_is = is;
     holds = holds_failed settled (reads new) (images new) known (holding held.journal (item_answer held from item).held.ticks) failed takes.clock without;
     left = left_by answers.Disk takes;
+    written = written_by answers.Disk takes;
     works = λ tells. not_from_disk reply _ (ap is_from_disk is) tells;
   }
   disk_failed_by takes failed is (inr with_it) = record {
@@ -96,6 +105,7 @@ module _ {D : Type 0} (reads : D → List ℕ) (images : D → List ℕ → Type
     reply_is = is;
     holds = holds_failed settled (reads new) (images new) known (item_answer held from item).held failed takes.clock with_it;
     left = left_by answers.Disk takes;
+    written = written_by answers.Disk takes;
     works = λ tells. not_from_disk reply _ (ap is_from_disk is) tells;
   }
 

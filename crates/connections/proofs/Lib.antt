@@ -7,6 +7,7 @@ pub mod DiskReplies
 pub mod DoorLinks
 pub mod DoorRounds
 pub mod EndsBy
+pub mod GrownWrites
 pub mod Grows
 pub mod ItemEnds
 pub mod LeftThen
@@ -14,8 +15,10 @@ pub mod LinkEnds
 pub mod LinkTurns
 pub mod LinksServed
 pub mod LinksTaken
+pub mod MadeFiles
 pub mod NoBook
 pub mod NoneTaken
+pub mod OrderedTurns
 pub mod ReceivedItems
 pub mod SettledClerks
 pub mod TakenBooks

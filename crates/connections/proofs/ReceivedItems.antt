@@ -1,25 +1,29 @@
 -- What receiving an item does to what is held.
-use Rattle.std.proofs.Common.{◌≡◌, ◌⊎◌, ◌≤◌, inl, inr, ℕ, Bool, true, false, cond, List, [], ◌∷◌, ◌++◌, Option, Some, refl, sym, ◌∙◌, ap, subst}
+use Rattle.std.proofs.Common.{◌≡◌, ◌+◌, ◌⊎◌, ◌≤◌, length, inl, inr, ℕ, Bool, true, false, cond, List, [], ◌∷◌, ◌++◌, Option, Some, refl, sym, ◌∙◌, ap, subst}
 use Rattle.gb_base.specs.DayMinute.{DayMinute}
-use Rattle.gb_outside.specs.Images.{LeavesOnly}
+use Rattle.gb_outside.specs.Images.{LeavesOnly, Torn}
+use Rattle.act_codec.specs.Spelling.{spelling}
 use Rattle.gb_outside.specs.Ticks.{Ticks}
 use Rattle.gb_outside.proofs.Moments.{started}
 use Rattle.act_model.specs.Receiving.{next_receipt}
 use Rattle.act_model.specs.declared.items.Item.{Item}
 use Rattle.act_model.specs.declared.receipts.Receipt.{Receipt}
-use Rattle.journal_disk.specs.Layout.{the_heading, StandsFor}
-use Rattle.intake.specs.Grown.{GrownFrom, IsDurable}
+use Rattle.journal_disk.specs.Layout.{the_heading, StandsFor, appended}
+use Rattle.intake.specs.Grown.{GrownFrom, IsDurable, WritesFrames}
 use Rattle.intake.specs.Requests.{Held, holding, is_fault, reply_of}
 use Rattle.intake.proofs.Durable.{durable_stands, grown_by, keepable_after, refused_on_disk}
+use Rattle.intake.proofs.WrittenFrames.{frame_of_receipt}
 use Rattle.intake_requests.specs.declared.requests.SenderReference.{SenderReference}
 use Rattle.receipt_journal.specs.Receiving.{Answers, JournalWithOrWithout, answer_on, is_received, journal_after, receiving_disk_failed}
-use Rattle.receipt_journal.specs.Standing.{IsKeepable, Stands, StandsForJournal, records}
+use Rattle.receipt_journal.specs.Standing.{IsKeepable, Stands, StandsForJournal, gate_behind, records}
+use Rattle.receipt_journal.proofs.Answering.{appended_to}
 use Rattle.receipt_journal.specs.declared.received.Received.{Received}
 use Rattle.receipt_journal.specs.declared.received.Received.TheVariants as answers
 use Rattle.settled_book.specs.SettledBookState.{SettledBookState}
 use Rattle.connections.specs.Answers.{item_answer, received_by_clock}
 use Rattle.connections.specs.Holding.{IsOpenOn}
 use Rattle.connections.specs.inner.Taking.{Receives}
+use Rattle.connections.proofs.GrownWrites.{no_receipt_more}
 
 -- ---- by the stamp that the clock gave
 
@@ -73,7 +77,7 @@ file_by journal next file false refused here = inl (refused refl)
 module _ {D : Type 0} (reads : D → List ℕ) (images : D → List ℕ → Type 0) (moment : D → ℕ) (since : D → ℕ → List ℕ → Type 0) (old new : D)
     (stamp : DayMinute) (from : SenderReference) (item : Item) (answer : Received) (settled : SettledBookState)
     (image : images new (reads new)) (counts : (t : ℕ) (c : List ℕ) → t ≤ moment new → images new c → since new t c) (only_now : (c : List ℕ) → since old (moment old) c → images old c)
-    (untouched : is_received answer ≡ false → receiving_disk_failed answer ≡ false → new ≡ old) (stands : receiving_disk_failed answer ≡ false → Stands settled.book (reads new) (images new)) where
+    (untouched : is_received answer ≡ false → receiving_disk_failed answer ≡ false → new ≡ old) (gate size : ℕ) (torn : Torn gate size (reads old) (reads new)) (stands : receiving_disk_failed answer ≡ false → Stands settled.book (reads new) (images new)) where
   abbrev next : List Receipt → Receipt
   next journal = next_receipt journal stamp from.sender from.reference item
 
@@ -99,11 +103,11 @@ module _ {D : Type 0} (reads : D → List ℕ) (images : D → List ℕ → Type
   refused_same journal answers_it refused = let none = refused_on_disk journal stamp from.sender from.reference item answer answers_it refused in untouched none.0 none.1
 
   receives_at : (journal : List Receipt) (ticks : List DayMinute) (known0 known1 : Option (List DayMinute)) → known0 ≡ Some ticks → Ticks known0 known1 stamp
-      → IsKeepable journal → ((file : List ℕ) → images old file → StandsForJournal file journal) → Answers (expected journal) answer
+      → IsKeepable journal → gate ≡ gate_behind journal → gate_behind journal + size ≡ gate_behind (journal ++ next journal ∷ []) + 1 → ((file : List ℕ) → images old file → StandsForJournal file journal) → Answers (expected journal) answer
       → settled.book.journal ≡ journal_after journal stamp from.sender from.reference item answer
       → LeavesOnly moment since old new (JournalWithOrWithout journal (next journal))
       → Receives reads images moment since old new (holding journal ticks) from item answer settled known1
-  receives_at journal ticks known0 known1 is tick keepable were answers_it receipts run =
+  receives_at journal ticks known0 known1 is tick keepable ends long were answers_it receipts run =
       let at = answered_at journal ticks stamp from item known0 known1 is tick in
       let here = run.each (reads new) (counts (moment old) (reads new) run.later image) in record {
         expected = λ sound. answer_expected (expected journal) answer answers_it sound ∙ sym at.answer;
@@ -114,16 +118,20 @@ module _ {D : Type 0} (reads : D → List ℕ) (images : D → List ℕ → Type
             (grown_by moment since old new (images old) journal (next journal) (is_received (expected journal)) run
             (λ refused. subst (λ d. LeavesOnly moment since old d (λ file. StandsForJournal file journal)) (sym (refused_same journal answers_it refused))
             (started moment since old (λ file. StandsForJournal file journal) (λ file left. were file (only_now file left)))));
+        written = subst (λ (j : List Receipt). WritesFrames journal j (reads old) (reads new)) (sym at.journal)
+            (frame_of_receipt journal (next journal) (is_received (expected journal)) gate size (reads old) (reads new) ends long torn (λ refused. ap reads (refused_same journal answers_it refused)));
+        same = λ none. ap reads (refused_same journal answers_it (no_receipt_more journal (next journal) (is_received (expected journal)) (sym at.journal ∙ none)));
         answered = λ sound. open_on journal _ keepable here receipts
             (receipts ∙ ap (journal_after journal stamp from.sender from.reference item) (answer_expected (expected journal) answer answers_it sound) ∙ sym at.journal) (no_disk_failed answer sound);
         unreceived = λ memory. open_on journal journal keepable here receipts (receipts ∙ ap (journal_after journal stamp from.sender from.reference item) memory) (ap receiving_disk_failed memory);
       }
 
   pub receives : (before : SettledBookState) (held : Held) (known0 known1 : Option (List DayMinute)) → known0 ≡ Some held.ticks → Ticks known0 known1 stamp
-      → IsOpenOn before (reads old) (images old) held.journal → Answers (expected before.book.journal) answer
+      → IsOpenOn before (reads old) (images old) held.journal → gate ≡ before.book.log.gate → size ≡ length (appended (spelling (next before.book.journal))) → Answers (expected before.book.journal) answer
       → settled.book.journal ≡ journal_after before.book.journal stamp from.sender from.reference item answer
       → LeavesOnly moment since old new (JournalWithOrWithout before.book.journal (next before.book.journal))
       → Receives reads images moment since old new held from item answer settled known1
-  receives before held known0 known1 is tick on answers_it receipts run =
+  receives before held known0 known1 is tick on at_gate whole answers_it receipts run =
       subst (λ (j : List Receipt). Receives reads images moment since old new (holding j held.ticks) from item answer settled known1) on.journal_is
-      (receives_at before.book.journal held.ticks known0 known1 is tick on.durable.keepable (λ file image. subst (StandsForJournal file) (sym on.journal_is) (on.stands file image)) answers_it receipts run)
+      (receives_at before.book.journal held.ticks known0 known1 is tick on.durable.keepable
+      (at_gate ∙ on.durable.stands.ends) (ap (λ (n : ℕ). gate_behind before.book.journal + n) whole ∙ appended_to before.book.journal (next before.book.journal)) (λ file image. subst (StandsForJournal file) (sym on.journal_is) (on.stands file image)) answers_it receipts run)

@@ -21,6 +21,7 @@ use Rattle.connections.specs.Turns.{Taken, Answering, Refusing, held_behind}
 use Rattle.connections.proofs.ByDiskAlone.{counts_still}
 use Rattle.connections.proofs.DiskReplies.{disk_by_reply, journal_by_reply}
 use Rattle.connections.proofs.EndsBy.{not_from_disk}
+use Rattle.connections.proofs.GrownWrites.{writes_more, writes_nothing}
 use Rattle.connections.proofs.LeftThen.{then_more, then_still, then_weakened}
 use Rattle.connections.proofs.LinkEnds.{TurnTaken}
 use Rattle.connections.proofs.TurnLists.{left_first, left_later, left_one, told_more, told_still}
@@ -78,13 +79,14 @@ answered_by before now xs counts journal quiet memory =
 
 -- ---- turns
 
-module _ {D : Type 0} (images : D → List ℕ → Type 0) (moment : D → ℕ) (since : D → ℕ → List ℕ → Type 0) (faults : D → ℕ) where
+module _ {D : Type 0} (reads : D → List ℕ) (images : D → List ℕ → Type 0) (moment : D → ℕ) (since : D → ℕ → List ℕ → Type 0) (faults : D → ℕ) where
   abbrev pub Takes : D → D → Held → List Taken → Type 0
-  Takes old new held xs = serving.TakesTurns images moment since faults old new held xs
+  Takes old new held xs = serving.TakesTurns reads images moment since faults old new held xs
 
   pub takes_none : (disk : D) (held : Held) → ((file : List ℕ) → since disk (moment disk) file → images disk file) → Takes disk disk held []
   takes_none disk held only_now = record {
     left = then_still images moment since disk (IsLeftIn held []) only_now;
+    written = refl;
     kept = λ front all. all;
     told = tt;
     disk = refl;
@@ -95,6 +97,7 @@ module _ {D : Type 0} (images : D → List ℕ → Type 0) (moment : D → ℕ) 
   pub takes_refusal : (disk : D) (held : Held) (reply : ReplyParts) → is_from_disk reply ≡ false → ((file : List ℕ) → since disk (moment disk) file → images disk file) → Takes disk disk held (Refusing reply ∷ [])
   takes_refusal disk held reply silent only_now = record {
     left = then_still images moment since disk (IsLeftIn held (Refusing reply ∷ [])) only_now;
+    written = (reads disk, writes_nothing held.journal held.journal (reads disk), refl);
     kept = λ front all. all;
     told = (λ from_disk. not_from_disk reply _ silent from_disk, tt);
     disk = (faults disk, counts_still (faults disk), refl);
@@ -102,10 +105,10 @@ module _ {D : Type 0} (images : D → List ℕ → Type 0) (moment : D → ℕ) 
     answered = λ quiet memory. refl;
   }
 
-  pub takes_one : (reads : D → List ℕ) (old new : D) (request : RequestParts) (held : Held) (reply : ReplyParts) (HoldsNow : Held → Type 0) (is : AnswersRequest images moment since old new request held reply HoldsNow)
+  pub takes_one : (old new : D) (request : RequestParts) (held : Held) (reply : ReplyParts) (HoldsNow : Held → Type 0) (is : AnswersRequest reads images moment since old new request held reply HoldsNow)
       → StandsForJournal (reads old) held.journal → (reply.status ≡ 500 → IsNoJournal (reads old)) → Counts (faults old) (faults new) (reply.status == 503)
       → Takes old new held (Answering request is.asked is.fate ∷ [])
-  takes_one reads old new request held reply HoldsNow is stands none counts =
+  takes_one old new request held reply HoldsNow is stands none counts =
       let status : (answer_by is.fate held (answer held request.body is.asked)).reply.status ≡ reply.status = sym (ap (λ (r : ReplyParts). r.status) is.reply_is) in
       let failed : (reply.status == 503) ≡ has_disk_failed is.fate = ap (λ n. n == 503) (sym status) ∙ disk_by_reply held request.body is.asked is.fate in
       let rose : CountsTurns (faults old) (Answering request is.asked is.fate ∷ []) (faults new) = (faults new, subst (λ b. Counts (faults old) (faults new) b) failed counts, refl) in
@@ -113,6 +116,7 @@ module _ {D : Type 0} (images : D → List ℕ → Type 0) (moment : D → ℕ) 
       sym (or_none (lacks_journal is.fate)) ∙ journal_by_reply (reads old) held.journal held request.body is.asked is.fate stands (λ is500. none (sym status ∙ is500)) in record {
         left = then_weakened images moment since old new (GrownFrom held.journal (answer held request.body is.asked).held.journal) (IsLeftIn held (Answering request is.asked is.fate ∷ []))
             (λ file grown. left_one held request is.asked is.fate file grown) is.left;
+        written = (reads new, is.written, refl);
         kept = is.kept;
         told = (λ from_disk. is.told (ap is_from_disk is.reply_is ∙ from_disk), tt);
         disk = rose;
@@ -133,6 +137,7 @@ module _ {D : Type 0} (images : D → List ℕ → Type 0) (moment : D → ℕ) 
       let rose : CountsTurns (faults old) (xs ++ ys) (faults new) = counts_more (faults old) (faults mid) (faults new) xs ys first.disk second.disk in
       let found : list_any is_journal (xs ++ ys) ≡ false = list_any-append is_journal xs ys ∙ ap (λ b. b || list_any is_journal ys) first.journal ∙ second.journal in record {
         left = then_more images moment since old mid new P counts before behind;
+        written = writes_more held xs ys (reads old) (reads mid) (reads new) first.written second.written;
         kept = λ front all. second.kept front (first.kept front all);
         told = told_more (images new) held xs ys (told_still (images mid) (images new) held xs second.kept first.told) second.told;
         disk = rose;
@@ -140,14 +145,14 @@ module _ {D : Type 0} (images : D → List ℕ → Type 0) (moment : D → ℕ) 
         answered = λ quiet memory. answered_by _ _ (xs ++ ys) rose found quiet memory;
       }
 
-  pub turn_taken : (reads : D → List ℕ) (old new : D) (request : RequestParts) (held : Held) (reply : ReplyParts) (HoldsNow : Held → Type 0) (is : AnswersRequest images moment since old new request held reply HoldsNow)
+  pub turn_taken : (old new : D) (request : RequestParts) (held : Held) (reply : ReplyParts) (HoldsNow : Held → Type 0) (is : AnswersRequest reads images moment since old new request held reply HoldsNow)
       → StandsForJournal (reads old) held.journal → (reply.status ≡ 500 → IsNoJournal (reads old)) → Counts (faults old) (faults new) (reply.status == 503)
       → TurnTaken Takes old new held request reply HoldsNow
-  turn_taken reads old new request held reply HoldsNow is stands none counts = record {
+  turn_taken old new request held reply HoldsNow is stands none counts = record {
     asked = is.asked;
     fate = is.fate;
     is = (refl, is.asks, is.unfailed);
     reply_is = is.reply_is;
     holds = is.holds;
-    takes = takes_one reads old new request held reply HoldsNow is stands none counts;
+    takes = takes_one old new request held reply HoldsNow is stands none counts;
   }

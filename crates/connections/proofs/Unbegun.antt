@@ -23,6 +23,7 @@ use Rattle.connections.specs.inner.Ends as ends
 use Rattle.connections.specs.inner.Taking.{unrouted_reply}
 use Rattle.connections.proofs.AlwaysAsked.{always_asked}
 use Rattle.connections.proofs.EndsBy.{ends_failed, ends_only, leaves_now, not_from_disk}
+use Rattle.connections.proofs.GrownWrites.{writes_nothing}
 use Rattle.connections.proofs.Grows.{answer_grows, body_grows}
 use Rattle.connections.proofs.ByDiskAlone.{IsApart}
 
@@ -98,10 +99,10 @@ module _ {D : Type 0} (reads : D → List ℕ) (images : D → List ℕ → Type
   IsEnd wanted reply = ends.EndsBy reads images moment since disk disk held wanted reply at_hand known
 
   pub silent_end : (reply : ReplyParts) → is_from_disk reply ≡ false → IsEnd (only held reply) reply
-  silent_end reply silent = ends_only reads images moment since disk disk held reply at_hand known holds (leaves_now reads images moment since disk held.journal only_now) (λ tells. not_from_disk reply _ silent tells)
+  silent_end reply silent = ends_only reads images moment since disk disk held reply at_hand known holds (leaves_now reads images moment since disk held.journal only_now) (writes_nothing held.journal held.journal (reads disk)) (λ tells. not_from_disk reply _ silent tells)
 
   pub memory_end : (wanted : Answer) (reply : ReplyParts) → reply ≡ out_of_memory → IsFront held.journal wanted.held.journal → IsEnd wanted reply
-  memory_end wanted reply is front = ends_failed reads images moment since disk disk held wanted OutOfMemory reply at_hand known is holds (leaves_now reads images moment since disk held.journal only_now) front
+  memory_end wanted reply is front = ends_failed reads images moment since disk disk held wanted OutOfMemory reply at_hand known is holds (leaves_now reads images moment since disk held.journal only_now) (writes_nothing held.journal held.journal (reads disk)) front
 
   malformed_by : (meant : Result (ℕ × ℕ × Item) LineFault) (fault : LineFault) (reply : ReplyParts) → meant ≡ Err fault → reply ≡ malformed fault → IsEnd (body_answer held meant) reply
   malformed_by meant fault reply same is =

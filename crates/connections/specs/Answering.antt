@@ -1,10 +1,12 @@
 -- What answering a request does.
-use Rattle.std.specs.Prelude.{◌≡◌, ◌⊎◌, ℕ, ◌==◌, ◌||◌, Bool, true, false, List, Option, None, IsSome, is_ok}
-use Rattle.gb_outside.specs.Images.{LeavesOnly}
+use Rattle.std.specs.Prelude.{◌≡◌, ◌⊎◌, ℕ, ◌+◌, ◌==◌, ◌||◌, Bool, true, false, List, Option, None, IsSome, is_ok}
+use Rattle.gb_outside.specs.Images.{LeavesOnly, Torn}
 use Rattle.act_json.specs.Lines.{item_of}
 use Rattle.act_model.specs.declared.receipts.Receipt.{Receipt}
-use Rattle.intake.specs.Grown.{GrownFrom}
+use Rattle.intake.specs.Grown.{GrownFrom, WritesFrames}
 use Rattle.intake.specs.Requests.{Held}
+use Rattle.journal_disk.specs.Layout.{IsUnmade}
+use Rattle.receipt_journal.specs.Standing.{gate_behind}
 use Rattle.registry_http.specs.RequestParts.{RequestParts}
 use Rattle.registry_http.specs.declared.routes.Route.TheVariants.{Post}
 use Rattle.settled_book.specs.SettledBookState.{SettledBookState}
@@ -51,8 +53,14 @@ pub record LeavesThen {D : Type 0} (images : D → List ℕ → Type 0) (moment 
 abbrev pub LeavesOldThen : {D : Type 0} → (D → List ℕ → Type 0) → (D → ℕ) → (D → ℕ → List ℕ → Type 0) → D → D → (List ℕ → Type 0) → Type 0
 LeavesOldThen images moment since old new left = LeavesOnly moment since old new (images old) ⊎ LeavesThen images moment since old new left
 
--- A request was answered by what it asks for and by what became of it; that is what is held behind it. The disk is called only where it may be, and no call of it failed where it is not. A stop leaves what it might have left before, or, from some moment on, nothing but the journal that was held, with the receipt of this request or without it. What every image began with each begins with still, and with all that a text was read of or an item was received into.
-pub record AnswersRequest {D : Type 0} (images : D → List ℕ → Type 0) (moment : D → ℕ) (since : D → ℕ → List ℕ → Type 0) (old new : D) (request : RequestParts) (held : Held) (reply : ReplyParts) (HoldsNow : Held → Type 0) : Type 0 where
+-- What is written of a file that stood for the first of these journals, where it grows to the second or may have: the frames between the two, and nothing where they are one. An unmade file is made before, and any byte up to the gate behind the second may be written.
+pub record WritesGrown (from to : List Receipt) (file new : List ℕ) : Type 0 where
+  pub frames : (IsUnmade file → ⊥) → WritesFrames from to file new
+  pub same : (IsUnmade file → ⊥) → to ≡ from → new ≡ file
+  pub unmade : IsUnmade file → Torn 0 (gate_behind to + 1) file new
+
+-- A request was answered by what it asks for and by what became of it; that is what is held behind it. The disk is called only where it may be, and no call of it failed where it is not. A stop leaves what it might have left before, or, from some moment on, nothing but the journal that was held, with the receipt of this request or without it. Of the file no other bytes are written than the frame of its receipt. What every image began with each begins with still, and with all that a text was read of or an item was received into.
+pub record AnswersRequest {D : Type 0} (reads : D → List ℕ) (images : D → List ℕ → Type 0) (moment : D → ℕ) (since : D → ℕ → List ℕ → Type 0) (old new : D) (request : RequestParts) (held : Held) (reply : ReplyParts) (HoldsNow : Held → Type 0) : Type 0 where
   pub asked : Asked
   pub fate : Fate
   pub asks : Asks request asked
@@ -61,6 +69,7 @@ pub record AnswersRequest {D : Type 0} (images : D → List ℕ → Type 0) (mom
   pub uncalled : may_call_disk asked request.body ≡ false → new ≡ old
   pub unfailed : may_call_disk asked request.body ≡ false → has_disk_failed fate ≡ false
   pub left : LeavesOldThen images moment since old new (GrownFrom held.journal (answer held request.body asked).held.journal)
+  pub written : WritesGrown held.journal (answer held request.body asked).held.journal (reads old) (reads new)
   pub kept : (front : List Receipt) → AllBegin front (images old) → AllBegin front (images new)
   pub told : is_from_disk reply ≡ true → AllBegin (answer_by fate held (answer held request.body asked)).held.journal (images new)
 

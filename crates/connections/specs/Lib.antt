@@ -5,6 +5,7 @@ pub mod Asking
 pub mod Doors
 pub mod Fates
 pub mod Holding
+pub mod LinkOrder
 pub mod Replies
 pub mod Served
 pub mod Serving

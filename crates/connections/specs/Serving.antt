@@ -5,9 +5,9 @@ use Rattle.std.specs.List.{list_all, list_any}
 use Rattle.gb_outside.specs.Faults.{Counts, Rose}
 use Rattle.act_model.specs.declared.receipts.Receipt.{Receipt}
 use Rattle.intake.specs.Requests.{Held}
-use Rattle.connections.specs.Answering.{AllBegin, LeavesOldThen, is_from_disk, may_call_disk}
+use Rattle.connections.specs.Answering.{AllBegin, LeavesOldThen, WritesGrown, is_from_disk, may_call_disk}
 use Rattle.connections.specs.Fates.{Failure, Fate, Answered, Failed, DiskFailed, NoJournal, NotBegun, OutOfMemory, has_disk_failed}
-use Rattle.connections.specs.Served.{Connection, IsCutOff, IsLeftIn, IsOfTurns, IsUnwritten, IsWhole, held_by, replies_of, taken_of, written_by}
+use Rattle.connections.specs.Served.{Connection, IsCutOff, IsLeftIn, IsOfTurns, IsUnwritten, IsWhole, held_by, replies_of, taken_of, unfailed, written_by}
 use Rattle.connections.specs.Turns.{Turn, Taken, Answering, Refusing, answer_in}
 use Rattle.connections.specs.declared.serving.Ended.{Ended}
 use Rattle.connections.specs.declared.serving.Ended.TheVariants as ended
@@ -48,15 +48,22 @@ abbrev pub CountsTurns : ℕ → List Taken → ℕ → Type 0
 CountsTurns before [] now = now ≡ before
 CountsTurns before (turn ∷ turns) now = (mid : ℕ) × Counts before mid (has_disk_failed (fate_of turn)) × CountsTurns mid turns now
 
+-- Of the file the frame of each item that is received in these turns is written, or part of it, and no other byte.
+abbrev pub WritesTurns : Held → List Taken → List ℕ → List ℕ → Type 0
+WritesTurns held [] file new = new ≡ file
+WritesTurns held (turn ∷ turns) file new =
+    (mid : List ℕ) × WritesGrown held.journal (answer_in held (unfailed turn)).held.journal file mid × WritesTurns (answer_in held turn).held turns mid new
+
 -- Each image begins with each journal that a text of these turns was read of, or an item received into.
 abbrev pub AllTold : (List ℕ → Type 0) → Held → List Taken → Type 0
 AllTold images held [] = Unit {0}
 AllTold images held (turn ∷ turns) =
     (is_from_disk (answer_in held turn).reply ≡ true → AllBegin (answer_in held turn).held.journal images) × AllTold images (answer_in held turn).held turns
 
--- What these turns did to the disk: what a stop leaves, that is what it might have left before or, from some moment on, only files that it leaves in these turns, what is kept of the file and told of it, and that its count of faults rose in each turn in which a call of it failed. None finds that the file is no journal. Where no count rose and no memory was wanting, each was answered as it asks.
-pub record TakesTurns {D : Type 0} (images : D → List ℕ → Type 0) (moment : D → ℕ) (since : D → ℕ → List ℕ → Type 0) (faults : D → ℕ) (old new : D) (held : Held) (taken : List Taken) : Type 0 where
+-- What these turns did to the disk: what a stop leaves, that is what it might have left before or, from some moment on, only files that it leaves in these turns, what is written and what kept of the file and told of it, and that its count of faults rose in each turn in which a call of it failed. None finds that the file is no journal. Where no count rose and no memory was wanting, each was answered as it asks.
+pub record TakesTurns {D : Type 0} (reads : D → List ℕ) (images : D → List ℕ → Type 0) (moment : D → ℕ) (since : D → ℕ → List ℕ → Type 0) (faults : D → ℕ) (old new : D) (held : Held) (taken : List Taken) : Type 0 where
   pub left : LeavesOldThen images moment since old new (IsLeftIn held taken)
+  pub written : WritesTurns held taken (reads old) (reads new)
   pub kept : (front : List Receipt) → AllBegin front (images old) → AllBegin front (images new)
   pub told : AllTold (images new) held taken
   pub disk : CountsTurns (faults old) taken (faults new)

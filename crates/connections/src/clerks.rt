@@ -7,7 +7,7 @@ ghost use Rattle.act_json.specs.Lines.{item_of, longest_line};
 ghost use Rattle.act_model.specs.WellFormed.{well_formed};
 ghost use Rattle.act_model.specs.declared.receipts.Receipt.{Receipt};
 ghost use Rattle.intake.specs.Requests.{Held};
-ghost use Rattle.journal_disk.specs.Layout.{first_gate, the_heading, made_from, IsUnmade};
+ghost use Rattle.journal_disk.specs.Layout.{first_gate, the_heading, made_from, IsMade, IsUnmade};
 ghost use Rattle.journal_disk.specs.Opening.{AnswersSynced, IsKept};
 ghost use Rattle.receipt_journal.specs.Opening.{BookRefuses, book_opening_disk_failed};
 ghost use Rattle.receipt_journal.specs.Standing.{Stands, StandsForJournal};
@@ -123,6 +123,7 @@ impl Clerk {
         ensures taken { self.new ≡ None }
         ensures refused { IsTrue D.tells → IfErr result (BookRefuses (D.reads disk.old)) }
         ensures had_none { OnErr result (working self.old ≡ None) }
+        ensures made { IsTrue D.tells → IsMade the_heading (D.reads disk.old) → IsMade the_heading (D.reads disk.new) }
         ensures untouched { IsSome (working self.old) → disk.new ≡ disk.old }
         ensures journal { IsTrue D.tells → working self.old ≡ None → OnOk result ((journal : List Receipt) × StandsForJournal (D.reads disk.old) journal) }
         ensures no_book { IsTrue D.tells → working self.old ≡ None → StandsForNone (D.reads disk.old) → OpensNone D.reads D.images D.moment D.since disk.old disk.new self.new }
@@ -251,7 +252,7 @@ impl Clerk {
         requires short { length request.now.body ≤ longest_line }
         requires stands_open { IsTrue D.tells → StandsOpen self.old (D.reads disk.old) (D.images disk.old) }
         ensures answers { IsTrue D.tells → (held : Held) → Holds self.old (D.reads disk.old) (D.images disk.old) (C.ticks clock.old) held
-            → AnswersRequest D.images D.moment D.since disk.old disk.new request.now held result (Holds self.new (D.reads disk.new) (D.images disk.new) (C.ticks clock.new)) }
+            → AnswersRequest D.reads D.images D.moment D.since disk.old disk.new request.now held result (Holds self.new (D.reads disk.new) (D.images disk.new) (C.ticks clock.new)) }
         ensures stands_open { IsTrue D.tells → StandsOpen self.new (D.reads disk.new) (D.images disk.new) }
         ensures kept_open { IsSome (working self.old) → (result.status == 503) ≡ false → IsSome (working self.new) }
         ensures left_open { LeavesOpen request.now result self.new }
@@ -264,6 +265,7 @@ impl Clerk {
         // While a book works the disk is written only where an item is received, and called only for a POST.
         ensures untouched { IsSome (working self.old) → request.now.method ≢ method_of Post → disk.new ≡ disk.old }
         ensures unreceived { IsSome (working self.old) → (result.status == 201) ≡ false → is_failed result ≡ false → disk.new ≡ disk.old }
+        ensures made { IsTrue D.tells → IsMade the_heading (D.reads disk.old) → IsMade the_heading (D.reads disk.new) }
 
         // Each answer about the file is by its standing, where a book had to be opened.
         ensures no_journal { IsTrue D.tells → result.status ≡ 500 → IsNoJournal (D.reads disk.old) }

@@ -2,6 +2,7 @@
 ghost use Rattle.std.specs.Prelude.{◌≡◌, ℕ, ◌≤◌, List, None, Some, IfOk, IsSome, IsTrue};
 ghost use Rattle.std.specs.List.{AllZip};
 ghost use Rattle.gb_outside.specs.Faults.{Counts};
+ghost use Rattle.journal_disk.specs.Layout.{the_heading, IsMade};
 ghost use Rattle.intake.specs.Requests.{Held};
 ghost use Rattle.connections.specs.Answering.{OpensNone};
 ghost use Rattle.connections.specs.Doors.{AskSo, LinkRequests, ServesDoor, is_door_fault};
@@ -48,10 +49,11 @@ impl Clerk {
         requires stands_open { IsTrue D.tells → StandsOpen self.old (D.reads disk.old) (D.images disk.old) }
         ensures round { IsTrue D.tells → (held : Held) (waiting : List (List ℕ)) (asked : List LinkRequests)
             → Holds self.old (D.reads disk.old) (D.images disk.old) (C.ticks clock.old) held → L.waiting door.old ≡ Some waiting → AllZip AskSo waiting asked
-            → IsRound D.images D.moment D.since D.faults disk.old disk.new held left waiting asked (L.waiting door.new) (L.served door.old) (L.served door.new)
+            → IsRound D.reads D.images D.moment D.since D.faults disk.old disk.new held left waiting asked (L.waiting door.new) (L.served door.old) (L.served door.new)
             (λ h. Holds self.new (D.reads disk.new) (D.images disk.new) (C.ticks clock.new) h) result }
         ensures few { IfOk result (λ replies. replies ≤ left) }
         ensures stands_open { IsTrue D.tells → StandsOpen self.new (D.reads disk.new) (D.images disk.new) }
+        ensures made { IsTrue D.tells → IsMade the_heading (D.reads disk.old) → IsMade the_heading (D.reads disk.new) }
         ensures no_book { IsTrue D.tells → working self.old ≡ None → StandsForNone (D.reads disk.old) → OpensNone D.reads D.images D.moment D.since disk.old disk.new self.new }
         ensures handed_back { IsSome (L.served door.old) → IsSome (L.served door.new) × (L.out door.new ≡ L.out door.old) }
         ensures cause { Counts (L.faults door.old) (L.faults door.new) (has_door_failed result) }
@@ -80,9 +82,10 @@ impl Clerk {
         requires { IsTrue D.tells → StandsOpen self.old (D.reads disk.old) (D.images disk.old) }
         ensures serves { IsTrue D.tells → (held : Held) (waiting : List (List ℕ)) (asked : List LinkRequests)
             → Holds self.old (D.reads disk.old) (D.images disk.old) (C.ticks clock.old) held → L.waiting door.old ≡ Some waiting → AllZip AskSo waiting asked
-            → ServesDoor D.images D.moment D.since D.faults disk.old disk.new held most waiting asked (L.waiting door.new) (L.served door.old) (L.served door.new) result
+            → ServesDoor D.reads D.images D.moment D.since D.faults disk.old disk.new held most waiting asked (L.waiting door.new) (L.served door.old) (L.served door.new) result
             (λ h. Holds self.new (D.reads disk.new) (D.images disk.new) (C.ticks clock.new) h) }
         ensures stands_open { IsTrue D.tells → StandsOpen self.new (D.reads disk.new) (D.images disk.new) }
+        ensures made { IsTrue D.tells → IsMade the_heading (D.reads disk.old) → IsMade the_heading (D.reads disk.new) }
         ensures no_book { IsTrue D.tells → working self.old ≡ None → StandsForNone (D.reads disk.old) → OpensNone D.reads D.images D.moment D.since disk.old disk.new self.new }
         ensures handed_back { IsSome (L.served door.old) → IsSome (L.served door.new) × (L.out door.new ≡ L.out door.old) }
         ensures cause { Counts (L.faults door.old) (L.faults door.new) (is_door_fault result) }

@@ -2,6 +2,7 @@
 ghost use Rattle.std.specs.Prelude.{◌≡◌, false, Some, IsTrue};
 ghost use Rattle.gb_outside.specs.Faults.{Counts};
 ghost use Rattle.act_model.specs.WellFormed.{well_formed};
+ghost use Rattle.journal_disk.specs.Layout.{the_heading, IsMade};
 ghost use Rattle.receipt_journal.specs.Receiving.{is_received, receiving_disk_failed};
 ghost use Rattle.receipt_journal.specs.Standing.{Stands};
 ghost use Rattle.intake.specs.Requests.{Held};
@@ -33,6 +34,7 @@ pub(crate) fn receive<D: Disk, C: Clock>(
     ensures failed { book.new.book.log.failed ≡ receiving_disk_failed result }
     ensures stands { IsTrue D.tells → receiving_disk_failed result ≡ false → Stands book.new.book (D.reads disk.new) (D.images disk.new) }
     ensures untouched { is_received result ≡ false → receiving_disk_failed result ≡ false → disk.new ≡ disk.old }
+    ensures made { IsTrue D.tells → IsMade the_heading (D.reads disk.old) → IsMade the_heading (D.reads disk.new) }
     ensures cause { Counts (D.faults disk.old) (D.faults disk.new) (receiving_disk_failed result) }
 {
     let stamp = clock.now();

@@ -2,6 +2,7 @@
 ghost use Rattle.std.specs.Prelude.{◌≡◌, ◌≤◌, ℕ, List, [], ◌∷◌, None, Some, OnOk, OnErr, Err, IsSome, IsTrue, IfSome, length};
 ghost use Rattle.std.specs.Io.KnownBytes.{Appends};
 ghost use Rattle.gb_outside.specs.Faults.{Counts};
+ghost use Rattle.journal_disk.specs.Layout.{the_heading, IsMade};
 ghost use Rattle.act_json.specs.Lines.{longest_line};
 ghost use Rattle.intake.specs.Requests.{Held};
 ghost use Rattle.registry_http.specs.Replies.{AppendsPart};
@@ -10,11 +11,12 @@ ghost use Rattle.registry_http.specs.RequestParts.{RequestParts};
 ghost use Rattle.registry_http.specs.Requests.{AtFront};
 ghost use Rattle.connections.specs.Answering.{OpensNone};
 ghost use Rattle.connections.specs.Holding.{Holds, StandsForNone, StandsOpen, working};
+ghost use Rattle.connections.specs.LinkOrder.{ServesInOrder};
 ghost use Rattle.connections.specs.Replies.{bytes_of};
 ghost use Rattle.connections.specs.Serving.{ServesLink, TakesNone, TakesTurns, is_link_fault};
 ghost use Rattle.connections.specs.Turns.{turns};
 ghost use Rattle.connections.specs.declared.serving.Ended.TheVariants.{Finished, Memory};
-ghost use Rattle.connections.specs.inner.Rounds.{EndsWith, IsTurn, Meets, answering_ended, is_cut_off, sending_failed};
+ghost use Rattle.connections.specs.inner.Rounds.{EndsWith, IsTurn, Meets, TurnsNext, WritesReply, answering_ended, is_cut_off, sending_failed};
 
 use crate::Clerk;
 use crate::replies::Reply;
@@ -71,6 +73,7 @@ fn send<L: Link>(alloc: Global, link: &mut L, reply: &Reply) -> Result<(), Ended
 fn close<L: Link>(alloc: Global, link: &mut L, reply: Reply) -> Served
     ensures ends { EndsWith (L.written link.old) (L.written link.new) reply result }
     ensures few { result.replies ≤ 1 }
+    ensures left { L.left link.new ≡ L.left link.old }
     ensures told { IsSome (L.written link.old) → IsSome (L.written link.new) }
     ensures cause { Counts (L.faults link.old) (L.faults link.new) (is_link_fault result.ended) }
 {
@@ -97,15 +100,17 @@ impl Clerk {
         requires stands_open { IsTrue D.tells → StandsOpen self.old (D.reads disk.old) (D.images disk.old) }
         ensures turn { IsTrue D.tells → (held : Held) (requests : List RequestParts) (end : AtFront)
             → Holds self.old (D.reads disk.old) (D.images disk.old) (C.ticks clock.old) held
-            → IsTurn (TakesTurns D.images D.moment D.since D.faults) disk.old disk.new held (L.written link.old) (L.written link.new) (request.now ∷ requests) end
+            → IsTurn (TakesTurns D.reads D.images D.moment D.since D.faults) disk.old disk.new held (L.written link.old) (L.written link.new) (request.now ∷ requests) end
             (λ h. Holds self.new (D.reads disk.new) (D.images disk.new) (C.ticks clock.new) h)
             (λ h others. Holds self.new (D.reads disk.new) (D.images disk.new) (C.ticks clock.new) h × (others ≡ requests)) result }
         ensures few { IfSome result (λ served. served.replies ≤ 1) }
         ensures stands_open { IsTrue D.tells → StandsOpen self.new (D.reads disk.new) (D.images disk.new) }
         ensures none_turn { IsTrue D.tells → working self.old ≡ None → StandsForNone (D.reads disk.old) → (held all : Held) (requests : List RequestParts) (end : AtFront) → held ≡ all
             → IsTurn (TakesNone D.faults) disk.old disk.new held (L.written link.old) (L.written link.new) (request.now ∷ requests) end (λ h. h ≡ all) (λ h others. (h ≡ all) × (others ≡ requests)) result }
+        ensures made { IsTrue D.tells → IsMade the_heading (D.reads disk.old) → IsMade the_heading (D.reads disk.new) }
         ensures no_book { IsTrue D.tells → working self.old ≡ None → StandsForNone (D.reads disk.old) → OpensNone D.reads D.images D.moment D.since disk.old disk.new self.new }
         ensures told { IsSome (L.written link.old) → IsSome (L.written link.new) }
+        ensures replied { WritesReply (L.written link.old) (L.written link.new) result }
         ensures left { L.left link.new ≡ L.left link.old }
         ensures cause { Counts (L.faults link.old) (L.faults link.new) (is_cut_off result) }
     {
@@ -136,7 +141,7 @@ impl Clerk {
         requires { IsTrue D.tells → StandsOpen self.old (D.reads disk.old) (D.images disk.old) }
         ensures turn { IsTrue D.tells → (held : Held) (requests : List RequestParts) (end : AtFront)
             → Meets (Holds self.old (D.reads disk.old) (D.images disk.old) (C.ticks clock.old)) (L.left link.old) rest.old.items end held requests
-            → IsTurn (TakesTurns D.images D.moment D.since D.faults) disk.old disk.new held (L.written link.old) (L.written link.new) requests end
+            → IsTurn (TakesTurns D.reads D.images D.moment D.since D.faults) disk.old disk.new held (L.written link.old) (L.written link.new) requests end
             (λ h. Holds self.new (D.reads disk.new) (D.images disk.new) (C.ticks clock.new) h)
             (λ h others. Meets (Holds self.new (D.reads disk.new) (D.images disk.new) (C.ticks clock.new)) (L.left link.new) rest.new.items end h others) result }
         ensures few { IfSome result (λ served. served.replies ≤ 1) }
@@ -144,7 +149,9 @@ impl Clerk {
         ensures none_turn { IsTrue D.tells → working self.old ≡ None → StandsForNone (D.reads disk.old) → (held all : Held) (requests : List RequestParts) (end : AtFront)
             → Meets (λ h. h ≡ all) (L.left link.old) rest.old.items end held requests
             → IsTurn (TakesNone D.faults) disk.old disk.new held (L.written link.old) (L.written link.new) requests end (λ h. h ≡ all) (λ h others. Meets (λ k. k ≡ all) (L.left link.new) rest.new.items end h others) result }
+        ensures made { IsTrue D.tells → IsMade the_heading (D.reads disk.old) → IsMade the_heading (D.reads disk.new) }
         ensures no_book { IsTrue D.tells → working self.old ≡ None → StandsForNone (D.reads disk.old) → OpensNone D.reads D.images D.moment D.since disk.old disk.new self.new }
+        ensures order { TurnsNext L.left L.written link.old rest.old.items link.new rest.new.items result }
         ensures told { IsSome (L.written link.old) → IsSome (L.written link.new) }
         ensures cause { Counts (L.faults link.old) (L.faults link.new) (is_cut_off result) }
     {
@@ -178,14 +185,16 @@ impl Clerk {
         requires { IsTrue D.tells → StandsOpen self.old (D.reads disk.old) (D.images disk.old) }
         ensures serves { IsTrue D.tells → (held : Held) (input : List ℕ) (requests : List RequestParts) (end : AtFront)
             → Holds self.old (D.reads disk.old) (D.images disk.old) (C.ticks clock.old) held → L.left link.old ≡ Some input → AreRequests input requests end
-            → ServesLink (TakesTurns D.images D.moment D.since D.faults) disk.old disk.new held (L.written link.old) (L.written link.new) (turns left requests end) result
+            → ServesLink (TakesTurns D.reads D.images D.moment D.since D.faults) disk.old disk.new held (L.written link.old) (L.written link.new) (turns left requests end) result
             (λ h. Holds self.new (D.reads disk.new) (D.images disk.new) (C.ticks clock.new) h) }
         ensures stands_open { IsTrue D.tells → StandsOpen self.new (D.reads disk.new) (D.images disk.new) }
         ensures serves_none { IsTrue D.tells → working self.old ≡ None → StandsForNone (D.reads disk.old) → (held : Held) (input : List ℕ) (requests : List RequestParts) (end : AtFront)
             → L.left link.old ≡ Some input → AreRequests input requests end
             → ServesLink (TakesNone D.faults) disk.old disk.new held (L.written link.old) (L.written link.new) (turns left requests end) result (λ h. h ≡ held) }
+        ensures made { IsTrue D.tells → IsMade the_heading (D.reads disk.old) → IsMade the_heading (D.reads disk.new) }
         ensures no_book { IsTrue D.tells → working self.old ≡ None → StandsForNone (D.reads disk.old) → OpensNone D.reads D.images D.moment D.since disk.old disk.new self.new }
         ensures few { result.replies ≤ left }
+        ensures order { ServesInOrder L.left L.written link.old link.new result }
         ensures told { IsSome (L.written link.old) → IsSome (L.written link.new) }
         ensures cause { Counts (L.faults link.old) (L.faults link.new) (is_link_fault result.ended) }
     {

@@ -1,13 +1,14 @@
 -- What serving the office comes to: an opening, and then a door that was served; or no book was opened.
-use Rattle.std.proofs.Common.{◌≡◌, ◌⊎◌, inl, inr, ⊎_elim, ℕ, ◌≤◌, Bool, false, List, [], ◌++◌, Option, Some, None, Err, IfSome, refl, sym, ap, subst, arith, append-nil}
+use Rattle.std.proofs.Common.{◌≡◌, ◌+◌, inl, inr, ⊎_elim, ℕ, ◌≤◌, false, List, [], ◌++◌, Option, Some, None, Err, IfSome, IsSome, refl, sym, ap, subst, arith, append-nil}
 use Rattle.gb_base.specs.DayMinute.{DayMinute}
 use Rattle.gb_outside.specs.Faults.{Counts, Rose}
-use Rattle.gb_outside.specs.Images.{LeavesOnly}
+use Rattle.gb_outside.specs.Images.{LeavesOnly, Torn}
 use Rattle.gb_outside.proofs.Moments.{followed, weakened}
+use Rattle.journal_disk.specs.Layout.{the_heading, first_gate, IsMade, IsUnmade, made_from}
 use Rattle.journal_disk.specs.Opening.{AnswersSynced, IsKept, SyncsFirst}
 use Rattle.receipt_journal.specs.BookState.{BookState}
 use Rattle.receipt_journal.specs.Opening.{book_opening_disk_failed}
-use Rattle.receipt_journal.specs.Standing.{StandsForJournal}
+use Rattle.receipt_journal.specs.Standing.{Stands, StandsForJournal, records}
 use Rattle.receipt_journal.specs.declared.faults.BookFault.{BookFault}
 use Rattle.receipt_journal.specs.declared.faults.BookFault.TheVariants as fault
 use Rattle.intake.specs.Requests.{Held}
@@ -15,7 +16,7 @@ use Rattle.intake.proofs.Replies.{grown_at}
 use Rattle.settled_book.specs.SettledBookState.{SettledBookState}
 use Rattle.connections.specs.Answering.{LeavesOldThen}
 use Rattle.connections.specs.Doors.{LinkRequests, ServesDoor}
-use Rattle.connections.specs.Holding.{Holds}
+use Rattle.connections.specs.Holding.{Holds, StandsOpen, working}
 use Rattle.connections.specs.Served.{IsLeftIn}
 use Rattle.connections.specs.Serving.{ServesLink}
 use Rattle.connections.specs.Turns.{Turn, Taken}
@@ -26,7 +27,7 @@ use Rattle.registry_office.specs.Disks.{LeavesSynced}
 use Rattle.registry_office.specs.Servings.{IsHeld, ServesOffice}
 use Rattle.registry_office.specs.declared.statuses.Status.{Status}
 use Rattle.registry_office.specs.inner.Ends.{status_of_door, status_of_fault}
-use Rattle.registry_office.proofs.Opened.{kept_journal}
+use Rattle.registry_office.proofs.Opened.{kept_journal, made_of_journal}
 
 -- a file that stands for the journal that is held is left ahead of all turns
 left_ahead : (held : Held) (taken : List Taken) (file : List ℕ) → StandsForJournal file held.journal → IsLeftIn held taken file
@@ -40,6 +41,14 @@ rose_on before mid now first never = subst (λ n. Rose n now → ⊥) (sym (firs
 none_told : (served : Option (List (List ℕ × ℕ))) → IfSome served (λ before. served ≡ Some (before ++ []))
 none_told None = tt
 none_told (Some before) = ap (λ (l : List (List ℕ × ℕ)). Some l) (sym (append-nil before))
+
+-- where a book is open that works, its file is made
+pub made_open : (at_hand : Option SettledBookState) (reads : List ℕ) (images : List ℕ → Type 0) → IsSome (working at_hand) → StandsOpen at_hand reads images → IsMade the_heading reads
+made_open at_hand reads images some stands = by (working at_hand) some stands
+  where
+    by : (book : Option SettledBookState) → IsSome book → IfSome book (λ settled. Stands settled.book reads images) → IsMade the_heading reads
+    by None some stands = absurd cc
+    by (Some settled) some stands = made_of_journal (records settled.book.journal) reads stands.journal
 
 module _ {D : Type 0} (reads : D → List ℕ) (images : D → List ℕ → Type 0) (moment : D → ℕ) (since : D → ℕ → List ℕ → Type 0) (faults : D → ℕ) where
   -- what might be left before is of the kind that is left then
@@ -63,13 +72,14 @@ module _ {D : Type 0} (reads : D → List ℕ) (images : D → List ℕ → Type
     Office waits served result = ServesOffice reads images moment since faults old new held most waiting asked waits served_old served known result
 
     abbrev Door : D → Option (List (List ℕ)) → Option (List (List ℕ × ℕ)) → Option SettledBookState → DoorEnd → Type 0
-    Door mid waits served at_hand end = ServesDoor images moment since faults mid new held most waiting asked waits served_old served end (λ h. Holds at_hand (reads new) (images new) known h)
+    Door mid waits served at_hand end = ServesDoor reads images moment since faults mid new held most waiting asked waits served_old served end (λ h. Holds at_hand (reads new) (images new) known h)
 
     -- the door was served on a book that was opened
     pub served_opened : (mid : D) (waits : Option (List (List ℕ))) (served : Option (List (List ℕ × ℕ))) (at_hand : Option SettledBookState) (end : DoorEnd) (result : Status)
         → ((t : ℕ) (c : List ℕ) → t ≤ moment mid → images mid c → since mid t c) → StandsForJournal (reads old) held.journal → SyncsFirst reads images moment since old mid → Counts (faults old) (faults mid) false
+        → IsKept (reads old) (reads mid) → (IsUnmade (reads old) → reads mid ≡ made_from the_heading (reads old)) → Torn 0 (first_gate the_heading + 1) (reads old) (reads mid)
         → Door mid waits served at_hand end → result ≡ status_of_door end → Office waits served result
-    served_opened mid waits served at_hand end result counts stands first quiet is ends = subst (λ s. Office waits served s) (sym ends) (by end is)
+    served_opened mid waits served at_hand end result counts stands first quiet keeps makes torn is ends = subst (λ s. Office waits served s) (sym ends) (by end is)
       where
         by : (e : DoorEnd) → Door mid waits served at_hand e → Office waits served (status_of_door e)
         by door.Done d = record {
@@ -80,6 +90,11 @@ module _ {D : Type 0} (reads : D → List ℕ) (images : D → List ℕ → Type
           told = d.serves.told;
           holds = record { stands = d.serves.holds.file; clock = d.serves.holds.clock };
           left = left_on old mid new held _ counts stands first d.serves.disk.left;
+          file = reads mid;
+          same = keeps.same;
+          made = λ unmade told. makes unmade;
+          unmade = λ unmade. torn;
+          written = d.serves.disk.written;
           kept = d.serves.disk.told;
           opened = faults mid;
           opening = quiet;
@@ -98,6 +113,11 @@ module _ {D : Type 0} (reads : D → List ℕ) (images : D → List ℕ → Type
           told = d.serves.told;
           holds = record { stands = d.serves.holds.file; clock = d.serves.holds.clock };
           left = left_on old mid new held _ counts stands first d.serves.disk.left;
+          file = reads mid;
+          same = keeps.same;
+          made = λ unmade told. makes unmade;
+          unmade = λ unmade. torn;
+          written = d.serves.disk.written;
           kept = d.serves.disk.told;
           opened = faults mid;
           opening = quiet;
@@ -116,6 +136,11 @@ module _ {D : Type 0} (reads : D → List ℕ) (images : D → List ℕ → Type
           told = d.serves.told;
           holds = record { stands = d.serves.holds.file; clock = d.serves.holds.clock };
           left = left_on old mid new held _ counts stands first d.serves.disk.left;
+          file = reads mid;
+          same = keeps.same;
+          made = λ unmade told. makes unmade;
+          unmade = λ unmade. torn;
+          written = d.serves.disk.written;
           kept = d.serves.disk.told;
           opened = faults mid;
           opening = quiet;
@@ -129,9 +154,9 @@ module _ {D : Type 0} (reads : D → List ℕ) (images : D → List ℕ → Type
 
     -- no book was opened, and nothing was accepted
     pub served_none : (f : BookFault) (result : Status) → AnswersSynced reads images moment since old new (book_opening_disk_failed {A = BookState} (Err f))
-        → Counts (faults old) (faults new) (book_opening_disk_failed {A = BookState} (Err f)) → IsKept (reads old) (reads new) → IsHeld (reads old) known held
+        → Counts (faults old) (faults new) (book_opening_disk_failed {A = BookState} (Err f)) → IsKept (reads old) (reads new) → Torn 0 (first_gate the_heading + 1) (reads old) (reads new) → IsHeld (reads old) known held
         → (waits : Option (List (List ℕ))) → waits ≡ Some waiting → result ≡ status_of_fault f → Office waits served_old result
-    served_none f result answers counts kept is waits stay ends = subst (λ s. Office waits served_old s) (sym ends) (by f answers counts)
+    served_none f result answers counts kept torn is waits stay ends = subst (λ s. Office waits served_old s) (sym ends) (by f answers counts)
       where
         holds : IsHeld (reads new) known held
         holds = record { stands = kept_journal (reads old) (reads new) held.journal is.stands kept; clock = is.clock }
@@ -154,6 +179,11 @@ module _ {D : Type 0} (reads : D → List ℕ) (images : D → List ℕ → Type
           told = none_told served_old;
           holds = holds;
           left = ⊎_elim (λ none. inl none) (λ first. inr (first_left first)) answers;
+          file = reads new;
+          same = kept.same;
+          made = λ unmade told. absurd cc;
+          unmade = λ unmade. torn;
+          written = refl;
           kept = tt;
           opened = faults new;
           opening = counts;
@@ -172,6 +202,11 @@ module _ {D : Type 0} (reads : D → List ℕ) (images : D → List ℕ → Type
           told = none_told served_old;
           holds = holds;
           left = first_left answers;
+          file = reads new;
+          same = kept.same;
+          made = λ unmade told. absurd cc;
+          unmade = λ unmade. torn;
+          written = refl;
           kept = tt;
           opened = faults new;
           opening = counts;
@@ -190,6 +225,11 @@ module _ {D : Type 0} (reads : D → List ℕ) (images : D → List ℕ → Type
           told = none_told served_old;
           holds = holds;
           left = first_left answers;
+          file = reads new;
+          same = kept.same;
+          made = λ unmade told. absurd cc;
+          unmade = λ unmade. torn;
+          written = refl;
           kept = tt;
           opened = faults new;
           opening = counts;
@@ -208,6 +248,11 @@ module _ {D : Type 0} (reads : D → List ℕ) (images : D → List ℕ → Type
           told = none_told served_old;
           holds = holds;
           left = first_left answers;
+          file = reads new;
+          same = kept.same;
+          made = λ unmade told. absurd cc;
+          unmade = λ unmade. torn;
+          written = refl;
           kept = tt;
           opened = faults new;
           opening = counts;

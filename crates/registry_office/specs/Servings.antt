@@ -1,16 +1,18 @@
 -- What serving the office does: the links that came through the door, and the disk.
-use Rattle.std.specs.Prelude.{◌≡◌, ◌⊎◌, ℕ, ◌≤◌, true, false, List, [], ◌++◌, drop, length, Option, Some, IfSome}
+use Rattle.std.specs.Prelude.{◌≡◌, ◌⊎◌, ℕ, ◌+◌, ◌≤◌, true, false, List, [], ◌++◌, drop, length, Option, Some, IfSome}
 use Rattle.std.specs.List.{list_all, list_any}
 use Rattle.gb_base.specs.DayMinute.{DayMinute}
 use Rattle.gb_outside.specs.Faults.{Counts, Rose}
+use Rattle.gb_outside.specs.Images.{Torn}
+use Rattle.journal_disk.specs.Layout.{the_heading, first_gate, IsUnmade, made_from}
 use Rattle.receipt_journal.specs.Standing.{StandsForJournal}
 use Rattle.intake.specs.Requests.{Held}
 use Rattle.connections.specs.Doors.{AreServed, LacksMemory, LinkRequests, LinkServed, left_behind, pairs_of, turns_taken}
 use Rattle.connections.specs.Served.{IsLeftIn}
-use Rattle.connections.specs.Serving.{AllTold, CountsTurns, fate_of, is_answered, lacks_journal, lacks_memory}
+use Rattle.connections.specs.Serving.{AllTold, CountsTurns, WritesTurns, fate_of, is_answered, lacks_journal, lacks_memory}
 use Rattle.connections.specs.Turns.{held_behind}
 use Rattle.registry_office.specs.Disks.{KeepsSynced}
-use Rattle.registry_office.specs.Statuses.{disk_fault}
+use Rattle.registry_office.specs.Statuses.{disk_fault, tells_of_opening}
 use Rattle.registry_office.specs.declared.statuses.Status.{Status}
 use Rattle.registry_office.specs.declared.statuses.Status.TheVariants as status
 
@@ -19,7 +21,7 @@ pub record IsHeld (file : List ℕ) (known : Option (List DayMinute)) (held : He
   pub stands : StandsForJournal file held.journal
   pub clock : known ≡ Some held.ticks
 
--- The office was served, at whose door links waited that ask so, up to so many replies and as many links: what became of each link that came, what the door tells of them, and what is held behind them. At each moment since the first sync a stop leaves the journal as it is behind some of the turns that were taken, with the receipt of the next or without it; each file that it may leave behind the run begins with each journal that a text was read of or an item received into. The disk's count of faults rises where the opening failed by it, and behind that in each turn in which a call of it failed, and nowhere else. All is done where all replies were written, as many links were served, or no more came; and want of memory ends it ahead of the first link, or where none was found for a reply to the last. Where no count of the disk rose and no memory was wanting, each turn was answered as it asks.
+-- The office was served, at whose door links waited that ask so, up to so many replies and as many links: what became of each link that came, what the door tells of them, and what is held behind them. At each moment since the first sync a stop leaves the journal as it is behind some of the turns that were taken, with the receipt of the next or without it; of the file no other bytes are written behind the opening than the frames of items received, and each file that it may leave behind the run begins with each journal that a text was read of or an item received into. The disk's count of faults rises where the opening failed by it, and behind that in each turn in which a call of it failed, and nowhere else. All is done where all replies were written, as many links were served, or no more came; and want of memory ends it ahead of the first link, or where none was found for a reply to the last. Where no count of the disk rose and no memory was wanting, each turn was answered as it asks.
 pub record ServesOffice {D : Type 0} (reads : D → List ℕ) (images : D → List ℕ → Type 0) (moment : D → ℕ) (since : D → ℕ → List ℕ → Type 0) (faults : D → ℕ) (old new : D) (held : Held) (most : ℕ)
     (waiting : List (List ℕ)) (asked : List LinkRequests) (waiting_new : Option (List (List ℕ))) (served_old served_new : Option (List (List ℕ × ℕ))) (known_new : Option (List DayMinute)) (result : Status) : Type 0 where
   pub links : List LinkServed
@@ -29,6 +31,11 @@ pub record ServesOffice {D : Type 0} (reads : D → List ℕ) (images : D → Li
   pub told : IfSome served_old (λ before. served_new ≡ Some (before ++ pairs_of held links))
   pub holds : IsHeld (reads new) known_new (held_behind held (turns_taken links))
   pub left : KeepsSynced reads images moment since old new (disk_fault result) (IsLeftIn held (turns_taken links))
+  pub file : List ℕ
+  pub same : (IsUnmade (reads old) → ⊥) → file ≡ reads old
+  pub made : IsUnmade (reads old) → tells_of_opening result ≡ true → file ≡ made_from the_heading (reads old)
+  pub unmade : IsUnmade (reads old) → Torn 0 (first_gate the_heading + 1) (reads old) file
+  pub written : WritesTurns held (turns_taken links) file (reads new)
   pub kept : AllTold (images new) held (turns_taken links)
   pub opened : ℕ
   pub opening : Counts (faults old) opened (disk_fault result)

@@ -4,6 +4,7 @@ ghost use Rattle.std.specs.Prelude.{◌≡◌, ◌≤◌, ℕ, List, Some, IsSom
 ghost use Rattle.std.specs.List.{AllZip};
 ghost use Rattle.gb_outside.specs.Faults.{Counts, Rose};
 ghost use Rattle.gb_outside.specs.Images.{LeavesOnly};
+ghost use Rattle.journal_disk.specs.Layout.{the_heading, IsMade};
 ghost use Rattle.journal_disk.specs.Opening.{AnswersSynced, IsKept};
 ghost use Rattle.receipt_journal.specs.Standing.{StandsForJournal};
 ghost use Rattle.intake.specs.Requests.{Held};
@@ -12,11 +13,12 @@ ghost use Rattle.registry_http.specs.RequestParts.{RequestParts};
 ghost use Rattle.registry_http.specs.Requests.{AtFront};
 ghost use Rattle.connections.specs.Doors.{AskSo, LinkRequests};
 ghost use Rattle.connections.specs.Holding.{StandsForNone};
+ghost use Rattle.connections.specs.LinkOrder.{ServesInOrder};
 ghost use Rattle.connections.specs.Serving.{ServesLink, TakesNone, TakesTurns, is_link_fault};
 ghost use Rattle.connections.specs.Turns.{turns};
 ghost use Rattle.registry_office.specs.Disks.{FindsBy, IsJournalFile};
 ghost use Rattle.registry_office.specs.Servings.{IsHeld, ServesOffice};
-ghost use Rattle.registry_office.specs.Statuses.{read_fault, write_fault, disk_fault, door_fault, is_no_journal};
+ghost use Rattle.registry_office.specs.Statuses.{read_fault, write_fault, disk_fault, door_fault, is_no_journal, tells_of_opening};
 ghost use Rattle.registry_office.specs.inner.Ends.{status_of_door};
 
 use crate::statuses::{Status, status_of_opening};
@@ -41,13 +43,14 @@ pub fn serve_connection<R: AllocGlobal, L: Link, D: Disk, C: Clock, G: DeskGate>
     requires desks { (1 ≤ _desks) × (_desks ≤ 64) }
     ensures serves { IsTrue D.tells → (held : Held) (input : List ℕ) (requests : List RequestParts) (end : AtFront)
         → IsHeld (D.reads disk.old) (C.ticks clock.old) held → L.left link.old ≡ Some input → AreRequests input requests end
-        → ServesLink (TakesTurns D.images D.moment D.since D.faults) disk.old disk.new held (L.written link.old) (L.written link.new) (turns left requests end) result
+        → ServesLink (TakesTurns D.reads D.images D.moment D.since D.faults) disk.old disk.new held (L.written link.old) (L.written link.new) (turns left requests end) result
         (IsHeld (D.reads disk.new) (C.ticks clock.new)) }
     ensures serves_none { IsTrue D.tells → StandsForNone (D.reads disk.old) → (held : Held) (input : List ℕ) (requests : List RequestParts) (end : AtFront)
         → L.left link.old ≡ Some input → AreRequests input requests end
         → ServesLink (TakesNone D.faults) disk.old disk.new held (L.written link.old) (L.written link.new) (turns left requests end) result (λ h. h ≡ held) }
     ensures kept { IsTrue D.tells → StandsForNone (D.reads disk.old) → (D.reads disk.new ≡ D.reads disk.old) × LeavesOnly D.moment D.since disk.old disk.new (D.images disk.old) }
     ensures few { result.replies ≤ left }
+    ensures order { ServesInOrder L.left L.written link.old link.new result }
     ensures cause { Counts (L.faults link.old) (L.faults link.new) (is_link_fault result.ended) }
 {
     let mut clerk = Clerk::new();
@@ -72,6 +75,7 @@ pub(crate) fn serve<
 
     // What the file stood for; where it stood for no journal, nothing else is touched, and it stays.
     ensures found { IsTrue D.tells → FindsBy (D.reads disk.old) result }
+    ensures made { IsTrue D.tells → tells_of_opening result ≡ true → IsMade the_heading (D.reads disk.new) }
     ensures kept { IsTrue D.tells → (IsJournalFile (D.reads disk.old) → ⊥) → IsKept (D.reads disk.old) (D.reads disk.new) }
     ensures kept_any_moment { IsTrue D.tells → (IsJournalFile (D.reads disk.old) → ⊥)
         → AnswersSynced D.reads D.images D.moment D.since disk.old disk.new (disk_fault result) }

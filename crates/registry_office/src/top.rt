@@ -143,7 +143,7 @@ pub fn run<
     // A status tells what the disk's file stood for, and an unmade one is made. Where the command
     // receives nothing, no other byte changes; where the file stood for no journal, nothing else is touched.
     ensures found { IsTrue D.tells → uses_disk (commanded rc_str_bytes words.now) ≡ true → FindsBy (D.reads disk.old) result }
-    ensures made { IsTrue D.tells → uses_disk (commanded rc_str_bytes words.now) ≡ true → serves (commanded rc_str_bytes words.now) ≡ None → tells_of_opening result ≡ true → IsMade the_heading (D.reads disk.new) }
+    ensures made { IsTrue D.tells → uses_disk (commanded rc_str_bytes words.now) ≡ true → tells_of_opening result ≡ true → IsMade the_heading (D.reads disk.new) }
     ensures made_so { IsTrue D.tells → uses_disk (commanded rc_str_bytes words.now) ≡ true → receives (commanded rc_str_bytes words.now) ≡ false → serves (commanded rc_str_bytes words.now) ≡ None → tells_of_opening result ≡ true → IsUnmade (D.reads disk.old)
         → D.reads disk.new ≡ made_from the_heading (D.reads disk.old) }
     ensures kept { IsTrue D.tells → uses_disk (commanded rc_str_bytes words.now) ≡ true → ((receives (commanded rc_str_bytes words.now) ≡ false) × (serves (commanded rc_str_bytes words.now) ≡ None)) ⊎ (IsJournalFile (D.reads disk.old) → ⊥) → IsKept (D.reads disk.old) (D.reads disk.new) }

@@ -2,10 +2,11 @@
 use Rattle.std.specs.Prelude.{◌≡◌, ℕ, ◌==◌, Bool, true, false, List, Option, None, IsSome, IsTrue}
 use Rattle.gb_base.specs.DayMinute.{DayMinute}
 use Rattle.gb_outside.specs.Faults.{Counts}
+use Rattle.journal_disk.specs.Layout.{the_heading, IsMade}
 use Rattle.intake.specs.Grown.{GrownFrom}
 use Rattle.intake.specs.Requests.{Held}
 use Rattle.settled_book.specs.SettledBookState.{SettledBookState}
-use Rattle.connections.specs.Answering.{LeavesOldThen, OpensNone, is_from_disk, tells_of_journal}
+use Rattle.connections.specs.Answering.{LeavesOldThen, OpensNone, WritesGrown, is_from_disk, tells_of_journal}
 use Rattle.connections.specs.Answers.{Answer}
 use Rattle.connections.specs.Fates.{Fate, answer_by}
 use Rattle.connections.specs.Holding.{Holds, IsNoJournal, StandsForNone, StandsOpen, working}
@@ -18,6 +19,7 @@ pub record EndsBy {D : Type 0} (reads : D → List ℕ) (images : D → List ℕ
   pub reply_is : reply ≡ (answer_by fate held wanted).reply
   pub holds : Holds at_hand (reads new) (images new) known (answer_by fate held wanted).held
   pub left : LeavesOldThen images moment since old new (GrownFrom held.journal wanted.held.journal)
+  pub written : WritesGrown held.journal wanted.held.journal (reads old) (reads new)
   pub works : is_from_disk reply ≡ true → IsSome (working at_hand)
 
 -- What a reply is by the book and the disk alone, whatever is held.
@@ -30,4 +32,5 @@ pub record Serves {D : Type 0} (tells : Bool) (reads : D → List ℕ) (images :
   pub had_none : reply.status ≡ 500 → working book_old ≡ None
   pub status : is_reply_status reply.status ≡ true
   pub not_opened : IsTrue tells → working book_old ≡ None → StandsForNone (reads old) → tells_of_journal reply ≡ false
+  pub made : IsTrue tells → IsMade the_heading (reads old) → IsMade the_heading (reads new)
   pub no_book : IsTrue tells → working book_old ≡ None → StandsForNone (reads old) → OpensNone reads images moment since old new book_new

@@ -1,6 +1,7 @@
 -- What one turn of a connection comes to.
 use Rattle.std.specs.Prelude.{◌≡◌, ℕ, ◌==◌, Bool, false, List, [], ◌∷◌, ◌++◌, Option, Some, None, Result, Ok, Err}
 use Rattle.std.specs.Io.KnownBytes.{Appends}
+use Rattle.gb_outside.specs.Bytes.{AppendsFront}
 use Rattle.intake.specs.Requests.{Held}
 use Rattle.registry_http.specs.Replies.{AppendsPart}
 use Rattle.registry_http.specs.RequestLists.{AreRequests}
@@ -8,6 +9,7 @@ use Rattle.registry_http.specs.RequestParts.{RequestParts}
 use Rattle.registry_http.specs.Requests.{AtFront}
 use Rattle.registry_http.specs.declared.replies.ReplyFault.{ReplyFault}
 use Rattle.registry_http.specs.declared.replies.ReplyFault.TheVariants as fault
+use Rattle.connections.specs.LinkOrder.{TurnsLast, TurnsOnce}
 use Rattle.connections.specs.Replies.{ReplyParts, bytes_of}
 use Rattle.connections.specs.Serving.{ServesLink, is_link_fault}
 use Rattle.connections.specs.Turns.{Taken, Request, IsOf, answer_in, turns}
@@ -64,3 +66,16 @@ IsTurn Takes old new held written_old written_new requests end HoldsNow MeetsNow
     GoesOn Takes old new held written_old written_new requests MeetsNow
 IsTurn Takes old new held written_old written_new requests end HoldsNow MeetsNow (Some served) =
     (n : ℕ) → (n == 0) ≡ false → ServesLink Takes old new held written_old written_new (turns n requests end) served HoldsNow
+
+-- ---- in which order the link was read and written
+
+-- a reply was written, whole where more may follow
+pub record WritesReply (written_old written_new : Option (List ℕ)) (result : Option Served) : Type 0 where
+  pub reply : ReplyParts
+  pub whole : result ≡ None → Appends written_old written_new (bytes_of (reply ∷ []))
+  pub part : AppendsFront written_old written_new (bytes_of (reply ∷ []))
+
+-- one turn was taken and more may follow, or the last one
+abbrev pub TurnsNext : {L : Type 0} → (L → Option (List ℕ)) → (L → Option (List ℕ)) → L → List ℕ → L → List ℕ → Option Served → Type 0
+TurnsNext left written link kept now behind None = (reply : ReplyParts) × TurnsOnce left written link kept reply now behind
+TurnsNext left written link kept now behind (Some served) = TurnsLast left written link kept now

@@ -9,13 +9,13 @@ use Rattle.receipt_journal.specs.declared.faults.BookFault.{BookFault}
 use Rattle.receipt_journal.specs.declared.faults.BookFault.TheVariants as fault
 use Rattle.receipt_journal.specs.declared.received.Received.{Received}
 use Rattle.receipt_journal.specs.declared.received.Received.TheVariants as answers
-use Rattle.intake.specs.Grown.{GrownFrom}
+use Rattle.intake.specs.Grown.{GrownFrom, WritesFrames}
 use Rattle.intake.specs.Requests.{Held, is_fault}
 use Rattle.intake_requests.specs.declared.requests.SenderReference.{SenderReference}
 use Rattle.registry_http.specs.declared.finding.RouteFault.{RouteFault}
 use Rattle.registry_http.specs.declared.finding.RouteFault.TheVariants as routing
 use Rattle.settled_book.specs.SettledBookState.{SettledBookState}
-use Rattle.connections.specs.Answering.{LeavesOldThen}
+use Rattle.connections.specs.Answering.{LeavesOldThen, WritesGrown}
 use Rattle.connections.specs.Answers.{item_answer, item_reply, received_by_clock}
 use Rattle.connections.specs.Fates.{Failure, DiskFailed, NoJournal, OutOfMemory, failure_reply}
 use Rattle.connections.specs.Holding.{IsOpenOn}
@@ -46,6 +46,7 @@ opening_reply f = failure_reply (failure_of f)
 pub record Finds {D : Type 0} (reads : D → List ℕ) (images : D → List ℕ → Type 0) (moment : D → ℕ) (since : D → ℕ → List ℕ → Type 0) (old new : D) (journal : List Receipt) (taken : Result SettledBookState BookFault) : Type 0 where
   pub file : StandsForJournal (reads new) journal
   pub left : LeavesOldThen images moment since old new (λ file. StandsForJournal file journal)
+  pub written : WritesGrown journal journal (reads old) (reads new)
   pub there : IfOk taken (λ settled. IsOpenOn settled (reads new) (images new) journal)
 
 -- ---- an item is received
@@ -57,6 +58,8 @@ pub record Receives {D : Type 0} (reads : D → List ℕ) (images : D → List �
   pub clock : known ≡ Some (item_answer held from item).held.ticks
   pub file : StandsForJournal (reads new) held.journal ⊎ StandsForJournal (reads new) (item_answer held from item).held.journal
   pub left : LeavesOnly moment since old new (GrownFrom held.journal (item_answer held from item).held.journal)
+  pub written : WritesFrames held.journal (item_answer held from item).held.journal (reads old) (reads new)
+  pub same : (item_answer held from item).held.journal ≡ held.journal → reads new ≡ reads old
   pub answered : is_fault answer ≡ false → IsOpenOn settled (reads new) (images new) (item_answer held from item).held.journal
   pub unreceived : answer ≡ answers.Memory → IsOpenOn settled (reads new) (images new) held.journal
 

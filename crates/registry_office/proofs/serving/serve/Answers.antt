@@ -1,8 +1,9 @@
-use Rattle.std.proofs.Common.{Option, List, subst, sym}
+use Rattle.std.proofs.Common.{◌≡◌, ◌∙◌, Option, List, true, false, subst, sym}
 use Rattle.gb_base.specs.DayMinute.{DayMinute}
 use Rattle.connections.specs.Holding.{Holds}
 use Rattle.connections.proofs.SettledClerks.{holds_still, stands_still}
-use Rattle.registry_office.proofs.ServedDoors.{served_none, served_opened}
+use Rattle.registry_office.proofs.Opened.{opening_status}
+use Rattle.registry_office.proofs.ServedDoors.{made_open, served_none, served_opened}
 use Rattle.registry_office.proofs.serving.serve.Goals as goal
 
 pub serve_door-requires-clause : goal.serve_door-requires-clause
@@ -12,7 +13,7 @@ pub returns-clause-serves : goal.returns-clause-serves
 returns-clause-serves g c = λ tells held waiting asked is waits asks.
     served_opened g.D.Disk.reads g.D.Disk.images g.D.Disk.moment g.D.Disk.since g.D.Disk.faults c.args.disk.now c.serve_door.new.disk held c.args.requests waiting asked (g.L.Listener.served c.args.door.now) (g.C.Clock.ticks c.serve_door.new.clock)
     c.open.new.disk (g.L.Listener.waiting c.serve_door.new.door) (g.L.Listener.served c.serve_door.new.door) c.serve_door.new.self c.serve_door.result c.status_of_door.result
-    (λ t file le image. g.met.D.Disk.counts_now c.open.new.disk t file tells le image) is.stands (c.in-Ok.ensures.any_moment tells) c.in-Ok.ensures.cause
+    (λ t file le image. g.met.D.Disk.counts_now c.open.new.disk t file tells le image) is.stands (c.in-Ok.ensures.any_moment tells) c.in-Ok.ensures.cause (c.in-Ok.ensures.kept tells) (c.in-Ok.ensures.made tells) (c.in-Ok.ensures.torn tells)
     (c.serve_door.ensures.serves tells held waiting asked
     (subst (λ (known : Option (List DayMinute)). Holds c.settle.new.self (g.D.Disk.reads c.open.new.disk) (g.D.Disk.images c.open.new.disk) known held) (sym is.clock) (holds_still c.settle.ensures.book (c.in-Ok.ensures.holds tells held is.stands))) waits asks)
     c.status_of_door.ensures
@@ -20,4 +21,12 @@ returns-clause-serves g c = λ tells held waiting asked is waits asks.
 pub returns-in-Err-clause-serves : goal.returns-in-Err-clause-serves
 returns-in-Err-clause-serves g c = λ tells held waiting asked is waits asks.
     served_none g.D.Disk.reads g.D.Disk.images g.D.Disk.moment g.D.Disk.since g.D.Disk.faults c.args.disk.now c.open.new.disk held c.args.requests waiting asked (g.L.Listener.served c.args.door.now) (g.C.Clock.ticks c.args.clock.now)
-    c.in-Err.fault c.status_of_opening.result (c.in-Err.ensures.any_moment tells) c.in-Err.ensures.cause (c.in-Err.ensures.kept tells) is (g.L.Listener.waiting c.args.door.now) waits c.status_of_opening.ensures
+    c.in-Err.fault c.status_of_opening.result (c.in-Err.ensures.any_moment tells) c.in-Err.ensures.cause (c.in-Err.ensures.kept tells) (c.in-Err.ensures.torn tells) is (g.L.Listener.waiting c.args.door.now) waits c.status_of_opening.ensures
+
+-- ---- the file is made
+
+pub returns-clause-made : goal.returns-clause-made
+returns-clause-made g c = λ tells told. c.serve_door.ensures.made tells (made_open c.in-Ok.clerk (g.D.Disk.reads c.open.new.disk) (g.D.Disk.images c.open.new.disk) c.in-Ok.ensures.opened (c.in-Ok.ensures.stands_open tells))
+
+pub returns-in-Err-clause-made : goal.returns-in-Err-clause-made
+returns-in-Err-clause-made g c = λ tells told. let never : true ≡ false = sym told ∙ (opening_status c.status_of_opening.result c.in-Err.fault c.status_of_opening.ensures).not_told in absurd cc

@@ -8,7 +8,7 @@ use Rattle.registry_office.proofs.serving.serve_connection.Goals as goal
 
 pub returns-clause-serves : goal.returns-clause-serves
 returns-clause-serves g c = λ tells held input requests end is left asks.
-    link_held (TakesTurns g.D.Disk.images g.D.Disk.moment g.D.Disk.since g.D.Disk.faults) c.args.disk.now c.serve_link.new.disk held (g.L.Link.written c.args.link.now) (g.L.Link.written c.serve_link.new.link) (turns c.args.left requests end) c.serve_link.result
+    link_held (TakesTurns g.D.Disk.reads g.D.Disk.images g.D.Disk.moment g.D.Disk.since g.D.Disk.faults) c.args.disk.now c.serve_link.new.disk held (g.L.Link.written c.args.link.now) (g.L.Link.written c.serve_link.new.link) (turns c.args.left requests end) c.serve_link.result
     c.serve_link.new.self (g.D.Disk.reads c.serve_link.new.disk) (g.D.Disk.images c.serve_link.new.disk) (g.C.Clock.ticks c.serve_link.new.clock)
     (c.serve_link.ensures.serves tells held input requests end
     (subst (λ (h : Option SettledBookState). Holds h (g.D.Disk.reads c.args.disk.now) (g.D.Disk.images c.args.disk.now) (g.C.Clock.ticks c.args.clock.now) held) (sym c.new-clerk.ensures)

@@ -110,3 +110,9 @@ returns-in-Err-clause-unreceived g c = λ works other sound. refl
 
 pub returns-clause-unreceived : goal.returns-clause-unreceived
 returns-clause-unreceived g c = λ works other sound. c.answer_route.ensures.unreceived works other sound
+
+pub returns-in-Err-clause-made : goal.returns-in-Err-clause-made
+returns-in-Err-clause-made g c = λ tells was. was
+
+pub returns-clause-made : goal.returns-clause-made
+returns-clause-made g c = c.answer_route.ensures.serves.made

@@ -18,14 +18,14 @@ returns-in-Err-clause-ends g c = λ tells held holds.
 pub returns-in-Err-clause-serves : goal.returns-in-Err-clause-serves
 returns-in-Err-clause-serves g c =
     unopened g.D.Disk.tells g.D.Disk.reads g.D.Disk.images g.D.Disk.moment g.D.Disk.since g.D.Disk.faults c.args.disk.now c.take_book.new.disk c.args.self.now
-    c.unopened.result c.take_book.new.self c.in-Err.fault c.unopened.ensures c.take_book.ensures.taken c.take_book.ensures.no_book
+    c.unopened.result c.take_book.new.self c.in-Err.fault c.unopened.ensures c.take_book.ensures.taken c.take_book.ensures.no_book c.take_book.ensures.made
     (λ told. c.in-Err.ensures.refused told) c.in-Err.ensures.had_none c.in-Err.ensures.cause
 
 pub returns-clause-ends : goal.returns-clause-ends
 returns-clause-ends g c = λ tells held holds.
     let finds = c.in-Ok.ensures.finds tells held.journal holds.file holds.book in
     item_ends g.D.Disk.reads g.D.Disk.images g.D.Disk.moment g.D.Disk.since c.args.disk.now c.take_book.new.disk c.receive-answer.new.disk (g.met.D.Disk.reads_is_image c.receive-answer.new.disk tells)
-    held c.args.from c.args.item.now c.received.result c.receive-answer.new.book (g.C.Clock.ticks c.receive-answer.new.clock) finds.left
+    held c.args.from c.args.item.now c.received.result c.receive-answer.new.book (g.C.Clock.ticks c.receive-answer.new.clock) finds.left finds.written
     c.receive-answer.result (c.receive-answer.ensures.receives tells held holds.clock finds.there) c.receive-answer.ensures.opened c.receive-answer.ensures.failed c.received.ensures
 
 pub returns-clause-serves : goal.returns-clause-serves
@@ -38,7 +38,7 @@ returns-clause-serves g c =
     (subst (λ b. Counts (g.D.Disk.faults c.args.disk.now) (g.D.Disk.faults c.receive-answer.new.disk) b) (sym status.disk)
     (counts_then (g.D.Disk.faults c.args.disk.now) (g.D.Disk.faults c.take_book.new.disk) (g.D.Disk.faults c.receive-answer.new.disk) (receiving_disk_failed c.receive-answer.result)
     c.in-Ok.ensures.cause c.receive-answer.ensures.cause))
-    status.no_journal status.known (λ told none. c.in-Ok.ensures.journal told none)
+    status.no_journal status.known (λ told was. c.receive-answer.ensures.made told (c.take_book.ensures.made told was)) (λ told none. c.in-Ok.ensures.journal told none)
 
 pub returns-in-Err-clause-late : goal.returns-in-Err-clause-late
 returns-in-Err-clause-late g c = unopened_late c.in-Err.fault c.unopened.result c.unopened.ensures

@@ -11,12 +11,13 @@ pub loop-left-init : goal.loop-left-init
 loop-left-init g c = record {
   few = omega arith;
   stands_open = c.requires;
+  made = λ tells was. was;
   no_book = λ tells was none.
       none_still g.D.Disk.reads g.D.Disk.images g.D.Disk.moment g.D.Disk.since c.args.disk.now c.args.self.now (λ file since. g.met.D.Disk.only_now c.args.disk.now file tells since) was;
   handed_back = λ told. (told, refl);
   quiet = refl;
   went = λ tells held waiting asked holds waits ask.
-      links_begun g.D.Disk.images g.D.Disk.moment g.D.Disk.since g.D.Disk.faults c.args.disk.now held c.args.most waiting asked (g.L.Listener.waiting c.args.door.now) (g.L.Listener.served c.args.door.now)
+      links_begun g.D.Disk.reads g.D.Disk.images g.D.Disk.moment g.D.Disk.since g.D.Disk.faults c.args.disk.now held c.args.most waiting asked (g.L.Listener.waiting c.args.door.now) (g.L.Listener.served c.args.door.now)
       (λ h. Holds c.args.self.now (g.D.Disk.reads c.args.disk.now) (g.D.Disk.images c.args.disk.now) (g.C.Clock.ticks c.args.clock.now) h)
       (λ file since. g.met.D.Disk.only_now c.args.disk.now file tells since) waits holds;
 }
@@ -25,6 +26,7 @@ pub loop-left-preserved : goal.loop-left-preserved
 loop-left-preserved g c = record {
   few = omega (arith, c.if-links-most.true);
   stands_open = c.serve_first.ensures.stands_open;
+  made = λ tells was. c.serve_first.ensures.made tells (c.loop-left.invariant.made tells was);
   no_book = λ tells was none.
       none_then g.D.Disk.reads g.D.Disk.images g.D.Disk.moment g.D.Disk.since c.args.disk.now c.loop-left.disk c.serve_first.new.disk c.loop-left.self c.serve_first.new.self
       (λ t file le image. g.met.D.Disk.counts_now c.loop-left.disk t file tells le image) none (c.loop-left.invariant.no_book tells was none) (c.serve_first.ensures.no_book tells);
@@ -32,7 +34,7 @@ loop-left-preserved g c = record {
   quiet = c.in-Ok.ensures.cause.else_same refl ∙ c.loop-left.invariant.quiet;
   went = λ tells held waiting asked holds waits ask.
       let before = c.loop-left.invariant.went tells held waiting asked holds waits ask in
-      links_on g.D.Disk.images g.D.Disk.moment g.D.Disk.since g.D.Disk.faults c.args.disk.now c.loop-left.disk c.serve_first.new.disk held c.args.most waiting asked (g.L.Listener.waiting c.loop-left.door)
+      links_on g.D.Disk.reads g.D.Disk.images g.D.Disk.moment g.D.Disk.since g.D.Disk.faults c.args.disk.now c.loop-left.disk c.serve_first.new.disk held c.args.most waiting asked (g.L.Listener.waiting c.loop-left.door)
       (g.L.Listener.waiting c.serve_first.new.door) (g.L.Listener.served c.args.door.now) (g.L.Listener.served c.loop-left.door) (g.L.Listener.served c.serve_first.new.door)
       (λ h. Holds c.loop-left.self (g.D.Disk.reads c.loop-left.disk) (g.D.Disk.images c.loop-left.disk) (g.C.Clock.ticks c.loop-left.clock) h)
       (λ h. Holds c.serve_first.new.self (g.D.Disk.reads c.serve_first.new.disk) (g.D.Disk.images c.serve_first.new.disk) (g.C.Clock.ticks c.serve_first.new.clock) h) c.loop-left.left c.loop-left.links
@@ -44,7 +46,7 @@ loop-left-preserved g c = record {
 pub returns-in-Err-clause-serves : goal.returns-in-Err-clause-serves
 returns-in-Err-clause-serves g c = λ tells held waiting asked holds waits ask.
     let before = c.loop-left.invariant.went tells held waiting asked holds waits ask in
-    links_end g.D.Disk.images g.D.Disk.moment g.D.Disk.since g.D.Disk.faults c.args.disk.now c.loop-left.disk c.serve_first.new.disk held c.args.most waiting asked (g.L.Listener.waiting c.loop-left.door)
+    links_end g.D.Disk.reads g.D.Disk.images g.D.Disk.moment g.D.Disk.since g.D.Disk.faults c.args.disk.now c.loop-left.disk c.serve_first.new.disk held c.args.most waiting asked (g.L.Listener.waiting c.loop-left.door)
     (g.L.Listener.waiting c.serve_first.new.door) (g.L.Listener.served c.args.door.now) (g.L.Listener.served c.loop-left.door) (g.L.Listener.served c.serve_first.new.door)
     (λ h. Holds c.loop-left.self (g.D.Disk.reads c.loop-left.disk) (g.D.Disk.images c.loop-left.disk) (g.C.Clock.ticks c.loop-left.clock) h)
     (λ h. Holds c.serve_first.new.self (g.D.Disk.reads c.serve_first.new.disk) (g.D.Disk.images c.serve_first.new.disk) (g.C.Clock.ticks c.serve_first.new.clock) h) c.loop-left.left c.loop-left.links
@@ -54,13 +56,13 @@ returns-in-Err-clause-serves g c = λ tells held waiting asked holds waits ask.
 
 pub returns-else-links-most-clause-serves : goal.returns-else-links-most-clause-serves
 returns-else-links-most-clause-serves g c = λ tells held waiting asked holds waits ask.
-    links_out g.D.Disk.images g.D.Disk.moment g.D.Disk.since g.D.Disk.faults c.args.disk.now c.loop-left.disk held c.args.most waiting asked (g.L.Listener.waiting c.loop-left.door) (g.L.Listener.served c.args.door.now)
+    links_out g.D.Disk.reads g.D.Disk.images g.D.Disk.moment g.D.Disk.since g.D.Disk.faults c.args.disk.now c.loop-left.disk held c.args.most waiting asked (g.L.Listener.waiting c.loop-left.door) (g.L.Listener.served c.args.door.now)
     (g.L.Listener.served c.loop-left.door) (λ h. Holds c.loop-left.self (g.D.Disk.reads c.loop-left.disk) (g.D.Disk.images c.loop-left.disk) (g.C.Clock.ticks c.loop-left.clock) h) c.loop-left.left c.loop-left.links
     c.loop-left.invariant.few (inr (omega (arith, c.if-links-most.false))) (c.loop-left.invariant.went tells held waiting asked holds waits ask)
 
 pub returns-after-loop-left-clause-serves : goal.returns-after-loop-left-clause-serves
 returns-after-loop-left-clause-serves g c = λ tells held waiting asked holds waits ask.
-    links_out g.D.Disk.images g.D.Disk.moment g.D.Disk.since g.D.Disk.faults c.args.disk.now c.loop-left.disk held c.args.most waiting asked (g.L.Listener.waiting c.loop-left.door) (g.L.Listener.served c.args.door.now)
+    links_out g.D.Disk.reads g.D.Disk.images g.D.Disk.moment g.D.Disk.since g.D.Disk.faults c.args.disk.now c.loop-left.disk held c.args.most waiting asked (g.L.Listener.waiting c.loop-left.door) (g.L.Listener.served c.args.door.now)
     (g.L.Listener.served c.loop-left.door) (λ h. Holds c.loop-left.self (g.D.Disk.reads c.loop-left.disk) (g.D.Disk.images c.loop-left.disk) (g.C.Clock.ticks c.loop-left.clock) h) c.loop-left.left c.loop-left.links
     c.loop-left.invariant.few (inl (omega (arith, c.loop-left-test.false))) (c.loop-left.invariant.went tells held waiting asked holds waits ask)
 

@@ -1,5 +1,6 @@
 use Rattle.std.proofs.Common.{◌≡◌, ℕ, ◌-◌, ◌≤◌, List, None, Some, IsSome, IsTrue}
 use Rattle.std.specs.List.{AllZip}
+use Rattle.journal_disk.specs.Layout.{the_heading, IsMade}
 use Rattle.intake.specs.Requests.{Held}
 use Rattle.connections.specs.Answering.{OpensNone}
 use Rattle.connections.specs.Doors.{AskSo, LinkRequests}
@@ -14,11 +15,12 @@ abbrev pub invariant-loop-left : goal.invariant-loop-left
 invariant-loop-left g l = record {
   few : l.links ≤ l.most;
   stands_open : IsTrue g.D.Disk.tells → StandsOpen l.self (g.D.Disk.reads l.disk) (g.D.Disk.images l.disk);
+  made : IsTrue g.D.Disk.tells → IsMade the_heading (g.D.Disk.reads l.fn.disk) → IsMade the_heading (g.D.Disk.reads l.disk);
   no_book : IsTrue g.D.Disk.tells → working l.fn.self ≡ None → StandsForNone (g.D.Disk.reads l.fn.disk) → OpensNone g.D.Disk.reads g.D.Disk.images g.D.Disk.moment g.D.Disk.since l.fn.disk l.disk l.self;
   handed_back : IsSome (g.L.Listener.served l.fn.door) → IsSome (g.L.Listener.served l.door) × (g.L.Listener.out l.door ≡ g.L.Listener.out l.fn.door);
   quiet : g.L.Listener.faults l.door ≡ g.L.Listener.faults l.fn.door;
   went : IsTrue g.D.Disk.tells → (held : Held) (waiting : List (List ℕ)) (asked : List LinkRequests)
       → Holds l.fn.self (g.D.Disk.reads l.fn.disk) (g.D.Disk.images l.fn.disk) (g.C.Clock.ticks l.fn.clock) held → g.L.Listener.waiting l.fn.door ≡ Some waiting → AllZip AskSo waiting asked
-      → WentLinks g.D.Disk.images g.D.Disk.moment g.D.Disk.since g.D.Disk.faults l.fn.disk l.disk held l.most waiting asked (g.L.Listener.waiting l.door) (g.L.Listener.served l.fn.door) (g.L.Listener.served l.door)
+      → WentLinks g.D.Disk.reads g.D.Disk.images g.D.Disk.moment g.D.Disk.since g.D.Disk.faults l.fn.disk l.disk held l.most waiting asked (g.L.Listener.waiting l.door) (g.L.Listener.served l.fn.door) (g.L.Listener.served l.door)
       (λ h. Holds l.self (g.D.Disk.reads l.disk) (g.D.Disk.images l.disk) (g.C.Clock.ticks l.clock) h) l.left l.links;
 }

@@ -9,24 +9,24 @@ use Rattle.connections.proofs.clerks.Clerk.serve_first.Goals as goal
 
 pub returns-in-Closed-clause-round : goal.returns-in-Closed-clause-round
 returns-in-Closed-clause-round g c = λ tells held waiting asked holds waits ask.
-    round_of_none g.D.Disk.images g.D.Disk.moment g.D.Disk.since g.D.Disk.faults c.args.disk.now held c.args.left waiting asked (g.L.Listener.waiting c.accept.new.self) (g.L.Listener.served c.args.door.now)
+    round_of_none g.D.Disk.reads g.D.Disk.images g.D.Disk.moment g.D.Disk.since g.D.Disk.faults c.args.disk.now held c.args.left waiting asked (g.L.Listener.waiting c.accept.new.self) (g.L.Listener.served c.args.door.now)
     (g.L.Listener.served c.accept.new.self) (λ h. Holds c.args.self.now (g.D.Disk.reads c.args.disk.now) (g.D.Disk.images c.args.disk.now) (g.C.Clock.ticks c.args.clock.now) h) Done
     (λ file since. g.met.D.Disk.only_now c.args.disk.now file tells since) (c.in-Closed.ensures.links.1 ∙ waits) c.accept.ensures.served holds
     (λ is. let none : waiting ≡ [] = subst NoneWaits waits c.in-Closed.ensures.links.0 in none) (λ is. absurd cc)
 
 pub returns-in-Failed-clause-round : goal.returns-in-Failed-clause-round
 returns-in-Failed-clause-round g c = λ tells held waiting asked holds waits ask.
-    round_of_none g.D.Disk.images g.D.Disk.moment g.D.Disk.since g.D.Disk.faults c.args.disk.now held c.args.left waiting asked (g.L.Listener.waiting c.accept.new.self) (g.L.Listener.served c.args.door.now)
+    round_of_none g.D.Disk.reads g.D.Disk.images g.D.Disk.moment g.D.Disk.since g.D.Disk.faults c.args.disk.now held c.args.left waiting asked (g.L.Listener.waiting c.accept.new.self) (g.L.Listener.served c.args.door.now)
     (g.L.Listener.served c.accept.new.self) (λ h. Holds c.args.self.now (g.D.Disk.reads c.args.disk.now) (g.D.Disk.images c.args.disk.now) (g.C.Clock.ticks c.args.clock.now) h) DoorFault
     (λ file since. g.met.D.Disk.only_now c.args.disk.now file tells since) (c.in-Failed.ensures.links ∙ waits) c.accept.ensures.served holds (λ is. absurd cc) (λ is. absurd cc)
 
 pub returns-clause-round : goal.returns-clause-round
 returns-clause-round g c = λ tells held waiting asked holds waits ask.
-    round_of_link g.D.Disk.images g.D.Disk.moment g.D.Disk.since g.D.Disk.faults c.args.disk.now c.serve_link-served.new.disk held c.args.left waiting asked (g.L.Listener.waiting c.done.new.self)
+    round_of_link g.D.Disk.reads g.D.Disk.images g.D.Disk.moment g.D.Disk.since g.D.Disk.faults c.args.disk.now c.serve_link-served.new.disk held c.args.left waiting asked (g.L.Listener.waiting c.done.new.self)
     (g.L.Listener.served c.args.door.now) (g.L.Listener.served c.done.new.self)
     (λ h. Holds c.serve_link-served.new.self (g.D.Disk.reads c.serve_link-served.new.disk) (g.D.Disk.images c.serve_link-served.new.disk) (g.C.Clock.ticks c.serve_link-served.new.clock) h) c.serve_link-served.result
     c.behind.result
-    (links_one g.D.Disk.images g.D.Disk.moment g.D.Disk.since g.D.Disk.faults c.args.disk.now c.serve_link-served.new.disk held c.args.left waiting asked (g.L.Listener.waiting c.args.door.now)
+    (links_one g.D.Disk.reads g.D.Disk.images g.D.Disk.moment g.D.Disk.since g.D.Disk.faults c.args.disk.now c.serve_link-served.new.disk held c.args.left waiting asked (g.L.Listener.waiting c.args.door.now)
     (g.L.Listener.waiting c.accept.new.self) (g.L.Listener.waiting c.done.new.self) (g.L.Listener.served c.args.door.now) (g.L.Listener.served c.accept.new.self) (g.L.Listener.served c.done.new.self)
     (g.L.Link.Link.left c.in-Open.link) (g.L.Link.Link.written c.in-Open.link) (g.L.Link.Link.written c.serve_link-served.new.link) (g.L.Link.Link.faults c.in-Open.link)
     (g.L.Link.Link.faults c.serve_link-served.new.link)

@@ -7,6 +7,7 @@ use Rattle.connections.specs.inner.Rounds.{Meets}
 use Rattle.connections.proofs.NoBook.{none_still, none_then}
 use Rattle.connections.proofs.NoneTaken.{none_joined, none_taken}
 use Rattle.connections.proofs.TakenTurns.{takes_none, takes_then}
+use Rattle.connections.proofs.OrderedTurns.{order_end, order_none, order_on, order_out}
 use Rattle.connections.proofs.LinkTurns.{went_none, went_on, went_out, went_to_end}
 use Rattle.connections.proofs.clerks.Clerk.serve_link.Goals as goal
 
@@ -14,14 +15,16 @@ pub loop-replies-init : goal.loop-replies-init
 loop-replies-init g c = record {
   few = omega arith;
   stands_open = c.requires;
+  made = λ tells was. was;
   no_book = λ tells was none.
       none_still g.D.Disk.reads g.D.Disk.images g.D.Disk.moment g.D.Disk.since c.args.disk.now c.args.self.now (λ file since. g.met.D.Disk.only_now c.args.disk.now file tells since) was;
   told = λ told. told;
+  order = order_none g.L.Link.left g.L.Link.written c.args.link.now c.new-rest.result.items c.new-rest.ensures.items;
   quiet = refl;
   went = λ tells held input requests end holds left are.
-      went_none (TakesTurns g.D.Disk.images g.D.Disk.moment g.D.Disk.since g.D.Disk.faults) c.args.disk.now held (g.L.Link.written c.args.link.now) c.args.left requests end
+      went_none (TakesTurns g.D.Disk.reads g.D.Disk.images g.D.Disk.moment g.D.Disk.since g.D.Disk.faults) c.args.disk.now held (g.L.Link.written c.args.link.now) c.args.left requests end
       (λ h others. Meets (Holds c.args.self.now (g.D.Disk.reads c.args.disk.now) (g.D.Disk.images c.args.disk.now) (g.C.Clock.ticks c.args.clock.now)) (g.L.Link.left c.args.link.now) c.new-rest.result.items end h others)
-      (takes_none g.D.Disk.images g.D.Disk.moment g.D.Disk.since g.D.Disk.faults c.args.disk.now held (λ file since. g.met.D.Disk.only_now c.args.disk.now file tells since))
+      (takes_none g.D.Disk.reads g.D.Disk.images g.D.Disk.moment g.D.Disk.since g.D.Disk.faults c.args.disk.now held (λ file since. g.met.D.Disk.only_now c.args.disk.now file tells since))
       (record { holds = holds; input = input; left_is = left; are = subst (λ l. AreRequests (l ++ input) requests end) (sym c.new-rest.ensures.items) are });
   went_none = λ tells was none held input requests end left are.
       went_none (TakesNone g.D.Disk.faults) c.args.disk.now held (g.L.Link.written c.args.link.now) c.args.left requests end (λ h others. Meets (λ k. k ≡ held) (g.L.Link.left c.args.link.now) c.new-rest.result.items end h others)
@@ -32,19 +35,21 @@ pub loop-replies-preserved : goal.loop-replies-preserved
 loop-replies-preserved g c = record {
   few = omega (arith, c.loop-replies-test.true);
   stands_open = c.serve_next.ensures.stands_open;
+  made = λ tells was. c.serve_next.ensures.made tells (c.loop-replies.invariant.made tells was);
   no_book = λ tells was none.
       none_then g.D.Disk.reads g.D.Disk.images g.D.Disk.moment g.D.Disk.since c.args.disk.now c.loop-replies.disk c.serve_next.new.disk c.loop-replies.self c.serve_next.new.self
       (λ t file le image. g.met.D.Disk.counts_now c.loop-replies.disk t file tells le image) none (c.loop-replies.invariant.no_book tells was none) (c.serve_next.ensures.no_book tells);
   told = λ told. c.serve_next.ensures.told (c.loop-replies.invariant.told told);
+  order = order_on g.L.Link.left g.L.Link.written c.args.link.now c.loop-replies.link c.serve_next.new.link c.loop-replies.rest.items c.serve_next.new.rest.items c.loop-replies.replies c.loop-replies.invariant.order c.in-None.ensures.order;
   quiet = c.in-None.ensures.cause.else_same refl ∙ c.loop-replies.invariant.quiet;
   went = λ tells held input requests end holds left are.
       let before = c.loop-replies.invariant.went tells held input requests end holds left are in
-      went_on (TakesTurns g.D.Disk.images g.D.Disk.moment g.D.Disk.since g.D.Disk.faults) c.args.disk.now c.loop-replies.disk c.serve_next.new.disk held (g.L.Link.written c.args.link.now) (g.L.Link.written c.loop-replies.link)
+      went_on (TakesTurns g.D.Disk.reads g.D.Disk.images g.D.Disk.moment g.D.Disk.since g.D.Disk.faults) c.args.disk.now c.loop-replies.disk c.serve_next.new.disk held (g.L.Link.written c.args.link.now) (g.L.Link.written c.loop-replies.link)
       (g.L.Link.written c.serve_next.new.link) (turns c.args.left requests end) c.args.left c.loop-replies.replies end
       (λ h others. Meets (Holds c.loop-replies.self (g.D.Disk.reads c.loop-replies.disk) (g.D.Disk.images c.loop-replies.disk) (g.C.Clock.ticks c.loop-replies.clock)) (g.L.Link.left c.loop-replies.link) c.loop-replies.rest.items end h others)
       (λ h others. Meets (Holds c.serve_next.new.self (g.D.Disk.reads c.serve_next.new.disk) (g.D.Disk.images c.serve_next.new.disk) (g.C.Clock.ticks c.serve_next.new.clock)) (g.L.Link.left c.serve_next.new.link)
       c.serve_next.new.rest.items end h others)
-      (λ done xs first second. takes_then g.D.Disk.images g.D.Disk.moment g.D.Disk.since g.D.Disk.faults c.args.disk.now c.loop-replies.disk c.serve_next.new.disk held done xs (λ t file le image. g.met.D.Disk.counts_now c.loop-replies.disk t file tells le image) first second) c.loop-replies-test.true before
+      (λ done xs first second. takes_then g.D.Disk.reads g.D.Disk.images g.D.Disk.moment g.D.Disk.since g.D.Disk.faults c.args.disk.now c.loop-replies.disk c.serve_next.new.disk held done xs (λ t file le image. g.met.D.Disk.counts_now c.loop-replies.disk t file tells le image) first second) c.loop-replies-test.true before
       (c.in-None.ensures.turn tells (held_behind held before.done) before.requests end before.meets);
   went_none = λ tells was none held input requests end left are.
       let before = c.loop-replies.invariant.went_none tells was none held input requests end left are in
@@ -59,21 +64,21 @@ loop-replies-preserved g c = record {
 pub returns-in-Some-clause-serves : goal.returns-in-Some-clause-serves
 returns-in-Some-clause-serves g c = λ tells held input requests end holds left are.
     let before = c.loop-replies.invariant.went tells held input requests end holds left are in
-    went_to_end (TakesTurns g.D.Disk.images g.D.Disk.moment g.D.Disk.since g.D.Disk.faults) c.args.disk.now c.loop-replies.disk c.serve_next.new.disk held (g.L.Link.written c.args.link.now) (g.L.Link.written c.loop-replies.link)
+    went_to_end (TakesTurns g.D.Disk.reads g.D.Disk.images g.D.Disk.moment g.D.Disk.since g.D.Disk.faults) c.args.disk.now c.loop-replies.disk c.serve_next.new.disk held (g.L.Link.written c.args.link.now) (g.L.Link.written c.loop-replies.link)
     (g.L.Link.written c.serve_next.new.link) (turns c.args.left requests end) c.args.left c.loop-replies.replies end
     (λ h others. Meets (Holds c.loop-replies.self (g.D.Disk.reads c.loop-replies.disk) (g.D.Disk.images c.loop-replies.disk) (g.C.Clock.ticks c.loop-replies.clock)) (g.L.Link.left c.loop-replies.link) c.loop-replies.rest.items end h others)
     (λ h. Holds c.serve_next.new.self (g.D.Disk.reads c.serve_next.new.disk) (g.D.Disk.images c.serve_next.new.disk) (g.C.Clock.ticks c.serve_next.new.clock) h)
-    c.in-Some.last _ (λ done xs first second. takes_then g.D.Disk.images g.D.Disk.moment g.D.Disk.since g.D.Disk.faults c.args.disk.now c.loop-replies.disk c.serve_next.new.disk held done xs (λ t file le image. g.met.D.Disk.counts_now c.loop-replies.disk t file tells le image) first second) c.loop-replies-test.true before
+    c.in-Some.last _ (λ done xs first second. takes_then g.D.Disk.reads g.D.Disk.images g.D.Disk.moment g.D.Disk.since g.D.Disk.faults c.args.disk.now c.loop-replies.disk c.serve_next.new.disk held done xs (λ t file le image. g.met.D.Disk.counts_now c.loop-replies.disk t file tells le image) first second) c.loop-replies-test.true before
     (c.in-Some.ensures.turn tells (held_behind held before.done) before.requests end before.meets) refl refl
 
 pub returns-clause-serves : goal.returns-clause-serves
 returns-clause-serves g c = λ tells held input requests end holds left are.
-    went_out (TakesTurns g.D.Disk.images g.D.Disk.moment g.D.Disk.since g.D.Disk.faults) c.args.disk.now c.loop-replies.disk held (g.L.Link.written c.args.link.now) (g.L.Link.written c.loop-replies.link) (turns c.args.left requests end)
+    went_out (TakesTurns g.D.Disk.reads g.D.Disk.images g.D.Disk.moment g.D.Disk.since g.D.Disk.faults) c.args.disk.now c.loop-replies.disk held (g.L.Link.written c.args.link.now) (g.L.Link.written c.loop-replies.link) (turns c.args.left requests end)
     c.args.left c.loop-replies.replies end
     (λ h others. Meets (Holds c.loop-replies.self (g.D.Disk.reads c.loop-replies.disk) (g.D.Disk.images c.loop-replies.disk) (g.C.Clock.ticks c.loop-replies.clock)) (g.L.Link.left c.loop-replies.link) c.loop-replies.rest.items end h others)
     (λ h. Holds c.loop-replies.self (g.D.Disk.reads c.loop-replies.disk) (g.D.Disk.images c.loop-replies.disk) (g.C.Clock.ticks c.loop-replies.clock) h)
-    _ (λ h. takes_none g.D.Disk.images g.D.Disk.moment g.D.Disk.since g.D.Disk.faults c.loop-replies.disk h (λ file since. g.met.D.Disk.only_now c.loop-replies.disk file tells since))
-    (λ done xs first second. takes_then g.D.Disk.images g.D.Disk.moment g.D.Disk.since g.D.Disk.faults c.args.disk.now c.loop-replies.disk c.loop-replies.disk held done xs (λ t file le image. g.met.D.Disk.counts_now c.loop-replies.disk t file tells le image) first second)
+    _ (λ h. takes_none g.D.Disk.reads g.D.Disk.images g.D.Disk.moment g.D.Disk.since g.D.Disk.faults c.loop-replies.disk h (λ file since. g.met.D.Disk.only_now c.loop-replies.disk file tells since))
+    (λ done xs first second. takes_then g.D.Disk.reads g.D.Disk.images g.D.Disk.moment g.D.Disk.since g.D.Disk.faults c.args.disk.now c.loop-replies.disk c.loop-replies.disk held done xs (λ t file le image. g.met.D.Disk.counts_now c.loop-replies.disk t file tells le image) first second)
     (omega (arith, c.loop-replies-test.false)) (λ h others meets. meets.holds) (c.loop-replies.invariant.went tells held input requests end holds left are) refl refl
 
 pub returns-in-Some-clause-told : goal.returns-in-Some-clause-told
@@ -102,3 +107,12 @@ returns-clause-serves_none g c = λ tells was none held input requests end left 
     went_out (TakesNone g.D.Disk.faults) c.args.disk.now c.loop-replies.disk held (g.L.Link.written c.args.link.now) (g.L.Link.written c.loop-replies.link) (turns c.args.left requests end) c.args.left c.loop-replies.replies end
     (λ h others. Meets (λ k. k ≡ held) (g.L.Link.left c.loop-replies.link) c.loop-replies.rest.items end h others) (λ h. h ≡ held) _ (λ h. none_taken g.D.Disk.faults c.loop-replies.disk h) (λ done xs first second. none_joined g.D.Disk.faults c.args.disk.now c.loop-replies.disk c.loop-replies.disk held done xs first second)
     (omega (arith, c.loop-replies-test.false)) (λ h others meets. meets.holds) (c.loop-replies.invariant.went_none tells was none held input requests end left are) refl refl
+
+-- ---- in which order the link was read and written
+
+pub returns-in-Some-clause-order : goal.returns-in-Some-clause-order
+returns-in-Some-clause-order g c =
+    order_end g.L.Link.left g.L.Link.written c.args.link.now c.loop-replies.link c.serve_next.new.link c.loop-replies.rest.items c.loop-replies.replies c.in-Some.last _ c.loop-replies.invariant.order c.in-Some.ensures.order c.in-Some.ensures.few refl
+
+pub returns-clause-order : goal.returns-clause-order
+returns-clause-order g c = order_out g.L.Link.left g.L.Link.written c.args.link.now c.loop-replies.link c.loop-replies.rest.items c.loop-replies.replies _ c.loop-replies.invariant.order refl

@@ -14,6 +14,7 @@ use Rattle.connections.proofs.LinkEnds.{cut_off, memory_ends, none_ends, refusal
 use Rattle.connections.proofs.LinkTurns.{comes_next}
 use Rattle.connections.proofs.NoneTaken.{none_refused, none_taken}
 use Rattle.connections.proofs.TakenTurns.{takes_none, takes_refusal}
+use Rattle.connections.proofs.OrderedTurns.{last_closed, last_silent, next_of_request}
 use Rattle.connections.proofs.ToldLinks.{same_told}
 use Rattle.connections.proofs.clerks.Clerk.serve_next.Goals as goal
 
@@ -21,7 +22,7 @@ pub returns-in-Request-clause-turn : goal.returns-in-Request-clause-turn
 returns-in-Request-clause-turn g c = λ tells held requests end meets.
     let comes = comes_next (g.L.Link.left c.args.link.now) (g.L.Link.left c.next_request.new.link) c.args.rest.now.items c.next_request.new.rest.items meets.input (next.Request c.in-Request.request) requests end
     meets.left_is c.in-Request.ensures.answer meets.are in
-    turn_of (TakesTurns g.D.Disk.images g.D.Disk.moment g.D.Disk.since g.D.Disk.faults) c.args.disk.now c.serve_request.new.disk held (g.L.Link.written c.args.link.now) (g.L.Link.written c.next_request.new.link)
+    turn_of (TakesTurns g.D.Disk.reads g.D.Disk.images g.D.Disk.moment g.D.Disk.since g.D.Disk.faults) c.args.disk.now c.serve_request.new.disk held (g.L.Link.written c.args.link.now) (g.L.Link.written c.next_request.new.link)
     (g.L.Link.written c.serve_request.new.link) c.in-Request.request comes.is.0 requests end
     (λ h. Holds c.serve_request.new.self (g.D.Disk.reads c.serve_request.new.disk) (g.D.Disk.images c.serve_request.new.disk) (g.C.Clock.ticks c.serve_request.new.clock) h)
     (λ h others. Meets (Holds c.serve_request.new.self (g.D.Disk.reads c.serve_request.new.disk) (g.D.Disk.images c.serve_request.new.disk) (g.C.Clock.ticks c.serve_request.new.clock)) (g.L.Link.left c.serve_request.new.link)
@@ -35,10 +36,10 @@ returns-in-End-clause-turn g c = λ tells held requests end meets.
     let comes = comes_next (g.L.Link.left c.args.link.now) (g.L.Link.left c.next_request.new.link) c.args.rest.now.items c.next_request.new.rest.items meets.input c.next_request.result requests end
     meets.left_is c.next_request.ensures.answer meets.are in
     let ends : (last : AtFront) → requests ≡ [] → end ≡ last → last_turn last ≡ End ∷ [] → (n : ℕ) → (n == 0) ≡ false
-    → ServesLink (TakesTurns g.D.Disk.images g.D.Disk.moment g.D.Disk.since g.D.Disk.faults) c.args.disk.now c.args.disk.now held (g.L.Link.written c.args.link.now) (g.L.Link.written c.next_request.new.link) (turns n requests end)
+    → ServesLink (TakesTurns g.D.Disk.reads g.D.Disk.images g.D.Disk.moment g.D.Disk.since g.D.Disk.faults) c.args.disk.now c.args.disk.now held (g.L.Link.written c.args.link.now) (g.L.Link.written c.next_request.new.link) (turns n requests end)
     (record { replies = 0; ended = Finished }) (λ h. Holds c.args.self.now (g.D.Disk.reads c.args.disk.now) (g.D.Disk.images c.args.disk.now) (g.C.Clock.ticks c.args.clock.now) h) =
     λ last none is silent.
-    none_ends (TakesTurns g.D.Disk.images g.D.Disk.moment g.D.Disk.since g.D.Disk.faults) c.args.disk.now held (takes_none g.D.Disk.images g.D.Disk.moment g.D.Disk.since g.D.Disk.faults c.args.disk.now held (λ file left. g.met.D.Disk.only_now c.args.disk.now file tells left)) (g.L.Link.written c.args.link.now)
+    none_ends (TakesTurns g.D.Disk.reads g.D.Disk.images g.D.Disk.moment g.D.Disk.since g.D.Disk.faults) c.args.disk.now held (takes_none g.D.Disk.reads g.D.Disk.images g.D.Disk.moment g.D.Disk.since g.D.Disk.faults c.args.disk.now held (λ file left. g.met.D.Disk.only_now c.args.disk.now file tells left)) (g.L.Link.written c.args.link.now)
     (g.L.Link.written c.args.link.now) (g.L.Link.written c.next_request.new.link) requests end (λ h. Holds c.args.self.now (g.D.Disk.reads c.args.disk.now) (g.D.Disk.images c.args.disk.now) (g.C.Clock.ticks c.args.clock.now) h) meets.holds
     (record { replies = 0; ended = Finished }) refl last none is silent c.next_request.ensures.written refl refl in
     ⊎_elim
@@ -50,27 +51,27 @@ pub returns-in-HeadFault-clause-turn : goal.returns-in-HeadFault-clause-turn
 returns-in-HeadFault-clause-turn g c = λ tells held requests end meets.
     let comes = comes_next (g.L.Link.left c.args.link.now) (g.L.Link.left c.next_request.new.link) c.args.rest.now.items c.next_request.new.rest.items meets.input next.HeadFault requests end
     meets.left_is c.in-HeadFault.ensures.answer meets.are in
-    refusal_ends (TakesTurns g.D.Disk.images g.D.Disk.moment g.D.Disk.since g.D.Disk.faults) c.args.disk.now held (takes_none g.D.Disk.images g.D.Disk.moment g.D.Disk.since g.D.Disk.faults c.args.disk.now held (λ file left. g.met.D.Disk.only_now c.args.disk.now file tells left)) (g.L.Link.written c.args.link.now)
+    refusal_ends (TakesTurns g.D.Disk.reads g.D.Disk.images g.D.Disk.moment g.D.Disk.since g.D.Disk.faults) c.args.disk.now held (takes_none g.D.Disk.reads g.D.Disk.images g.D.Disk.moment g.D.Disk.since g.D.Disk.faults c.args.disk.now held (λ file left. g.met.D.Disk.only_now c.args.disk.now file tells left)) (g.L.Link.written c.args.link.now)
     (g.L.Link.written c.next_request.new.link) (g.L.Link.written c.close.new.link) requests end (λ h. Holds c.args.self.now (g.D.Disk.reads c.args.disk.now) (g.D.Disk.images c.args.disk.now) (g.C.Clock.ticks c.args.clock.now) h) meets.holds
-    c.close.result c.in-HeadFault.ensures.written HeadFault bad_request c.bad_request.result c.bad_request.ensures comes.is.0 comes.is.1 refl (takes_refusal g.D.Disk.images g.D.Disk.moment g.D.Disk.since g.D.Disk.faults c.args.disk.now held bad_request refl (λ file left. g.met.D.Disk.only_now c.args.disk.now file tells left)) c.close.ensures.ends
+    c.close.result c.in-HeadFault.ensures.written HeadFault bad_request c.bad_request.result c.bad_request.ensures comes.is.0 comes.is.1 refl (takes_refusal g.D.Disk.reads g.D.Disk.images g.D.Disk.moment g.D.Disk.since g.D.Disk.faults c.args.disk.now held bad_request refl (λ file left. g.met.D.Disk.only_now c.args.disk.now file tells left)) c.close.ensures.ends
 
 pub returns-in-BodyTooLong-clause-turn : goal.returns-in-BodyTooLong-clause-turn
 returns-in-BodyTooLong-clause-turn g c = λ tells held requests end meets.
     let comes = comes_next (g.L.Link.left c.args.link.now) (g.L.Link.left c.next_request.new.link) c.args.rest.now.items c.next_request.new.rest.items meets.input next.BodyTooLong requests end
     meets.left_is c.in-BodyTooLong.ensures.answer meets.are in
-    refusal_ends (TakesTurns g.D.Disk.images g.D.Disk.moment g.D.Disk.since g.D.Disk.faults) c.args.disk.now held (takes_none g.D.Disk.images g.D.Disk.moment g.D.Disk.since g.D.Disk.faults c.args.disk.now held (λ file left. g.met.D.Disk.only_now c.args.disk.now file tells left)) (g.L.Link.written c.args.link.now)
+    refusal_ends (TakesTurns g.D.Disk.reads g.D.Disk.images g.D.Disk.moment g.D.Disk.since g.D.Disk.faults) c.args.disk.now held (takes_none g.D.Disk.reads g.D.Disk.images g.D.Disk.moment g.D.Disk.since g.D.Disk.faults c.args.disk.now held (λ file left. g.met.D.Disk.only_now c.args.disk.now file tells left)) (g.L.Link.written c.args.link.now)
     (g.L.Link.written c.next_request.new.link) (g.L.Link.written c.close-in-BodyTooLong.new.link) requests end (λ h. Holds c.args.self.now (g.D.Disk.reads c.args.disk.now) (g.D.Disk.images c.args.disk.now) (g.C.Clock.ticks c.args.clock.now) h) meets.holds
-    c.close-in-BodyTooLong.result c.in-BodyTooLong.ensures.written BodyTooLong body_too_long c.body_too_long.result c.body_too_long.ensures comes.is.0 comes.is.1 refl (takes_refusal g.D.Disk.images g.D.Disk.moment g.D.Disk.since g.D.Disk.faults c.args.disk.now held body_too_long refl (λ file left. g.met.D.Disk.only_now c.args.disk.now file tells left)) c.close-in-BodyTooLong.ensures.ends
+    c.close-in-BodyTooLong.result c.in-BodyTooLong.ensures.written BodyTooLong body_too_long c.body_too_long.result c.body_too_long.ensures comes.is.0 comes.is.1 refl (takes_refusal g.D.Disk.reads g.D.Disk.images g.D.Disk.moment g.D.Disk.since g.D.Disk.faults c.args.disk.now held body_too_long refl (λ file left. g.met.D.Disk.only_now c.args.disk.now file tells left)) c.close-in-BodyTooLong.ensures.ends
 
 pub returns-in-LinkFault-clause-turn : goal.returns-in-LinkFault-clause-turn
 returns-in-LinkFault-clause-turn g c = λ tells held requests end meets.
-    cut_off (TakesTurns g.D.Disk.images g.D.Disk.moment g.D.Disk.since g.D.Disk.faults) c.args.disk.now held (takes_none g.D.Disk.images g.D.Disk.moment g.D.Disk.since g.D.Disk.faults c.args.disk.now held (λ file left. g.met.D.Disk.only_now c.args.disk.now file tells left)) (g.L.Link.written c.args.link.now)
+    cut_off (TakesTurns g.D.Disk.reads g.D.Disk.images g.D.Disk.moment g.D.Disk.since g.D.Disk.faults) c.args.disk.now held (takes_none g.D.Disk.reads g.D.Disk.images g.D.Disk.moment g.D.Disk.since g.D.Disk.faults c.args.disk.now held (λ file left. g.met.D.Disk.only_now c.args.disk.now file tells left)) (g.L.Link.written c.args.link.now)
     (g.L.Link.written c.args.link.now) (g.L.Link.written c.next_request.new.link) requests end (λ h. Holds c.args.self.now (g.D.Disk.reads c.args.disk.now) (g.D.Disk.images c.args.disk.now) (g.C.Clock.ticks c.args.clock.now) h) meets.holds
     _ refl (c.args.rest.now.items ++ meets.input) meets.are c.in-LinkFault.ensures.written refl refl
 
 pub returns-in-Memory-clause-turn : goal.returns-in-Memory-clause-turn
 returns-in-Memory-clause-turn g c = λ tells held requests end meets.
-    memory_ends (TakesTurns g.D.Disk.images g.D.Disk.moment g.D.Disk.since g.D.Disk.faults) c.args.disk.now held (takes_none g.D.Disk.images g.D.Disk.moment g.D.Disk.since g.D.Disk.faults c.args.disk.now held (λ file left. g.met.D.Disk.only_now c.args.disk.now file tells left)) (g.L.Link.written c.args.link.now)
+    memory_ends (TakesTurns g.D.Disk.reads g.D.Disk.images g.D.Disk.moment g.D.Disk.since g.D.Disk.faults) c.args.disk.now held (takes_none g.D.Disk.reads g.D.Disk.images g.D.Disk.moment g.D.Disk.since g.D.Disk.faults c.args.disk.now held (λ file left. g.met.D.Disk.only_now c.args.disk.now file tells left)) (g.L.Link.written c.args.link.now)
     (g.L.Link.written c.next_request.new.link) (g.L.Link.written c.close-in-Memory.new.link) requests end (λ h. Holds c.args.self.now (g.D.Disk.reads c.args.disk.now) (g.D.Disk.images c.args.disk.now) (g.C.Clock.ticks c.args.clock.now) h) meets.holds
     c.close-in-Memory.result c.in-Memory.ensures.written (c.args.rest.now.items ++ meets.input) meets.are c.out_of_memory.result c.out_of_memory.ensures c.close-in-Memory.ensures.ends
 
@@ -172,3 +173,31 @@ returns-in-LinkFault-clause-no_book g c = λ tells was none.
 pub returns-in-Memory-clause-no_book : goal.returns-in-Memory-clause-no_book
 returns-in-Memory-clause-no_book g c = λ tells was none.
     none_still g.D.Disk.reads g.D.Disk.images g.D.Disk.moment g.D.Disk.since c.args.disk.now c.args.self.now (λ file left. g.met.D.Disk.only_now c.args.disk.now file tells left) was
+
+-- ---- in which order the link was read and written
+
+pub returns-in-Request-clause-order : goal.returns-in-Request-clause-order
+returns-in-Request-clause-order g c =
+    next_of_request g.L.Link.left g.L.Link.written c.args.link.now c.next_request.new.link c.serve_request.new.link c.args.rest.now.items c.next_request.new.rest.items c.in-Request.request c.serve_request.result
+    c.in-Request.ensures.answer c.next_request.ensures.written c.serve_request.ensures.left c.serve_request.ensures.replied
+
+pub returns-in-End-clause-order : goal.returns-in-End-clause-order
+returns-in-End-clause-order g c = last_silent g.L.Link.left g.L.Link.written c.args.link.now c.next_request.new.link c.args.rest.now.items c.next_request.new.rest.items c.next_request.result c.next_request.ensures.answer c.next_request.ensures.written
+
+pub returns-in-LinkFault-clause-order : goal.returns-in-LinkFault-clause-order
+returns-in-LinkFault-clause-order g c = last_silent g.L.Link.left g.L.Link.written c.args.link.now c.next_request.new.link c.args.rest.now.items c.next_request.new.rest.items next.LinkFault c.in-LinkFault.ensures.answer c.next_request.ensures.written
+
+pub returns-in-HeadFault-clause-order : goal.returns-in-HeadFault-clause-order
+returns-in-HeadFault-clause-order g c =
+    last_closed g.L.Link.left g.L.Link.written c.args.link.now c.next_request.new.link c.close.new.link c.args.rest.now.items c.next_request.new.rest.items next.HeadFault c.bad_request.result c.close.result
+    c.in-HeadFault.ensures.answer c.next_request.ensures.written c.close.ensures.left c.close.ensures.ends
+
+pub returns-in-BodyTooLong-clause-order : goal.returns-in-BodyTooLong-clause-order
+returns-in-BodyTooLong-clause-order g c =
+    last_closed g.L.Link.left g.L.Link.written c.args.link.now c.next_request.new.link c.close-in-BodyTooLong.new.link c.args.rest.now.items c.next_request.new.rest.items next.BodyTooLong c.body_too_long.result c.close-in-BodyTooLong.result
+    c.in-BodyTooLong.ensures.answer c.next_request.ensures.written c.close-in-BodyTooLong.ensures.left c.close-in-BodyTooLong.ensures.ends
+
+pub returns-in-Memory-clause-order : goal.returns-in-Memory-clause-order
+returns-in-Memory-clause-order g c =
+    last_closed g.L.Link.left g.L.Link.written c.args.link.now c.next_request.new.link c.close-in-Memory.new.link c.args.rest.now.items c.next_request.new.rest.items next.Memory c.out_of_memory.result c.close-in-Memory.result
+    c.in-Memory.ensures.answer c.next_request.ensures.written c.close-in-Memory.ensures.left c.close-in-Memory.ensures.ends

@@ -6,35 +6,37 @@ use Rattle.connections.specs.Serving.{TakesNone, TakesTurns}
 use Rattle.connections.proofs.LinkEnds.{request_ends, request_goes_on}
 use Rattle.connections.proofs.NoneTaken.{turn_none}
 use Rattle.connections.proofs.TakenTurns.{turn_taken}
+use Rattle.intake.proofs.Replies.{whole_front}
+use Rattle.connections.proofs.OrderedTurns.{part_front}
 use Rattle.connections.proofs.ToldLinks.{still_told}
 use Rattle.connections.proofs.clerks.Clerk.serve_request.Goals as goal
 
 pub returns-in-Err-clause-turn : goal.returns-in-Err-clause-turn
 returns-in-Err-clause-turn g c = λ tells held requests end holds.
-    request_ends (TakesTurns g.D.Disk.images g.D.Disk.moment g.D.Disk.since g.D.Disk.faults) c.args.disk.now c.answer_request-reply.new.disk held (g.L.Link.written c.args.link.now) (g.L.Link.written c.send.new.link)
+    request_ends (TakesTurns g.D.Disk.reads g.D.Disk.images g.D.Disk.moment g.D.Disk.since g.D.Disk.faults) c.args.disk.now c.answer_request-reply.new.disk held (g.L.Link.written c.args.link.now) (g.L.Link.written c.send.new.link)
     c.args.request.now requests end c.answer_request-reply.result
     (λ h. Holds c.answer_request-reply.new.self (g.D.Disk.reads c.answer_request-reply.new.disk) (g.D.Disk.images c.answer_request-reply.new.disk) (g.C.Clock.ticks c.answer_request-reply.new.clock) h)
-    (turn_taken g.D.Disk.images g.D.Disk.moment g.D.Disk.since g.D.Disk.faults g.D.Disk.reads c.args.disk.now c.answer_request-reply.new.disk c.args.request.now held c.answer_request-reply.result _
+    (turn_taken g.D.Disk.reads g.D.Disk.images g.D.Disk.moment g.D.Disk.since g.D.Disk.faults c.args.disk.now c.answer_request-reply.new.disk c.args.request.now held c.answer_request-reply.result _
     (c.answer_request-reply.ensures.answers tells held holds) holds.file (c.answer_request-reply.ensures.no_journal tells) c.answer_request-reply.ensures.disk)
     (record { replies = 0; ended = c.in-Err.ended }) (λ is. absurd (c.send.ensures.unfinished (c.in-Err.is ∙ ap (λ (e : Ended). Err e) is)))
     (record { whole = λ is. absurd (c.send.ensures.unfinished (c.in-Err.is ∙ ap (λ (e : Ended). Err e) is)); part = λ no. (c.in-Err.ensures.part, refl); nothing = λ is. c.send.ensures.nothing (c.in-Err.is ∙ ap (λ (e : Ended). Err e) is) })
 
 pub returns-then-is_last-clause-turn : goal.returns-then-is_last-clause-turn
 returns-then-is_last-clause-turn g c = λ tells held requests end holds.
-    request_ends (TakesTurns g.D.Disk.images g.D.Disk.moment g.D.Disk.since g.D.Disk.faults) c.args.disk.now c.answer_request-reply.new.disk held (g.L.Link.written c.args.link.now) (g.L.Link.written c.send.new.link)
+    request_ends (TakesTurns g.D.Disk.reads g.D.Disk.images g.D.Disk.moment g.D.Disk.since g.D.Disk.faults) c.args.disk.now c.answer_request-reply.new.disk held (g.L.Link.written c.args.link.now) (g.L.Link.written c.send.new.link)
     c.args.request.now requests end c.answer_request-reply.result
     (λ h. Holds c.answer_request-reply.new.self (g.D.Disk.reads c.answer_request-reply.new.disk) (g.D.Disk.images c.answer_request-reply.new.disk) (g.C.Clock.ticks c.answer_request-reply.new.clock) h)
-    (turn_taken g.D.Disk.images g.D.Disk.moment g.D.Disk.since g.D.Disk.faults g.D.Disk.reads c.args.disk.now c.answer_request-reply.new.disk c.args.request.now held c.answer_request-reply.result _
+    (turn_taken g.D.Disk.reads g.D.Disk.images g.D.Disk.moment g.D.Disk.since g.D.Disk.faults c.args.disk.now c.answer_request-reply.new.disk c.args.request.now held c.answer_request-reply.result _
     (c.answer_request-reply.ensures.answers tells held holds) holds.file (c.answer_request-reply.ensures.no_journal tells) c.answer_request-reply.ensures.disk)
     _ (λ is. sym c.is_last.ensures ∙ c.if-is_last.true)
     (record { whole = λ is. (c.in_default.ensures.whole, refl); part = λ no. absurd (no refl); nothing = λ is. absurd cc })
 
 pub returns-clause-turn : goal.returns-clause-turn
 returns-clause-turn g c = λ tells held requests end holds.
-    request_goes_on (TakesTurns g.D.Disk.images g.D.Disk.moment g.D.Disk.since g.D.Disk.faults) c.args.disk.now c.answer_request-reply.new.disk held (g.L.Link.written c.args.link.now) (g.L.Link.written c.send.new.link)
+    request_goes_on (TakesTurns g.D.Disk.reads g.D.Disk.images g.D.Disk.moment g.D.Disk.since g.D.Disk.faults) c.args.disk.now c.answer_request-reply.new.disk held (g.L.Link.written c.args.link.now) (g.L.Link.written c.send.new.link)
     c.args.request.now requests end c.answer_request-reply.result
     (λ h. Holds c.answer_request-reply.new.self (g.D.Disk.reads c.answer_request-reply.new.disk) (g.D.Disk.images c.answer_request-reply.new.disk) (g.C.Clock.ticks c.answer_request-reply.new.clock) h)
-    (turn_taken g.D.Disk.images g.D.Disk.moment g.D.Disk.since g.D.Disk.faults g.D.Disk.reads c.args.disk.now c.answer_request-reply.new.disk c.args.request.now held c.answer_request-reply.result _
+    (turn_taken g.D.Disk.reads g.D.Disk.images g.D.Disk.moment g.D.Disk.since g.D.Disk.faults c.args.disk.now c.answer_request-reply.new.disk c.args.request.now held c.answer_request-reply.result _
     (c.answer_request-reply.ensures.answers tells held holds) holds.file (c.answer_request-reply.ensures.no_journal tells) c.answer_request-reply.ensures.disk)
     (sym c.is_last.ensures ∙ c.if-is_last.false) c.in_default.ensures.whole
 
@@ -79,3 +81,14 @@ returns-then-is_last-clause-told g c = λ told. still_told (g.L.Link.written c.a
 
 pub returns-clause-told : goal.returns-clause-told
 returns-clause-told g c = λ told. still_told (g.L.Link.written c.args.link.now) (g.L.Link.written c.send.new.link) (bytes_of (c.answer_request-reply.result ∷ [])) c.in_default.ensures.whole told
+
+-- ---- what was written
+
+pub returns-in-Err-clause-replied : goal.returns-in-Err-clause-replied
+returns-in-Err-clause-replied g c = record { reply = c.answer_request-reply.result; whole = λ none. absurd cc; part = part_front (g.L.Link.written c.args.link.now) (g.L.Link.written c.send.new.link) (bytes_of (c.answer_request-reply.result ∷ [])) c.in-Err.ensures.part }
+
+pub returns-then-is_last-clause-replied : goal.returns-then-is_last-clause-replied
+returns-then-is_last-clause-replied g c = record { reply = c.answer_request-reply.result; whole = λ none. absurd cc; part = whole_front (g.L.Link.written c.args.link.now) (g.L.Link.written c.send.new.link) (bytes_of (c.answer_request-reply.result ∷ [])) c.in_default.ensures.whole }
+
+pub returns-clause-replied : goal.returns-clause-replied
+returns-clause-replied g c = record { reply = c.answer_request-reply.result; whole = λ none. c.in_default.ensures.whole; part = whole_front (g.L.Link.written c.args.link.now) (g.L.Link.written c.send.new.link) (bytes_of (c.answer_request-reply.result ∷ [])) c.in_default.ensures.whole }

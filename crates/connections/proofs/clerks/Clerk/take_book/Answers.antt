@@ -2,6 +2,7 @@ use Rattle.std.proofs.Common.{◌∙◌, sym, subst, Option, IfSome}
 use Rattle.settled_book.specs.SettledBookState.{SettledBookState}
 use Rattle.connections.specs.Holding.{IsOpenOn}
 use Rattle.receipt_journal.specs.Opening.{book_opening_disk_failed}
+use Rattle.connections.proofs.MadeFiles.{made_kept}
 use Rattle.connections.proofs.NoBook.{none_opened, one_open}
 use Rattle.connections.proofs.TakenBooks.{finds_at_hand, finds_by_opening, opened_journal}
 use Rattle.connections.proofs.clerks.Clerk.take_book.Goals as goal
@@ -15,7 +16,7 @@ returns-in-Some-clause-finds g c = λ tells journal stands on.
 pub returns-clause-finds : goal.returns-clause-finds
 returns-clause-finds g c = λ tells journal stands on.
     finds_by_opening g.D.Disk.reads g.D.Disk.images g.D.Disk.moment g.D.Disk.since c.args.disk.now c.open.new.disk journal c.open.result stands (c.open.ensures.opened tells)
-    c.open.ensures.records (c.open.ensures.kept tells) (c.open.ensures.any_moment tells)
+    c.open.ensures.records (c.open.ensures.kept tells) (c.open.ensures.torn tells) (c.open.ensures.any_moment tells)
 
 pub returns-clause-journal : goal.returns-clause-journal
 returns-clause-journal g c = λ tells none. opened_journal _ _ _ c.open.result (c.open.ensures.opened tells)
@@ -27,3 +28,6 @@ pub returns-clause-no_book : goal.returns-clause-no_book
 returns-clause-no_book g c = λ tells was none.
     none_opened g.D.Disk.reads g.D.Disk.images g.D.Disk.moment g.D.Disk.since c.args.disk.now c.open.new.disk c.take_working.new.self (book_opening_disk_failed c.open.result)
     (g.met.D.Disk.reads_is_image c.args.disk.now tells) c.take_working.ensures.taken (c.open.ensures.kept tells) (c.open.ensures.any_moment tells) none
+
+pub returns-clause-made : goal.returns-clause-made
+returns-clause-made g c = λ tells was. made_kept (g.D.Disk.reads c.args.disk.now) (g.D.Disk.reads c.open.new.disk) (c.open.ensures.kept tells) was
