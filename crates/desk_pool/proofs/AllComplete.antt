@@ -1,9 +1,8 @@
 -- What the desks have settled, put together, is the register of the one registrar.
-use Rattle.std.proofs.Common.{◌≡◌, ⊎_elim, ℕ, ◌+◌, ◌-◌, ◌<◌, ◌≤◌, Bool, true, false, ◌||◌, List, [], ◌∷◌, ◌++◌, All, Contains, Global, Vec, length, map, Some, slice_get, refl, sym, ap, subst, ◌∙◌, arith}
-use Rattle.std.specs.List.{range_with_len}
+use Rattle.std.proofs.Common.{◌≡◌, ⊎_elim, ℕ, ◌-◌, ◌≤◌, true, false, ◌||◌, List, [], ◌∷◌, All, Contains, Global, Vec, length, map, Some, slice_get, refl, sym, ap, subst, ◌∙◌, arith}
 use Rattle.std.proofs.lemmas.Bool.{cases_Bool, false≢true}
 use Rattle.std.proofs.lemmas.List.Elements.{All-head, All-tail}
-use Rattle.gb_base.proofs.Members.{in_range, of_range}
+use Rattle.gb_base.proofs.Members.{of_range}
 use Rattle.gb_base.specs.Keys.{same_key}
 use Rattle.gb_base.specs.declared.keys.Key.{Key}
 use Rattle.act_model.proofs.KeyOrder.{same_is}
@@ -25,12 +24,10 @@ use Rattle.registrar.specs.RegisterState.{verdict_among}
 use Rattle.registrar.specs.Settling.{registrar}
 use Rattle.registrar.specs.declared.verdicts.Verdict.{Verdict}
 use Rattle.desk_pool.specs.FolioStates.{HasAllRoom}
-use Rattle.desk_pool.specs.FoliosBack.{AllBack, AreAllKeys, AreBack}
+use Rattle.desk_pool.specs.FoliosBack.{AreAllKeys}
 use Rattle.desk_pool.specs.Preparing.{HasPlaces}
 use Rattle.desk_pool.specs.declared.folio_parts.KeyRoom.{KeyRoom}
-use Rattle.desk_pool.specs.declared.folio_queues.FolioQueue.{FolioQueue}
 use Rattle.desk_pool.specs.declared.prepared.Prepared.{Prepared}
-use Rattle.desk_pool.specs.inner.PreparedRuns.{HasTaken}
 use Rattle.desk_pool.proofs.NothingBetween.{nothing_between}
 use Rattle.desk_pool.proofs.PreparedScratches.{given_at}
 use Rattle.desk_pool.proofs.Settling.{verdict_said}

@@ -1,5 +1,5 @@
 -- What a round keeps ready is of the journal that is named; its keys are all that the items touch, each once.
-use Rattle.std.proofs.Common.{◌≡◌, ℕ, ◌<◌, Bool, false, All, List, [], ◌∷◌, get_or, length, map, refl, sym, ap, subst, ◌∙◌, arith}
+use Rattle.std.proofs.Common.{◌≡◌, ℕ, Bool, false, All, List, [], ◌∷◌, get_or, length, map, refl, sym, ap, subst, ◌∙◌, arith}
 use Rattle.std.specs.BTreeMap.{BTreeMap, IsOrdered}
 use Rattle.std.specs.Map.{keys_of}
 use Rattle.std.specs.Ordering.{is_eq}

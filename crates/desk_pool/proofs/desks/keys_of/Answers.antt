@@ -1,4 +1,4 @@
-use Rattle.std.proofs.Common.{◌≤◌, ◌∙◌, ap, arith, length}
+use Rattle.std.proofs.Common.{◌∙◌, ap, arith, length}
 use Rattle.conflict_queue.proofs.Numbered.{docket_len}
 use Rattle.desk_pool.proofs.desks.keys_of.Goals as goal
 

@@ -1,4 +1,4 @@
-use Rattle.std.proofs.Common.{◌≡◌, ◌+◌, ◌≤◌, ◌++◌, ◌∷◌, ◌∙◌, [], IfSome, ap, length, subst, sym, arith}
+use Rattle.std.proofs.Common.{◌≡◌, ◌+◌, ◌++◌, ◌∷◌, ◌∙◌, [], IfSome, ap, subst, sym, arith}
 use Rattle.std.specs.List.{range_with_len}
 use Rattle.registrar.proofs.Registering.{range_more}
 use Rattle.desk_pool.proofs.rounds.list_receipts.Goals as goal

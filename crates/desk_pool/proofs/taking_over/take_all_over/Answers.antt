@@ -1,4 +1,4 @@
-use Rattle.std.proofs.Common.{◌≤◌, arith, subst, sym}
+use Rattle.std.proofs.Common.{arith, subst, sym}
 use Rattle.desk_pool.specs.FoliosBack.{IsBackFor}
 use Rattle.desk_pool.proofs.TakingOver.{none_taken_over, one_more_taken}
 use Rattle.desk_pool.proofs.taking_over.take_all_over.Goals as goal

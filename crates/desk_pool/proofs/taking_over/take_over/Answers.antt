@@ -1,4 +1,4 @@
-use Rattle.std.proofs.Common.{◌≡◌, ◌∙◌, ◌<◌, IsTrue, Some, get_or, refl, sym, ap}
+use Rattle.std.proofs.Common.{◌∙◌, Some, get_or, ap}
 use Rattle.desk_pool.proofs.TakingOver.{back_at, back_later, held_there, room_taken}
 use Rattle.desk_pool.proofs.taking_over.take_over.Goals as goal
 

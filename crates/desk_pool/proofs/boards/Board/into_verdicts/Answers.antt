@@ -1,4 +1,4 @@
-use Rattle.std.proofs.Common.{◌≡◌, ◌∙◌, ap, sym}
+use Rattle.std.proofs.Common.{◌∙◌, ap, sym}
 use Rattle.std.specs.List.{list_all}
 use Rattle.desk_pool.proofs.Saying.{said_whole}
 use Rattle.desk_pool.proofs.boards.Board.into_verdicts.Goals as goal

@@ -1,4 +1,4 @@
-use Rattle.std.proofs.Common.{◌≡◌, ◌+◌, ◌-◌, ◌<◌, ◌∙◌, length, arith}
+use Rattle.std.proofs.Common.{◌-◌, ◌∙◌, arith}
 use Rattle.desk_pool.proofs.Saying.{said_set}
 use Rattle.desk_pool.proofs.boards.Board.say.Goals as goal
 
