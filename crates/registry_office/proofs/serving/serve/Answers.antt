@@ -1,4 +1,4 @@
-use Rattle.std.proofs.Common.{◌≡◌, ◌∙◌, Option, List, true, false, subst, sym}
+use Rattle.std.proofs.Common.{◌≡◌, ◌∙◌, Option, Some, List, true, false, subst, sym}
 use Rattle.gb_base.specs.DayMinute.{DayMinute}
 use Rattle.connections.specs.Holding.{Holds}
 use Rattle.connections.proofs.SettledClerks.{holds_still, stands_still}
@@ -6,8 +6,8 @@ use Rattle.registry_office.proofs.Opened.{opening_status}
 use Rattle.registry_office.proofs.ServedDoors.{made_open, served_none, served_opened}
 use Rattle.registry_office.proofs.serving.serve.Goals as goal
 
-pub serve_door-requires-clause : goal.serve_door-requires-clause
-serve_door-requires-clause g c = λ tells. stands_still c.settle.ensures.book (c.in-Ok.ensures.stands_open tells)
+pub serve_door-requires : goal.serve_door-requires
+serve_door-requires g c = λ tells. stands_still c.in-Ok.clerk c.settle.new.self (g.D.Disk.reads c.open.new.disk) (g.D.Disk.images c.open.new.disk) c.settle.ensures.book (c.in-Ok.ensures.stands_open tells)
 
 pub returns-clause-serves : goal.returns-clause-serves
 returns-clause-serves g c = λ tells held waiting asked is waits asks.
@@ -15,7 +15,7 @@ returns-clause-serves g c = λ tells held waiting asked is waits asks.
     c.open.new.disk (g.L.Listener.waiting c.serve_door.new.door) (g.L.Listener.served c.serve_door.new.door) c.serve_door.new.self c.serve_door.result c.status_of_door.result
     (λ t file le image. g.met.D.Disk.counts_now c.open.new.disk t file tells le image) is.stands (c.in-Ok.ensures.any_moment tells) c.in-Ok.ensures.cause (c.in-Ok.ensures.kept tells) (c.in-Ok.ensures.made tells) (c.in-Ok.ensures.torn tells)
     (c.serve_door.ensures.serves tells held waiting asked
-    (subst (λ (known : Option (List DayMinute)). Holds c.settle.new.self (g.D.Disk.reads c.open.new.disk) (g.D.Disk.images c.open.new.disk) known held) (sym is.clock) (holds_still c.settle.ensures.book (c.in-Ok.ensures.holds tells held is.stands))) waits asks)
+    (subst (λ (known : Option (List DayMinute)). Holds c.settle.new.self (g.D.Disk.reads c.open.new.disk) (g.D.Disk.images c.open.new.disk) known held) (sym is.clock) (holds_still c.in-Ok.clerk c.settle.new.self (g.D.Disk.reads c.open.new.disk) (g.D.Disk.images c.open.new.disk) (Some held.ticks) held c.settle.ensures.book (c.in-Ok.ensures.holds tells held is.stands))) waits asks)
     c.status_of_door.ensures
 
 pub returns-in-Err-clause-serves : goal.returns-in-Err-clause-serves
