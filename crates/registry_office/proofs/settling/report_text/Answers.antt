@@ -4,7 +4,7 @@ use Rattle.registry_office.proofs.Reported.{reported}
 use Rattle.registry_office.proofs.settling.report_text.Goals as goal
 
 pub returns : goal.returns
-returns c =
+returns g c =
     let told = c.in_ok-register.ensures in
     subst (λ (bytes : List ℕ). IfOk c.report.result (λ text. text.items ≡ bytes)) (reported c.args.journal.now.receipts)
     (c.report.ensures.report (registrar c.args.journal.now.receipts) (record { entries = told.entries; verdicts = told.verdicts; folios = told.folios }))
