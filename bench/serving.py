@@ -136,7 +136,7 @@ def main():
             client = Client(PORT)
             start = time.perf_counter()
             client.ask(get("/receipts/1"))
-            print(f"the first read, which settles the journal: {time.perf_counter() - start:.2f} s")
+            print(f"the first read: {time.perf_counter() - start:.2f} s")
             measure("extract", client, [get("/folios/1")] * count, b"200")
             measure("ranks", client, [get("/folios/1/ranks")] * count, b"200")
             measure("verdict", client, [get("/receipts/1")] * count, b"200")
