@@ -1,12 +1,16 @@
 //! The top call as it serves links that come through a door.
 use crate::runs::disk_of;
-use gb_base::{Day, NoMemory, Stamp};
-use gb_outside::{ListClock, MemDisk, MemLink, MemListener, MemSource, OpenGate, SureSink};
+use gb_base::{Day, NoMemory, ReceiptNo, Stamp};
+use gb_outside::{
+    DeskGate, ListClock, MemDisk, MemLink, MemListener, MemSource, OpenGate, SureSink,
+};
 use registry_office::{Status, run, serve_connection};
 use std::alloc::Global;
 use std::process::Abort;
 use std::rc::RcStr;
 use std::sync::Wait;
+use std::sync::atomic::AtomicU32;
+use std::sync::atomic::Ordering::SeqCst;
 use std::test::Fail;
 use std::thread::Threads;
 
@@ -47,12 +51,23 @@ fn door_of<'a>(
     MemListener::new(alloc, links, fail)
 }
 
-/// Serves what comes through the door.
+/// Serves what comes through the door, at a gate that lets every item pass.
 fn served<R: AllocGlobal + Threads + Wait + Sync>(
     rt: &R,
     disk: &mut MemDisk,
     door: &mut MemListener,
     requests: &str,
+) -> Result<Status, NoMemory> {
+    served_at(rt, disk, door, requests, &OpenGate)
+}
+
+/// Serves what comes through the door, at this gate.
+fn served_at<R: AllocGlobal + Threads + Wait + Sync, G: DeskGate>(
+    rt: &R,
+    disk: &mut MemDisk,
+    door: &mut MemListener,
+    requests: &str,
+    gate: &G,
 ) -> Result<Status, NoMemory> {
     let alloc = rt.alloc();
     let mut words = Vec::new(alloc);
@@ -68,7 +83,7 @@ fn served<R: AllocGlobal + Threads + Wait + Sync>(
         disk,
         &mut ListClock::new(&stamps),
         door,
-        &OpenGate,
+        gate,
     ))
 }
 
@@ -157,6 +172,35 @@ fn a_connection_reads_what_it_posted(rt: HostRuntime) -> Result<(), Fail> {
     let served = serve_connection(&rt, &mut link, &mut disk, &mut clock, 2, &OpenGate, 9);
     assert_eq!(&rt; served.replies, 2);
     assert_eq!(&rt; link.written(), wanted.as_slice());
+    Ok(())
+}
+
+/// Counts the items that meet it.
+#[derive(Drop)]
+struct CountingGate {
+    calls: AtomicU32,
+}
+
+impl DeskGate for CountingGate {
+    fn at(&self, _item: ReceiptNo) {
+        self.calls.fetch_add(1, SeqCst);
+    }
+}
+
+/// Each item of the journal meets the gate ahead of the first link, which here does not come.
+#[test]
+fn the_journal_is_settled_at_the_desks_first(rt: HostRuntime) -> Result<(), Fail> {
+    let mut disk = disk_of(&rt, MADE, &[])?;
+    let mut door = door_of(rt.alloc(), [POST, READ], &[])?;
+    let first = served(&rt, &mut disk, &mut door, "9")?;
+    assert_eq!(&rt; first, Status::Ok);
+    let gate = CountingGate {
+        calls: AtomicU32::new(0),
+    };
+    let mut shut = door_of(rt.alloc(), [READ, READ], &[1])?;
+    let second = served_at(&rt, &mut disk, &mut shut, "9", &gate)?;
+    assert_eq!(&rt; second, Status::DoorFault);
+    assert_eq!(&rt; gate.calls.load(SeqCst), 1);
     Ok(())
 }
 
