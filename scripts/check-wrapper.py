@@ -96,7 +96,7 @@ def check_help(look, room):
     status, output, errors = room.run("--help")
     look.same("--help", (status, errors), (0, b""))
     look.same("no words print the same, and are no command", room.run(), (2, output, b""))
-    for command in ("settle --desks N --lines", "take", "opening --sender N", "settle --desks N", "sample --seed S --size Y --desks N", "--build"):
+    for command in ("settle --desks N --lines", "take", "opening --sender N", "settle --desks N", "serve --desks N --requests M", "sample --seed S --size Y --desks N", "--build"):
         look.same(f"--help has {command}", f"    ./grundbuch {command}\n".encode() in output, True)
 
 
@@ -105,6 +105,8 @@ def check_unproved(look, room):
     look.same("unproved", room.run(*LINES, given=b"some\0\xff\nlines"), (0, b"some\0\xff\nlines", UNPROVED))
     room.try_says("usage\nchecked: ended status=2\nrun=ended status=2 runners=1 proved=no\n")
     look.same("unproved, wrong words", room.run("settle", "--lines"), (2, b"", UNPROVED + b"usage\n"))
+    room.try_says("checked: ended status=0\nrun=ended status=0 runners=1 proved=no\n")
+    look.same("unproved, its command last", room.run("--lines", "--desks", "1", "settle", given=b"line"), (0, b"line", UNPROVED))
     room.try_says("checked: no-answer: it wrote too much\nrun=none proved=no\n")
     status, _, errors = room.run(*LINES)
     look.same("unproved without an answer", (status, errors.endswith(b"the unproved run gave no answer\n")), (1, True))
@@ -112,15 +114,15 @@ def check_unproved(look, room):
 
 
 def check_building(look, room):
-    status, output, errors = room.run("take", given=b"line")
-    look.same("take is run behind the building", (status, output), (4, b"runs take\nline"))
+    status, output, errors = room.run("--sender", "9", "opening", given=b"line")
+    look.same("opening is run behind the building", (status, output), (4, b"runs --sender 9 opening\nline"))
     noted, said = room.noted(), errors.decode().split("\n")
     look.same("the lowest crate is proved first", noted[:2], ["begins low", "ends low"])
     look.same("the program is built last", noted[-2:], ["begins grundbuch", "ends grundbuch"])
     beside = ["begins left", "begins right"] if len(os.sched_getaffinity(0)) > 1 else []
     look.same("two crates are proved beside one another", sorted(noted[2:4]) if beside else [], beside)
     look.same("no other crate is proved", "begins other" in noted, False)
-    look.same("it says what it does", said[0], "`take` is for the proved program, which is built first")
+    look.same("it says what it does", said[0], "`opening` is for the proved program, which is built first")
     look.same("it says how many are left", [line for line in said if line.startswith(("low", "grund"))], ["low is proved, 3 left", "grundbuch is proved, 0 left"])
     look.same("a second run builds nothing", (room.run(*LINES)[:2], room.noted()), ((4, b"runs settle --desks 1 --lines\n"), []))
 
