@@ -22,6 +22,7 @@ pub data Form : Type 0 where
 abbrev pub valued : List (List ℕ)
 valued = codes "desks" ∷ codes "requests" ∷ codes "seed" ∷ codes "size" ∷ codes "sender" ∷ []
 
+-- an option of this name has a value
 abbrev pub has_value : List ℕ → Bool
 has_value name = list_any (λ known. bytes_eq known name) valued
 
@@ -43,6 +44,7 @@ abbrev pub hyphen_form : List ℕ → Form
 hyphen_form [] = wrong
 hyphen_form (b ∷ text) = if b == 45 then long_form text else wrong
 
+-- the form of a word
 abbrev pub form_of : List ℕ → Form
 form_of [] = plain []
 form_of (b ∷ text) = if b == 45 then hyphen_form text else plain (b ∷ text)
@@ -102,6 +104,7 @@ abbrev pub settle_of : Bool → Option ℕ → Option Command
 settle_of lines None = None
 settle_of lines (Some desks) = if lines then Some (SettleLines desks) else Some (Settle desks)
 
+-- `settle`, by its options
 abbrev pub settle_by : Reader
 settle_by lines desks requests seed size sender =
     if absent requests && (absent seed && (absent size && absent sender)) then settle_of lines (number 1 64 desks) else None
@@ -111,6 +114,7 @@ abbrev pub serve_of : Option ℕ → Option ℕ → Option Command
 serve_of (Some desks) (Some requests) = Some (Serve desks requests)
 serve_of desks requests = None
 
+-- `serve`, by its options
 abbrev pub serve_by : Reader
 serve_by lines desks requests seed size sender =
     if not lines && (absent seed && (absent size && absent sender))
@@ -121,6 +125,7 @@ abbrev pub sample_of : Option ℕ → Option ℕ → Option ℕ → Option Comma
 sample_of (Some seed) (Some size) (Some desks) = Some (Sample seed size desks)
 sample_of seed size desks = None
 
+-- `sample`, by its options
 abbrev pub sample_by : Reader
 sample_by lines desks requests seed size sender =
     if not lines && (absent requests && absent sender)
@@ -131,6 +136,7 @@ abbrev pub opening_of : Option ℕ → Option Command
 opening_of None = None
 opening_of (Some sender) = Some (Receive (OpeningList sender))
 
+-- `opening`, by its option
 abbrev pub opening_by : Reader
 opening_by lines desks requests seed size sender =
     if not lines && (absent desks && (absent requests && (absent seed && absent size)))

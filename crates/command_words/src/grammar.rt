@@ -31,6 +31,7 @@ pub(crate) fn grammar<'a>(alloc: Global) -> Result<Command<'a>, NoMemory>
         .arg(lines(alloc))
 }
 
+/// The word that says the command, and the options `--desks` and `--requests`.
 fn with_desks_and_requests<'a>(alloc: Global) -> Result<Command<'a>, NoMemory>
     ensures { IfOk result (λ command. app_of command ≡ with_desks) }
 {

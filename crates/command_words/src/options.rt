@@ -41,6 +41,7 @@ pub(crate) fn read_command(word: &str, given: &Given<'_>) -> Option<Command>
     }
 }
 
+/// `take`, where no option stands there.
 fn take(given: &Given<'_>) -> Option<Command>
     ensures command { result ≡ by_given take_by given.now }
     ensures desks { IfSome result HasDesks }
@@ -56,6 +57,7 @@ fn take(given: &Given<'_>) -> Option<Command>
     }
 }
 
+/// `settle`, where no option stands there but its own two.
 fn settle(given: &Given<'_>) -> Option<Command>
     ensures command { result ≡ by_given settle_by given.now }
     ensures desks { IfSome result HasDesks }
@@ -69,6 +71,7 @@ fn settle(given: &Given<'_>) -> Option<Command>
     }
 }
 
+/// `settle` at so many desks, over the input with `--lines`, else over the disk.
 fn settle_at(lines: bool, desks: Option<&str>) -> Option<Command>
     ensures command { result ≡ settle_of lines (number 1 64 (text_of desks.entry)) }
     ensures desks { IfSome result HasDesks }
@@ -83,6 +86,7 @@ fn settle_at(lines: bool, desks: Option<&str>) -> Option<Command>
     }
 }
 
+/// `serve`, where no option stands there but its own two.
 fn serve(given: &Given<'_>) -> Option<Command>
     ensures command { result ≡ by_given serve_by given.now }
     ensures desks { IfSome result HasDesks }
@@ -96,6 +100,7 @@ fn serve(given: &Given<'_>) -> Option<Command>
     }
 }
 
+/// `serve` at so many desks, for so many requests.
 fn serve_at(desks: Option<&str>, requests: Option<&str>) -> Option<Command>
     ensures command { result ≡ serve_of (number 1 64 (text_of desks.entry)) (number 1 1000000 (text_of requests.entry)) }
     ensures desks { IfSome result HasDesks }
@@ -108,6 +113,7 @@ fn serve_at(desks: Option<&str>, requests: Option<&str>) -> Option<Command>
     })
 }
 
+/// `sample`, where no option stands there but its own three.
 fn sample(given: &Given<'_>) -> Option<Command>
     ensures command { result ≡ by_given sample_by given.now }
     ensures desks { IfSome result HasDesks }
@@ -121,6 +127,7 @@ fn sample(given: &Given<'_>) -> Option<Command>
     }
 }
 
+/// `sample` of this seed and size, at so many desks.
 fn sample_at(seed: Option<&str>, size: Option<&str>, desks: Option<&str>) -> Option<Command>
     ensures command { result ≡ sample_of (number 0 9999999999 (text_of seed.entry)) (number 1 most_receipts (text_of size.entry)) (number 1 64 (text_of desks.entry)) }
     ensures desks { IfSome result HasDesks }
@@ -134,6 +141,7 @@ fn sample_at(seed: Option<&str>, size: Option<&str>, desks: Option<&str>) -> Opt
     })
 }
 
+/// `opening`, where no option stands there but its own.
 fn opening(given: &Given<'_>) -> Option<Command>
     ensures command { result ≡ by_given opening_by given.now }
     ensures desks { IfSome result HasDesks }
@@ -147,6 +155,7 @@ fn opening(given: &Given<'_>) -> Option<Command>
     }
 }
 
+/// `opening` from this sender.
 fn open_from(sender: Option<&str>) -> Option<Command>
     ensures command { result ≡ opening_of (number 0 4294967295 (text_of sender.entry)) }
     ensures desks { IfSome result HasDesks }
@@ -161,6 +170,7 @@ fn open_from(sender: Option<&str>) -> Option<Command>
     })
 }
 
+/// Whether no option stands there.
 fn has_none(given: &Given<'_>) -> bool
     ensures { result ≡ (not given.now.lines && (absent (text_of given.now.desks) && (absent (text_of given.now.requests)
         && (absent (text_of given.now.seed) && (absent (text_of given.now.size) && absent (text_of given.now.sender)))))) }
@@ -173,6 +183,7 @@ fn has_none(given: &Given<'_>) -> bool
         && absent(given.sender)
 }
 
+/// Whether no option stands there but `--desks` and `--lines`.
 fn has_desks_and_lines_alone(given: &Given<'_>) -> bool
     ensures { result ≡ (absent (text_of given.now.requests) && (absent (text_of given.now.seed)
         && (absent (text_of given.now.size) && absent (text_of given.now.sender)))) }
@@ -180,6 +191,7 @@ fn has_desks_and_lines_alone(given: &Given<'_>) -> bool
     absent(given.requests) && absent(given.seed) && absent(given.size) && absent(given.sender)
 }
 
+/// Whether no option stands there but `--desks` and `--requests`.
 fn has_desks_and_requests_alone(given: &Given<'_>) -> bool
     ensures { result ≡ (not given.now.lines && (absent (text_of given.now.seed)
         && (absent (text_of given.now.size) && absent (text_of given.now.sender)))) }
@@ -187,12 +199,14 @@ fn has_desks_and_requests_alone(given: &Given<'_>) -> bool
     !given.lines && absent(given.seed) && absent(given.size) && absent(given.sender)
 }
 
+/// Whether no option stands there but `--seed`, `--size` and `--desks`.
 fn has_no_requests_and_sender(given: &Given<'_>) -> bool
     ensures { result ≡ (not given.now.lines && (absent (text_of given.now.requests) && absent (text_of given.now.sender))) }
 {
     !given.lines && absent(given.requests) && absent(given.sender)
 }
 
+/// Whether no option stands there but `--sender`.
 fn has_sender_alone(given: &Given<'_>) -> bool
     ensures { result ≡ (not given.now.lines && (absent (text_of given.now.desks) && (absent (text_of given.now.requests)
         && (absent (text_of given.now.seed) && absent (text_of given.now.size))))) }
@@ -211,6 +225,7 @@ fn absent(value: Option<&str>) -> bool
     value.is_none()
 }
 
+/// The number of desks that the value writes: 1 to 64.
 fn number_of_desks(value: Option<&str>) -> Option<u16>
     ensures value { result ≡ number 1 64 (text_of value.entry) }
     ensures bounds { IfSome result (λ desks. (1 ≤ desks) × (desks ≤ 64)) }
@@ -219,6 +234,7 @@ fn number_of_desks(value: Option<&str>) -> Option<u16>
     Some(desks as u16)
 }
 
+/// The number of requests that the value writes: 1 to 1,000,000.
 fn number_of_requests(value: Option<&str>) -> Option<u32>
     ensures value { result ≡ number 1 1000000 (text_of value.entry) }
     ensures bounds { IfSome result (λ requests. (1 ≤ requests) × (requests ≤ 1000000)) }
@@ -227,6 +243,7 @@ fn number_of_requests(value: Option<&str>) -> Option<u32>
     Some(requests as u32)
 }
 
+/// The number of receipts that the value writes: 1 to 200,000.
 fn number_of_receipts(value: Option<&str>) -> Option<u32>
     ensures value { result ≡ number 1 most_receipts (text_of value.entry) }
     ensures bounds { IfSome result (λ size. (1 ≤ size) × (size ≤ most_receipts)) }

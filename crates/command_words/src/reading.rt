@@ -46,6 +46,7 @@ pub fn read_words(alloc: Global, words: &[RcStr]) -> Result<Command, WordsFault>
     }
 }
 
+/// Why words that `clap` refuses are no command: memory was wanting, or they are not in the grammar.
 fn fault_from(kind: ErrorKind) -> WordsFault
     ensures { result ≡ WordsFault.Usage → kind ≡ ErrorKind.OutOfMemory → ⊥ }
 {
@@ -69,6 +70,7 @@ fn command_in(matches: &ArgMatches<'_>) -> Result<Command, WordsFault>
     }
 }
 
+/// The command of the word that the matches have, if there is one.
 fn command_found(matches: &ArgMatches<'_>) -> Option<Command>
     ensures command { result ≡ command_with (first_value (found_of matches.now)) }
     ensures desks { IfSome result HasDesks }
@@ -78,6 +80,7 @@ fn command_found(matches: &ArgMatches<'_>) -> Option<Command>
     read_command(matches.get_str("command")?, &given_in(matches))
 }
 
+/// What the matches have under the name of each option.
 fn given_in<'a>(matches: &ArgMatches<'a>) -> Given<'a>
     ensures lines { result.lines ≡ is_true (first_value (found_of matches.now) (codes "lines")) }
     ensures desks { text_of result.desks ≡ first_value (found_of matches.now) (codes "desks") }

@@ -12,6 +12,7 @@ pub data Failure : Type 0 where
 pub data Progress : Type 0 where
   NotBegun Stamped Received : Progress
 
+-- what became of a request: it was answered as it asks, or this failed, once its receipt had come so far
 pub data Fate : Type 0 where
   Answered : Fate
   Failed : Failure → Progress → Fate

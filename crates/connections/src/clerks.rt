@@ -40,7 +40,7 @@ use std::thread::Threads;
 /// call.
 #[derive(Drop)]
 pub struct Clerk {
-    /// None before the first request that wants it, and where it could not be opened.
+    /// None where none was opened yet or it could not be, and behind a request in which it failed.
     book: Option<SettledBook>,
 }
 

@@ -58,8 +58,9 @@ pub fn serve_connection<R: AllocGlobal, L: Link, D: Disk, C: Clock, G: DeskGate>
 }
 
 /// Opens the journal of the disk, settles it at so many desks, 1 to 64, and serves what comes
-/// through the door, up to so many replies and as many links. The journal and its register are handed from one link to the next. A link that
-/// fails, and a request in which the disk fails, end nothing else.
+/// through the door, up to so many replies and as many links. The journal and its register are
+/// handed from one link to the next. A link that fails, and a request in which the disk fails, end
+/// nothing else.
 pub(crate) fn serve<
     R: AllocGlobal + Threads + Wait + Sync,
     D: Disk,

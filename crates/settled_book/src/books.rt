@@ -33,7 +33,7 @@ use std::thread::Threads;
 #[derive(Drop)]
 pub struct SettledBook {
     book: Book,
-    /// None before the first text is read, and where no memory was found to go on.
+    /// None where nothing is settled yet, and where no memory was found to go on.
     register: Option<Register>,
     /// What sales are reckoned in when receipts are settled.
     scratch: Scratch,
