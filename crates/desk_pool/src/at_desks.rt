@@ -11,6 +11,7 @@ ghost use Rattle.registrar.specs.KeptAwards.{AwardsKept};
 ghost use Rattle.registrar.specs.OpenFolios.{open_folios};
 ghost use Rattle.registrar.specs.Settling.{registrar};
 
+use crate::one_folio::is_for_one_desk;
 use crate::rounds::Round;
 use act_model::{Journal, JournalName};
 use gb_base::{NoMemory, ReceiptNo};
@@ -22,7 +23,8 @@ use std::thread::Threads;
 
 /// Settles a journal at so many desks, 1 to 64, each in a thread of its own where one can be had.
 /// `gate` is called with each item ahead of its entries, while its desk has the item's folios to
-/// itself: one desk alone has all of them, others lock them. Whatever the desks do, the register is
+/// itself: one desk alone has all of them, others lock them. A journal of one folio is settled by one
+/// desk. Whatever the desks do, the register is
 /// the one that `registrar::alone` gives (GBO § 17). Wants memory (NoMemory); several desks want all
 /// of it before the first item is settled.
 pub fn settle_at_desks<R: AllocGlobal + Threads + Wait + Sync, G: DeskGate>(
@@ -41,8 +43,8 @@ pub fn settle_at_desks<R: AllocGlobal + Threads + Wait + Sync, G: DeskGate>(
     ensures kept { IfOk result (λ register. Kept journal.now.receipts (entries_at register.parts)) }
     ensures awards { IfOk result (λ register. AwardsKept journal.now.receipts (entries_at register.parts)) }
 {
-    if desks == 1 {
-        // One desk has every folio from the start, and wants no room twice.
+    if is_for_one_desk(journal, desks) {
+        // It has every folio from the start, and wants no room twice.
         call_with_each(journal, gate);
         return alone(rt.alloc(), journal);
     }

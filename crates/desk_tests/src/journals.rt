@@ -45,6 +45,19 @@ pub fn assigned_and_charged(rt: &impl Abort, alloc: Global) -> Journal {
     journal
 }
 
+/// Folio 7, in which filing 2 of a charge waits for the certified consent that receipt 4 brings, and
+/// receipt 3 creates another charge meanwhile.
+pub fn cured_behind_a_charge(rt: &impl Abort, alloc: Global) -> Journal {
+    let mut journal = Journal::new(alloc);
+    receive(rt, &mut journal, day(2, 1), &opened(7));
+    let plain = filed(10, charge(7, 100_000, 20), &[plain_consent(1, 10)]);
+    receive(rt, &mut journal, day(3, 1), &plain);
+    let other = filed(10, charge(7, 200_000, 21), &[consent(1, 10)]);
+    receive(rt, &mut journal, day(3, 4), &other);
+    receive(rt, &mut journal, day(3, 5), &cure(2, &[consent(1, 10)]));
+    journal
+}
+
 /// Receipts 1 to 3 lapse numbers that no filing has, so none of them touches a key.
 pub fn of_lapses(rt: &impl Abort, alloc: Global) -> Journal {
     let mut journal = Journal::new(alloc);

@@ -1,5 +1,5 @@
 //! The orders in which a round settles a journal, and those that it refuses.
-use crate::journals::assigned_and_charged;
+use crate::journals::{assigned_and_charged, cured_behind_a_charge};
 use crate::registers::{by_a_round, in_order, register_of, say_the_same};
 use act_model::Journal;
 use gb_base::ReceiptNo;
@@ -37,6 +37,18 @@ fn an_assignment_and_a_charge_in_either_order(rt: HostRuntime) {
 fn an_assignment_ahead_of_its_charge_is_refused(rt: HostRuntime) {
     let order = [receipt(1), receipt(3), receipt(2), receipt(4)];
     assert!(&rt; is_refused(&rt, rt.alloc(), &order));
+}
+
+/// A charge may not come ahead of one that was filed before it and waits in the same folio.
+#[test]
+fn a_charge_ahead_of_one_that_waits_is_refused(rt: HostRuntime) {
+    let journal = cured_behind_a_charge(&rt, rt.alloc());
+    let turned = [receipt(1), receipt(3), receipt(2), receipt(4)];
+    assert!(&rt; in_order(&rt, rt.alloc(), &journal, &turned).is_none());
+    let as_received = [receipt(1), receipt(2), receipt(3), receipt(4)];
+    let wanted = register_of(&rt, rt.alloc(), &journal);
+    let left = in_order(&rt, rt.alloc(), &journal, &as_received).expect(&rt, "a register");
+    assert!(&rt; say_the_same(&rt, rt.alloc(), &journal, &wanted, &left));
 }
 
 /// A number twice: in place of another, or beside all of them.
