@@ -12,4 +12,5 @@ pub mod RankWalks
 pub mod ReportTold
 pub mod SummaryTold
 pub mod Sums
+pub mod TextsJoined
 pub mod WaitingInOrder

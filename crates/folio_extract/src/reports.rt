@@ -39,22 +39,23 @@ fn whole_text(alloc: Global, register: &Register, journal: &Journal) -> Result<V
 {
     let mut text = String::new(alloc);
     add_verdict_lines(&mut text, register)?;
-    add_folios(alloc, &mut text, register, journal)?;
+    add_folios(alloc, &mut text, register, journal, register.folios())?;
     add_end_line(&mut text, register)?;
     Ok(text.into_bytes())
 }
 
-/// Adds the extract, the rank table and the plans of each open folio.
-fn add_folios(
+/// Adds the extract, the rank table and the plans of each of these open folios.
+pub(crate) fn add_folios(
     alloc: Global,
     text: &mut String,
     register: &Register,
     journal: &Journal,
+    folios: &[FolioId],
 ) -> Result<(), NoMemory>
     requires told { TellsPlans journal.now.receipts register.now }
-    ensures { OnOk result (string_bytes text.new ≡ string_bytes text.old ++ folio_texts journal.now.receipts (entries_at register.now.parts) register.now.folios) }
+    ensures { OnOk result (string_bytes text.new ≡ string_bytes text.old ++ folio_texts journal.now.receipts (entries_at register.now.parts) folios.now) }
 {
-    for folio in register.folios() {
+    for folio in folios {
         add_folio(alloc, text, register, journal, *folio)?;
     }
     Ok(())
@@ -81,7 +82,7 @@ fn add_folio(
 }
 
 /// Adds the line that ends the report.
-fn add_end_line(text: &mut String, register: &Register) -> Result<(), NoMemory>
+pub(crate) fn add_end_line(text: &mut String, register: &Register) -> Result<(), NoMemory>
     ensures { OnOk result (string_bytes text.new ≡ string_bytes text.old ++ end_line (length register.now.verdicts) (length register.now.folios)) }
 {
     let receipts = register.verdicts().len();

@@ -11,7 +11,7 @@ ghost use Rattle.intake.specs.declared.lines.LineKind.TheVariants.{Stamped};
 
 use act_model::Journal;
 use desk_pool::settle_at_desks;
-use folio_extract::report;
+use folio_extract::report_at_desks;
 use gb_base::NoMemory;
 use gb_outside::{DeskGate, Sink, Source};
 use intake::{LineKind, OutputFault, SessionFault, answer_lines, write_all};
@@ -67,7 +67,7 @@ pub(crate) fn write_report<R: AllocGlobal + Threads + Wait + Sync, K: Sink, G: D
     write_all(sink, text.as_slice())
 }
 
-/// The report of the journal, settled at so many desks.
+/// The report of the journal, settled and written at so many desks.
 fn report_text<R: AllocGlobal + Threads + Wait + Sync, G: DeskGate>(
     rt: &R,
     journal: &Journal,
@@ -78,5 +78,5 @@ fn report_text<R: AllocGlobal + Threads + Wait + Sync, G: DeskGate>(
     ensures { IfOk result (λ text. text.items ≡ report_of journal.now.receipts) }
 {
     let register = settle_at_desks(rt, journal, desks, gate)?;
-    report(rt.alloc(), &register, journal)
+    report_at_desks(rt, &register, journal, desks)
 }

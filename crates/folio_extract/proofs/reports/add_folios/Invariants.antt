@@ -6,5 +6,5 @@ use Rattle.folio_extract.proofs.reports.add_folios.Given as goal
 
 abbrev pub invariant-loop-folio : goal.invariant-loop-folio
 invariant-loop-folio l =
-    string_bytes l.text ++ folio_texts l.journal.receipts (entries_at l.register.parts) (drop l.folio-index l.register.folios)
-    ≡ string_bytes l.fn.text ++ folio_texts l.journal.receipts (entries_at l.register.parts) l.register.folios
+    string_bytes l.text ++ folio_texts l.journal.receipts (entries_at l.register.parts) (drop l.folio-index l.folios)
+    ≡ string_bytes l.fn.text ++ folio_texts l.journal.receipts (entries_at l.register.parts) l.folios
