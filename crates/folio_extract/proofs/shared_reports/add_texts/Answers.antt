@@ -19,6 +19,6 @@ loop-some-preserved c =
     let written = c.requires.texts.written index c.some-item.result found in
     let own = subst (λ r. IfOk r (λ s. string_bytes s ≡ folio_texts journal entries (take c.args.each (drop (index * c.args.each) folios)))) c.in-Ok.is written in
     joined (λ folio. extract_text entries folio ++ (rank_table_text journal entries folio ++ plans_of_folio journal entries folio))
-        folios c.args.each index (string_bytes c.loop-some.text) c.as_str.result.now (string_bytes c.push_str.new.self)
-        (string_bytes c.args.text.now ++ folio_texts journal entries folios)
-        (c.as_str.ensures.value ∙ own) c.in_ok-push_str-in-Ok.ensures.bytes c.loop-some.invariant
+    folios c.args.each index (string_bytes c.loop-some.text) c.as_str.result.now (string_bytes c.push_str.new.self)
+    (string_bytes c.args.text.now ++ folio_texts journal entries folios)
+    (c.as_str.ensures.value ∙ own) c.in_ok-push_str-in-Ok.ensures.bytes c.loop-some.invariant
