@@ -1,5 +1,5 @@
 //! The rights of a folio in order: those that are live, and those that recede in exchanges.
-ghost use Rattle.std.specs.Prelude.{◌≡◌, ◌++◌, ◌+◌, ◌≤◌, ℕ, true, List, None, filter, filter_map, flat_map, if◌then◌else◌, length, vec_capacity};
+ghost use Rattle.std.specs.Prelude.{◌≡◌, ◌++◌, ◌+◌, ◌≤◌, ℕ, true, List, [], None, filter, filter_map, flat_map, if◌then◌else◌, length, vec_capacity};
 ghost use Rattle.std.specs.List.{prefix_len};
 ghost use Rattle.gb_base.specs.declared.keys.Key.TheVariants.{Right};
 ghost use Rattle.folio_sections.specs.HeldRights.{receipt_numbers};
@@ -14,7 +14,7 @@ ghost use Rattle.folio_line.specs.declared.folio_rights.CreatedRight.{CreatedRig
 
 use crate::FolioReading;
 use crate::exchanges::Exchange;
-use crate::folio_reads::{created_right, is_live};
+use crate::folio_reads::right_front;
 use folio_sections::{Created, Parts};
 use gb_base::{ReceiptNo, RightId};
 
@@ -44,6 +44,25 @@ pub(crate) fn write_on_line<P: Parts>(
         if let Some(right) = right_on_line(reading, exchanges, *id) {
             list.push_reserved(right);
         }
+    }
+}
+
+/// Writes those that recede in these exchanges into a list that has the live ones of these rights, and
+/// has room. Where there is no exchange none recedes, and nothing is read.
+pub(crate) fn write_receding<P: Parts>(
+    list: &mut Vec<CreatedRight>,
+    reading: &FolioReading<P>,
+    exchanges: &[Exchange],
+    ids: &[RightId],
+)
+    requires read { CanBeRead P.holds P.at reading.now }
+    requires live { list.old.items ≡ filter_map (right_found (stands_on_line []) (reads P.holds P.at reading.now) reading.now.folio) ids.now }
+    requires room { length ids.now ≤ vec_capacity list.old }
+    ensures items { list.new.items ≡ filter_map (right_found (stands_on_line exchanges.now) (reads P.holds P.at reading.now) reading.now.folio) ids.now }
+    ensures capacity { vec_capacity list.new ≡ vec_capacity list.old }
+{
+    if !exchanges.is_empty() {
+        write_on_line(list, reading, exchanges, ids);
     }
 }
 
@@ -79,10 +98,15 @@ fn created_on_line<P: Parts>(
     requires { CanBeRead P.holds P.at reading.now }
     ensures { result ≡ (if stands_on_line exchanges.now id (reads P.holds P.at reading.now (Right reading.now.folio id)) then created (reads P.holds P.at reading.now (Right reading.now.folio id)) else None) }
 {
-    if is_live(reading, id) || recedes(exchanges, id) {
-        created_right(reading, id)
-    } else {
-        None
+    match right_front(reading, id) {
+        Some(right) => {
+            if right.live() || recedes(exchanges, id) {
+                right.created()
+            } else {
+                None
+            }
+        }
+        None => None,
     }
 }
 

@@ -12,7 +12,7 @@ use crate::FolioReading;
 use crate::exchange_turns::{Turn, put_in_turn};
 use crate::exchanges::{Exchange, write_counted};
 use crate::exercises::write_exercises;
-use crate::folio_rights::{CreatedRight, write_by_group, write_on_line};
+use crate::folio_rights::{CreatedRight, write_by_group, write_on_line, write_receding};
 use folio_sections::Parts;
 use gb_base::{NoMemory, RightId};
 use rank_slots::Knot;
@@ -96,7 +96,7 @@ impl FolioLine {
         write_exercises(&mut self.exercises, reading, &self.by_act);
         write_counted(&mut self.exchanges, reading, &self.live);
         put_in_turn(&mut self.exchanges, &mut self.turns);
-        write_on_line(&mut self.by_act, reading, &self.exchanges, ids);
+        write_receding(&mut self.by_act, reading, &self.exchanges, ids);
         write_by_group(&mut self.rights, &self.by_act);
     }
 

@@ -53,6 +53,14 @@ found_there parts k i p h e =
 pub no_index : (parts : List PartState) (k : Key) → position (is_at k) parts ≡ None → IsTrue (is_held parts k) → ⊥
 no_index parts k h held = false≢true (sym (ap is_some h) ∙ is_some-position (is_at k) parts ∙ held)
 
+-- nothing stands at a key without an index
+pub nothing_there : (parts : List PartState) (k : Key) → position (is_at k) parts ≡ None → entries_at parts k ≡ []
+nothing_there parts k h =
+    elim (find (is_at k) parts) as (λ o. find (is_at k) parts ≡ o → option_map_or (λ (p : PartState). p.entries) o [] ≡ []) [
+      | None ↦ λ _. refl
+      | Some p ↦ λ found. absurd (no_index parts k h (held_found parts k p found))
+    ] refl
+
 -- another part of the same key leaves the index of every key
 pub index_kept : (parts : List PartState) (i : ℕ) (p q : PartState) → p ≡ get_or parts i p → q.key ≡ p.key → (k : Key) → position (is_at k) (set parts i q) ≡ position (is_at k) parts
 index_kept parts i p q e same k =

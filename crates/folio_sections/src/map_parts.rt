@@ -109,6 +109,28 @@ impl MapParts {
         }
     }
 
+    /// Holds the part of a key, with room for as many entries more as stand there and for n besides; it
+    /// looks for the part once. Where no memory is found no entry changes, but the key may be held.
+    pub fn hold_with_room(&mut self, key: &Key, n: usize) -> Result<(), NoMemory>
+        requires few { n ≤ most_at_a_key }
+        ensures held { OnOk result ((k : Key) → is_held self.new k ≡ (is_held self.old k || same_key key.now k)) }
+        ensures entries { entries_at self.new ≡ entries_at self.old }
+        ensures room { OnOk result (length (entries_at self.new key.now) + n ≤ room_at self.new key.now) }
+        ensures kept { (k : Key) → room_at self.old k ≤ room_at self.new k }
+    {
+        match self.index_of(*key) {
+            Some(index) => {
+                let part = &mut self.parts[index];
+                let wanted = part.len() + n;
+                part.reserve(wanted)
+            }
+            None => {
+                self.hold(*key)?;
+                self.reserve(*key, n)
+            }
+        }
+    }
+
     /// Takes all entries away. The keys stay, and at each the room grows by the entries that stood
     /// there; it takes no memory.
     pub fn clear(&mut self)

@@ -100,10 +100,14 @@ impl Ord for Key {
     ghost matches_eq = { Prim.search (comparing, rules) };
 
     fn cmp(&self, other: &Key) -> Ordering {
-        self.folio()
-            .cmp(&other.folio())
-            .then(self.part().cmp(&other.part()))
-            .then(self.right().cmp(&other.right()))
+        // Of two keys that are compared in a search most are of different folios.
+        match self.folio().cmp(&other.folio()) {
+            Ordering::Equal => self
+                .part()
+                .cmp(&other.part())
+                .then(self.right().cmp(&other.right())),
+            apart => apart,
+        }
     }
 }
 

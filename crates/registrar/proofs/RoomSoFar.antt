@@ -1,12 +1,11 @@
 -- Keys are held, and room is made at one after another.
-use Rattle.std.proofs.Common.{◌≡◌, ℕ, ◌+◌, ◌<◌, ◌≤◌, Bool, true, false, ◌||◌, List, [], ◌∷◌, ◌++◌, length, get_or, take, Contains, IsTrue, refl, sym, ap, subst, ◌∙◌, ⊎_elim, arith}
-use Rattle.std.proofs.lemmas.Bool.{cases_eq, or_right}
+use Rattle.std.proofs.Common.{◌≡◌, ℕ, ◌+◌, ◌<◌, ◌≤◌, Bool, true, false, ◌||◌, List, [], ◌∷◌, ◌++◌, length, get_or, take, Contains, refl, sym, ap, subst, ◌∙◌, ⊎_elim, arith}
+use Rattle.std.proofs.lemmas.Bool.{cases_eq}
 use Rattle.std.proofs.lemmas.Grind.{take_at_read}
 use Rattle.std.proofs.lemmas.List.{get_or_default, take_all}
 use Rattle.std.proofs.lemmas.List.Folds.{list_any-append}
 use Rattle.gb_base.specs.Keys.{same_key}
 use Rattle.gb_base.specs.declared.keys.Key.{Key}
-use Rattle.act_model.proofs.KeyOrder.{itself}
 use Rattle.folio_sections.specs.Held.{entries_at, is_given, is_held, room_at}
 use Rattle.folio_sections.specs.PartState.{PartState}
 use Rattle.registrar.specs.Rooms.{most_brought}
@@ -36,18 +35,14 @@ given_next keys i key k within is =
     ∙ ap (λ b. is_given (take i keys) k || b) (or_nothing (same_key key k))
 
 -- one key more
-pub room_at_next : (before parts held after : List PartState) (keys : List Key) (i many : ℕ) (key : Key) → RoomSoFar before parts keys i → i < length keys → key ≡ get_or keys i key
-    → ((k : Key) → is_held held k ≡ (is_held parts k || same_key key k)) → entries_at held ≡ entries_at parts → ((k : Key) → room_at parts k ≤ room_at held k)
-    → many ≡ length (entries_at held key) → is_held after ≡ is_held held → entries_at after ≡ entries_at held
-    → (IsTrue (is_held after key) → many + most_brought ≤ room_at after key) → ((k : Key) → room_at held k ≤ room_at after k) → RoomSoFar before after keys (i + 1)
-room_at_next before parts held after keys i many key so_far within is holds stays wider count same entries room kept =
-    let there : IsTrue (is_held after key) = subst IsTrue (sym (ap (λ f. f key) same ∙ holds key)) (or_right (is_held parts key) (same_key key key) (itself key)) in
-    let stands : many ≡ length (entries_at before key) = count ∙ ap (λ f. length (f key)) (stays ∙ so_far.entries) in
-    let enough = room there in
-    let here : length (entries_at before key) + most_brought ≤ room_at after key = omega (arith, stands) in
+pub room_at_next : (before parts after : List PartState) (keys : List Key) (i : ℕ) (key : Key) → RoomSoFar before parts keys i → i < length keys → key ≡ get_or keys i key
+    → ((k : Key) → is_held after k ≡ (is_held parts k || same_key key k)) → entries_at after ≡ entries_at parts
+    → length (entries_at after key) + most_brought ≤ room_at after key → ((k : Key) → room_at parts k ≤ room_at after k) → RoomSoFar before after keys (i + 1)
+room_at_next before parts after keys i key so_far within is holds entries room kept =
+    let here : length (entries_at before key) + most_brought ≤ room_at after key = subst (λ f. length (f key) + most_brought ≤ room_at after key) (entries ∙ so_far.entries) room in
     record {
-      entries = entries ∙ stays ∙ so_far.entries;
-      held = λ k. ap (λ f. f k) same ∙ holds k ∙ ap (λ b. b || same_key key k) (so_far.held k) ∙ or_in_turn (is_held before k) (is_given (take i keys) k) (same_key key k)
+      entries = entries ∙ so_far.entries;
+      held = λ k. holds k ∙ ap (λ b. b || same_key key k) (so_far.held k) ∙ or_in_turn (is_held before k) (is_given (take i keys) k) (same_key key k)
           ∙ ap (λ b. is_held before k || b) (sym (given_next keys i key k within is));
       room = λ j d less.
           ⊎_elim
@@ -56,11 +51,10 @@ room_at_next before parts held after keys i many key so_far within is holds stay
           subst (λ k. length (entries_at before k) + most_brought ≤ room_at after k) key_is here)
           (λ other.
           let earlier = so_far.room j d (omega (arith, other)) in
-          let more = wider (get_or keys j d) in
-          let further = kept (get_or keys j d) in
+          let more = kept (get_or keys j d) in
           omega arith)
           (cases_eq j i);
-      kept = λ k. let first = so_far.kept k in let then = wider k in let last = kept k in omega arith;
+      kept = λ k. let first = so_far.kept k in let last = kept k in omega arith;
     }
 
 -- all keys

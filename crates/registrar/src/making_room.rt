@@ -29,9 +29,7 @@ pub fn make_room(parts: &mut MapParts, keys: &[Key]) -> Result<(), NoMemory>
     ensures kept { (k : Key) → room_at parts.old k ≤ room_at parts.new k }
 {
     for key in keys {
-        parts.hold(*key)?;
-        let wanted = parts.len(*key) + MOST_BROUGHT;
-        parts.reserve(*key, wanted)?;
+        parts.hold_with_room(key, MOST_BROUGHT)?;
     }
     Ok(())
 }

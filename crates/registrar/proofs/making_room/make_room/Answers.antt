@@ -4,9 +4,9 @@ use Rattle.registrar.proofs.making_room.make_room.Goals as goal
 
 pub loop-key-preserved : goal.loop-key-preserved
 loop-key-preserved c =
-    room_at_next c.args.parts.now c.loop-key.parts c.hold.new.self c.reserve.new.self c.args.keys.now c.loop-key.key-index c.len-wanted.result c.key-item.result
-    c.loop-key.invariant (omega arith) c.key-item.is c.in_ok-hold.ensures.held c.hold.ensures.entries c.hold.ensures.kept
-    c.len-wanted.ensures.value c.reserve.ensures.held c.reserve.ensures.entries c.in_ok-reserve.ensures.room c.reserve.ensures.kept
+    room_at_next c.args.parts.now c.loop-key.parts c.hold_with_room.new.self c.args.keys.now c.loop-key.key-index c.key-item.result
+    c.loop-key.invariant (omega arith) c.key-item.is c.in_ok-hold_with_room.ensures.held c.hold_with_room.ensures.entries
+    c.in_ok-hold_with_room.ensures.room c.hold_with_room.ensures.kept
 
 pub returns-clause-room : goal.returns-clause-room
 returns-clause-room c = λ k there. room_at_all c.args.parts.now c.loop-key.parts c.args.keys.now c.loop-key.key-index k c.loop-key.invariant c.loop-key-test.false there

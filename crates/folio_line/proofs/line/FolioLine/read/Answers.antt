@@ -51,7 +51,7 @@ write_by_group-requires-2 g c =
     let at = reads g.P.Parts.holds g.P.Parts.at c.args.reading.now in
     record {
       room = rights_fit (right_found (stands_on_line c.deref-4.result.now) at c.args.reading.now.folio) c.args.ids.now c.deref-5.result.now c.args.self.now.right_room c.self.inside.right_room (vec_capacity c.self.inside.rights)
-          (c.deref-5.ensures.value ∙ c.write_on_line-2.ensures.items) c.requires.rights (ap (λ (s : LineState). s.right_room) c.self.view_is) c.self.invariant.0;
+          (c.deref-5.ensures.value ∙ c.write_receding.ensures.items) c.requires.rights (ap (λ (s : LineState). s.right_room) c.self.view_is) c.self.invariant.0;
     }
 
 pub returns-clause-line : goal.returns-clause-line
@@ -63,7 +63,7 @@ returns-clause-line g c =
     let live = live_written at folio ids c.deref.result.now c.write_by_group.new.list.items c.requires.all (c.deref.ensures.value ∙ by_act) c.write_by_group.ensures.items in
     let exchanges =
     exchanges_written at folio c.deref-3.result.now c.write_counted.new.list.items c.put_in_turn.new.exchanges.items (c.deref-3.ensures.value ∙ live) c.write_counted.ensures.items c.put_in_turn.ensures.items in
-    let on_line : c.deref-5.result.now ≡ _ = c.deref-5.ensures.value ∙ c.write_on_line-2.ensures.items in
+    let on_line : c.deref-5.result.now ≡ _ = c.deref-5.ensures.value ∙ c.write_receding.ensures.items in
     record {
       rights = written (stands_on_line c.deref-4.result.now) at folio ids c.deref-5.result.now c.write_by_group-2.new.list.items c.requires.all on_line c.write_by_group-2.ensures.items
           ∙ ap (λ xs. rights_where (stands_on_line xs) at folio) (c.deref-4.ensures.value ∙ exchanges);

@@ -1,0 +1,57 @@
+use Rattle.std.proofs.Common.{◌≡◌, ◌≤◌, ◌+◌, ◌∙◌, ◌||◌, [], IsTrue, ap, arith, get_or, length, set, subst, sym}
+use Rattle.std.specs.Option.{option_map_or}
+use Rattle.std.proofs.lemmas.Result.{on_ok_weaker}
+use Rattle.folio_sections.specs.PartState.{PartState}
+use Rattle.std.proofs.lemmas.Bool.{or_right}
+use Rattle.act_model.proofs.KeyOrder.{itself}
+use Rattle.gb_base.specs.Keys.{same_key}
+use Rattle.folio_sections.specs.Held.{is_held, room_at}
+use Rattle.folio_sections.proofs.HeldParts.{all_grow_at, entries_grown, found_set, found_there, held_again, held_found, held_grown, nothing_there, room_grown}
+use Rattle.folio_sections.proofs.map_parts.MapParts.hold_with_room.Goals as goal
+
+pub returns-in-Some-clause-entries : goal.returns-in-Some-clause-entries
+returns-in-Some-clause-entries c = λ j k.
+    entries_grown c.args.self.now (set c.self.inside.parts.items c.in-Some.index c.reserve.new.self)
+    (all_grow_at c.args.self.now c.self.inside.parts.items c.args.key.now c.in-Some.index c.index_mut-part.result.now c.reserve.new.self c.self.view_is
+    (sym c.index_of.ensures ∙ c.in-Some.is) c.index_mut-part.ensures.value
+    (record { key = c.reserve.ensures.key; entries = c.reserve.ensures.entries; room = c.reserve.ensures.kept })) k j
+
+pub returns-in-Some-clause-kept : goal.returns-in-Some-clause-kept
+returns-in-Some-clause-kept c =
+    room_grown c.args.self.now (set c.self.inside.parts.items c.in-Some.index c.reserve.new.self)
+    (all_grow_at c.args.self.now c.self.inside.parts.items c.args.key.now c.in-Some.index c.index_mut-part.result.now c.reserve.new.self c.self.view_is
+    (sym c.index_of.ensures ∙ c.in-Some.is) c.index_mut-part.ensures.value
+    (record { key = c.reserve.ensures.key; entries = c.reserve.ensures.entries; room = c.reserve.ensures.kept }))
+
+pub returns-in-Some-clause-held : goal.returns-in-Some-clause-held
+returns-in-Some-clause-held c =
+    let part = c.index_mut-part.result.now in
+    let found = found_there c.args.self.now c.args.key.now c.in-Some.index part (sym c.index_of.ensures ∙ c.in-Some.is) (c.index_mut-part.ensures.value ∙ ap (λ xs. get_or xs c.in-Some.index part) c.self.view_is) in
+    on_ok_weaker c.reserve.result
+    (λ _ k. held_grown c.args.self.now (set c.self.inside.parts.items c.in-Some.index c.reserve.new.self)
+    (all_grow_at c.args.self.now c.self.inside.parts.items c.args.key.now c.in-Some.index part c.reserve.new.self c.self.view_is
+    (sym c.index_of.ensures ∙ c.in-Some.is) c.index_mut-part.ensures.value
+    (record { key = c.reserve.ensures.key; entries = c.reserve.ensures.entries; room = c.reserve.ensures.kept })) k
+    ∙ held_again c.args.self.now c.args.key.now (held_found c.args.self.now c.args.key.now part found) k)
+    c.reserve.ensures.room
+
+pub returns-in-Some-clause-room : goal.returns-in-Some-clause-room
+returns-in-Some-clause-room c =
+    let found = found_set c.args.self.now c.self.inside.parts.items c.args.key.now c.in-Some.index c.index_mut-part.result.now c.reserve.new.self c.self.view_is
+    (sym c.index_of.ensures ∙ c.in-Some.is) c.index_mut-part.ensures.value c.reserve.ensures.key in
+    let count = c.len.ensures.value ∙ ap length (sym c.reserve.ensures.entries) in
+    on_ok_weaker c.reserve.result
+    (λ room. subst (λ o. length (option_map_or (λ (p : PartState). p.entries) o []) + c.args.n ≤ option_map_or (λ (p : PartState). p.room) o 0) (sym found) (omega (arith, count, room)))
+    c.reserve.ensures.room
+
+pub returns-in_ok-hold-in-None-clause-held : goal.returns-in_ok-hold-in-None-clause-held
+returns-in_ok-hold-in-None-clause-held c =
+    on_ok_weaker c.reserve-in-None.result (λ _ k. ap (λ f. f k) c.reserve-in-None.ensures.held ∙ c.in_ok-hold-in-None.ensures.held k) c.reserve-in-None.ensures.room
+
+pub returns-in_ok-hold-in-None-clause-room : goal.returns-in_ok-hold-in-None-clause-room
+returns-in_ok-hold-in-None-clause-room c =
+    let key = c.args.key.now in
+    let none = ap (λ f. length (f key)) (c.reserve-in-None.ensures.entries ∙ c.hold.ensures.entries) ∙ ap length (nothing_there c.args.self.now key (sym c.index_of.ensures ∙ c.in-None.is)) in
+    let there : IsTrue (is_held c.reserve-in-None.new.self key)
+    = ap (λ f. f key) c.reserve-in-None.ensures.held ∙ c.in_ok-hold-in-None.ensures.held key ∙ or_right (is_held c.args.self.now key) (same_key key key) (itself key) in
+    on_ok_weaker c.reserve-in-None.result (λ room. let enough = room there in omega (arith, none, enough)) c.reserve-in-None.ensures.room
