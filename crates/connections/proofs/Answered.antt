@@ -1,28 +1,60 @@
 -- A request is answered: what it asks for, and how answering it ends.
-use Rattle.std.proofs.Common.{◌≡◌, ◌≤◌, false, ⊎_elim, ℕ, ◌==◌, List, Option, Some, None, IsSome, IfSome, sym, ◌∙◌, ap, subst}
+use Rattle.std.proofs.Common.{◌≡◌, ◌≤◌, true, false, ⊎_elim, ℕ, List, Option, Some, None, IsSome, IfSome, refl, sym, ◌∙◌, ap, subst}
+use Rattle.std.proofs.lemmas.Bool.{cases_Bool}
 use Rattle.gb_base.specs.DayMinute.{DayMinute}
 use Rattle.act_model.specs.declared.receipts.Receipt.{Receipt}
 use Rattle.intake.specs.Grown.{GrownFrom, IsFront}
-use Rattle.intake.specs.Requests.{Held}
+use Rattle.intake.specs.Requests.{Held, holding}
 use Rattle.intake.proofs.Durable.{front_refl}
 use Rattle.intake.proofs.Replies.{front_trans}
 use Rattle.receipt_journal.specs.Standing.{StandsForJournal}
 use Rattle.receipt_journal.proofs.Standings.{journal_once}
 use Rattle.registry_http.specs.RequestParts.{RequestParts}
 use Rattle.settled_book.specs.SettledBookState.{SettledBookState}
-use Rattle.connections.specs.Answering.{AllBegin, AnswersRequest, may_call_disk}
-use Rattle.connections.specs.Answers.{answer}
+use Rattle.connections.specs.Answering.{AllBegin, AnswersRequest, SaysAsked, may_call_disk}
+use Rattle.connections.specs.Answers.{Answer, answer}
 use Rattle.connections.specs.Asking.{Asked, Asks}
+use Rattle.connections.specs.Fates.{Fate, Answered, Failed, OutOfMemory, NotBegun, Stamped, Received, answer_by, is_apart}
 use Rattle.connections.specs.Holding.{Begins, Holds, IsOpenOn, working}
 use Rattle.connections.specs.Replies.{ReplyParts}
 use Rattle.connections.specs.inner.Ends as ends
-use Rattle.connections.proofs.DiskReplies.{disk_by_reply}
+use Rattle.connections.proofs.ByDiskAlone.{never_true}
+use Rattle.connections.proofs.Grows.{uncalled_held}
 use Rattle.connections.proofs.LeftThen.{then_each}
 
 -- a working book has its journal in each image
 all_begin : (book : Option SettledBookState) (reads : List ℕ) (images : List ℕ → Type 0) (journal : List Receipt) → IsSome book → IfSome book (λ settled. IsOpenOn settled reads images journal) → AllBegin journal images
 all_begin None reads images journal some on = absurd cc
 all_begin (Some settled) reads images journal some on = λ file image. record { journal = journal; stands = on.stands file image; begins = front_refl journal }
+
+-- ---- what became of it
+
+-- whatever became of a request that leaves what is held, it left that
+left_held : (fate : Fate) (held : Held) (wanted : Answer) → wanted.held ≡ held → (answer_by fate held wanted).held ≡ held
+left_held Answered held wanted same = same
+left_held (Failed failure NotBegun) held wanted same = refl
+left_held (Failed failure Stamped) held wanted same = ap (λ (h : Held). holding held.journal h.ticks) same
+left_held (Failed failure Received) held wanted same = same
+
+-- what became of a request that asks for this
+record Became (held : Held) (body : List ℕ) (asked : Asked) (reply : ReplyParts) (HoldsNow : Held → Type 0) : Type 0 where
+  pub fate : Fate
+  pub reply_is : reply ≡ (answer_by fate held (answer held body asked)).reply
+  pub holds : HoldsNow (answer_by fate held (answer held body asked)).held
+  pub apart : may_call_disk asked body ≡ false → is_apart fate ≡ true
+
+-- where the disk is not called, its reply says what became of it
+became : (held : Held) (body : List ℕ) (asked : Asked) (reply : ReplyParts) (HoldsNow : Held → Type 0) (fate : Fate) → (may_call_disk asked body ≡ false → SaysAsked body asked reply)
+    → reply ≡ (answer_by fate held (answer held body asked)).reply → HoldsNow (answer_by fate held (answer held body asked)).held → Became held body asked reply HoldsNow
+became held body asked reply HoldsNow fate says is holds = ⊎_elim
+    (λ (calls : may_call_disk asked body ≡ true). record { fate = fate; reply_is = is; holds = holds; apart = λ uncalled. never_true (may_call_disk asked body) _ uncalled calls })
+    (λ (uncalled : may_call_disk asked body ≡ false).
+    let same = uncalled_held held body asked uncalled in
+    let left = left_held fate held (answer held body asked) same in ⊎_elim
+    (λ as_asked. record { fate = Answered; reply_is = as_asked held; holds = subst HoldsNow (left ∙ sym same) holds; apart = λ again. refl })
+    (λ lacks. record { fate = Failed OutOfMemory NotBegun; reply_is = lacks; holds = subst HoldsNow left holds; apart = λ again. refl })
+    (says uncalled))
+    (cases_Bool (may_call_disk asked body))
 
 module _ {D : Type 0} (reads : D → List ℕ) (images : D → List ℕ → Type 0) (moment : D → ℕ) (since : D → ℕ → List ℕ → Type 0) (old new : D)
     (image : images old (reads old)) (counts : (t : ℕ) (c : List ℕ) → t ≤ moment new → images new c → since new t c) where
@@ -34,22 +66,24 @@ module _ {D : Type 0} (reads : D → List ℕ) (images : D → List ℕ → Type
   begins_by : (front from to : List Receipt) (file : List ℕ) → IsFront front from → GrownFrom from to file → Begins front file
   begins_by front from to file is grown = record { journal = grown.journal; stands = grown.stands; begins = front_trans front from grown.journal is grown.begins }
 
-  pub answers : (request : RequestParts) (held : Held) (reply : ReplyParts) (at_hand : Option SettledBookState) (known : Option (List DayMinute)) (asked : Asked) → Asks request asked → (may_call_disk asked request.body ≡ false → (new ≡ old) × ((reply.status == 503) ≡ false))
+  pub answers : (request : RequestParts) (held : Held) (reply : ReplyParts) (at_hand : Option SettledBookState) (known : Option (List DayMinute)) (asked : Asked) → Asks request asked → (may_call_disk asked request.body ≡ false → (new ≡ old) × SaysAsked request.body asked reply)
       → StandsForJournal (reads old) held.journal → ends.EndsBy reads images moment since old new held (answer held request.body asked) reply at_hand known
       → AnswersRequest reads images moment since old new request held reply (λ h. Holds at_hand (reads new) (images new) known h)
-  answers request held reply at_hand known asked asks uncalled stands end = record {
-    asked = asked;
-    fate = end.fate;
-    asks = asks;
-    reply_is = end.reply_is;
-    holds = end.holds;
-    uncalled = λ none. (uncalled none).0;
-    unfailed = λ none. sym (disk_by_reply held request.body asked end.fate) ∙ sym (ap (λ (r : ReplyParts). r.status == 503) end.reply_is) ∙ (uncalled none).1;
-    left = end.left;
-    written = end.written;
-    kept = λ front all file now.
-        ⊎_elim (λ before. all file before)
-        (λ grown. begins_by front held.journal (answer held request.body asked).held.journal file (front_held front held.journal stands all) grown)
-        (then_each images moment since old new (GrownFrom held.journal (answer held request.body asked).held.journal) counts end.left file now);
-    told = λ tells. all_begin (working at_hand) (reads new) (images new) _ (end.works tells) end.holds.book;
-  }
+  answers request held reply at_hand known asked asks uncalled stands end =
+      let is = became held request.body asked reply (λ h. Holds at_hand (reads new) (images new) known h) end.fate (λ none. (uncalled none).1) end.reply_is end.holds in
+      record {
+        asked = asked;
+        fate = is.fate;
+        asks = asks;
+        reply_is = is.reply_is;
+        holds = is.holds;
+        uncalled = λ none. (uncalled none).0;
+        apart = is.apart;
+        left = end.left;
+        written = end.written;
+        kept = λ front all file now.
+            ⊎_elim (λ before. all file before)
+            (λ grown. begins_by front held.journal (answer held request.body asked).held.journal file (front_held front held.journal stands all) grown)
+            (then_each images moment since old new (GrownFrom held.journal (answer held request.body asked).held.journal) counts end.left file now);
+        told = λ tells. all_begin (working at_hand) (reads new) (images new) _ (end.works tells) is.holds.book;
+      }

@@ -23,7 +23,7 @@ use Rattle.connections.specs.inner.Taking.{IsReplyTo, opening_reply, received_re
 use Rattle.connections.proofs.NoBook.{none_still}
 use Rattle.connections.proofs.TakenBooks.{failed_is, to_working}
 
-never_true : (b : Bool) (P : Type 0) → b ≡ false → b ≡ true → P
+pub never_true : (b : Bool) (P : Type 0) → b ≡ false → b ≡ true → P
 never_true b P fails passes = let never : true ≡ false = sym passes ∙ fails in absurd cc
 
 -- a count that one call left and another goes on with

@@ -3,6 +3,7 @@ pub mod AlwaysAsked
 pub mod Answered
 pub mod BookEnds
 pub mod ByDiskAlone
+pub mod Completed
 pub mod DiskReplies
 pub mod DoorLinks
 pub mod DoorRounds
@@ -20,6 +21,7 @@ pub mod NoBook
 pub mod NoneTaken
 pub mod OrderedTurns
 pub mod ReceivedItems
+pub mod ServedReplies
 pub mod SettledClerks
 pub mod TakenBooks
 pub mod TakenTurns

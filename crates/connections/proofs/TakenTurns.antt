@@ -17,7 +17,7 @@ use Rattle.connections.specs.Replies.{ReplyParts}
 use Rattle.connections.specs.Served.{IsLeftIn}
 use Rattle.connections.specs.Serving as serving
 use Rattle.connections.specs.Serving.{CountsTurns, fate_of, is_answered, lacks_journal, lacks_memory}
-use Rattle.connections.specs.Turns.{Taken, Answering, Refusing, held_behind}
+use Rattle.connections.specs.Turns.{Taken, Answering, Refusing, calls_disk, held_behind}
 use Rattle.connections.proofs.ByDiskAlone.{counts_still}
 use Rattle.connections.proofs.DiskReplies.{disk_by_reply, journal_by_reply}
 use Rattle.connections.proofs.EndsBy.{not_from_disk}
@@ -44,7 +44,7 @@ answered_if (Failed DiskFailed progress) disk journal memory = absurd cc
 answered_if (Failed NoJournal progress) disk journal memory = absurd cc
 answered_if (Failed OutOfMemory progress) disk journal memory = absurd cc
 
-abbrev is_disk : Taken → Bool
+abbrev pub is_disk : Taken → Bool
 is_disk turn = has_disk_failed (fate_of turn)
 
 abbrev is_journal : Taken → Bool
@@ -58,10 +58,24 @@ pub counts_more : (a b c : ℕ) (xs ys : List Taken) → CountsTurns a xs b → 
 counts_more a b c [] ys first second = subst (λ n. CountsTurns n ys c) first second
 counts_more a b c (x ∷ xs) ys first second = (first.0, first.1, counts_more first.0 b c xs ys first.2 second)
 
+-- the disk stays where it is called in none
+pub stays_more : {D : Type 0} (old mid new : D) (xs ys : List Taken) → (list_any calls_disk xs ≡ false → mid ≡ old) → (list_any calls_disk ys ≡ false → new ≡ mid) → list_any calls_disk (xs ++ ys) ≡ false → new ≡ old
+stays_more old mid new xs ys first second none = let parts = or_parts _ _ (sym (list_any-append calls_disk xs ys) ∙ none) in second parts.1 ∙ first parts.0
+
+-- of one turn
+pub stays_one : {D : Type 0} (old new : D) (turn : Taken) → (calls_disk turn ≡ false → new ≡ old) → list_any calls_disk (turn ∷ []) ≡ false → new ≡ old
+stays_one old new turn stays none = let parts = or_parts (calls_disk turn) false none in stays parts.0
+
 -- over all of them the count rose just where it did in one
 counts_any : (before now : ℕ) (xs : List Taken) → CountsTurns before xs now → Counts before now (list_any is_disk xs)
 counts_any before now [] same = subst (λ n. Counts before n false) (sym same) (counts_still before)
 counts_any before now (x ∷ xs) counts = counts_both before counts.0 now (is_disk x) (list_any is_disk xs) counts.1 (counts_any counts.0 now xs counts.2)
+
+-- it did not rise, so the disk failed in none
+pub none_failed : (before now : ℕ) (xs : List Taken) → CountsTurns before xs now → (Rose before now → ⊥) → list_any is_disk xs ≡ false
+none_failed before now xs counts quiet = ⊎_elim
+    (λ (failed : list_any is_disk xs ≡ true). absurd (quiet ((counts_any before now xs counts).failed_rose failed)))
+    (λ (sound : list_any is_disk xs ≡ false). sound) (cases_Bool (list_any is_disk xs))
 
 all_answered : (xs : List Taken) → list_any is_disk xs ≡ false → list_any is_journal xs ≡ false → list_any is_memory xs ≡ false → list_all (λ turn. is_answered (fate_of turn)) xs ≡ true
 all_answered [] disk journal memory = refl
@@ -73,9 +87,7 @@ all_answered (x ∷ xs) disk journal memory =
 
 answered_by : (before now : ℕ) (xs : List Taken) → CountsTurns before xs now → list_any is_journal xs ≡ false → (Rose before now → ⊥) → list_any is_memory xs ≡ false
     → list_all (λ turn. is_answered (fate_of turn)) xs ≡ true
-answered_by before now xs counts journal quiet memory =
-    ⊎_elim (λ (failed : list_any is_disk xs ≡ true). absurd (quiet ((counts_any before now xs counts).failed_rose failed)))
-    (λ (sound : list_any is_disk xs ≡ false). all_answered xs sound journal memory) (cases_Bool (list_any is_disk xs))
+answered_by before now xs counts journal quiet memory = all_answered xs (none_failed before now xs counts quiet) journal memory
 
 -- ---- turns
 
@@ -89,6 +101,7 @@ module _ {D : Type 0} (reads : D → List ℕ) (images : D → List ℕ → Type
     written = refl;
     kept = λ front all. all;
     told = tt;
+    stays = λ none. refl;
     disk = refl;
     journal = refl;
     answered = λ quiet memory. refl;
@@ -100,6 +113,7 @@ module _ {D : Type 0} (reads : D → List ℕ) (images : D → List ℕ → Type
     written = (reads disk, writes_nothing held.journal held.journal (reads disk), refl);
     kept = λ front all. all;
     told = (λ from_disk. not_from_disk reply _ silent from_disk, tt);
+    stays = λ none. refl;
     disk = (faults disk, counts_still (faults disk), refl);
     journal = refl;
     answered = λ quiet memory. refl;
@@ -119,6 +133,7 @@ module _ {D : Type 0} (reads : D → List ℕ) (images : D → List ℕ → Type
         written = (reads new, is.written, refl);
         kept = is.kept;
         told = (λ from_disk. is.told (ap is_from_disk is.reply_is ∙ from_disk), tt);
+        stays = stays_one old new (Answering request is.asked is.fate) is.uncalled;
         disk = rose;
         journal = found;
         answered = λ quiet memory. answered_by _ _ (Answering request is.asked is.fate ∷ []) rose found quiet memory;
@@ -140,6 +155,7 @@ module _ {D : Type 0} (reads : D → List ℕ) (images : D → List ℕ → Type
         written = writes_more held xs ys (reads old) (reads mid) (reads new) first.written second.written;
         kept = λ front all. second.kept front (first.kept front all);
         told = told_more (images new) held xs ys (told_still (images mid) (images new) held xs second.kept first.told) second.told;
+        stays = stays_more old mid new xs ys first.stays second.stays;
         disk = rose;
         journal = found;
         answered = λ quiet memory. answered_by _ _ (xs ++ ys) rose found quiet memory;
@@ -151,7 +167,7 @@ module _ {D : Type 0} (reads : D → List ℕ) (images : D → List ℕ → Type
   turn_taken old new request held reply HoldsNow is stands none counts = record {
     asked = is.asked;
     fate = is.fate;
-    is = (refl, is.asks, is.unfailed);
+    is = (refl, is.asks, is.apart);
     reply_is = is.reply_is;
     holds = is.holds;
     takes = takes_one old new request held reply HoldsNow is stands none counts;

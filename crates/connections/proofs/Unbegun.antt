@@ -13,7 +13,7 @@ use Rattle.registry_http.specs.declared.finding.RouteFault.{RouteFault}
 use Rattle.registry_http.specs.declared.finding.RouteFault.TheVariants as routing
 use Rattle.registry_http.specs.declared.routes.Route.{Route}
 use Rattle.settled_book.specs.SettledBookState.{SettledBookState}
-use Rattle.connections.specs.Answering.{AnswersNone, IsFailure, is_from_disk}
+use Rattle.connections.specs.Answering.{AnswersNone, IsFailure, SaysAsked, is_from_disk, may_call_disk}
 use Rattle.connections.specs.Answers.{Answer, answer, body_answer, malformed, only}
 use Rattle.connections.specs.Asking.{Asked, Asks, NoRoute, WrongMethod}
 use Rattle.connections.specs.Fates.{OutOfMemory}
@@ -83,12 +83,12 @@ refused_body meant (line.NotItem path) reply same (inl is) = inl (λ held. is �
 refused_body meant line.Memory reply same (inl is) = inr is
 refused_body meant fault reply same (inr is) = inr is
 
-pub unrouted_none : (request : RequestParts) (fault : RouteFault) (reply : ReplyParts) → reply ≡ unrouted_reply fault
-    → (unfound fault ≡ unfound routing.NotFound → Asks request NoRoute) → (unfound fault ≡ unfound routing.WrongMethod → Asks request WrongMethod) → AnswersNone request reply
-unrouted_none request routing.NotFound reply is none other = record { asked = NoRoute; asks = none refl; failed = λ calls. absurd cc; uncalled = λ calls. inl (λ held. is) }
-unrouted_none request routing.WrongMethod reply is none other = record { asked = WrongMethod; asks = other refl; failed = λ calls. absurd cc; uncalled = λ calls. inl (λ held. is) }
-unrouted_none request routing.Memory reply is none other =
-    let always = always_asked request in record { asked = always.asked; asks = always.asks; failed = λ calls. (OutOfMemory, is); uncalled = λ calls. inr is }
+pub unrouted_none : {D : Type 0} (disk : D) (request : RequestParts) (fault : RouteFault) (reply : ReplyParts) → reply ≡ unrouted_reply fault
+    → (unfound fault ≡ unfound routing.NotFound → Asks request NoRoute) → (unfound fault ≡ unfound routing.WrongMethod → Asks request WrongMethod) → AnswersNone disk disk request reply
+unrouted_none disk request routing.NotFound reply is none other = record { asked = NoRoute; asks = none refl; failed = λ calls. absurd cc; uncalled = λ calls. (refl, inl (λ held. is)) }
+unrouted_none disk request routing.WrongMethod reply is none other = record { asked = WrongMethod; asks = other refl; failed = λ calls. absurd cc; uncalled = λ calls. (refl, inl (λ held. is)) }
+unrouted_none disk request routing.Memory reply is none other =
+    let always = always_asked request in record { asked = always.asked; asks = always.asks; failed = λ calls. (OutOfMemory, is); uncalled = λ calls. (refl, inr is) }
 
 -- ---- how it ends
 
@@ -120,16 +120,18 @@ module _ {D : Type 0} (reads : D → List ℕ) (images : D → List ℕ → Type
   pub record EndsUnrouted (request : RequestParts) (reply : ReplyParts) : Type 0 where
     pub asked : Asked
     pub asks : Asks request asked
+    pub says : may_call_disk asked request.body ≡ false → SaysAsked request.body asked reply
     pub end : IsEnd (answer held request.body asked) reply
 
   unrouted_by : (request : RequestParts) (fault : RouteFault) → (unfound fault ≡ unfound routing.NotFound → Asks request NoRoute) → (unfound fault ≡ unfound routing.WrongMethod → Asks request WrongMethod)
       → EndsUnrouted request (unrouted_reply fault)
-  unrouted_by request routing.NotFound none other = record { asked = NoRoute; asks = none refl; end = silent_end not_found refl }
-  unrouted_by request routing.WrongMethod none other = record { asked = WrongMethod; asks = other refl; end = silent_end wrong_method refl }
+  unrouted_by request routing.NotFound none other = record { asked = NoRoute; asks = none refl; says = λ uncalled. inl (λ h. refl); end = silent_end not_found refl }
+  unrouted_by request routing.WrongMethod none other = record { asked = WrongMethod; asks = other refl; says = λ uncalled. inl (λ h. refl); end = silent_end wrong_method refl }
   unrouted_by request routing.Memory none other =
       let always = always_asked request in record {
         asked = always.asked;
         asks = always.asks;
+        says = λ uncalled. inr refl;
         end = memory_end (answer held request.body always.asked) out_of_memory refl (answer_grows held request.body always.asked);
       }
 

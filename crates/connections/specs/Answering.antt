@@ -12,7 +12,7 @@ use Rattle.registry_http.specs.declared.routes.Route.TheVariants.{Post}
 use Rattle.settled_book.specs.SettledBookState.{SettledBookState}
 use Rattle.connections.specs.Answers.{answer}
 use Rattle.connections.specs.Asking.{Asked, AskedFor, NoRoute, WrongMethod, Asks}
-use Rattle.connections.specs.Fates.{Fate, Failure, answer_by, failure_reply, has_disk_failed}
+use Rattle.connections.specs.Fates.{Fate, Failure, answer_by, failure_reply, is_apart}
 use Rattle.connections.specs.Holding.{Begins, working}
 use Rattle.connections.specs.Replies.{ReplyParts, out_of_memory}
 
@@ -39,6 +39,10 @@ may_call_disk (AskedFor route) body = true
 may_call_disk NoRoute body = false
 may_call_disk WrongMethod body = false
 
+-- it is the reply to this, whatever is held, or says that no memory was found
+abbrev pub SaysAsked : List ℕ → Asked → ReplyParts → Type 0
+SaysAsked body asked reply = ((held : Held) → reply ≡ (answer held body asked).reply) ⊎ (reply ≡ out_of_memory)
+
 -- Each image begins with these receipts.
 abbrev pub AllBegin : List Receipt → (List ℕ → Type 0) → Type 0
 AllBegin front images = (file : List ℕ) → images file → Begins front file
@@ -59,7 +63,7 @@ pub record WritesGrown (from to : List Receipt) (file new : List ℕ) : Type 0 w
   pub same : (IsUnmade file → ⊥) → to ≡ from → new ≡ file
   pub unmade : IsUnmade file → Torn 0 (gate_behind to + 1) file new
 
--- A request was answered by what it asks for and by what became of it; that is what is held behind it. The disk is called only where it may be, and no call of it failed where it is not. A stop leaves what it might have left before, or, from some moment on, nothing but the journal that was held, with the receipt of this request or without it. Of the file no other bytes are written than the frame of its receipt. What every image began with each begins with still, and with all that a text was read of or an item was received into.
+-- A request was answered by what it asks for and by what became of it; that is what is held behind it. The disk is called only where it may be; where it is not, the request was answered as it asks, or no memory was found. A stop leaves what it might have left before, or, from some moment on, nothing but the journal that was held, with the receipt of this request or without it. Of the file no other bytes are written than the frame of its receipt. What every image began with each begins with still, and with all that a text was read of or an item was received into.
 pub record AnswersRequest {D : Type 0} (reads : D → List ℕ) (images : D → List ℕ → Type 0) (moment : D → ℕ) (since : D → ℕ → List ℕ → Type 0) (old new : D) (request : RequestParts) (held : Held) (reply : ReplyParts) (HoldsNow : Held → Type 0) : Type 0 where
   pub asked : Asked
   pub fate : Fate
@@ -67,7 +71,7 @@ pub record AnswersRequest {D : Type 0} (reads : D → List ℕ) (images : D → 
   pub reply_is : reply ≡ (answer_by fate held (answer held request.body asked)).reply
   pub holds : HoldsNow (answer_by fate held (answer held request.body asked)).held
   pub uncalled : may_call_disk asked request.body ≡ false → new ≡ old
-  pub unfailed : may_call_disk asked request.body ≡ false → has_disk_failed fate ≡ false
+  pub apart : may_call_disk asked request.body ≡ false → is_apart fate ≡ true
   pub left : LeavesOldThen images moment since old new (GrownFrom held.journal (answer held request.body asked).held.journal)
   pub written : WritesGrown held.journal (answer held request.body asked).held.journal (reads old) (reads new)
   pub kept : (front : List Receipt) → AllBegin front (images old) → AllBegin front (images new)
@@ -85,12 +89,12 @@ pub record LeavesOpen (request : RequestParts) (reply : ReplyParts) (at_hand : O
 abbrev pub IsFailure : ReplyParts → Type 0
 IsFailure reply = (failure : Failure) × (reply ≡ failure_reply failure)
 
--- A request was answered by what failed where the disk may be called for it: that the file is no journal, unless a call of the disk failed or no memory was found. Where the disk is not called it was answered as it asks, or no memory was found.
-pub record AnswersNone (request : RequestParts) (reply : ReplyParts) : Type 0 where
+-- A request was answered by what failed where the disk may be called for it: that the file is no journal, unless a call of the disk failed or no memory was found. Where the disk is not called it stays, and the request was answered as it asks, or no memory was found.
+pub record AnswersNone {D : Type 0} (old new : D) (request : RequestParts) (reply : ReplyParts) : Type 0 where
   pub asked : Asked
   pub asks : Asks request asked
   pub failed : may_call_disk asked request.body ≡ true → IsFailure reply
-  pub uncalled : may_call_disk asked request.body ≡ false → ((held : Held) → reply ≡ (answer held request.body asked).reply) ⊎ (reply ≡ out_of_memory)
+  pub uncalled : may_call_disk asked request.body ≡ false → (new ≡ old) × SaysAsked request.body asked reply
 
 -- No book was opened. The file is as it was, and at each moment since a stop leaves what it might have left before.
 pub record OpensNone {D : Type 0} (reads : D → List ℕ) (images : D → List ℕ → Type 0) (moment : D → ℕ) (since : D → ℕ → List ℕ → Type 0) (old new : D) (at_hand : Option SettledBookState) : Type 0 where

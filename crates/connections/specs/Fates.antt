@@ -43,3 +43,12 @@ has_disk_failed Answered = false
 has_disk_failed (Failed DiskFailed progress) = true
 has_disk_failed (Failed NoJournal progress) = false
 has_disk_failed (Failed OutOfMemory progress) = false
+
+-- it was answered as it asks, or no memory was found and nothing was begun
+abbrev pub is_apart : Fate → Bool
+is_apart Answered = true
+is_apart (Failed DiskFailed progress) = false
+is_apart (Failed NoJournal progress) = false
+is_apart (Failed OutOfMemory NotBegun) = true
+is_apart (Failed OutOfMemory Stamped) = false
+is_apart (Failed OutOfMemory Received) = false

@@ -2,6 +2,7 @@
 pub mod Answering
 pub mod Answers
 pub mod Asking
+pub mod Completeness
 pub mod Doors
 pub mod Fates
 pub mod Holding

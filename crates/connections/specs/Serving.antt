@@ -8,7 +8,7 @@ use Rattle.intake.specs.Requests.{Held}
 use Rattle.connections.specs.Answering.{AllBegin, LeavesOldThen, WritesGrown, is_from_disk, may_call_disk}
 use Rattle.connections.specs.Fates.{Failure, Fate, Answered, Failed, DiskFailed, NoJournal, NotBegun, OutOfMemory, has_disk_failed}
 use Rattle.connections.specs.Served.{Connection, IsCutOff, IsLeftIn, IsOfTurns, IsUnwritten, IsWhole, held_by, replies_of, taken_of, unfailed, written_by}
-use Rattle.connections.specs.Turns.{Turn, Taken, Answering, Refusing, answer_in}
+use Rattle.connections.specs.Turns.{Turn, Taken, Answering, Refusing, answer_in, calls_disk}
 use Rattle.connections.specs.declared.serving.Ended.{Ended}
 use Rattle.connections.specs.declared.serving.Ended.TheVariants as ended
 use Rattle.connections.specs.declared.serving.Served.{Served}
@@ -43,7 +43,7 @@ abbrev pub fate_of : Taken → Fate
 fate_of (Answering request asked fate) = fate
 fate_of (Refusing reply) = Answered
 
--- The disk's count of faults rises in each of these turns in which a call of it failed, and in no other.
+-- The disk's count of faults rises, in sum, by one at least for each of these turns in which a call of it failed, and not where none did.
 abbrev pub CountsTurns : ℕ → List Taken → ℕ → Type 0
 CountsTurns before [] now = now ≡ before
 CountsTurns before (turn ∷ turns) now = (mid : ℕ) × Counts before mid (has_disk_failed (fate_of turn)) × CountsTurns mid turns now
@@ -60,12 +60,13 @@ AllTold images held [] = Unit {0}
 AllTold images held (turn ∷ turns) =
     (is_from_disk (answer_in held turn).reply ≡ true → AllBegin (answer_in held turn).held.journal images) × AllTold images (answer_in held turn).held turns
 
--- What these turns did to the disk: what a stop leaves, that is what it might have left before or, from some moment on, only files that it leaves in these turns, what is written and what kept of the file and told of it, and that its count of faults rose in each turn in which a call of it failed. None finds that the file is no journal. Where no count rose and no memory was wanting, each was answered as it asks.
+-- What these turns did to the disk: what a stop leaves, that is what it might have left before or, from some moment on, only files that it leaves in these turns, what is written and what kept of the file and told of it, and that its count of faults rose for each turn in which a call of it failed. The disk stays where it is called in none of them. None finds that the file is no journal. Where no count rose and no memory was wanting, each was answered as it asks.
 pub record TakesTurns {D : Type 0} (reads : D → List ℕ) (images : D → List ℕ → Type 0) (moment : D → ℕ) (since : D → ℕ → List ℕ → Type 0) (faults : D → ℕ) (old new : D) (held : Held) (taken : List Taken) : Type 0 where
   pub left : LeavesOldThen images moment since old new (IsLeftIn held taken)
   pub written : WritesTurns held taken (reads old) (reads new)
   pub kept : (front : List Receipt) → AllBegin front (images old) → AllBegin front (images new)
   pub told : AllTold (images new) held taken
+  pub stays : list_any calls_disk taken ≡ false → new ≡ old
   pub disk : CountsTurns (faults old) taken (faults new)
   pub journal : list_any (λ turn. lacks_journal (fate_of turn)) taken ≡ false
   pub answered : (Rose (faults old) (faults new) → ⊥) → list_any (λ turn. lacks_memory (fate_of turn)) taken ≡ false → list_all (λ turn. is_answered (fate_of turn)) taken ≡ true
@@ -75,9 +76,10 @@ abbrev pub FailsUnbegun : Taken → Type 0
 FailsUnbegun (Answering request asked fate) = may_call_disk asked request.body ≡ true → (failure : Failure) × (fate ≡ Failed failure NotBegun)
 FailsUnbegun (Refusing reply) = Unit {0}
 
--- What these turns did to a disk whose file stands for no journal, where no book is open: each failed for which it may be called, and its count of faults rose in each turn in which a call of it failed.
+-- What these turns did to a disk whose file stands for no journal, where no book is open: each failed for which it may be called, and the disk stays where it is called in none; its count of faults rose for each turn in which a call of it failed.
 pub record TakesNone {D : Type 0} (faults : D → ℕ) (old new : D) (held : Held) (taken : List Taken) : Type 0 where
   pub failed : All FailsUnbegun taken
+  pub stays : list_any calls_disk taken ≡ false → new ≡ old
   pub disk : CountsTurns (faults old) taken (faults new)
 
 -- A connection of these turns was served: what became of it, what was written, what is held behind it, and what was done to the disk. Where it is finished it is whole; else it is cut off, and its whole replies alone are counted. Where no memory was found for a reply nothing of it was written.

@@ -6,7 +6,7 @@ use Rattle.registry_http.specs.Requests.{AtFront, Whole, Nothing, Cut, HeadFault
 use Rattle.connections.specs.Answering.{may_call_disk}
 use Rattle.connections.specs.Answers.{Answer, answer, only}
 use Rattle.connections.specs.Asking.{Asked, Asks}
-use Rattle.connections.specs.Fates.{Fate, answer_by, has_disk_failed}
+use Rattle.connections.specs.Fates.{Fate, answer_by, is_apart}
 use Rattle.connections.specs.Replies.{ReplyParts, bad_request, body_too_long}
 
 -- what a connection reads in one turn: a request, bytes that end it with a refusal, or the end of its bytes
@@ -40,14 +40,19 @@ pub data Taken : Type 0 where
   Answering : RequestParts → Asked → Fate → Taken
   Refusing : ReplyParts → Taken
 
--- It is this turn; where the disk is not called for it, no call of the disk failed in it.
+-- It is this turn; where the disk is not called for it, it was answered as it asks, or no memory was found.
 abbrev pub IsOf : Turn → Taken → Type 0
 IsOf (Request request) (Answering taken asked fate) =
-    (taken ≡ request) × Asks request asked × (may_call_disk asked request.body ≡ false → has_disk_failed fate ≡ false)
+    (taken ≡ request) × Asks request asked × (may_call_disk asked request.body ≡ false → is_apart fate ≡ true)
 IsOf (Request request) (Refusing reply) = ⊥
 IsOf (Refusal reply) (Refusing taken) = taken ≡ reply
 IsOf (Refusal reply) (Answering request asked fate) = ⊥
 IsOf End taken = ⊥
+
+-- the disk may be called in it
+abbrev pub calls_disk : Taken → Bool
+calls_disk (Answering request asked fate) = may_call_disk asked request.body
+calls_disk (Refusing reply) = false
 
 -- the reply of a turn, and what is held after it
 abbrev pub answer_in : Held → Taken → Answer

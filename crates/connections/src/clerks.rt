@@ -1,5 +1,5 @@
 //! The clerk, who answers requests and keeps the open book between them.
-ghost use Rattle.std.specs.Prelude.{◌≡◌, ◌≢◌, ◌⊎◌, ◌≤◌, ◌==◌, ◌+◌, ℕ, List, Option, Some, None, length, IfOk, IfErr, IfSome, IsSome, OnErr, OnOk, IsTrue, is_ok, option_map, true, false};
+ghost use Rattle.std.specs.Prelude.{◌≡◌, ◌≢◌, ◌≤◌, ◌==◌, ◌+◌, List, Option, Some, None, length, IfOk, IfErr, IfSome, IsSome, OnErr, OnOk, IsTrue, is_ok, option_map, true, false};
 ghost use Rattle.gb_base.specs.DayMinute.{DayMinute};
 ghost use Rattle.gb_outside.specs.Faults.{Counts};
 ghost use Rattle.gb_outside.specs.Images.{Only, Torn};
@@ -14,11 +14,11 @@ ghost use Rattle.receipt_journal.specs.Standing.{Stands, StandsForJournal};
 ghost use Rattle.registry_http.specs.Routes.{method_of};
 ghost use Rattle.registry_http.specs.declared.routes.Route.TheVariants.{Post};
 ghost use Rattle.registrar.specs.HasSettled.{IsRegisterOf};
-ghost use Rattle.connections.specs.Answering.{AnswersNone, AnswersRequest, IsFailure, LeavesOpen, OpensNone, is_failed, is_refusal, may_call_disk, tells_of_journal};
+ghost use Rattle.connections.specs.Answering.{AnswersNone, AnswersRequest, IsFailure, LeavesOpen, OpensNone, SaysAsked, is_failed, is_refusal, may_call_disk, tells_of_journal};
 ghost use Rattle.connections.specs.Answers.{answer, body_answer, item_answer, only, read_reply};
 ghost use Rattle.connections.specs.Asking.{AskedFor};
 ghost use Rattle.connections.specs.Holding.{Holds, IsNoJournal, IsOpenOn, StandsForNone, StandsOpen, working};
-ghost use Rattle.connections.specs.Replies.{is_reply_status, out_of_memory};
+ghost use Rattle.connections.specs.Replies.{is_reply_status};
 ghost use Rattle.connections.specs.inner.Ends.{EndsBy, Serves};
 ghost use Rattle.connections.specs.inner.Taking.{Finds};
 
@@ -172,6 +172,8 @@ impl Clerk {
         ensures late { is_refusal result ≡ false }
         ensures unfound { IsTrue D.tells → working self.old ≡ None → StandsForNone (D.reads disk.old) → IsFailure result }
         ensures works { is_failed result ≡ false → IsSome (working self.new) }
+        ensures clock { self.new ≡ None → clock.new ≡ clock.old }
+        ensures same_clock { IsTrue D.tells → working self.old ≡ None → StandsForNone (D.reads disk.old) → clock.new ≡ clock.old }
         ensures unreceived { IsSome (working self.old) → (result.status == 201) ≡ false → is_failed result ≡ false → disk.new ≡ disk.old }
     {
         let mut book = match self.take_book(alloc, disk) {
@@ -197,11 +199,12 @@ impl Clerk {
             → EndsBy D.reads D.images D.moment D.since disk.old disk.new held (body_answer held (item_of body.now)) result self.new (C.ticks clock.new) }
         ensures serves { Serves D.tells D.reads D.images D.moment D.since D.faults disk.old disk.new self.old self.new result }
         ensures apart { is_refusal result ≡ true → (self.new ≡ self.old) × (disk.new ≡ disk.old) × (clock.new ≡ clock.old) }
-        ensures uncalled { is_ok (item_of body.now) ≡ false → (disk.new ≡ disk.old) × ((result.status == 503) ≡ false) }
+        ensures uncalled { is_ok (item_of body.now) ≡ false → (disk.new ≡ disk.old) × SaysAsked body.now (AskedFor Post) result }
         ensures unfound { IsTrue D.tells → working self.old ≡ None → StandsForNone (D.reads disk.old) → is_ok (item_of body.now) ≡ true → IsFailure result }
         ensures works { is_ok (item_of body.now) ≡ true → is_failed result ≡ false → IsSome (working self.new) }
         ensures unreceived { IsSome (working self.old) → (result.status == 201) ≡ false → is_failed result ≡ false → disk.new ≡ disk.old }
-        ensures refused { is_ok (item_of body.now) ≡ false → ((held : Held) → result ≡ (body_answer held (item_of body.now)).reply) ⊎ (result ≡ out_of_memory) }
+        ensures clock { self.new ≡ None → clock.new ≡ clock.old }
+        ensures same_clock { IsTrue D.tells → working self.old ≡ None → StandsForNone (D.reads disk.old) → clock.new ≡ clock.old }
     {
         let (sender, reference, item) = match read_item(alloc, body) {
             Ok(found) => found,
@@ -226,12 +229,13 @@ impl Clerk {
             → EndsBy D.reads D.images D.moment D.since disk.old disk.new held (answer held body.now (AskedFor route)) result self.new (C.ticks clock.new) }
         ensures serves { Serves D.tells D.reads D.images D.moment D.since D.faults disk.old disk.new self.old self.new result }
         ensures apart { is_refusal result ≡ true → (self.new ≡ self.old) × (disk.new ≡ disk.old) × (clock.new ≡ clock.old) }
-        ensures uncalled { may_call_disk (AskedFor route) body.now ≡ false → (disk.new ≡ disk.old) × ((result.status == 503) ≡ false) }
+        ensures uncalled { may_call_disk (AskedFor route) body.now ≡ false → (disk.new ≡ disk.old) × SaysAsked body.now (AskedFor route) result }
         ensures unfound { IsTrue D.tells → working self.old ≡ None → StandsForNone (D.reads disk.old) → may_call_disk (AskedFor route) body.now ≡ true → IsFailure result }
         ensures works { may_call_disk (AskedFor route) body.now ≡ true → is_failed result ≡ false → IsSome (working self.new) }
         ensures untouched { IsSome (working self.old) → (route ≡ Post → ⊥) → disk.new ≡ disk.old }
         ensures unreceived { IsSome (working self.old) → (result.status == 201) ≡ false → is_failed result ≡ false → disk.new ≡ disk.old }
-        ensures refused { may_call_disk (AskedFor route) body.now ≡ false → ((held : Held) → result ≡ (answer held body.now (AskedFor route)).reply) ⊎ (result ≡ out_of_memory) }
+        ensures clock { self.new ≡ None → clock.new ≡ clock.old }
+        ensures same_clock { IsTrue D.tells → working self.old ≡ None → StandsForNone (D.reads disk.old) → clock.new ≡ clock.old }
     {
         match &route {
             Route::Post => self.post(alloc, disk, clock, body),
@@ -259,8 +263,11 @@ impl Clerk {
         ensures disk { Counts (D.faults disk.old) (D.faults disk.new) (result.status == 503) }
         ensures status { IsTrue (is_reply_status result.status) }
 
-        // What is refused by its method or by its body calls neither the disk nor the clock.
+        // What is refused by its method or by its body calls neither the disk nor the clock; and the
+        // clock is not asked where no book is there behind it, nor where the file stands for no journal.
         ensures apart { is_refusal result ≡ true → (self.new ≡ self.old) × (disk.new ≡ disk.old) × (clock.new ≡ clock.old) }
+        ensures clock { self.new ≡ None → clock.new ≡ clock.old }
+        ensures same_clock { IsTrue D.tells → working self.old ≡ None → StandsForNone (D.reads disk.old) → clock.new ≡ clock.old }
 
         // While a book works the disk is written only where an item is received, and called only for a POST.
         ensures untouched { IsSome (working self.old) → request.now.method ≢ method_of Post → disk.new ≡ disk.old }
@@ -271,7 +278,7 @@ impl Clerk {
         ensures no_journal { IsTrue D.tells → result.status ≡ 500 → IsNoJournal (D.reads disk.old) }
         ensures had_none { result.status ≡ 500 → working self.old ≡ None }
         ensures not_opened { IsTrue D.tells → working self.old ≡ None → StandsForNone (D.reads disk.old) → tells_of_journal result ≡ false }
-        ensures answers_none { IsTrue D.tells → working self.old ≡ None → StandsForNone (D.reads disk.old) → AnswersNone request.now result }
+        ensures answers_none { IsTrue D.tells → working self.old ≡ None → StandsForNone (D.reads disk.old) → AnswersNone disk.old disk.new request.now result }
         ensures no_book { IsTrue D.tells → working self.old ≡ None → StandsForNone (D.reads disk.old) → OpensNone D.reads D.images D.moment D.since disk.old disk.new self.new }
     {
         let route = match route(alloc, request.method(), request.path()) {

@@ -109,6 +109,7 @@ impl Clerk {
             → IsTurn (TakesNone D.faults) disk.old disk.new held (L.written link.old) (L.written link.new) (request.now ∷ requests) end (λ h. h ≡ all) (λ h others. (h ≡ all) × (others ≡ requests)) result }
         ensures made { IsTrue D.tells → IsMade the_heading (D.reads disk.old) → IsMade the_heading (D.reads disk.new) }
         ensures no_book { IsTrue D.tells → working self.old ≡ None → StandsForNone (D.reads disk.old) → OpensNone D.reads D.images D.moment D.since disk.old disk.new self.new }
+        ensures same_clock { IsTrue D.tells → working self.old ≡ None → StandsForNone (D.reads disk.old) → clock.new ≡ clock.old }
         ensures told { IsSome (L.written link.old) → IsSome (L.written link.new) }
         ensures replied { WritesReply (L.written link.old) (L.written link.new) result }
         ensures left { L.left link.new ≡ L.left link.old }
@@ -151,6 +152,7 @@ impl Clerk {
             → IsTurn (TakesNone D.faults) disk.old disk.new held (L.written link.old) (L.written link.new) requests end (λ h. h ≡ all) (λ h others. Meets (λ k. k ≡ all) (L.left link.new) rest.new.items end h others) result }
         ensures made { IsTrue D.tells → IsMade the_heading (D.reads disk.old) → IsMade the_heading (D.reads disk.new) }
         ensures no_book { IsTrue D.tells → working self.old ≡ None → StandsForNone (D.reads disk.old) → OpensNone D.reads D.images D.moment D.since disk.old disk.new self.new }
+        ensures same_clock { IsTrue D.tells → working self.old ≡ None → StandsForNone (D.reads disk.old) → clock.new ≡ clock.old }
         ensures order { TurnsNext L.left L.written link.old rest.old.items link.new rest.new.items result }
         ensures told { IsSome (L.written link.old) → IsSome (L.written link.new) }
         ensures cause { Counts (L.faults link.old) (L.faults link.new) (is_cut_off result) }
@@ -193,6 +195,7 @@ impl Clerk {
             → ServesLink (TakesNone D.faults) disk.old disk.new held (L.written link.old) (L.written link.new) (turns left requests end) result (λ h. h ≡ held) }
         ensures made { IsTrue D.tells → IsMade the_heading (D.reads disk.old) → IsMade the_heading (D.reads disk.new) }
         ensures no_book { IsTrue D.tells → working self.old ≡ None → StandsForNone (D.reads disk.old) → OpensNone D.reads D.images D.moment D.since disk.old disk.new self.new }
+        ensures same_clock { IsTrue D.tells → working self.old ≡ None → StandsForNone (D.reads disk.old) → clock.new ≡ clock.old }
         ensures few { result.replies ≤ left }
         ensures order { ServesInOrder L.left L.written link.old link.new result }
         ensures told { IsSome (L.written link.old) → IsSome (L.written link.new) }

@@ -21,7 +21,7 @@ pub record IsHeld (file : List ℕ) (known : Option (List DayMinute)) (held : He
   pub stands : StandsForJournal file held.journal
   pub clock : known ≡ Some held.ticks
 
--- The office was served, at whose door links waited that ask so, up to so many replies and as many links: what became of each link that came, what the door tells of them, and what is held behind them. At each moment since the first sync a stop leaves the journal as it is behind some of the turns that were taken, with the receipt of the next or without it; of the file no other bytes are written behind the opening than the frames of items received, and each file that it may leave behind the run begins with each journal that a text was read of or an item received into. The disk's count of faults rises where the opening failed by it, and behind that in each turn in which a call of it failed, and nowhere else. All is done where all replies were written, as many links were served, or no more came; and want of memory ends it ahead of the first link, or where none was found for a reply to the last. Where no count of the disk rose and no memory was wanting, each turn was answered as it asks.
+-- The office was served, at whose door links waited that ask so, up to so many replies and as many links: what became of each link that came, what the door tells of them, and what is held behind them. At each moment since the first sync a stop leaves the journal as it is behind some of the turns that were taken, with the receipt of the next or without it; of the file no other bytes are written behind the opening than the frames of items received, and each file that it may leave behind the run begins with each journal that a text was read of or an item received into. The disk's count of faults rises where the opening failed by it, and behind that, in sum, by one at least for each turn in which a call of it failed, and not where none did. All is done where all replies were written, as many links were served, or no more came; and want of memory ends it ahead of the first link, or where none was found for a reply to the last. Where no count of the disk rose and no memory was wanting, each turn was answered as it asks.
 pub record ServesOffice {D : Type 0} (reads : D → List ℕ) (images : D → List ℕ → Type 0) (moment : D → ℕ) (since : D → ℕ → List ℕ → Type 0) (faults : D → ℕ) (old new : D) (held : Held) (most : ℕ)
     (waiting : List (List ℕ)) (asked : List LinkRequests) (waiting_new : Option (List (List ℕ))) (served_old served_new : Option (List (List ℕ × ℕ))) (known_new : Option (List DayMinute)) (result : Status) : Type 0 where
   pub links : List LinkServed
@@ -31,15 +31,14 @@ pub record ServesOffice {D : Type 0} (reads : D → List ℕ) (images : D → Li
   pub told : IfSome served_old (λ before. served_new ≡ Some (before ++ pairs_of held links))
   pub holds : IsHeld (reads new) known_new (held_behind held (turns_taken links))
   pub left : KeepsSynced reads images moment since old new (disk_fault result) (IsLeftIn held (turns_taken links))
-  pub file : List ℕ
-  pub same : (IsUnmade (reads old) → ⊥) → file ≡ reads old
-  pub made : IsUnmade (reads old) → tells_of_opening result ≡ true → file ≡ made_from the_heading (reads old)
-  pub unmade : IsUnmade (reads old) → Torn 0 (first_gate the_heading + 1) (reads old) file
-  pub written : WritesTurns held (turns_taken links) file (reads new)
+  pub opened : D
+  pub same : (IsUnmade (reads old) → ⊥) → reads opened ≡ reads old
+  pub made : IsUnmade (reads old) → (tells_of_opening result ≡ true) ⊎ (links ≡ [] → ⊥) → reads opened ≡ made_from the_heading (reads old)
+  pub unmade : IsUnmade (reads old) → Torn 0 (first_gate the_heading + 1) (reads old) (reads opened)
+  pub written : WritesTurns held (turns_taken links) (reads opened) (reads new)
   pub kept : AllTold (images new) held (turns_taken links)
-  pub opened : ℕ
-  pub opening : Counts (faults old) opened (disk_fault result)
-  pub disk : CountsTurns opened (turns_taken links) (faults new)
+  pub opening : Counts (faults old) (faults opened) (disk_fault result)
+  pub disk : CountsTurns (faults opened) (turns_taken links) (faults new)
   pub journal : list_any (λ turn. lacks_journal (fate_of turn)) (turns_taken links) ≡ false
   pub done : result ≡ status.Ok → (left_behind most links ≡ 0) ⊎ ((length links ≡ most) ⊎ (drop (length links) waiting ≡ []))
   pub memory : LacksMemory links → result ≡ status.Memory

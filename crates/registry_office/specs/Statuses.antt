@@ -92,7 +92,7 @@ tells_of_opening status.Memory = false
 tells_of_opening status.NotJournal = false
 tells_of_opening (status.BadRecord at) = false
 tells_of_opening status.InputTooLong = true
-tells_of_opening status.DoorFault = false
+tells_of_opening status.DoorFault = true
 
 -- a text is written so
 abbrev pub is_of_writing : Status → Bool

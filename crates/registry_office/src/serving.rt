@@ -6,11 +6,11 @@ ghost use Rattle.gb_outside.specs.Faults.{Counts, Rose};
 ghost use Rattle.gb_outside.specs.Images.{LeavesOnly};
 ghost use Rattle.journal_disk.specs.Layout.{the_heading, IsMade};
 ghost use Rattle.journal_disk.specs.Opening.{AnswersSynced, IsKept};
-ghost use Rattle.receipt_journal.specs.Standing.{StandsForJournal};
 ghost use Rattle.intake.specs.Requests.{Held};
 ghost use Rattle.registry_http.specs.RequestLists.{AreRequests};
 ghost use Rattle.registry_http.specs.RequestParts.{RequestParts};
 ghost use Rattle.registry_http.specs.Requests.{AtFront};
+ghost use Rattle.connections.specs.Completeness.{Completes};
 ghost use Rattle.connections.specs.Doors.{AskSo, LinkRequests};
 ghost use Rattle.connections.specs.Holding.{StandsForNone};
 ghost use Rattle.connections.specs.LinkOrder.{ServesInOrder};
@@ -48,7 +48,11 @@ pub fn serve_connection<R: AllocGlobal, L: Link, D: Disk, C: Clock, G: DeskGate>
     ensures serves_none { IsTrue D.tells → StandsForNone (D.reads disk.old) → (held : Held) (input : List ℕ) (requests : List RequestParts) (end : AtFront)
         → L.left link.old ≡ Some input → AreRequests input requests end
         → ServesLink (TakesNone D.faults) disk.old disk.new held (L.written link.old) (L.written link.new) (turns left requests end) result (λ h. h ≡ held) }
-    ensures kept { IsTrue D.tells → StandsForNone (D.reads disk.old) → (D.reads disk.new ≡ D.reads disk.old) × LeavesOnly D.moment D.since disk.old disk.new (D.images disk.old) }
+    ensures complete { IsTrue D.tells → (held : Held) (input : List ℕ) (requests : List RequestParts) (end : AtFront)
+        → IsHeld (D.reads disk.old) (C.ticks clock.old) held → L.left link.old ≡ Some input → AreRequests input requests end
+        → (Rose (D.faults disk.old) (D.faults disk.new) → ⊥) → (Rose (L.faults link.old) (L.faults link.new) → ⊥)
+        → Completes held (L.written link.old) (L.written link.new) (turns left requests end) result }
+    ensures kept { IsTrue D.tells → StandsForNone (D.reads disk.old) → (D.reads disk.new ≡ D.reads disk.old) × LeavesOnly D.moment D.since disk.old disk.new (D.images disk.old) × (clock.new ≡ clock.old) }
     ensures few { result.replies ≤ left }
     ensures order { ServesInOrder L.left L.written link.old link.new result }
     ensures cause { Counts (L.faults link.old) (L.faults link.new) (is_link_fault result.ended) }

@@ -182,6 +182,7 @@ pub fn run<
         → (disk_fault result ≡ false) × (is_no_journal result ≡ false) }
     ensures no_input { uses_input (commanded rc_str_bytes words.now) ≡ false
         → (read_fault result ≡ false) × (result ≡ Status.InputTooLong → ⊥) }
+    ensures no_output { IsSome (serves (commanded rc_str_bytes words.now)) → write_fault result ≡ false }
     ensures no_door { serves (commanded rc_str_bytes words.now) ≡ None → door_fault result ≡ false }
 {
     match read_words(rt.alloc(), words) {

@@ -81,6 +81,36 @@ fn a_reply_is_written_byte_for_byte(rt: HostRuntime) -> Result<(), Fail> {
 }
 
 #[test]
+fn each_status_of_a_reply_has_its_phrase(rt: HostRuntime) -> Result<(), Fail> {
+    for (status, wanted) in [
+        (StatusCode::OK, "200 OK"),
+        (StatusCode::CREATED, "201 Created"),
+        (StatusCode::BAD_REQUEST, "400 Bad Request"),
+        (StatusCode::FORBIDDEN, "403 Forbidden"),
+        (StatusCode::NOT_FOUND, "404 Not Found"),
+        (StatusCode::METHOD_NOT_ALLOWED, "405 Method Not Allowed"),
+        (StatusCode::CONFLICT, "409 Conflict"),
+        (StatusCode::PAYLOAD_TOO_LARGE, "413 Payload Too Large"),
+        (StatusCode::UNPROCESSABLE_ENTITY, "422 Unprocessable Entity"),
+        (
+            StatusCode::INTERNAL_SERVER_ERROR,
+            "500 Internal Server Error",
+        ),
+        (StatusCode::SERVICE_UNAVAILABLE, "503 Service Unavailable"),
+        (StatusCode::INSUFFICIENT_STORAGE, "507 Insufficient Storage"),
+    ] {
+        let mut link = MemLink::new(rt.alloc(), b"", 200, &[])?;
+        let got = write_reply(rt.alloc(), &mut link, status, b"");
+        assert_eq!(rt; got, Ok(()), "{wanted}");
+        let reply = format!(in rt.alloc();
+            "HTTP/1.1 {wanted}\r\nContent-Type: text/plain\r\nContent-Length: 0\r\n\r\n"
+        )?;
+        assert_eq!(rt; link.written(), reply.as_bytes(), "{wanted}");
+    }
+    Ok(())
+}
+
+#[test]
 fn a_link_without_room_takes_a_front_of_the_reply(rt: HostRuntime) -> Result<(), Fail> {
     let mut link = MemLink::new(rt.alloc(), b"", 20, &[])?;
     let got = write_reply(rt.alloc(), &mut link, StatusCode::NOT_FOUND, b"not found\n");

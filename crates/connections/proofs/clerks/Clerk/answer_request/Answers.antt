@@ -1,10 +1,8 @@
-use Rattle.std.proofs.Common.{◌≡◌, ◌⊎◌, ◌∙◌, List, ℕ, ap, refl, sym, subst}
-use Rattle.intake.specs.Requests.{Held}
+use Rattle.std.proofs.Common.{◌≡◌, ◌∙◌, false, List, ℕ, ap, refl, sym, subst}
 use Rattle.registry_http.specs.Routes.{method_of}
-use Rattle.connections.specs.Answering.{may_call_disk}
+use Rattle.connections.specs.Answering.{SaysAsked, may_call_disk}
 use Rattle.connections.specs.Answers.{answer}
 use Rattle.connections.specs.Asking.{AskedFor}
-use Rattle.connections.specs.Replies.{out_of_memory}
 use Rattle.connections.specs.inner.Ends.{EndsBy, Serves}
 use Rattle.connections.proofs.Answered.{answers}
 use Rattle.connections.proofs.ByDiskAlone.{failed_so, still}
@@ -21,7 +19,7 @@ returns-in-Err-clause-answers g c = λ tells held holds.
     (λ is. asks_other c.args.request.now c.path.result.now c.method.result.now c.path.ensures c.method.ensures (c.in-Err.ensures.wrong_method is)) in
     answers g.D.Disk.reads g.D.Disk.images g.D.Disk.moment g.D.Disk.since c.args.disk.now c.args.disk.now (g.met.D.Disk.reads_is_image c.args.disk.now tells)
     (λ t file le image. g.met.D.Disk.counts_now c.args.disk.now t file tells le image)
-    c.args.request.now held c.unrouted.result c.args.self.now (g.C.Clock.ticks c.args.clock.now) ends.asked ends.asks (λ none. (refl, (apart_by_route c.in-Err.fault c.unrouted.result c.unrouted.ensures).no_disk)) holds.file ends.end
+    c.args.request.now held c.unrouted.result c.args.self.now (g.C.Clock.ticks c.args.clock.now) ends.asked ends.asks (λ none. (refl, ends.says none)) holds.file ends.end
 
 served : (g : _) (c : goal.After-unrouted g) → Serves g.D.Disk.tells g.D.Disk.reads g.D.Disk.images g.D.Disk.moment g.D.Disk.since g.D.Disk.faults c.args.disk.now c.args.disk.now c.args.self.now c.args.self.now c.unrouted.result
 served g c = still g.D.Disk.tells g.D.Disk.reads g.D.Disk.images g.D.Disk.moment g.D.Disk.since g.D.Disk.faults c.args.disk.now c.args.self.now c.unrouted.result
@@ -50,11 +48,15 @@ returns-in-Err-clause-no_book g c = (served g c).no_book
 
 pub returns-in-Err-clause-answers_none : goal.returns-in-Err-clause-answers_none
 returns-in-Err-clause-answers_none g c = λ tells was none.
-    unrouted_none c.args.request.now c.in-Err.fault c.unrouted.result c.unrouted.ensures
+    unrouted_none c.args.disk.now c.args.request.now c.in-Err.fault c.unrouted.result c.unrouted.ensures
     (λ is. asks_none c.args.request.now c.path.result.now c.path.ensures (c.in-Err.ensures.not_found is))
     (λ is. asks_other c.args.request.now c.path.result.now c.method.result.now c.path.ensures c.method.ensures (c.in-Err.ensures.wrong_method is))
 
 -- ---- it has one
+
+uncalled : (g : _) (c : goal.After-answer_route g) → may_call_disk (AskedFor c.in-Ok.route) c.args.request.now.body ≡ false → (c.answer_route.new.disk ≡ c.args.disk.now) × SaysAsked c.args.request.now.body (AskedFor c.in-Ok.route) c.answer_route.result
+uncalled g c = subst (λ (body : List ℕ). may_call_disk (AskedFor c.in-Ok.route) body ≡ false → (c.answer_route.new.disk ≡ c.args.disk.now) × SaysAsked body (AskedFor c.in-Ok.route) c.answer_route.result) c.body.ensures
+    c.answer_route.ensures.uncalled
 
 pub returns-clause-answers : goal.returns-clause-answers
 returns-clause-answers g c = λ tells held holds.
@@ -64,16 +66,14 @@ returns-clause-answers g c = λ tells held holds.
     (λ t file le image. g.met.D.Disk.counts_now c.answer_route.new.disk t file tells le image)
     c.args.request.now held c.answer_route.result c.answer_route.new.self (g.C.Clock.ticks c.answer_route.new.clock) (AskedFor c.in-Ok.route)
     (c.in-Ok.ensures.found.0, sym c.path.ensures ∙ c.in-Ok.ensures.found.1, sym c.method.ensures ∙ c.in-Ok.ensures.found.2)
-    (λ none. c.answer_route.ensures.uncalled (ap (λ (body : List ℕ). may_call_disk (AskedFor c.in-Ok.route) body) c.body.ensures ∙ none)) holds.file end
+    (uncalled g c) holds.file end
 
 pub returns-clause-answers_none : goal.returns-clause-answers_none
 returns-clause-answers_none g c = λ tells was none. record {
   asked = AskedFor c.in-Ok.route;
   asks = (c.in-Ok.ensures.found.0, sym c.path.ensures ∙ c.in-Ok.ensures.found.1, sym c.method.ensures ∙ c.in-Ok.ensures.found.2);
   failed = λ calls. c.answer_route.ensures.unfound tells was none (ap (λ (body : List ℕ). may_call_disk (AskedFor c.in-Ok.route) body) c.body.ensures ∙ calls);
-  uncalled = λ calls_none.
-      subst (λ (body : List ℕ). ((held : Held) → c.answer_route.result ≡ (answer held body (AskedFor c.in-Ok.route)).reply) ⊎ (c.answer_route.result ≡ out_of_memory)) c.body.ensures
-      (c.answer_route.ensures.refused (ap (λ (body : List ℕ). may_call_disk (AskedFor c.in-Ok.route) body) c.body.ensures ∙ calls_none));
+  uncalled = uncalled g c;
 }
 
 pub returns-clause-kept_open : goal.returns-clause-kept_open
@@ -86,7 +86,7 @@ returns-clause-no_book g c = c.answer_route.ensures.serves.no_book
 
 pub returns-in-Err-clause-left_open : goal.returns-in-Err-clause-left_open
 returns-in-Err-clause-left_open g c =
-    let none = unrouted_none c.args.request.now c.in-Err.fault c.unrouted.result c.unrouted.ensures
+    let none = unrouted_none c.args.disk.now c.args.request.now c.in-Err.fault c.unrouted.result c.unrouted.ensures
     (λ is. asks_none c.args.request.now c.path.result.now c.path.ensures (c.in-Err.ensures.not_found is))
     (λ is. asks_other c.args.request.now c.path.result.now c.method.result.now c.path.ensures c.method.ensures (c.in-Err.ensures.wrong_method is)) in
     record { asked = none.asked; asks = none.asks; works = λ calls sound. failed_so c.unrouted.result _ (none.failed calls) sound }

@@ -1,10 +1,8 @@
-use Rattle.std.proofs.Common.{◌≡◌, ◌⊎◌, ◌∙◌, true, false, ap, sym, subst}
-use Rattle.intake.specs.Requests.{Held}
+use Rattle.std.proofs.Common.{◌≡◌, ◌∙◌, true, false, ap, sym, subst}
 use Rattle.registry_http.specs.declared.routes.Route.{Route}
-use Rattle.connections.specs.Answering.{may_call_disk}
+use Rattle.connections.specs.Answering.{SaysAsked, may_call_disk}
 use Rattle.connections.specs.Answers.{Answer, answer}
 use Rattle.connections.specs.Asking.{AskedFor}
-use Rattle.connections.specs.Replies.{out_of_memory}
 use Rattle.connections.specs.inner.Ends.{EndsBy}
 use Rattle.connections.proofs.Grows.{answer_reads, reading_calls}
 use Rattle.connections.proofs.clerks.Clerk.answer_route.Goals as goal
@@ -20,7 +18,9 @@ returns-in_default-clause-ends g c = λ tells held holds.
     (sym (answer_reads held c.args.body.now c.args.route c.in_default.not-Post)) (c.read.ensures.ends tells (g.C.Clock.ticks c.args.clock.now) held holds)
 
 pub returns-in-Post-clause-uncalled : goal.returns-in-Post-clause-uncalled
-returns-in-Post-clause-uncalled g c = λ none. c.post.ensures.uncalled (sym (ap (λ (r : Route). may_call_disk (AskedFor r) c.args.body.now) c.in-Post.is) ∙ none)
+returns-in-Post-clause-uncalled g c = λ none.
+    let uncalled = c.post.ensures.uncalled (sym (ap (λ (r : Route). may_call_disk (AskedFor r) c.args.body.now) c.in-Post.is) ∙ none) in
+    (uncalled.0, subst (λ (r : Route). SaysAsked c.args.body.now (AskedFor r) c.post.result) (sym c.in-Post.is) uncalled.1)
 
 pub returns-in_default-clause-uncalled : goal.returns-in_default-clause-uncalled
 returns-in_default-clause-uncalled g c = λ none. let never : true ≡ false = sym (reading_calls c.args.body.now c.args.route c.in_default.not-Post) ∙ none in absurd cc
@@ -31,14 +31,6 @@ returns-in-Post-clause-unfound g c = λ tells was none calls.
 
 pub returns-in_default-clause-unfound : goal.returns-in_default-clause-unfound
 returns-in_default-clause-unfound g c = λ tells was none calls. c.read.ensures.unfound tells was none
-
-pub returns-in-Post-clause-refused : goal.returns-in-Post-clause-refused
-returns-in-Post-clause-refused g c = λ none.
-    subst (λ (r : Route). ((held : Held) → c.post.result ≡ (answer held c.args.body.now (AskedFor r)).reply) ⊎ (c.post.result ≡ out_of_memory)) (sym c.in-Post.is)
-    (c.post.ensures.refused (sym (ap (λ (r : Route). may_call_disk (AskedFor r) c.args.body.now) c.in-Post.is) ∙ none))
-
-pub returns-in_default-clause-refused : goal.returns-in_default-clause-refused
-returns-in_default-clause-refused g c = λ none. let never : true ≡ false = sym (reading_calls c.args.body.now c.args.route c.in_default.not-Post) ∙ none in absurd cc
 
 pub returns-in-Post-clause-works : goal.returns-in-Post-clause-works
 returns-in-Post-clause-works g c = λ calls sound. c.post.ensures.works (sym (ap (λ (r : Route). may_call_disk (AskedFor r) c.args.body.now) c.in-Post.is) ∙ calls) sound

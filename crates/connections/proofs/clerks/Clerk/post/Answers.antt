@@ -23,7 +23,7 @@ returns-clause-ends g c = λ tells held holds.
     (sym c.in-Ok.ensures.exact) (c.post_item.ensures.ends tells held holds)
 
 pub returns-in-Err-clause-uncalled : goal.returns-in-Err-clause-uncalled
-returns-in-Err-clause-uncalled g c = λ none. (refl, (apart_by_body c.in-Err.fault c.malformed.result c.malformed.ensures).no_disk)
+returns-in-Err-clause-uncalled g c = λ none. (refl, refused_body (item_of c.args.body.now) c.in-Err.fault c.malformed.result c.in-Err.ensures.exact c.malformed.ensures)
 
 pub returns-clause-uncalled : goal.returns-clause-uncalled
 returns-clause-uncalled g c = λ none. let never : true ≡ false = sym (ap is_ok c.in-Ok.ensures.exact) ∙ none in absurd cc
@@ -31,14 +31,8 @@ returns-clause-uncalled g c = λ none. let never : true ≡ false = sym (ap is_o
 pub returns-in-Err-clause-unfound : goal.returns-in-Err-clause-unfound
 returns-in-Err-clause-unfound g c = λ tells was none item. unfound_body (item_of c.args.body.now) c.in-Err.fault c.malformed.result c.in-Err.ensures.exact c.malformed.ensures item
 
-pub returns-in-Err-clause-refused : goal.returns-in-Err-clause-refused
-returns-in-Err-clause-refused g c = λ no_item. refused_body (item_of c.args.body.now) c.in-Err.fault c.malformed.result c.in-Err.ensures.exact c.malformed.ensures
-
 pub returns-clause-unfound : goal.returns-clause-unfound
 returns-clause-unfound g c = λ tells was none item. c.post_item.ensures.unfound tells was none
-
-pub returns-clause-refused : goal.returns-clause-refused
-returns-clause-refused g c = λ no_item. let never : true ≡ false = sym (ap is_ok c.in-Ok.ensures.exact) ∙ no_item in absurd cc
 
 pub returns-in-Err-clause-works : goal.returns-in-Err-clause-works
 returns-in-Err-clause-works g c = λ item sound.

@@ -68,3 +68,6 @@ returns-clause-unreceived g c = λ works other sound.
     let status = status_of_item c.receive-answer.result c.received.result c.receive-answer.ensures.opened c.received.ensures in
     c.receive-answer.ensures.untouched (not_received c.receive-answer.result c.received.result c.received.ensures other sound) (sym status.disk ∙ no_disk_failed_in c.received.result sound)
     ∙ c.take_book.ensures.untouched works
+
+pub returns-clause-same_clock : goal.returns-clause-same_clock
+returns-clause-same_clock g c = λ tells was none. let found = c.in-Ok.ensures.journal tells was in absurd (none found.0 found.1)

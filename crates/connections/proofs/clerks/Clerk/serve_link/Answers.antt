@@ -18,6 +18,7 @@ loop-replies-init g c = record {
   made = λ tells was. was;
   no_book = λ tells was none.
       none_still g.D.Disk.reads g.D.Disk.images g.D.Disk.moment g.D.Disk.since c.args.disk.now c.args.self.now (λ file since. g.met.D.Disk.only_now c.args.disk.now file tells since) was;
+  same_clock = λ tells was none. refl;
   told = λ told. told;
   order = order_none g.L.Link.left g.L.Link.written c.args.link.now c.new-rest.result.items c.new-rest.ensures.items;
   quiet = refl;
@@ -39,6 +40,9 @@ loop-replies-preserved g c = record {
   no_book = λ tells was none.
       none_then g.D.Disk.reads g.D.Disk.images g.D.Disk.moment g.D.Disk.since c.args.disk.now c.loop-replies.disk c.serve_next.new.disk c.loop-replies.self c.serve_next.new.self
       (λ t file le image. g.met.D.Disk.counts_now c.loop-replies.disk t file tells le image) none (c.loop-replies.invariant.no_book tells was none) (c.serve_next.ensures.no_book tells);
+  same_clock = λ tells was none.
+      let at = c.loop-replies.invariant.no_book tells was none in
+      c.serve_next.ensures.same_clock tells at.none (subst StandsForNone (sym at.same) none) ∙ c.loop-replies.invariant.same_clock tells was none;
   told = λ told. c.serve_next.ensures.told (c.loop-replies.invariant.told told);
   order = order_on g.L.Link.left g.L.Link.written c.args.link.now c.loop-replies.link c.serve_next.new.link c.loop-replies.rest.items c.serve_next.new.rest.items c.loop-replies.replies c.loop-replies.invariant.order c.in-None.ensures.order;
   quiet = c.in-None.ensures.cause.else_same refl ∙ c.loop-replies.invariant.quiet;
@@ -93,6 +97,14 @@ returns-in-Some-clause-no_book g c = λ tells was none.
     (λ t file le image. g.met.D.Disk.counts_now c.loop-replies.disk t file tells le image) none (c.loop-replies.invariant.no_book tells was none) (c.serve_next.ensures.no_book tells)
 
 -- ---- where the file stands for no journal
+
+pub returns-in-Some-clause-same_clock : goal.returns-in-Some-clause-same_clock
+returns-in-Some-clause-same_clock g c = λ tells was none.
+    let at = c.loop-replies.invariant.no_book tells was none in
+    c.serve_next.ensures.same_clock tells at.none (subst StandsForNone (sym at.same) none) ∙ c.loop-replies.invariant.same_clock tells was none
+
+pub returns-clause-same_clock : goal.returns-clause-same_clock
+returns-clause-same_clock g c = λ tells was none. c.loop-replies.invariant.same_clock tells was none
 
 pub returns-in-Some-clause-serves_none : goal.returns-in-Some-clause-serves_none
 returns-in-Some-clause-serves_none g c = λ tells was none held input requests end left are.

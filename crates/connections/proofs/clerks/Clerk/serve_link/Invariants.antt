@@ -22,6 +22,7 @@ invariant-loop-replies g l = record {
   stands_open : IsTrue g.D.Disk.tells → StandsOpen l.self (g.D.Disk.reads l.disk) (g.D.Disk.images l.disk);
   made : IsTrue g.D.Disk.tells → IsMade the_heading (g.D.Disk.reads l.fn.disk) → IsMade the_heading (g.D.Disk.reads l.disk);
   no_book : IsTrue g.D.Disk.tells → working l.fn.self ≡ None → StandsForNone (g.D.Disk.reads l.fn.disk) → OpensNone g.D.Disk.reads g.D.Disk.images g.D.Disk.moment g.D.Disk.since l.fn.disk l.disk l.self;
+  same_clock : IsTrue g.D.Disk.tells → working l.fn.self ≡ None → StandsForNone (g.D.Disk.reads l.fn.disk) → l.clock ≡ l.fn.clock;
   told : IsSome (g.L.Link.written l.fn.link) → IsSome (g.L.Link.written l.link);
   order : WentInOrder g.L.Link.left g.L.Link.written l.fn.link l.link l.rest.items l.replies;
   quiet : g.L.Link.faults l.link ≡ g.L.Link.faults l.fn.link;
