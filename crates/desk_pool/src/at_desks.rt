@@ -11,7 +11,7 @@ ghost use Rattle.registrar.specs.KeptAwards.{AwardsKept};
 ghost use Rattle.registrar.specs.OpenFolios.{open_folios};
 ghost use Rattle.registrar.specs.Settling.{registrar};
 
-use crate::one_folio::is_for_one_desk;
+use crate::one_desk::is_for_one_desk;
 use crate::rounds::Round;
 use act_model::{Journal, JournalName};
 use gb_base::{NoMemory, ReceiptNo};
@@ -23,10 +23,10 @@ use std::thread::Threads;
 
 /// Settles a journal at so many desks, 1 to 64, each in a thread of its own where one can be had.
 /// `gate` is called with each item ahead of its entries, while its desk has the item's folios to
-/// itself: one desk alone has all of them, others lock them. A journal of one folio is settled by one
-/// desk. Whatever the desks do, the register is
-/// the one that `registrar::alone` gives (GBO § 17). Wants memory (NoMemory); several desks want all
-/// of it before the first item is settled.
+/// itself: one desk alone has all of them, others lock them. One desk settles a journal of one folio,
+/// and one whose filings have many acts. Whatever the desks do, the register is the one that
+/// `registrar::alone` gives (GBO § 17). Wants memory (NoMemory); several desks want all of it before
+/// the first item is settled.
 pub fn settle_at_desks<R: AllocGlobal + Threads + Wait + Sync, G: DeskGate>(
     rt: &R,
     journal: &Journal,

@@ -12,7 +12,7 @@ mod key_rooms;
 pub mod laws;
 mod locked_folios;
 mod nowhere;
-mod one_folio;
+mod one_desk;
 mod open_folios;
 mod orders;
 mod pairs;

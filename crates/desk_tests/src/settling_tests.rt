@@ -1,5 +1,5 @@
 //! Journals that any number of desks settles as the one registrar does.
-use crate::journals::{assigned_and_charged, of_lapses, sold_beside_a_cure};
+use crate::journals::{assigned_and_charged, of_lapses, of_many_acts, sold_beside_a_cure};
 use crate::registers::{left_by, register_of, say_the_same};
 use act_model::Journal;
 use gb_outside::OpenGate;
@@ -30,6 +30,18 @@ fn a_journal_of_nothing(rt: HostRuntime) {
 #[test]
 fn a_journal_of_one_folio(rt: HostRuntime) {
     settles_alike(&rt, &assigned_and_charged(&rt, rt.alloc()));
+}
+
+#[test]
+fn items_of_many_acts(rt: HostRuntime) {
+    let journal = of_many_acts(&rt, rt.alloc());
+    settles_alike(&rt, &journal);
+    let left = left_by(&rt, &journal, 2, &OpenGate);
+    assert!(&rt;
+        left.verdicts()
+            .iter()
+            .all(|verdict| matches!(verdict, Verdict::Entered))
+    );
 }
 
 #[test]

@@ -1,12 +1,33 @@
-//! Which journals leave nothing that several desks could share.
+//! Which journals one desk settles, however many there are.
+//! Why so: docs/DECISIONS.md, "A round keeps its room twice".
 
 use act_model::{Item, Journal, Receipt};
 use gb_base::FolioId;
 
-/// Whether one desk settles the journal: there is no other, or all items are of one folio, so that
-/// the others would wait for it.
+/// From more acts for each item on, the room for a round takes longer to make than other desks save.
+const MANY_ACTS: usize = 4;
+
+/// Whether one desk settles the journal: there is no other; or all items are of one folio, so that
+/// the others would wait for it; or the items have many acts, whose keys want much room ahead.
 pub(crate) fn is_for_one_desk(journal: &Journal, desks: u16) -> bool {
-    desks == 1 || names_one_folio(journal.receipts())
+    desks == 1 || names_one_folio(journal.receipts()) || has_many_acts(journal.receipts())
+}
+
+/// Whether there are more than so many acts for each of these receipts.
+fn has_many_acts(receipts: &[Receipt]) -> bool {
+    let mut acts: usize = 0;
+    for receipt in receipts {
+        acts = acts.saturating_add(count_acts(&receipt.item));
+    }
+    acts / MANY_ACTS > receipts.len()
+}
+
+/// How many acts an item has; an item that is no filing has none.
+fn count_acts(item: &Item) -> usize {
+    match item {
+        Item::Filing(filing) => filing.acts.list().len(),
+        _ => 0,
+    }
 }
 
 /// Whether no two of these receipts name different folios.
