@@ -9,6 +9,7 @@ Each is run so many times, and the fastest counts. What all write is compared.
 """
 
 import argparse
+import hashlib
 import pathlib
 import shutil
 import subprocess
@@ -22,7 +23,7 @@ TIMES = 3
 
 
 def fastest(program, desks, folder, times, longest):
-    """The fastest of so many runs, and what it wrote."""
+    """The fastest of so many runs, and the sum of what it wrote."""
     best = None
     text = folder / "text"
     for _ in range(times):
@@ -31,7 +32,8 @@ def fastest(program, desks, folder, times, longest):
         if said is None:
             return None, None
         best = min(best or said, said)
-    return best, text.read_bytes()
+    with text.open("rb") as file:
+        return best, hashlib.file_digest(file, "sha256").hexdigest()
 
 
 def measure(name, given, folder):
@@ -44,7 +46,7 @@ def measure(name, given, folder):
         said, text = fastest(program, desks, folder, given.times, given.longest)
         wrote.append(text)
         print(f"{name}: {what}: {hostile.shown(said, given.longest)}", flush=True)
-    print(f"{name}: " + ("all wrote the same text" if len(set(wrote)) == 1 else "NOT the same text"), flush=True)
+    print(f"{name}: " + ("all wrote the same text" if len(set(wrote)) == 1 and None not in wrote else "NOT the same text"), flush=True)
 
 
 def main():

@@ -10,6 +10,7 @@ that takes over ten minutes, or over so many seconds, is stopped and said to be 
 """
 
 import argparse
+import filecmp
 import json
 import os
 import pathlib
@@ -17,6 +18,7 @@ import subprocess
 import sys
 import tempfile
 import time
+import traceback
 
 ROOT = pathlib.Path(__file__).resolve().parent.parent
 sys.path.insert(0, str(ROOT / "scripts"))
@@ -57,10 +59,25 @@ def shown(said, longest):
 
 
 def make_journal(lines, folder):
-    """The journal's file of these lines, as if they were received with their stamps."""
-    with lines.open(encoding="ascii") as file:
-        bodies = [spelling.receipt(json.loads(line)) for line in file]
-    (folder / checks.JOURNAL).write_bytes(checks.journal(bodies))
+    """The journal's file of these lines, as if they were received with their stamps.
+
+    It is made in a process of its own: a program that is started counts what the one that starts it has
+    taken so far among its own greatest memory.
+    """
+    pid = os.fork()
+    if pid == 0:
+        status = 1
+        try:
+            with lines.open(encoding="ascii") as file:
+                bodies = [spelling.receipt(json.loads(line)) for line in file]
+            (folder / checks.JOURNAL).write_bytes(checks.journal(bodies))
+            status = 0
+        except Exception:
+            traceback.print_exc()
+        finally:
+            os._exit(status)
+    if os.waitpid(pid, 0)[1]:
+        raise ChildProcessError("no journal was made")
 
 
 def measure(peer, shape, size, folder, disk, longest):
@@ -81,7 +98,7 @@ def measure(peer, shape, size, folder, disk, longest):
         texts.append(text)
     line = f"{shape} {size}: {shown(said[0], longest)}"
     if peer:
-        same = None not in said and texts[0].read_bytes() == texts[1].read_bytes()
+        same = None not in said and filecmp.cmp(*texts, shallow=False)
         line += f"; the peer {shown(said[1], longest)}; " + ("the same text" if same else "NOT the same text")
     print(line, flush=True)
 
