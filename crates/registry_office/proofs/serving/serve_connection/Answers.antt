@@ -1,30 +1,24 @@
 use Rattle.std.proofs.Common.{Option, ap, subst, sym}
-use Rattle.intake.specs.Requests.{Held}
 use Rattle.settled_book.specs.SettledBookState.{SettledBookState}
 use Rattle.connections.proofs.Completed.{completes}
 use Rattle.connections.specs.Holding.{Holds, working}
 use Rattle.connections.specs.Serving.{TakesTurns}
 use Rattle.connections.specs.Turns.{turns}
-use Rattle.registry_office.specs.Servings.{IsHeld}
 use Rattle.registry_office.proofs.ServedDoors.{link_held}
 use Rattle.registry_office.proofs.serving.serve_connection.Goals as goal
-
--- a clerk with no book open holds what the file stands for
-holds_at : (g : _) (c : goal.After-serve_link g) → (held : Held) → IsHeld (g.D.Disk.reads c.args.disk.now) (g.C.Clock.ticks c.args.clock.now) held
-    → Holds c.new-clerk.result (g.D.Disk.reads c.args.disk.now) (g.D.Disk.images c.args.disk.now) (g.C.Clock.ticks c.args.clock.now) held
-holds_at g c held is = subst (λ (h : Option SettledBookState). Holds h (g.D.Disk.reads c.args.disk.now) (g.D.Disk.images c.args.disk.now) (g.C.Clock.ticks c.args.clock.now) held) (sym c.new-clerk.ensures)
-    (record { file = is.stands; clock = is.clock; book = tt })
 
 pub returns-clause-serves : goal.returns-clause-serves
 returns-clause-serves g c = λ tells held input requests end is left asks.
     link_held (TakesTurns g.D.Disk.reads g.D.Disk.images g.D.Disk.moment g.D.Disk.since g.D.Disk.faults) c.args.disk.now c.serve_link.new.disk held (g.L.Link.written c.args.link.now) (g.L.Link.written c.serve_link.new.link) (turns c.args.left requests end) c.serve_link.result
     c.serve_link.new.self (g.D.Disk.reads c.serve_link.new.disk) (g.D.Disk.images c.serve_link.new.disk) (g.C.Clock.ticks c.serve_link.new.clock)
-    (c.serve_link.ensures.serves tells held input requests end (holds_at g c held is) left asks)
+    (c.serve_link.ensures.serves tells held input requests end (subst (λ (h : Option SettledBookState). Holds h (g.D.Disk.reads c.args.disk.now) (g.D.Disk.images c.args.disk.now) (g.C.Clock.ticks c.args.clock.now) held) (sym c.new-clerk.ensures)
+    (record { file = is.stands; clock = is.clock; book = tt })) left asks)
 
 pub returns-clause-complete : goal.returns-clause-complete
 returns-clause-complete g c = λ tells held input requests end is left asks quiet link_quiet.
     completes g.D.Disk.reads g.D.Disk.images g.D.Disk.moment g.D.Disk.since g.D.Disk.faults c.args.disk.now c.serve_link.new.disk held (g.L.Link.written c.args.link.now) (g.L.Link.written c.serve_link.new.link) c.args.left requests end c.serve_link.result _
-    (g.L.Link.faults c.args.link.now) (g.L.Link.faults c.serve_link.new.link) (c.serve_link.ensures.serves tells held input requests end (holds_at g c held is) left asks) c.serve_link.ensures.cause quiet link_quiet
+    (g.L.Link.faults c.args.link.now) (g.L.Link.faults c.serve_link.new.link) (c.serve_link.ensures.serves tells held input requests end (subst (λ (h : Option SettledBookState). Holds h (g.D.Disk.reads c.args.disk.now) (g.D.Disk.images c.args.disk.now) (g.C.Clock.ticks c.args.clock.now) held) (sym c.new-clerk.ensures)
+    (record { file = is.stands; clock = is.clock; book = tt })) left asks) c.serve_link.ensures.cause quiet link_quiet
 
 pub returns-clause-kept : goal.returns-clause-kept
 returns-clause-kept g c = λ tells stands_for_none.
