@@ -1,5 +1,5 @@
 -- Neighbouring spans that are joined by way of pieces stand for the same line.
-use Rattle.std.proofs.Common.{◌≡◌, ◌≢◌, ℕ, zero, suc, ◌+◌, ◌<◌, ◌≤◌, All, true, false, cond, not, List, [], ◌∷◌, ◌++◌, filter, get_or, length, set, Option, None, Some, refl, replicate, subst, sum_by, sym, ap, arith, ◌∙◌}
+use Rattle.std.proofs.Common.{◌≡◌, ◌≢◌, ℕ, zero, suc, ◌+◌, ◌<◌, ◌≤◌, All, Bool, true, false, cond, not, List, [], ◌∷◌, ◌++◌, filter, get_or, length, set, Option, None, Some, refl, replicate, subst, sum_by, sym, ap, arith, ◌∙◌}
 use Rattle.std.specs.List.{AllByRecursion, list_any, position_or_len}
 use Rattle.std.proofs.lemmas.Bool.{false≢true}
 use Rattle.std.proofs.lemmas.List.{get_or-set_other, get_or-set_same, length-append}
@@ -63,13 +63,26 @@ pub all_owned : (a : SpanLists) (places : List Place) (row : List Span) (ps : Li
     → All (λ p. list_any (is_of p.right) places ≡ true) ps
 all_owned a places row ps cut joined line = All-from_recursion (λ p. list_any (is_of p.right) places ≡ true) ps (pieces_owned a places row ps cut joined line)
 
+all_left : (P : RightNo → Type 0) (test : RightNo → Bool) (cs : List RightNo) → AllByRecursion P cs → AllByRecursion P (filter test cs)
+all_left P test [] all = tt
+all_left P test (c ∷ cs) all = elim (test c) as (λ b. AllByRecursion P (cond b (c ∷ filter test cs) (filter test cs))) [ true ↦ (all.0, all_left P test cs all.1) | false ↦ all_left P test cs all.1 ]
+
+-- and that of each piece of a line that is written without some cents
+pub written_owned : (a : SpanLists) (places : List Place) (row spans : List Span) (ps : List Piece) → AreCut a places row → spans ≡ row → AreJoined ps
+    → line_of ps ≡ filter (λ c. not (is_dropped places c)) (line_of_spans spans) → All (λ p. list_any (is_of p.right) places ≡ true) ps
+written_owned a places row spans ps cut is joined line =
+    let P : RightNo → Type 0 = λ r. list_any (is_of r) places ≡ true in
+    let stays : RightNo → Bool = λ c. not (is_dropped places c) in
+    All-from_recursion (λ p. list_any (is_of p.right) places ≡ true) ps
+    (all_pieces P ps joined (subst (AllByRecursion P) (sym (line ∙ ap (λ xs. filter stays (line_of_spans xs)) is)) (all_left P stays (line_of_spans row) (all_cents P row cut.owned))))
+
 -- ---- the row of pieces
 
 spans_line : (n : ℕ) (ps : List Piece) → line_of_spans (spans_of n ps) ≡ line_of ps
 spans_line n [] = refl
 spans_line n (p ∷ ps) = ap (λ cs. replicate p.cents p.right ++ cs) (spans_line (n + p.cents) ps)
 
-spans_row : (n : ℕ) (ps : List Piece) → AreJoined ps → n + sum_by (λ p. p.cents) ps < most_sum → StandInRow n (spans_of n ps)
+pub spans_row : (n : ℕ) (ps : List Piece) → AreJoined ps → n + sum_by (λ p. p.cents) ps < most_sum → StandInRow n (spans_of n ps)
 spans_row n [] joined sum = omega (arith, sum)
 spans_row n (p ∷ ps) joined sum = (refl, (joined.0, spans_row (n + p.cents) ps joined.1.1 (omega (arith, sum, sum_by-cons (λ (q : Piece). q.cents) p ps))))
 

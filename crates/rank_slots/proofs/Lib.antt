@@ -1,5 +1,6 @@
 -- Lemmas.
 pub mod Ahead
+pub mod ChainCents
 pub mod ClaimedSpans
 pub mod CutLines
 pub mod DealSteps
@@ -23,6 +24,7 @@ pub mod LineCents
 pub mod LineCounts
 pub mod LineSwaps
 pub mod Lines
+pub mod LoneNumbers
 pub mod LonePay
 pub mod PlaceLines
 pub mod PlaceNumbers

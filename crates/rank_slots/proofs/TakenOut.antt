@@ -1,8 +1,13 @@
 -- What a filter keeps of the cents of one piece.
-use Rattle.std.proofs.Common.{◌≡◌, ℕ, Bool, true, false, cond, List, [], ◌∷◌, ◌++◌, filter, refl, replicate, sym, zero, suc, ap, ◌∙◌}
+use Rattle.std.proofs.Common.{◌≡◌, ℕ, Bool, true, false, cond, ◌&&◌, ◌||◌, List, [], ◌∷◌, ◌++◌, filter, refl, replicate, sym, zero, suc, ap, ◌∙◌}
 use Rattle.std.proofs.lemmas.List.{append-nil}
 use Rattle.std.proofs.lemmas.List.Elements.{filter-append}
+use Rattle.std.specs.List.{list_any}
+use Rattle.std.proofs.lemmas.Bool.{or_parts}
 use Rattle.gb_base.specs.RightNo.{RightNo}
+use Rattle.rank_slots.specs.CentLine.{is_dropped}
+use Rattle.rank_slots.specs.Groups.{is_of}
+use Rattle.rank_slots.specs.declared.places.Place.{Place}
 
 all_stay : (test : RightNo → Bool) (n : ℕ) (c : RightNo) → test c ≡ true → filter test (replicate n c) ≡ replicate n c
 all_stay test zero c stays = refl
@@ -24,3 +29,10 @@ pub goes_step : (test : RightNo → Bool) (n : ℕ) (c : RightNo) (cs more kept 
 goes_step test n c cs more kept goes further before =
     before
     ∙ sym (ap (filter test) further ∙ filter-append test cs (replicate n c) ∙ ap (λ gone. filter test cs ++ gone) (none_stay test n c goes) ∙ append-nil (filter test cs))
+
+-- where no place is dropped, none of a right's is
+pub none_dropped : (places : List Place) (r : RightNo) → list_any (λ p. p.dropped) places ≡ false → is_dropped places r ≡ false
+none_dropped [] r none = refl
+none_dropped (p ∷ ps) r none =
+    let parts = or_parts p.dropped (list_any (λ q. q.dropped) ps) none in
+    (λ i. (is_of r p && parts.0 i) || is_dropped ps r) ∙ elim (is_of r p) as (λ b. ((b && false) || is_dropped ps r) ≡ false) [ true ↦ none_dropped ps r parts.1 | false ↦ none_dropped ps r parts.1 ]

@@ -1,5 +1,6 @@
 //! How a line is cut into spans, and written from them.
 ghost use Rattle.std.specs.Prelude.{◌≡◌, ◌<◌, ◌≤◌, List, filter, length, not, sum_by, vec_capacity};
+ghost use Rattle.std.specs.List.{list_any};
 ghost use Rattle.gb_base.specs.Limits.{most_sum};
 ghost use Rattle.rank_slots.specs.CanFill.{ArePlaces};
 ghost use Rattle.rank_slots.specs.CentLine.{is_dropped};
@@ -66,11 +67,27 @@ pub(crate) fn write_line(pieces: &mut Vec<Piece>, spans: &[Span], places: &[Plac
     ensures capacity { vec_capacity pieces.new ≡ vec_capacity pieces.old }
 {
     pieces.clear();
+    let any = any_is_dropped(places);
     for span in spans {
-        if !is_dropped(places, span.right) {
+        if stays(places, any, span.right) {
             add_cents(pieces, span.right, span.cents);
         }
     }
+}
+
+/// Whether any place is dropped, which few lines have: then each span asks for its own.
+fn any_is_dropped(places: &[Place]) -> bool
+    ensures { result ≡ list_any (λ p. p.dropped) places.now }
+{
+    places.iter().any(|place| place.dropped)
+}
+
+/// Whether the cents of a right stay on the line, where any place is dropped or none is.
+fn stays(places: &[Place], any: bool, right: RightId) -> bool
+    requires { any ≡ list_any (λ p. p.dropped) places.now }
+    ensures { result ≡ not (is_dropped places.now right) }
+{
+    !(any && is_dropped(places, right))
 }
 
 /// Whether the right's place is dropped.

@@ -1,7 +1,7 @@
 //! Exchanges of a line in spans, each in the time of the spans of its two rights.
 //! Why so: docs/DECISIONS.md, "An exchange walks the spans of its two rights".
 ghost use Rattle.std.specs.Prelude.{◌≡◌, ◌+◌, ◌<◌, ◌≤◌, All, List, false, length, vec_capacity};
-ghost use Rattle.std.specs.List.{position_or_len};
+ghost use Rattle.std.specs.List.{IsDistinct, position_or_len};
 ghost use Rattle.gb_base.specs.RightNo.{same_right};
 ghost use Rattle.rank_slots.specs.CanFill.{ArePlaces, CanSwap, StandsAlone};
 ghost use Rattle.rank_slots.specs.CentLine.{exchange_all, written};
@@ -10,9 +10,8 @@ ghost use Rattle.rank_slots.specs.declared.spans.Span.{Span};
 ghost use Rattle.rank_slots.specs.inner.SpanLists.{lists_of};
 ghost use Rattle.rank_slots.specs.inner.Spans.{AreCut, StandFor, claimed_spans, exchange_spans};
 
-use crate::groups::places_ahead;
 use crate::spans::Spans;
-use crate::{Piece, Place, Swap};
+use crate::{Piece, Place, Swap, place_numbers};
 use gb_base::RightId;
 
 impl Spans {
@@ -88,9 +87,10 @@ impl Spans {
 
 /// The number of the right's place.
 fn number_of(places: &[Place], right: RightId) -> usize
-    requires { StandsAlone places.now right }
+    requires distinct { IsDistinct (λ p q. same_right p.right q.right) places.now }
+    requires alone { StandsAlone places.now right }
     ensures value { result ≡ position_or_len (is_of right) places.now }
     ensures within { result < length places.now }
 {
-    places_ahead(places, right)
+    place_numbers::number_of(places, right)
 }

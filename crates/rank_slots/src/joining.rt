@@ -10,7 +10,7 @@ ghost use Rattle.rank_slots.specs.inner.SpanLists.{lists_of};
 ghost use Rattle.rank_slots.specs.inner.Spans.{AreChained, AreCut, StandFor, line_of_spans, spans_of};
 
 use crate::cutting::write_line;
-use crate::groups::places_ahead;
+use crate::place_numbers::number_of;
 use crate::spans::{Span, Spans};
 use crate::{Piece, Place};
 
@@ -57,7 +57,7 @@ impl Spans {
     }
 
     /// Cuts a line anew into these pieces, with a chain of those of each place.
-    fn cut_again(&mut self, pieces: &[Piece], places: &[Place])
+    pub fn cut_again(&mut self, pieces: &[Piece], places: &[Place])
         requires places { ArePlaces places.now }
         requires owned { All (λ p. list_any (is_of p.right) places.now ≡ true) pieces.now }
         requires sum { sum_by (λ p. p.cents) pieces.now < most_sum }
@@ -76,7 +76,7 @@ impl Spans {
         self.clear(places);
         let mut from = 0;
         for piece in pieces {
-            let place = places_ahead(places, piece.right);
+            let place = number_of(places, piece.right);
             self.push(
                 place,
                 Span {

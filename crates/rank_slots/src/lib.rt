@@ -10,6 +10,7 @@ mod joining;
 pub mod laws;
 mod paying;
 mod pieces;
+mod place_numbers;
 mod places;
 mod relations;
 mod slots;

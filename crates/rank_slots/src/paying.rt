@@ -9,6 +9,7 @@ ghost use Rattle.rank_slots.specs.Payments.{claim_of, knot_of, share_in_group, p
 
 use crate::groups::{group_of, places_ahead};
 use crate::pieces::cents_within;
+use crate::place_numbers::lone_number;
 use crate::places::MOST_PLACES;
 use crate::{Knot, Place, Slots};
 use arrayvec::ArrayVec;
@@ -78,8 +79,21 @@ impl Slots {
         }
     }
 
-    /// How many of the first t cents the right gets, knots apart.
+    /// How many of the first t cents the right gets, knots apart. Of a right that stands alone its
+    /// own pieces are walked, and else those of the line.
     fn plain_pay(&self, right: RightId, t: u64) -> u64
+        requires { keeps_place self.now.filled.places right ≡ true }
+        ensures value { result ≡ plain_pay self.now.filled right t }
+        ensures bound { StandsAlone self.now.filled.places right → result < most_sum }
+    {
+        match lone_number(&self.places, right) {
+            Some(number) => self.spans.cents_within(number, t),
+            None => self.pay_in_group(right, t),
+        }
+    }
+
+    /// The same of a right that may be of one group with others.
+    fn pay_in_group(&self, right: RightId, t: u64) -> u64
         requires { keeps_place self.now.filled.places right ≡ true }
         ensures value { result ≡ plain_pay self.now.filled right t }
         ensures bound { StandsAlone self.now.filled.places right → result < most_sum }

@@ -10,6 +10,7 @@ ghost use Rattle.gb_base.specs.Limits.{most_sum};
 use crate::cutting::write_line;
 use crate::groups::group_of;
 use crate::pieces::total;
+use crate::place_numbers::lone_number;
 use crate::spans::Spans;
 use crate::{Knot, Piece, Place, Swap};
 use gb_base::{NoMemory, RightId};
@@ -28,14 +29,17 @@ pub struct Slots {
     pub(crate) knots: Vec<Knot>,
     /// The pieces of the line.
     pub(crate) pieces: Vec<Piece>,
-    /// Where the line is cut, exchanged and sorted.
-    spans: Spans,
+    /// Where the line is cut, exchanged and sorted; then the pieces, with a chain of those of each
+    /// place.
+    pub(crate) spans: Spans,
 }
 
 impl Model for Slots {
     ghost use Rattle.std.specs.Prelude.{◌+◌, vec_capacity};
     ghost use Rattle.rank_slots.specs.Filled.{SlotsState};
     ghost use Rattle.rank_slots.specs.inner.Slots.{HasRoom, HasSpanRoom, IsFilled};
+    ghost use Rattle.rank_slots.specs.inner.SpanLists.{lists_of};
+    ghost use Rattle.rank_slots.specs.inner.Spans.{AreChainedPieces};
 
     ghost Value = { SlotsState };
 
@@ -49,7 +53,8 @@ impl Model for Slots {
     ghost invariant = { λ a.
         IsFilled (record { places = a.places.items; swaps = a.swaps.items; knots = a.knots.items }) a.pieces.items
         × HasRoom a.place_room a.swap_room (vec_capacity a.places) (vec_capacity a.swaps) (vec_capacity a.knots) (vec_capacity a.pieces)
-        × HasSpanRoom a.place_room a.swap_room (vec_capacity a.spans.spans) (vec_capacity a.spans.links) (vec_capacity a.spans.heads) };
+        × HasSpanRoom a.place_room a.swap_room (vec_capacity a.spans.spans) (vec_capacity a.spans.links) (vec_capacity a.spans.heads)
+        × AreChainedPieces (lists_of a.spans) a.places.items a.pieces.items };
 }
 
 impl Slots {
@@ -105,6 +110,7 @@ impl Slots {
         self.spans.exchange_all(&mut self.pieces, places, swaps);
         self.spans.sort();
         write_line(&mut self.pieces, &self.spans.spans, places);
+        self.spans.cut_again(&self.pieces, places);
     }
 
     /// How many cents the line has. Takes no memory.
@@ -130,7 +136,10 @@ impl Slots {
     pub fn group(&self, right: RightId) -> &[Place]
         ensures value { result.now ≡ group_of self.now.filled.places right }
     {
-        group_of(&self.places, right)
+        match lone_number(&self.places, right) {
+            Some(number) => &self.places[number..number + 1],
+            None => group_of(&self.places, right),
+        }
     }
 
     /// The pieces of the line, in order. The cents of a group stand as the whole claims of its

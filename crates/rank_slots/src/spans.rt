@@ -1,8 +1,9 @@
 //! The spans of a line, in no order, with a chain of those of each place.
 //! Why so: docs/DECISIONS.md, "An exchange walks the spans of its two rights".
-ghost use Rattle.std.specs.Prelude.{◌≡◌, ◌++◌, ◌∷◌, [], ◌+◌, ◌<◌, ◌≤◌, length, slice_set, vec_capacity};
+ghost use Rattle.std.specs.Prelude.{◌≡◌, ◌++◌, ◌∷◌, [], ◌+◌, ◌<◌, ◌≤◌, List, length, slice_set, sum_by, vec_capacity};
 ghost use Rattle.gb_base.specs.Limits.{most_sum};
-ghost use Rattle.rank_slots.specs.inner.Spans.{Begins, back_of, begins_ahead, front_of, later_first, link_at};
+ghost use Rattle.rank_slots.specs.declared.spans.Span.{Span};
+ghost use Rattle.rank_slots.specs.inner.Spans.{Begins, CanBeWalked, back_of, begins_ahead, cents_within, front_of, later_first, link_at};
 
 use gb_base::RightId;
 
@@ -87,6 +88,24 @@ impl Spans {
         self.spans.push_reserved(span);
         self.links.push_reserved(self.heads[place]);
         self.heads[place] = Some(number);
+    }
+
+    /// How many of the first t cents of the line the spans of the place have.
+    pub fn cents_within(&self, place: usize, t: u64) -> u64
+        requires place { place < length self.now.heads.items }
+        requires as_many { length self.now.links.items ≡ length self.now.spans.items }
+        requires walk { (xs : List Span) × CanBeWalked self.now.spans.items self.now.links.items (link_at self.now.heads.items place) xs }
+        ensures value { (xs : List Span) → CanBeWalked self.now.spans.items self.now.links.items (link_at self.now.heads.items place) xs → result ≡ sum_by (cents_within t) xs }
+        ensures bound { result < most_sum }
+    {
+        let mut cents = 0;
+        let mut next = self.heads[place];
+        while let Some(number) = next {
+            let span = self.spans[number];
+            cents += span.cents.min(t.saturating_sub(span.from));
+            next = self.links[number];
+        }
+        cents
     }
 
     /// These two chains, the one that begins further behind on the line first.

@@ -1,5 +1,5 @@
 -- A line that is cut into spans, with a chain of the spans of each place.
-use Rattle.std.specs.Prelude.{◌≡◌, ℕ, ◌+◌, ◌-◌, ◌<◌, ◌≤◌, Bool, true, false, ◌==◌, nat_le, nat_lt, if◌then◌else◌, List, [], ◌∷◌, ◌++◌, Option, Some, None, flat_map, length, replicate, slice_index_or, slice_set}
+use Rattle.std.specs.Prelude.{◌≡◌, ℕ, ◌+◌, ◌-◌, ◌<◌, ◌≤◌, Bool, true, false, ◌==◌, nat_le, nat_lt, min, if◌then◌else◌, List, [], ◌∷◌, ◌++◌, Option, Some, None, flat_map, length, replicate, slice_index_or, slice_set, sum_by}
 use Rattle.std.specs.List.{AllByRecursion, list_any}
 use Rattle.gb_base.specs.Limits.{most_sum}
 use Rattle.gb_base.specs.RightNo.{RightNo, same_right}
@@ -141,6 +141,23 @@ span_dealt a s recede rise number left =
     else (if nat_le (span_at a.spans number).cents left then put a rise number (front_of (span_at a.spans number) (span_at a.spans number).cents s.rise)
     else pushed (put a rise number (front_of (span_at a.spans number) left s.rise)) recede (back_of (span_at a.spans number) left s.recede))
 
+-- ---- chains that are walked
+
+-- how many of the first t cents of the line a span has
+abbrev pub cents_within : ℕ → Span → ℕ
+cents_within t x = min x.cents (t - x.from)
+
+-- each span begins behind all that follow it
+abbrev pub Descend : List Span → Type 0
+Descend [] = Unit {0}
+Descend (x ∷ xs) = AllByRecursion (λ y. y.from < x.from) xs × Descend xs
+
+-- The chain from this number on has these spans, the last one first, with no more cents than a line may have.
+pub record CanBeWalked (spans : List Span) (links : List (Option ℕ)) (head : Option ℕ) (xs : List Span) : Type 0 where
+  pub chain : Linked spans links head xs
+  pub descends : Descend xs
+  pub sum : sum_by (λ x. x.cents) xs < most_sum
+
 -- ---- lists of spans that stand for a line
 
 -- the lists have for each place a chain of the spans of its right, the last one first
@@ -157,6 +174,13 @@ pub record AreCut (a : SpanLists) (places : List Place) (row : List Span) : Type
   pub chains : (n : ℕ) (p : Place) → n < length places → p ≡ slice_index_or places n p → Linked a.spans a.links (link_at a.heads n) (last_first (is_span_of p.right) [] row)
   pub owned : AllByRecursion (λ x. list_any (is_of x.right) places ≡ true) row
   pub claims : (right : RightNo) → cents_of right (line_of_spans row) ≡ claim_of places right
+
+-- The lists have just the spans of these pieces, with a chain for each place.
+pub record AreChainedPieces (a : SpanLists) (places : List Place) (pieces : List Piece) : Type 0 where
+  pub spans : a.spans ≡ spans_of 0 pieces
+  pub as_many_links : length a.links ≡ length a.spans
+  pub as_many_heads : length a.heads ≡ length places
+  pub chains : AreChained a places
 
 -- Such lists of some row that stands for this line.
 pub record StandFor (a : SpanLists) (places : List Place) (line : List RightNo) : Type 0 where

@@ -1,5 +1,5 @@
 -- The slots stand for what they were filled with.
-use Rattle.std.proofs.Common.{◌<◌, arith, ap, sym, subst, sum_by, length, ◌∙◌}
+use Rattle.std.proofs.Common.{◌≡◌, ◌<◌, All, true, arith, ap, sym, subst, sum_by, length, ◌∙◌}
 use Rattle.rank_slots.specs.CanFill.{CanFill}
 use Rattle.rank_slots.specs.CentLine.{cent_line}
 use Rattle.gb_base.specs.Limits.{most_sum}
@@ -7,6 +7,12 @@ use Rattle.rank_slots.specs.inner.Pieces.{line_of}
 use Rattle.rank_slots.specs.declared.spans.Span.{Span}
 use Rattle.rank_slots.proofs.Filling.{made_of_spans}
 use Rattle.rank_slots.proofs.KnotRoom.{no_more_knots}
+use Rattle.rank_slots.specs.declared.places.Piece.{Piece}
+use Rattle.rank_slots.specs.inner.SpanLists.{lists_of}
+use Rattle.rank_slots.specs.inner.Spans.{AreChained, spans_of}
+use Rattle.std.specs.List.{list_any}
+use Rattle.rank_slots.specs.Groups.{is_of}
+use Rattle.rank_slots.proofs.JoinedSpans.{written_owned}
 use Rattle.rank_slots.proofs.SpanLines.{row_sum}
 use Rattle.rank_slots.proofs.slots.Slots.fill.Goals as goal
 
@@ -27,6 +33,14 @@ write_line-requires-clause-sum c =
     let stands = c.exchange_all.ensures.cut in
     let sorted = c.deref.ensures.value ∙ c.sort.ensures.row c.args.places.now stands.row stands.cut in
     subst (λ xs. sum_by (λ (x : Span). x.cents) xs < most_sum) (sym sorted) (omega (arith, row_sum 0 stands.row stands.cut.in_row))
+
+pub cut_again-requires-clause-owned : goal.cut_again-requires-clause-owned
+cut_again-requires-clause-owned c =
+    let places = c.args.places.now in
+    let stands = c.exchange_all.ensures.cut in
+    let sorted = c.deref.ensures.value ∙ c.sort.ensures.row places stands.row stands.cut in
+    subst (All (λ (p : Piece). list_any (is_of p.right) places ≡ true)) (sym c.deref-2.ensures.value)
+    (written_owned (lists_of c.exchange_all.new.self) places stands.row c.deref.result.now c.write_line.new.pieces.items stands.cut sorted c.write_line.ensures.joined c.write_line.ensures.line)
 
 pub invariant_of-self : goal.invariant_of-self
 invariant_of-self c =
@@ -54,5 +68,11 @@ invariant_of-self c =
         spans = omega (arith, c.self.invariant.2.spans);
         links = omega (arith, c.self.invariant.2.links);
         heads = omega (arith, c.self.invariant.2.heads);
+      },
+      record {
+        spans = c.cut_again.ensures.spans ∙ ap (spans_of 0) c.deref-2.ensures.value;
+        as_many_links = c.cut_again.ensures.as_many_links;
+        as_many_heads = c.cut_again.ensures.as_many_heads ∙ ap length (sym c.copy_into.ensures.items);
+        chains = subst (AreChained (lists_of c.cut_again.new.self)) (sym c.copy_into.ensures.items) c.cut_again.ensures.chains;
       },
     )

@@ -1,29 +1,33 @@
-use Rattle.std.proofs.Common.{◌∙◌, ap, subst, arith}
+-- A right that stands alone gets its own cents, which its chain has.
+use Rattle.std.proofs.Common.{◌≡◌, ◌<◌, [], ap, drop, length, subst, take, ◌∙◌}
+use Rattle.std.specs.List.{position_or_len}
 use Rattle.rank_slots.specs.Filled.{SlotsState}
-use Rattle.rank_slots.specs.inner.Pieces.{line_of}
+use Rattle.rank_slots.specs.Groups.{group_of, is_of}
+use Rattle.rank_slots.specs.inner.SpanLists.{lists_of}
 use Rattle.rank_slots.specs.inner.Slots.{IsFilled}
-use Rattle.rank_slots.proofs.GroupShares.{read_alone, read_group, read_pay}
+use Rattle.rank_slots.specs.inner.Spans.{is_span_of, last_first, spans_of}
+use Rattle.rank_slots.proofs.ChainCents.{lone_chain, lone_pays}
 use Rattle.rank_slots.proofs.slots.Slots.plain_pay.Goals as goal
 
-pub share_in_group-requires : goal.share_in_group-requires
-share_in_group-requires c =
-    let is : IsFilled c.args.self.now.filled c.self.inside.pieces.items = subst (λ s. IsFilled s.filled c.self.inside.pieces.items) c.self.view_is c.self.invariant.0 in
-    let fit =
-    read_group c.args.self.now.filled c.deref.result.now c.group_of-group.result.now c.args.right
-    (c.deref.ensures.value ∙ ap (λ (s : SlotsState). s.filled.places) c.self.view_is) c.group_of-group.ensures is.fits.places c.requires in
-    record { there = fit.there; few = fit.few; claims = fit.claims; sum = fit.sum }
+pub cents_within-requires-clause-walk : goal.cents_within-requires-clause-walk
+cents_within-requires-clause-walk c =
+    let n = c.in-Some.number in
+    let pieces = c.self.inside.pieces.items in
+    let places = c.deref.ensures.value in (
+      last_first (is_span_of c.args.right) [] (spans_of 0 pieces),
+      lone_chain (lists_of c.self.inside.spans) c.self.inside.places.items pieces c.args.right n c.self.invariant.3 c.self.invariant.0.joined c.self.invariant.0.sum
+          (subst (λ ps. n < length ps) places (c.in-Some.ensures.within)) (c.in-Some.ensures.value ∙ ap (position_or_len (is_of c.args.right)) places),
+    )
 
-pub returns-clause-value : goal.returns-clause-value
-returns-clause-value c =
-    let is : IsFilled c.args.self.now.filled c.self.inside.pieces.items = subst (λ s. IsFilled s.filled c.self.inside.pieces.items) c.self.view_is c.self.invariant.0 in
-    read_pay c.args.self.now.filled c.deref.result.now c.group_of-group.result.now c.deref-2.result.now c.args.right c.args.t c.cents_within.result c.share_in_group.result
-    (c.deref.ensures.value ∙ ap (λ (s : SlotsState). s.filled.places) c.self.view_is) c.group_of-group.ensures
-    (ap line_of c.deref-2.ensures.value ∙ is.line) c.cents_within.ensures.value c.share_in_group.ensures
-
-pub returns-clause-bound : goal.returns-clause-bound
-returns-clause-bound c alone =
-    let all =
-    read_alone c.args.self.now.filled c.deref.result.now c.group_of-group.result.now c.args.right c.cents_within.result c.share_in_group.result
-    (c.deref.ensures.value ∙ ap (λ (s : SlotsState). s.filled.places) c.self.view_is) c.group_of-group.ensures c.share_in_group.ensures alone in
-    let few = c.cents_within.ensures.bound in
-    omega arith
+pub returns-in-Some-clause-value : goal.returns-in-Some-clause-value
+returns-in-Some-clause-value c =
+    let n = c.in-Some.number in
+    let r = c.args.right in
+    let pieces = c.self.inside.pieces.items in
+    let places = c.deref.ensures.value in
+    let is : IsFilled c.args.self.now.filled pieces = subst (λ s. IsFilled s.filled pieces) c.self.view_is c.self.invariant.0 in
+    let own = places ∙ ap (λ (s : SlotsState). s.filled.places) c.self.view_is in
+    let walk = lone_chain (lists_of c.self.inside.spans) c.self.inside.places.items pieces r n c.self.invariant.3 c.self.invariant.0.joined c.self.invariant.0.sum
+    (subst (λ ps. n < length ps) places c.in-Some.ensures.within) (c.in-Some.ensures.value ∙ ap (position_or_len (is_of r)) places) in
+    lone_pays c.args.self.now.filled pieces r c.args.t n c.cents_within.result is.line (subst (λ ps. n < length ps) own c.in-Some.ensures.within)
+    (subst (λ ps. group_of ps r ≡ take 1 (drop n ps)) own c.in-Some.ensures.group) (c.cents_within.ensures.value (last_first (is_span_of r) [] (spans_of 0 pieces)) walk)

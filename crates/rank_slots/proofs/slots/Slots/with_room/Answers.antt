@@ -1,10 +1,11 @@
 -- Empty slots have a line without places.
-use Rattle.std.proofs.Common.{◌≡◌, ◌+◌, ◌<◌, arith, ap, subst, sum_by, sym, ◌∙◌}
+use Rattle.std.proofs.Common.{◌≡◌, ◌+◌, ◌<◌, arith, ap, length, subst, sum_by, sym, ◌∙◌}
 use Rattle.std.proofs.lemmas.Grind.{common_steps}
 use Rattle.rank_slots.specs.CanFill.{CanFill}
 use Rattle.rank_slots.specs.CentLine.{cent_line}
 use Rattle.gb_base.specs.Limits.{most_sum}
 use Rattle.rank_slots.specs.inner.Pieces.{AreJoined, line_of}
+use Rattle.rank_slots.specs.inner.Spans.{spans_of}
 use Rattle.rank_slots.proofs.Filling.{no_cents, nothing_fits}
 use Rattle.rank_slots.proofs.slots.Slots.with_room.Goals as goal
 
@@ -31,5 +32,11 @@ invariant_of-result c =
         spans = omega (arith, c.in_ok-with_capacity-5.ensures.capacity);
         links = omega (arith, c.in_ok-with_capacity-6.ensures.capacity);
         heads = c.in_ok-with_capacity-7.ensures.capacity;
+      },
+      record {
+        spans = c.in_ok-with_capacity-5.ensures.items ∙ ap (spans_of 0) pieces;
+        as_many_links = ap length c.in_ok-with_capacity-6.ensures.items ∙ sym (ap length c.in_ok-with_capacity-5.ensures.items);
+        as_many_heads = ap length c.in_ok-with_capacity-7.ensures.items ∙ ap length places;
+        chains = λ n p within here. absurd (omega (arith, within, ap length places));
       },
     )

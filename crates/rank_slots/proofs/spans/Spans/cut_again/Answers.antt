@@ -27,7 +27,7 @@ push-requires-clause-place c =
     let places = c.args.places.now in
     let there = subst (λ p. list_any (is_of p.right) places ≡ true) (sym c.piece-item.is)
     (All-get_or (λ p. list_any (is_of p.right) places ≡ true) c.args.pieces.now c.loop-piece.piece-index c.piece-item.result c.loop-piece-test.true c.requires.owned) in
-    omega (arith, c.loop-piece.invariant.as_many_heads, c.places_ahead-place.ensures.value, first_within (is_of c.piece-item.result.right) places there)
+    omega (arith, c.loop-piece.invariant.as_many_heads, c.number_of-place.ensures.value, first_within (is_of c.piece-item.result.right) places there)
 
 pub loop-piece-preserved : goal.loop-piece-preserved
 loop-piece-preserved c =
@@ -41,8 +41,8 @@ loop-piece-preserved c =
       spans = spans_step c.loop-piece.self.spans.items c.push.new.self.spans.items c.args.pieces.now i c.loop-piece.from it _ c.loop-piece-test.true c.piece-item.is c.push.ensures.spans before.spans;
       from = ap (λ n. n + it.cents) before.from ∙ sym (sum_so_far c.args.pieces.now i it c.loop-piece-test.true c.piece-item.is);
       chains = subst (λ a. AreChained a places) (λ j. record { spans = sym c.push.ensures.spans j; links = sym c.push.ensures.links j; heads = sym c.push.ensures.heads j })
-          (chained_push (lists_of c.loop-piece.self) places (record { from = c.loop-piece.from; cents = it.cents; right = it.right }) c.places_ahead-place.result c.requires.places.distinct there
-          c.places_ahead-place.ensures.value before.as_many_links before.as_many_heads before.chains);
+          (chained_push (lists_of c.loop-piece.self) places (record { from = c.loop-piece.from; cents = it.cents; right = it.right }) c.number_of-place.result c.requires.places.distinct there
+          c.number_of-place.ensures.value before.as_many_links before.as_many_heads before.chains);
       as_many = grind (arith, length-append, c.push.ensures.spans);
       as_many_links = grind (arith, length-append, c.push.ensures.spans, c.push.ensures.links);
       as_many_heads = ap length c.push.ensures.heads ∙ length-set c.loop-piece.self.heads.items _ _ ∙ before.as_many_heads;
