@@ -15,6 +15,7 @@ pub mod LineRead
 pub mod LineRoom
 pub mod ListedAhead
 pub mod LiveAreHeld
+pub mod LiveLists
 pub mod LiveRights
 pub mod LoneGroups
 pub mod OwnGroups

@@ -1,5 +1,6 @@
 -- What only private clauses and proofs use.
 pub mod FilingRuns
+pub mod LiveLists
 pub mod NotHeld
 pub mod PlaceByPlace
 pub mod RightOrder

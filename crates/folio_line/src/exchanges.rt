@@ -1,10 +1,12 @@
 //! The exchanges of rank of a folio that count (BGB § 880).
-ghost use Rattle.std.specs.Prelude.{◌≡◌, ◌++◌, ◌≤◌, IfOk, filter, filter_map, flat_map, length, vec_capacity};
+ghost use Rattle.std.specs.Prelude.{◌≡◌, ◌++◌, ◌≤◌, true, IfOk, filter, filter_map, flat_map, length, vec_capacity};
 ghost use Rattle.std.specs.List.{list_any};
+ghost use Rattle.gb_base.specs.RightNo.{same_right};
 ghost use Rattle.gb_base.specs.declared.keys.Key.TheVariants.{Right};
 ghost use Rattle.folio_line.specs.Exchanges.{counted_at, is_cancellation_by_consent, keeps_cents, rise_by};
 ghost use Rattle.folio_line.specs.FolioLine.{all_rises, rises_of};
 ghost use Rattle.folio_line.specs.FolioReading.{CanBeRead, reads};
+ghost use Rattle.folio_line.specs.inner.LiveLists.{AreLive};
 ghost use Rattle.folio_line.specs.inner.Turns.{has_turn};
 
 use crate::FolioReading;
@@ -36,26 +38,33 @@ pub(crate) fn write_counted<P: Parts>(
     live: &[CreatedRight],
 )
     requires read { CanBeRead P.holds P.at reading.now }
+    requires live { AreLive (reads P.holds P.at reading.now) reading.now.folio live.now }
     requires room { length (filter has_turn (flat_map (counted_at (reads P.holds P.at reading.now) reading.now.folio) live.now)) ≤ vec_capacity list.old }
     ensures items { list.new.items ≡ filter has_turn (flat_map (counted_at (reads P.holds P.at reading.now) reading.now.folio) live.now) }
     ensures capacity { vec_capacity list.new ≡ vec_capacity list.old }
 {
     list.clear();
     for right in live {
-        add_counted(list, reading, right);
+        add_counted(list, reading, live, right);
     }
 }
 
-/// Adds the exchanges by which a live right rises, and that count.
-fn add_counted<P: Parts>(list: &mut Vec<Exchange>, reading: &FolioReading<P>, right: &CreatedRight)
+/// Adds the exchanges by which one of the live rights rises, and that count.
+fn add_counted<P: Parts>(
+    list: &mut Vec<Exchange>,
+    reading: &FolioReading<P>,
+    live: &[CreatedRight],
+    right: &CreatedRight,
+)
     requires read { CanBeRead P.holds P.at reading.now }
+    requires live { AreLive (reads P.holds P.at reading.now) reading.now.folio live.now }
     requires room { length (list.old.items ++ filter has_turn (counted_at (reads P.holds P.at reading.now) reading.now.folio right.now)) ≤ vec_capacity list.old }
     ensures items { list.new.items ≡ list.old.items ++ filter has_turn (counted_at (reads P.holds P.at reading.now) reading.now.folio right.now) }
     ensures capacity { vec_capacity list.new ≡ vec_capacity list.old }
 {
     for entry in exchange_entries(reading, right.id) {
         if let Some(exchange) = rise_by(right.id, entry) {
-            if keeps_cents(reading, exchange.recede) && has_turn(&exchange) {
+            if keeps_cents_beside(reading, live, exchange.recede) && has_turn(&exchange) {
                 list.push_reserved(exchange);
             }
         }
@@ -117,6 +126,34 @@ fn has_turn(exchange: &Exchange) -> bool
     let receipt = exchange.item.get();
     prove!(1 <= receipt);
     1 <= exchange.act && exchange.act <= 8
+}
+
+/// Whether the cents of a right stay, with the live rights at hand. It mostly is one of these, and then
+/// nothing is read of it: a folio may have thousands of exchanges among few rights.
+fn keeps_cents_beside<P: Parts>(
+    reading: &FolioReading<P>,
+    live: &[CreatedRight],
+    id: RightId,
+) -> bool
+    requires read { CanBeRead P.holds P.at reading.now }
+    requires live { AreLive (reads P.holds P.at reading.now) reading.now.folio live.now }
+    ensures { result ≡ keeps_cents (reads P.holds P.at reading.now (Right reading.now.folio id)) }
+{
+    is_found(live, id) || keeps_cents(reading, id)
+}
+
+/// Whether the right is found among these. Lists of rights stand by filing, so it is sought behind
+/// those of earlier filings, among the few of its own. In any other order it may be missed: what is
+/// found is there, and no clause says that all is found.
+fn is_found(rights: &[CreatedRight], id: RightId) -> bool
+    ensures { result ≡ true → list_any (λ x. same_right x.id id) rights.now ≡ true }
+{
+    let filing = id.receipt();
+    let earlier = rights.partition_point(|right| right.id.receipt() < filing);
+    rights[earlier..]
+        .iter()
+        .take_while(|right| right.id.receipt() == filing)
+        .any(|right| right.id == id)
 }
 
 /// Whether the cents of a right stay for those that rose into its rank: it is live, or it was

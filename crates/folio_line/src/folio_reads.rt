@@ -1,5 +1,7 @@
 //! What is read at a right of a folio; nothing where the parts do not hold it.
-ghost use Rattle.std.specs.Prelude.{◌≡◌, ◌≤◌, filter, filter_map, is_some, IfSome};
+ghost use Rattle.std.specs.Prelude.{◌≡◌, ◌≤◌, false, None, filter, filter_map, is_some, IfSome};
+ghost use Rattle.std.specs.List.{last_or};
+ghost use Rattle.std.specs.Option.{option_map_or};
 ghost use Rattle.gb_base.specs.Limits.{most_cents};
 ghost use Rattle.gb_base.specs.declared.keys.Key.TheVariants.{Right};
 ghost use Rattle.folio_sections.specs.Fronts.{NeverFall};
@@ -64,11 +66,15 @@ pub(crate) fn exchange_entries<'a, P: Parts>(
     }
 }
 
-/// The front of these entries in which all of their exchanges stand, which are so many at most.
+/// The front of these entries in which all of their exchanges stand, which are so many at most. They
+/// are walked for it only where they do not end in one: a right that is exchanged often mostly does.
 fn up_to_exchange(most: usize, entries: &[Entry]) -> &[Entry]
     requires { exchanges entries.now ≤ most }
     ensures { filter (λ e. is_exchange e.what) result.now ≡ filter (λ e. is_exchange e.what) entries.now }
 {
+    if ends_in_exchange(entries) {
+        return entries;
+    }
     let mut left = most;
     for (index, entry) in entries.iter().enumerate() {
         if left == 0 {
@@ -79,6 +85,16 @@ fn up_to_exchange(most: usize, entries: &[Entry]) -> &[Entry]
         }
     }
     entries
+}
+
+/// Whether the last of these entries is an exchange.
+fn ends_in_exchange(entries: &[Entry]) -> bool
+    ensures { result ≡ option_map_or (λ e. is_exchange e.what) (last_or None entries.now) false }
+{
+    match entries.last() {
+        Some(last) => is_exchange(&last.what),
+        None => false,
+    }
 }
 
 /// Whether a content exchanges the right's rank with that of another (BGB § 880).

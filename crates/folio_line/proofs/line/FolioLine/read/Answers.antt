@@ -7,6 +7,7 @@ use Rattle.folio_line.specs.FolioRights.{rights_where}
 use Rattle.folio_line.specs.FolioSlots.{stands_on_line}
 use Rattle.folio_line.specs.inner.RightWalk.{right_found}
 use Rattle.folio_line.specs.inner.Turns.{has_turn}
+use Rattle.folio_line.proofs.LiveLists.{are_live}
 use Rattle.folio_line.proofs.LineRead.{counted_fit, exchanges_written, exercises_written, have_turns, live_written, rights_fit, written}
 use Rattle.folio_line.proofs.line.FolioLine.read.Goals as goal
 
@@ -23,6 +24,14 @@ write_exercises-requires-clause-room g c =
     let at = reads g.P.Parts.holds g.P.Parts.at c.args.reading.now in
     rights_fit (right_found (stands_on_line []) at c.args.reading.now.folio) c.args.ids.now c.deref-2.result.now c.args.self.now.right_room c.self.inside.right_room (vec_capacity c.self.inside.exercises)
     (c.deref-2.ensures.value ∙ c.write_on_line.ensures.items) c.requires.rights (ap (λ (s : LineState). s.right_room) c.self.view_is) c.self.invariant.2
+
+pub write_counted-requires-clause-live : goal.write_counted-requires-clause-live
+write_counted-requires-clause-live g c =
+    let at = reads g.P.Parts.holds g.P.Parts.at c.args.reading.now in
+    let folio = c.args.reading.now.folio in
+    are_live at folio c.deref-3.result.now
+    (c.deref-3.ensures.value
+    ∙ live_written at folio c.args.ids.now c.deref.result.now c.write_by_group.new.list.items c.requires.all (c.deref.ensures.value ∙ c.write_on_line.ensures.items) c.write_by_group.ensures.items)
 
 pub write_counted-requires-clause-room : goal.write_counted-requires-clause-room
 write_counted-requires-clause-room g c =
