@@ -19,7 +19,7 @@ fn has_many_acts(receipts: &[Receipt]) -> bool {
     for receipt in receipts {
         acts = acts.saturating_add(count_acts(&receipt.item));
     }
-    acts / MANY_ACTS > receipts.len()
+    acts > receipts.len().saturating_mul(MANY_ACTS)
 }
 
 /// How many acts an item has; an item that is no filing has none.
