@@ -12,7 +12,7 @@ use Rattle.rank_slots.specs.Groups.{is_of}
 use Rattle.rank_slots.specs.CentLine.{cents_of, written}
 use Rattle.rank_slots.specs.declared.places.Place.{Place}
 use Rattle.rank_slots.specs.declared.spans.Span.{Span}
-use Rattle.rank_slots.specs.inner.Spans.{AreCut, Linked, SpanLists, StandInRow, claimed_spans, is_span_of, last_first, line_of_spans, link_at, span_at}
+use Rattle.rank_slots.specs.inner.Spans.{AreCut, Linked, SpanLists, StandInOrder, StandInRow, claimed_spans, is_span_of, last_first, line_of_spans, link_at, span_at}
 use Rattle.rank_slots.proofs.LineCounts.{counted_is}
 use Rattle.rank_slots.proofs.PlaceLines.{AreDifferent, claim_written, different_behind, none_behind}
 use Rattle.rank_slots.proofs.PlaceNumbers.{any_at}
@@ -21,7 +21,7 @@ pub claimed_count : (n : ℕ) (places : List Place) → length (claimed_spans n 
 claimed_count n [] = refl
 claimed_count n (p ∷ ps) = let rest = claimed_count (n + p.claim) ps in omega arith
 
-pub claimed_line : (n : ℕ) (places : List Place) → line_of_spans (claimed_spans n places) ≡ written places
+claimed_line : (n : ℕ) (places : List Place) → line_of_spans (claimed_spans n places) ≡ written places
 claimed_line n [] = refl
 claimed_line n (p ∷ ps) = ap (λ cs. replicate p.claim p.right ++ cs) (claimed_line (n + p.claim) ps)
 
@@ -70,19 +70,22 @@ lone_span m (q ∷ qs) (suc n) p differ within here =
 
 -- ---- together
 
-pub claimed_cut : (a : SpanLists) (places : List Place) → ArePlaces places → a.spans ≡ claimed_spans 0 places → length a.links ≡ length places → length a.heads ≡ length places
-    → ((n : ℕ) → n < length places → link_at a.links n ≡ None) → ((n : ℕ) → n < length places → link_at a.heads n ≡ Some n) → AreCut a places (claimed_spans 0 places)
-claimed_cut a places are spans links heads no_link own_head = record {
-  in_row = claimed_row 0 places are.claims (omega (arith, are.sum));
-  as_many = ap length spans;
-  as_many_links = links ∙ sym (ap length spans ∙ claimed_count 0 places);
-  as_many_heads = heads;
-  chains = λ n p within here.
-      subst (λ h. Linked a.spans a.links h (last_first (is_span_of p.right) [] (claimed_spans 0 places))) (sym (own_head n within))
-      (subst (Linked a.spans a.links (Some n)) (lone_span 0 places n p are.distinct within here) (
-        omega (arith, ap length spans, claimed_count 0 places, within),
-        (ap (λ xs. span_at xs n) spans, subst (λ h. Linked a.spans a.links h []) (sym (no_link n within)) tt),
-      ));
-  owned = claimed_owned 0 places places (λ right there. there);
-  claims = λ right. ap (cents_of right) (claimed_line 0 places) ∙ counted_is (same_right right) (written places) ∙ claim_written right places are.distinct;
+pub claimed_in_order : (a : SpanLists) (places : List Place) → ArePlaces places → a.spans ≡ claimed_spans 0 places → length a.links ≡ length places → length a.heads ≡ length places
+    → ((n : ℕ) → n < length places → link_at a.links n ≡ None) → ((n : ℕ) → n < length places → link_at a.heads n ≡ Some n) → StandInOrder a places (written places)
+claimed_in_order a places are spans links heads no_link own_head = record {
+  cut = subst (AreCut a places) (sym spans) (record {
+    in_row = claimed_row 0 places are.claims (omega (arith, are.sum));
+    as_many = ap length spans;
+    as_many_links = links ∙ sym (ap length spans ∙ claimed_count 0 places);
+    as_many_heads = heads;
+    chains = λ n p within here.
+        subst (λ h. Linked a.spans a.links h (last_first (is_span_of p.right) [] (claimed_spans 0 places))) (sym (own_head n within))
+        (subst (Linked a.spans a.links (Some n)) (lone_span 0 places n p are.distinct within here) (
+          omega (arith, ap length spans, claimed_count 0 places, within),
+          (ap (λ xs. span_at xs n) spans, subst (λ h. Linked a.spans a.links h []) (sym (no_link n within)) tt),
+        ));
+    owned = claimed_owned 0 places places (λ right there. there);
+    claims = λ right. ap (cents_of right) (claimed_line 0 places) ∙ counted_is (same_right right) (written places) ∙ claim_written right places are.distinct;
+  });
+  is_line = ap line_of_spans spans ∙ claimed_line 0 places;
 }

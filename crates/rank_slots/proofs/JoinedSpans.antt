@@ -14,7 +14,7 @@ use Rattle.rank_slots.specs.declared.places.Piece.{Piece}
 use Rattle.rank_slots.specs.declared.places.Place.{Place}
 use Rattle.rank_slots.specs.declared.spans.Span.{Span}
 use Rattle.rank_slots.specs.inner.Pieces.{AreJoined, line_of}
-use Rattle.rank_slots.specs.inner.Spans.{AreChained, AreCut, Linked, SpanLists, StandFor, StandInRow, is_span_of, last_first, line_of_spans, link_at, no_span, pushed, spans_of}
+use Rattle.rank_slots.specs.inner.Spans.{AreChained, AreCut, Linked, SpanLists, StandInOrder, StandInRow, is_span_of, last_first, line_of_spans, link_at, no_span, pushed, spans_of}
 use Rattle.rank_slots.proofs.PlaceLines.{AreDifferent}
 use Rattle.rank_slots.proofs.PlaceNumbers.{first_within, number_is}
 use Rattle.rank_slots.proofs.PutSpans.{none_passes}
@@ -90,22 +90,23 @@ spans_all : (P : RightNo → Type 0) (n : ℕ) (ps : List Piece) → AllByRecurs
 spans_all P n [] all = tt
 spans_all P n (p ∷ ps) all = (all.0, spans_all P (n + p.cents) ps all.1)
 
--- lists of these spans alone, which are chained, stand for the line of the pieces
-pub stand_for_pieces : (a b : SpanLists) (places : List Place) (row : List Span) (ps : List Piece) → AreCut a places row → AreJoined ps → sum_by (λ p. p.cents) ps < most_sum → line_of ps ≡ line_of_spans row
-    → b.spans ≡ spans_of 0 ps → length b.links ≡ length b.spans → length b.heads ≡ length places → AreChained b places → StandFor b places (line_of_spans row)
-stand_for_pieces a b places row ps cut joined sum line spans links heads chains = record {
-  row = spans_of 0 ps;
-  cut = record {
-    in_row = spans_row 0 ps joined (omega (arith, sum));
-    as_many = ap length spans;
-    as_many_links = links;
-    as_many_heads = heads;
-    chains = λ n p within here. subst (λ xs. Linked b.spans b.links (link_at b.heads n) (last_first (is_span_of p.right) [] xs)) spans (chains n p within here);
-    owned = spans_all (λ r. list_any (is_of r) places ≡ true) 0 ps (pieces_owned a places row ps cut joined line);
-    claims = λ right. ap (cents_of right) (spans_line 0 ps ∙ line) ∙ cut.claims right;
-  };
-  is_line = spans_line 0 ps ∙ line;
-}
+-- lists of these spans alone, which are chained, stand in order for the line of the pieces
+pub stand_in_order : (a b : SpanLists) (places : List Place) (row : List Span) (ps : List Piece) → AreCut a places row → AreJoined ps → sum_by (λ p. p.cents) ps < most_sum → line_of ps ≡ line_of_spans row
+    → b.spans ≡ spans_of 0 ps → length b.links ≡ length b.spans → length b.heads ≡ length places → AreChained b places → StandInOrder b places (line_of_spans row)
+stand_in_order a b places row ps cut joined sum line spans links heads chains =
+    let is_line = ap line_of_spans spans ∙ spans_line 0 ps ∙ line in
+    record {
+      cut = record {
+        in_row = subst (StandInRow 0) (sym spans) (spans_row 0 ps joined (omega (arith, sum)));
+        as_many = refl;
+        as_many_links = links;
+        as_many_heads = heads;
+        chains = chains;
+        owned = subst (AllByRecursion (λ x. list_any (is_of x.right) places ≡ true)) (sym spans) (spans_all (λ r. list_any (is_of r) places ≡ true) 0 ps (pieces_owned a places row ps cut joined line));
+        claims = λ right. ap (cents_of right) is_line ∙ cut.claims right;
+      };
+      is_line = is_line;
+    }
 
 -- ---- the chains of pieces
 

@@ -17,6 +17,7 @@ pub mod HandedOut
 pub mod Joined
 pub mod JoinedChains
 pub mod JoinedSpans
+pub mod KeptLines
 pub mod KnotPay
 pub mod KnotRoom
 pub mod KnotTies
@@ -30,6 +31,7 @@ pub mod PlaceLines
 pub mod PlaceNumbers
 pub mod Precedence
 pub mod PutSpans
+pub mod SameFillings
 pub mod SharedCents
 pub mod SortedSpans
 pub mod SpanChains

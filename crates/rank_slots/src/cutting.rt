@@ -3,12 +3,12 @@ ghost use Rattle.std.specs.Prelude.{◌≡◌, ◌<◌, ◌≤◌, List, filter,
 ghost use Rattle.std.specs.List.{list_any};
 ghost use Rattle.gb_base.specs.Limits.{most_sum};
 ghost use Rattle.rank_slots.specs.CanFill.{ArePlaces};
-ghost use Rattle.rank_slots.specs.CentLine.{is_dropped};
+ghost use Rattle.rank_slots.specs.CentLine.{is_dropped, written};
 ghost use Rattle.rank_slots.specs.declared.places.Place.{Place};
 ghost use Rattle.rank_slots.specs.declared.spans.Span.{Span};
 ghost use Rattle.rank_slots.specs.inner.Pieces.{AreJoined, line_of};
 ghost use Rattle.rank_slots.specs.inner.SpanLists.{lists_of};
-ghost use Rattle.rank_slots.specs.inner.Spans.{AreCut, claimed_spans, line_of_spans};
+ghost use Rattle.rank_slots.specs.inner.Spans.{AreCut, StandInOrder, line_of_spans};
 
 use crate::pieces::add_cents;
 use crate::spans::{Span, Spans};
@@ -16,13 +16,14 @@ use crate::{Piece, Place};
 use gb_base::RightId;
 
 impl Spans {
-    /// Cuts the line of these claims into a span for each place.
+    /// Cuts the line of these claims into a span for each place, in order.
     pub fn cut(&mut self, places: &[Place])
         requires places { ArePlaces places.now }
         requires room { length places.now ≤ vec_capacity self.old.spans }
         requires link_room { length places.now ≤ vec_capacity self.old.links }
         requires head_room { length places.now ≤ vec_capacity self.old.heads }
-        ensures cut { AreCut (lists_of self.new) places.now (claimed_spans 0 places.now) }
+        ensures cut { StandInOrder (lists_of self.new) places.now (written places.now) }
+        ensures few { length self.new.spans.items ≡ length places.now }
         ensures capacity { vec_capacity self.new.spans ≡ vec_capacity self.old.spans }
         ensures link_capacity { vec_capacity self.new.links ≡ vec_capacity self.old.links }
         ensures head_capacity { vec_capacity self.new.heads ≡ vec_capacity self.old.heads }

@@ -2,37 +2,37 @@
 //! Why so: docs/DECISIONS.md, "An exchange walks the spans of its two rights".
 ghost use Rattle.std.specs.Prelude.{◌≡◌, ◌+◌, ◌<◌, ◌≤◌, All, List, false, length, vec_capacity};
 ghost use Rattle.std.specs.List.{IsDistinct, position_or_len};
-ghost use Rattle.gb_base.specs.RightNo.{same_right};
+ghost use Rattle.gb_base.specs.RightNo.{RightNo, same_right};
 ghost use Rattle.rank_slots.specs.CanFill.{ArePlaces, CanSwap, StandsAlone};
-ghost use Rattle.rank_slots.specs.CentLine.{exchange_all, written};
+ghost use Rattle.rank_slots.specs.CentLine.{exchange_all};
 ghost use Rattle.rank_slots.specs.Groups.{is_of};
 ghost use Rattle.rank_slots.specs.declared.spans.Span.{Span};
 ghost use Rattle.rank_slots.specs.inner.SpanLists.{lists_of};
-ghost use Rattle.rank_slots.specs.inner.Spans.{AreCut, StandFor, claimed_spans, exchange_spans};
+ghost use Rattle.rank_slots.specs.inner.Spans.{AreCut, StandFor, exchange_spans};
 
 use crate::spans::Spans;
 use crate::{Piece, Place, Swap, place_numbers};
 use gb_base::RightId;
 
 impl Spans {
-    /// Makes these exchanges, one after the other. There is room for one span more of each. Now and
-    /// then neighbours are joined, by way of these pieces.
+    /// Makes these exchanges of the line that stands, one after the other. There is room for one span
+    /// more of each. Now and then neighbours are joined, by way of these pieces.
     pub fn exchange_all(&mut self, pieces: &mut Vec<Piece>, places: &[Place], swaps: &[Swap])
         requires places { ArePlaces places.now }
         requires swaps { All (CanSwap places.now) swaps.now }
-        requires cut { AreCut (lists_of self.old) places.now (claimed_spans 0 places.now) }
-        requires room { length places.now + length swaps.now ≤ vec_capacity self.old.spans }
-        requires link_room { length places.now + length swaps.now ≤ vec_capacity self.old.links }
+        requires stand { (line : List RightNo) × StandFor (lists_of self.old) places.now line }
+        requires room { length self.old.spans.items + length swaps.now ≤ vec_capacity self.old.spans }
+        requires link_room { length self.old.spans.items + length swaps.now ≤ vec_capacity self.old.links }
         requires head_room { length places.now ≤ vec_capacity self.old.heads }
-        requires piece_room { length places.now + length swaps.now ≤ vec_capacity pieces.old }
-        ensures cut { StandFor (lists_of self.new) places.now (exchange_all (written places.now) swaps.now) }
-        ensures few { length self.new.spans.items ≤ length places.now + length swaps.now }
+        requires piece_room { length self.old.spans.items + length swaps.now ≤ vec_capacity pieces.old }
+        ensures stand { (line : List RightNo) → StandFor (lists_of self.old) places.now line → StandFor (lists_of self.new) places.now (exchange_all line swaps.now) }
+        ensures few { length self.new.spans.items ≤ length self.old.spans.items + length swaps.now }
         ensures capacity { vec_capacity self.new.spans ≡ vec_capacity self.old.spans }
         ensures link_capacity { vec_capacity self.new.links ≡ vec_capacity self.old.links }
         ensures head_capacity { vec_capacity self.new.heads ≡ vec_capacity self.old.heads }
         ensures piece_capacity { vec_capacity pieces.new ≡ vec_capacity pieces.old }
     {
-        let mut left = places.len();
+        let mut left = self.spans.len();
         for swap in swaps {
             left = self.join_in_turn(left, pieces, places);
             self.exchange(places, swap);

@@ -7,7 +7,7 @@ ghost use Rattle.rank_slots.specs.CanFill.{ArePlaces};
 ghost use Rattle.rank_slots.specs.Groups.{is_of};
 ghost use Rattle.rank_slots.specs.declared.spans.Span.{Span};
 ghost use Rattle.rank_slots.specs.inner.SpanLists.{lists_of};
-ghost use Rattle.rank_slots.specs.inner.Spans.{AreChained, AreCut, StandFor, line_of_spans, spans_of};
+ghost use Rattle.rank_slots.specs.inner.Spans.{AreChained, AreCut, StandFor, StandInOrder, line_of_spans, spans_of};
 
 use crate::cutting::write_line;
 use crate::place_numbers::number_of;
@@ -37,14 +37,15 @@ impl Spans {
         self.spans.len()
     }
 
-    /// Joins all neighbours of one right, by way of these pieces.
-    fn join_neighbours(&mut self, pieces: &mut Vec<Piece>, places: &[Place])
+    /// Joins all neighbours of one right, by way of these pieces, and leaves the spans in the order of
+    /// the line.
+    pub fn join_neighbours(&mut self, pieces: &mut Vec<Piece>, places: &[Place])
         requires places { ArePlaces places.now }
         requires cut { (row : List Span) × AreCut (lists_of self.old) places.now row }
         requires room { length self.old.spans.items ≤ vec_capacity pieces.old }
         requires link_room { length self.old.spans.items ≤ vec_capacity self.old.links }
         requires head_room { length places.now ≤ vec_capacity self.old.heads }
-        ensures cut { (row : List Span) → AreCut (lists_of self.old) places.now row → StandFor (lists_of self.new) places.now (line_of_spans row) }
+        ensures cut { (row : List Span) → AreCut (lists_of self.old) places.now row → StandInOrder (lists_of self.new) places.now (line_of_spans row) }
         ensures few { length self.new.spans.items ≤ length self.old.spans.items }
         ensures capacity { vec_capacity self.new.spans ≡ vec_capacity self.old.spans }
         ensures link_capacity { vec_capacity self.new.links ≡ vec_capacity self.old.links }

@@ -7,6 +7,7 @@ mod cutting;
 mod exchanging;
 mod groups;
 mod joining;
+mod keeping;
 pub mod laws;
 mod paying;
 mod pieces;

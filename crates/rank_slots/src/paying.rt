@@ -87,7 +87,7 @@ impl Slots {
         ensures bound { StandsAlone self.now.filled.places right → result < most_sum }
     {
         match lone_number(&self.places, right) {
-            Some(number) => self.spans.cents_within(number, t),
+            Some(number) => self.chains.cents_within(number, t),
             None => self.pay_in_group(right, t),
         }
     }

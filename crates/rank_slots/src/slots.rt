@@ -29,9 +29,10 @@ pub struct Slots {
     pub(crate) knots: Vec<Knot>,
     /// The pieces of the line.
     pub(crate) pieces: Vec<Piece>,
-    /// Where the line is cut, exchanged and sorted; then the pieces, with a chain of those of each
-    /// place.
+    /// The line ahead of taking out dropped places, from which the next fill may go on.
     pub(crate) spans: Spans,
+    /// The pieces, with a chain of those of each place.
+    pub(crate) chains: Spans,
 }
 
 impl Model for Slots {
@@ -39,7 +40,7 @@ impl Model for Slots {
     ghost use Rattle.rank_slots.specs.Filled.{SlotsState};
     ghost use Rattle.rank_slots.specs.inner.Slots.{HasRoom, HasSpanRoom, IsFilled};
     ghost use Rattle.rank_slots.specs.inner.SpanLists.{lists_of};
-    ghost use Rattle.rank_slots.specs.inner.Spans.{AreChainedPieces};
+    ghost use Rattle.rank_slots.specs.inner.Spans.{AreChainedPieces, AreMadeOf};
 
     ghost Value = { SlotsState };
 
@@ -47,14 +48,16 @@ impl Model for Slots {
       place_room = a.place_room;
       swap_room = a.swap_room;
       filled = record { places = a.places.items; swaps = a.swaps.items; knots = a.knots.items };
-      capacity = vec_capacity a.places + vec_capacity a.swaps + vec_capacity a.knots + vec_capacity a.pieces + vec_capacity a.spans.spans + vec_capacity a.spans.links + vec_capacity a.spans.heads;
+      capacity = vec_capacity a.places + vec_capacity a.swaps + vec_capacity a.knots + vec_capacity a.pieces + vec_capacity a.spans.spans + vec_capacity a.spans.links + vec_capacity a.spans.heads + vec_capacity a.chains.spans + vec_capacity a.chains.links + vec_capacity a.chains.heads;
     } };
 
     ghost invariant = { λ a.
         IsFilled (record { places = a.places.items; swaps = a.swaps.items; knots = a.knots.items }) a.pieces.items
         × HasRoom a.place_room a.swap_room (vec_capacity a.places) (vec_capacity a.swaps) (vec_capacity a.knots) (vec_capacity a.pieces)
         × HasSpanRoom a.place_room a.swap_room (vec_capacity a.spans.spans) (vec_capacity a.spans.links) (vec_capacity a.spans.heads)
-        × AreChainedPieces (lists_of a.spans) a.places.items a.pieces.items };
+        × HasSpanRoom a.place_room a.swap_room (vec_capacity a.chains.spans) (vec_capacity a.chains.links) (vec_capacity a.chains.heads)
+        × AreMadeOf (lists_of a.spans) a.places.items a.swaps.items
+        × AreChainedPieces (lists_of a.chains) a.places.items a.pieces.items };
 }
 
 impl Slots {
@@ -77,11 +80,8 @@ impl Slots {
             swaps: Vec::with_capacity(alloc, swaps)?,
             knots: Vec::with_capacity(alloc, places)?,
             pieces: Vec::with_capacity(alloc, pieces)?,
-            spans: Spans {
-                spans: Vec::with_capacity(alloc, pieces)?,
-                links: Vec::with_capacity(alloc, pieces)?,
-                heads: Vec::with_capacity(alloc, places)?,
-            },
+            spans: Spans::with_room(alloc, pieces, places)?,
+            chains: Spans::with_room(alloc, pieces, places)?,
         })
     }
 
@@ -103,14 +103,13 @@ impl Slots {
         ensures swap_room { self.new.swap_room ≡ self.old.swap_room }
         ensures memory { self.new.capacity ≡ self.old.capacity }
     {
+        self.spans
+            .make_of(&mut self.pieces, &self.places, &self.swaps, places, swaps);
         copy_into(&mut self.places, places);
         copy_into(&mut self.swaps, swaps);
         copy_into(&mut self.knots, knots);
-        self.spans.cut(places);
-        self.spans.exchange_all(&mut self.pieces, places, swaps);
-        self.spans.sort();
         write_line(&mut self.pieces, &self.spans.spans, places);
-        self.spans.cut_again(&self.pieces, places);
+        self.chains.cut_again(&self.pieces, places);
     }
 
     /// How many cents the line has. Takes no memory.

@@ -1,11 +1,12 @@
 //! The spans of a line, in no order, with a chain of those of each place.
 //! Why so: docs/DECISIONS.md, "An exchange walks the spans of its two rights".
-ghost use Rattle.std.specs.Prelude.{◌≡◌, ◌++◌, ◌∷◌, [], ◌+◌, ◌<◌, ◌≤◌, List, length, slice_set, sum_by, vec_capacity};
+ghost use Rattle.std.specs.Prelude.{◌≡◌, ◌++◌, ◌∷◌, [], ◌+◌, ◌<◌, ◌≤◌, IfOk, List, length, slice_set, sum_by, vec_capacity};
 ghost use Rattle.gb_base.specs.Limits.{most_sum};
 ghost use Rattle.rank_slots.specs.declared.spans.Span.{Span};
 ghost use Rattle.rank_slots.specs.inner.Spans.{Begins, CanBeWalked, back_of, begins_ahead, cents_within, front_of, later_first, link_at};
 
-use gb_base::RightId;
+use gb_base::{NoMemory, RightId};
+use std::alloc::Global;
 
 /// Neighbouring cents of a line that are one right's.
 #[derive(Clone, Copy, Debug)]
@@ -55,6 +56,22 @@ pub(crate) struct Spans {
 }
 
 impl Spans {
+    /// No spans, with room for so many of so many places.
+    pub fn with_room(alloc: Global, spans: usize, places: usize) -> Result<Spans, NoMemory>
+        ensures spans { IfOk result (λ made. made.spans.items ≡ []) }
+        ensures links { IfOk result (λ made. made.links.items ≡ []) }
+        ensures heads { IfOk result (λ made. made.heads.items ≡ []) }
+        ensures room { IfOk result (λ made. spans ≤ vec_capacity made.spans) }
+        ensures link_room { IfOk result (λ made. spans ≤ vec_capacity made.links) }
+        ensures head_room { IfOk result (λ made. places ≤ vec_capacity made.heads) }
+    {
+        Ok(Spans {
+            spans: Vec::with_capacity(alloc, spans)?,
+            links: Vec::with_capacity(alloc, spans)?,
+            heads: Vec::with_capacity(alloc, places)?,
+        })
+    }
+
     /// Puts a span at this number, and ahead of the chain of the place.
     pub fn put(&mut self, place: usize, number: usize, span: Span)
         requires number { number < length self.old.spans.items }

@@ -13,3 +13,5 @@ mod fitting;
 mod lines;
 #[cfg(test)]
 mod longest_line_tests;
+#[cfg(test)]
+mod refill_tests;

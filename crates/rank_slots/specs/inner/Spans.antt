@@ -1,9 +1,10 @@
 -- A line that is cut into spans, with a chain of the spans of each place.
-use Rattle.std.specs.Prelude.{◌≡◌, ℕ, ◌+◌, ◌-◌, ◌<◌, ◌≤◌, Bool, true, false, ◌==◌, nat_le, nat_lt, min, if◌then◌else◌, List, [], ◌∷◌, ◌++◌, Option, Some, None, flat_map, length, replicate, slice_index_or, slice_set, sum_by}
+use Rattle.std.specs.Prelude.{◌≡◌, All, ℕ, ◌+◌, ◌-◌, ◌<◌, ◌≤◌, Bool, true, false, ◌==◌, nat_le, nat_lt, min, if◌then◌else◌, List, [], ◌∷◌, ◌++◌, Option, Some, None, flat_map, length, replicate, slice_index_or, slice_set, sum_by}
 use Rattle.std.specs.List.{AllByRecursion, list_any}
 use Rattle.gb_base.specs.Limits.{most_sum}
 use Rattle.gb_base.specs.RightNo.{RightNo, same_right}
-use Rattle.rank_slots.specs.CentLine.{cents_of, is_of_either}
+use Rattle.rank_slots.specs.CanFill.{CanSwap}
+use Rattle.rank_slots.specs.CentLine.{cents_of, exchange_all, is_of_either, written}
 use Rattle.rank_slots.specs.Groups.{is_of}
 use Rattle.rank_slots.specs.Payments.{claim_of}
 use Rattle.rank_slots.specs.declared.places.Piece.{Piece}
@@ -187,3 +188,23 @@ pub record StandFor (a : SpanLists) (places : List Place) (line : List RightNo) 
   pub row : List Span
   pub cut : AreCut a places row
   pub is_line : line_of_spans row ≡ line
+
+-- Such lists that have the spans in the order of the line.
+pub record StandInOrder (a : SpanLists) (places : List Place) (line : List RightNo) : Type 0 where
+  pub cut : AreCut a places a.spans
+  pub is_line : line_of_spans a.spans ≡ line
+
+-- ---- lists that are kept from one line to the next
+
+-- The lists stand in order for the line of these places behind these exchanges, each of which has cut one span at most.
+pub record AreMadeOf (a : SpanLists) (places : List Place) (swaps : List Swap) : Type 0 where
+  pub stand : StandInOrder a places (exchange_all (written places) swaps)
+  pub few : length a.spans ≤ length places + length swaps
+
+-- The lists stand in order for a line of these places behind which the further ones are all that is left of these exchanges.
+pub record AreToGoOn (a : SpanLists) (places : List Place) (further swaps : List Swap) : Type 0 where
+  pub line : List RightNo
+  pub stand : StandInOrder a places line
+  pub goes_on : exchange_all line further ≡ exchange_all (written places) swaps
+  pub few : length a.spans + length further ≤ length places + length swaps
+  pub can_swap : All (CanSwap places) further

@@ -6,7 +6,9 @@ use Rattle.rank_slots.specs.CentLine.{cent_line}
 use Rattle.gb_base.specs.Limits.{most_sum}
 use Rattle.rank_slots.specs.inner.Pieces.{AreJoined, line_of}
 use Rattle.rank_slots.specs.inner.Spans.{spans_of}
+use Rattle.rank_slots.specs.inner.SpanLists.{lists_of}
 use Rattle.rank_slots.proofs.Filling.{no_cents, nothing_fits}
+use Rattle.rank_slots.proofs.KeptLines.{none_made}
 use Rattle.rank_slots.proofs.slots.Slots.with_room.Goals as goal
 
 pub invariant_of-result : goal.invariant_of-result
@@ -15,6 +17,8 @@ invariant_of-result c =
     let swaps = sym c.in_ok-with_capacity-2.ensures.items in
     let knots = sym c.in_ok-with_capacity-3.ensures.items in
     let pieces = sym c.in_ok-with_capacity-4.ensures.items in
+    let line = c.in_ok-with_room.ensures in
+    let paid = c.in_ok-with_room-2.ensures in
     let both : c.in_ok-pieces.pieces ≡ c.args.places + c.args.swaps = grind (arith, common_steps, c.in_ok-pieces.ensures.ok_part, c.checked_add.ensures) in (
       record {
         fits = subst CanFill (λ i. record { places = places i; swaps = swaps i; knots = knots i }) nothing_fits;
@@ -28,15 +32,13 @@ invariant_of-result c =
         knots = c.in_ok-with_capacity-3.ensures.capacity;
         pieces = omega (arith, c.in_ok-with_capacity-4.ensures.capacity);
       },
+      record { spans = omega (arith, line.room); links = omega (arith, line.link_room); heads = line.head_room },
+      record { spans = omega (arith, paid.room); links = omega (arith, paid.link_room); heads = paid.head_room },
+      none_made (lists_of c.in_ok-with_room.field-0) _ _ line.spans line.links line.heads c.in_ok-with_capacity.ensures.items c.in_ok-with_capacity-2.ensures.items,
       record {
-        spans = omega (arith, c.in_ok-with_capacity-5.ensures.capacity);
-        links = omega (arith, c.in_ok-with_capacity-6.ensures.capacity);
-        heads = c.in_ok-with_capacity-7.ensures.capacity;
-      },
-      record {
-        spans = c.in_ok-with_capacity-5.ensures.items ∙ ap (spans_of 0) pieces;
-        as_many_links = ap length c.in_ok-with_capacity-6.ensures.items ∙ sym (ap length c.in_ok-with_capacity-5.ensures.items);
-        as_many_heads = ap length c.in_ok-with_capacity-7.ensures.items ∙ ap length places;
+        spans = paid.spans ∙ ap (spans_of 0) pieces;
+        as_many_links = ap length paid.links ∙ sym (ap length paid.spans);
+        as_many_heads = ap length paid.heads ∙ ap length places;
         chains = λ n p within here. absurd (omega (arith, within, ap length places));
       },
     )

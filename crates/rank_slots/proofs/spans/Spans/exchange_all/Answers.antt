@@ -1,16 +1,15 @@
 -- One exchange more.
-use Rattle.std.proofs.Common.{◌≡◌, ℕ, ◌+◌, ◌<◌, List, ap, arith, get_or, length, refl, subst, sym, take, ◌∙◌}
+use Rattle.std.proofs.Common.{◌≡◌, ℕ, ◌+◌, ◌<◌, List, ap, arith, get_or, length, subst, sym, take, ◌∙◌}
 use Rattle.std.proofs.lemmas.List.Elements.{All-get_or}
 use Rattle.std.proofs.lemmas.List.Sums.{fold_more}
 use Rattle.gb_base.specs.RightNo.{RightNo}
 use Rattle.rank_slots.specs.CanFill.{CanSwap}
-use Rattle.rank_slots.specs.CentLine.{exchange, exchange_all, written}
+use Rattle.rank_slots.specs.CentLine.{exchange, exchange_all}
 use Rattle.rank_slots.specs.declared.places.Place.{Place}
 use Rattle.rank_slots.specs.declared.places.Swap.{Swap}
 use Rattle.rank_slots.specs.declared.spans.Span.{Span}
 use Rattle.rank_slots.specs.inner.SpanLists.{lists_of}
-use Rattle.rank_slots.specs.inner.Spans.{AreCut, SpanLists, StandFor, claimed_spans, exchange_spans}
-use Rattle.rank_slots.proofs.ClaimedSpans.{claimed_count, claimed_line}
+use Rattle.rank_slots.specs.inner.Spans.{AreCut, SpanLists, StandFor, exchange_spans}
 use Rattle.rank_slots.proofs.SpanLines.{line_behind}
 use Rattle.rank_slots.proofs.spans.Spans.exchange_all.Goals as goal
 
@@ -24,15 +23,26 @@ stand_behind a d places line more s stands behind next = record {
   is_line = line_behind s stands.row ∙ ap (λ cs. exchange cs s) stands.is_line ∙ next;
 }
 
-pub loop-swap-init : goal.loop-swap-init
-loop-swap-init c = record {
-  cut = record { row = claimed_spans 0 c.args.places.now; cut = c.requires.cut; is_line = claimed_line 0 c.args.places.now };
-  few = omega (arith, c.requires.cut.as_many, claimed_count 0 c.args.places.now);
-  capacity = refl;
-  link_capacity = refl;
-  head_capacity = refl;
-  piece_capacity = refl;
-}
+pub join_in_turn-left-requires-clause-cut : goal.join_in_turn-left-requires-clause-cut
+join_in_turn-left-requires-clause-cut c =
+    let so_far = c.loop-swap.invariant.stand c.requires.stand.0 c.requires.stand.1 in
+    (so_far.row, so_far.cut)
+
+pub exchange-requires-clause-cut : goal.exchange-requires-clause-cut
+exchange-requires-clause-cut c =
+    let so_far = c.loop-swap.invariant.stand c.requires.stand.0 c.requires.stand.1 in
+    let joined = c.join_in_turn-left.ensures.cut so_far.row so_far.cut in
+    (joined.row, joined.cut)
+
+pub exchange-requires-clause-as_many : goal.exchange-requires-clause-as_many
+exchange-requires-clause-as_many c =
+    let so_far = c.loop-swap.invariant.stand c.requires.stand.0 c.requires.stand.1 in
+    (c.join_in_turn-left.ensures.cut so_far.row so_far.cut).cut.as_many_links
+
+pub exchange-requires-clause-as_many_heads : goal.exchange-requires-clause-as_many_heads
+exchange-requires-clause-as_many_heads c =
+    let so_far = c.loop-swap.invariant.stand c.requires.stand.0 c.requires.stand.1 in
+    (c.join_in_turn-left.ensures.cut so_far.row so_far.cut).cut.as_many_heads
 
 pub exchange-requires-clause-swap : goal.exchange-requires-clause-swap
 exchange-requires-clause-swap c =
@@ -41,14 +51,15 @@ exchange-requires-clause-swap c =
 pub loop-swap-preserved : goal.loop-swap-preserved
 loop-swap-preserved c =
     let before = c.loop-swap.invariant in
-    let joined = c.join_in_turn-left.ensures.cut before.cut.row before.cut.cut in
     let places = c.args.places.now in
     let swaps = c.args.swaps.now in
-    let line = exchange_all (written places) (take c.loop-swap.swap-index swaps) in
     let s = c.swap-item.result in
     record {
-      cut = stand_behind (lists_of c.join_in_turn-left.new.self) (lists_of c.exchange.new.self) places line _ s (subst (StandFor (lists_of c.join_in_turn-left.new.self) places) before.cut.is_line joined) c.exchange.ensures.cut
-          (one_more (written places) swaps c.loop-swap.swap-index s c.loop-swap-test.true c.swap-item.is);
+      stand = λ line began.
+          let so_far = before.stand line began in
+          let joined = c.join_in_turn-left.ensures.cut so_far.row so_far.cut in
+          stand_behind (lists_of c.join_in_turn-left.new.self) (lists_of c.exchange.new.self) places (exchange_all line (take c.loop-swap.swap-index swaps)) _ s
+          (subst (StandFor (lists_of c.join_in_turn-left.new.self) places) so_far.is_line joined) c.exchange.ensures.cut (one_more line swaps c.loop-swap.swap-index s c.loop-swap-test.true c.swap-item.is);
       few = omega (arith, before.few, c.join_in_turn-left.ensures.few, c.exchange.ensures.few);
       capacity = c.exchange.ensures.capacity ∙ c.join_in_turn-left.ensures.capacity ∙ before.capacity;
       link_capacity = c.exchange.ensures.link_capacity ∙ c.join_in_turn-left.ensures.link_capacity ∙ before.link_capacity;

@@ -7,7 +7,7 @@ use Rattle.rank_slots.specs.declared.places.Piece.{Piece}
 use Rattle.rank_slots.specs.declared.spans.Span.{Span}
 use Rattle.rank_slots.specs.inner.SpanLists.{lists_of}
 use Rattle.rank_slots.specs.inner.Spans.{spans_of}
-use Rattle.rank_slots.proofs.JoinedSpans.{all_owned, stand_for_pieces, written_line}
+use Rattle.rank_slots.proofs.JoinedSpans.{all_owned, stand_in_order, written_line}
 use Rattle.rank_slots.proofs.SpanLines.{row_sum}
 use Rattle.rank_slots.proofs.spans.Spans.join_neighbours.Goals as goal
 
@@ -31,5 +31,5 @@ returns-clause-cut c = λ row cut.
     let places = c.args.places.now in
     let ps = c.write_line.new.pieces.items in
     let line = written_line c.deref.result.now row _ (c.deref.ensures.value ∙ c.sort.ensures.row places row cut) c.write_line.ensures.line in
-    stand_for_pieces (lists_of c.args.self.now) (lists_of c.cut_again.new.self) places row ps cut c.write_line.ensures.joined c.write_line.ensures.sum line
+    stand_in_order (lists_of c.args.self.now) (lists_of c.cut_again.new.self) places row ps cut c.write_line.ensures.joined c.write_line.ensures.sum line
     (c.cut_again.ensures.spans ∙ ap (spans_of 0) c.deref-2.ensures.value) c.cut_again.ensures.as_many_links c.cut_again.ensures.as_many_heads c.cut_again.ensures.chains
