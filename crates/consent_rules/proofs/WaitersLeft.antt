@@ -1,7 +1,8 @@
 -- The applicants of those filings that wait at a right and stand above a number: the ones that a loop still has to ask.
-use Rattle.std.proofs.Common.{◌≡◌, ℕ, ◌<◌, Bool, false, ◌||◌, List, ◌∷◌, length, filter, filter_map, find, Option, Some, None, refl, sym, ap, ◌∙◌, arith}
+use Rattle.std.proofs.Common.{◌≡◌, ℕ, ◌<◌, Bool, false, ◌||◌, List, ◌∷◌, length, filter, filter_map, find, Option, Some, None, is_some, refl, sym, ap, ◌∙◌, arith}
 use Rattle.std.specs.List.{list_any}
 use Rattle.std.specs.Option.{option_eq, option_map_or}
+use Rattle.std.proofs.lemmas.Bool.{false≢true}
 use Rattle.act_model.specs.declared.receipts.Receipt.{Receipt}
 use Rattle.act_model.specs.Touches.{applicant_of}
 use Rattle.folio_sections.specs.Waiting.{is_above, waiting_before}
@@ -52,6 +53,15 @@ pub none_pass : (p : ℕ → Bool) (journal : List Receipt) (after : Option ℕ)
     → false ≡ list_any p (waiting_applicants journal m entries)
 none_pass p journal after m entries is so_far =
     ap (λ ns. list_any p (filter_map (applicant_of journal) ns)) (sym (none_above (is_above after) (waiting_before m entries) (sym is))) ∙ so_far
+
+-- where no filing waits, nobody passes
+pub none_wait : (p : ℕ → Bool) (journal : List Receipt) (m : ℕ) (entries : List Entry) → is_some (find (is_above None) (waiting_before m entries)) ≡ false
+    → false ≡ list_any p (waiting_applicants journal m entries)
+none_wait p journal m entries none = none_pass p journal None m entries (not_some _ none) (all_left p journal m entries)
+  where
+    not_some : (o : Option ℕ) → is_some o ≡ false → None ≡ o
+    not_some (Some n) some = absurd (false≢true (sym some))
+    not_some None some = refl
 
 -- what may be there equals this
 pub given_is : (e : ℕ → ℕ → Bool) (o : Option ℕ) (y : ℕ) → option_map_or (λ x. e x y) o false ≡ option_eq e o (Some y)

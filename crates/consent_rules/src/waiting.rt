@@ -1,8 +1,9 @@
 //! The earlier filings that wait at a right (BGB § 876).
-ghost use Rattle.std.specs.Prelude.{◌≡◌, ◌==◌, false, find, nat_le};
+ghost use Rattle.std.specs.Prelude.{◌≡◌, ◌==◌, false, find, is_some, nat_le, None};
 ghost use Rattle.std.specs.List.{list_any, slice_get};
 ghost use Rattle.std.specs.Option.{option_map_or};
 ghost use Rattle.gb_base.specs.Ascending.{AscendsBy};
+ghost use Rattle.folio_sections.specs.Waiting.{is_above, waiting_before};
 ghost use Rattle.consent_rules.specs.Persons.{waiting_applicants};
 ghost use Rattle.consent_rules.specs.inner.Lacks.{is_lacking};
 
@@ -52,13 +53,17 @@ impl<'a> Waiting<'a> {
     }
 
     /// Whether this is lacking from one of them. Who lacks the form has consented in plain form
-    /// alone, so those who have are asked; else all of them, until one has not consented.
+    /// alone, so where anybody waits those who have are asked; else all of them, until one has not
+    /// consented.
     pub fn some(&self, lack: &Lack) -> bool
         ensures { result ≡ list_any (is_lacking lack.now) self.now }
     {
         match lack {
             Lack::Consent(_, _) => some_waits(self.journal, self.before, self.part, lack),
-            Lack::Form(matter, act) => matter.some_plain_consenter(*act, &Waiter { waiting: self }),
+            Lack::Form(matter, act) => {
+                some_filing_waits(self.before, self.part)
+                    && matter.some_plain_consenter(*act, &Waiter { waiting: self })
+            }
         }
     }
 }
@@ -78,6 +83,13 @@ impl<'a> PersonTest for Waiter<'a> {
     fn passes(&self, person: Person) -> bool {
         self.waiting.has(person)
     }
+}
+
+/// Whether an earlier filing waits at the right.
+fn some_filing_waits(before: ReceiptNo, part: &RightPart) -> bool
+    ensures { result ≡ is_some (find (is_above None) (waiting_before before part.now.entries)) }
+{
+    part.next_pending(None, before).is_some()
 }
 
 /// Whether the person is an applicant of an earlier filing that waits at the right: a filing that
