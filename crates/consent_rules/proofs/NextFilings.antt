@@ -14,7 +14,7 @@ use Rattle.folio_sections.specs.Waiting.{is_above, waiting_before}
 use Rattle.folio_sections.specs.declared.entries.Entry.{Entry}
 use Rattle.consent_rules.specs.Persons.{waiting_applicants}
 use Rattle.consent_rules.proofs.ListLemmas.{any_given}
-use Rattle.consent_rules.proofs.WaitersLeft.{applicants_above, asked_first, fewer_left, left_above}
+use Rattle.consent_rules.proofs.WaitersLeft.{all_left, applicants_above, asked_first, fewer_left, left_above}
 
 -- ---- the first of ascending numbers that is not below another
 
@@ -95,33 +95,34 @@ none_between a w n f (x ∷ xs) up h above less =
 -- ---- those who wait, from one number to another
 
 -- where none up to a number passes, those above it are left
-skip_to : (p : ℕ → Bool) (f : ℕ → Option ℕ) (w g : ℕ) (ns : List ℕ) → w ≤ g → ((n : ℕ) → w < n → n ≤ g → option_map_or p (f n) false ≡ false)
-    → list_any p (filter_map f (filter (is_above (Some w)) ns)) ≡ list_any p (filter_map f (filter (is_above (Some g)) ns))
-skip_to p f w g [] le fail = refl
-skip_to p f w g (n ∷ ns) le fail = by_tests (nat_lt w n) (nat_lt g n) (skip_to p f w g ns le fail) refl refl
+skip_to : (p : ℕ → Bool) (f : ℕ → Option ℕ) (after : Option ℕ) (g : ℕ) (ns : List ℕ) → ((n : ℕ) → nat_lt g n ≡ true → is_above after n ≡ true)
+    → ((n : ℕ) → is_above after n ≡ true → n ≤ g → option_map_or p (f n) false ≡ false)
+    → list_any p (filter_map f (filter (is_above after) ns)) ≡ list_any p (filter_map f (filter (is_above (Some g)) ns))
+skip_to p f after g [] over fail = refl
+skip_to p f after g (n ∷ ns) over fail = by_tests (is_above after n) (nat_lt g n) (skip_to p f after g ns over fail) refl refl
   where
-    by_tests : (a b : Bool) → list_any p (filter_map f (filter (is_above (Some w)) ns)) ≡ list_any p (filter_map f (filter (is_above (Some g)) ns))
-        → nat_lt w n ≡ a → nat_lt g n ≡ b
-        → list_any p (filter_map f (cond a (n ∷ filter (is_above (Some w)) ns) (filter (is_above (Some w)) ns))) ≡ list_any p (filter_map f (cond b (n ∷ filter (is_above (Some g)) ns) (filter (is_above (Some g)) ns)))
+    by_tests : (a b : Bool) → list_any p (filter_map f (filter (is_above after) ns)) ≡ list_any p (filter_map f (filter (is_above (Some g)) ns))
+        → is_above after n ≡ a → nat_lt g n ≡ b
+        → list_any p (filter_map f (cond a (n ∷ filter (is_above after) ns) (filter (is_above after) ns))) ≡ list_any p (filter_map f (cond b (n ∷ filter (is_above (Some g)) ns) (filter (is_above (Some g)) ns)))
     by_tests true true rest low high =
-        any_given p (f n) (filter_map f (filter (is_above (Some w)) ns)) ∙ ap (λ c. option_map_or p (f n) false || c) rest
+        any_given p (f n) (filter_map f (filter (is_above after) ns)) ∙ ap (λ c. option_map_or p (f n) false || c) rest
         ∙ sym (any_given p (f n) (filter_map f (filter (is_above (Some g)) ns)))
     by_tests true false rest low high =
-        any_given p (f n) (filter_map f (filter (is_above (Some w)) ns))
-        ∙ ap (λ c. c || list_any p (filter_map f (filter (is_above (Some w)) ns))) (fail n (grind (arith, nat_tests, low)) (grind (arith, nat_tests, high)))
+        any_given p (f n) (filter_map f (filter (is_above after) ns))
+        ∙ ap (λ c. c || list_any p (filter_map f (filter (is_above after) ns))) (fail n low (grind (arith, nat_tests, high)))
         ∙ rest
-    by_tests false true rest low high = absurd (grind (arith, nat_tests, low, high, le))
+    by_tests false true rest low high = absurd (false≢true (sym low ∙ over n high))
     by_tests false false rest low high = rest
 
 -- where none above a number passes, none is left that does
-none_from : (p : ℕ → Bool) (f : ℕ → Option ℕ) (w : ℕ) (ns : List ℕ) → ((n : ℕ) → w < n → option_map_or p (f n) false ≡ false)
-    → list_any p (filter_map f (filter (is_above (Some w)) ns)) ≡ false
-none_from p f w [] fail = refl
-none_from p f w (n ∷ ns) fail = by_test (nat_lt w n) (none_from p f w ns fail) refl
+none_from : (p : ℕ → Bool) (f : ℕ → Option ℕ) (after : Option ℕ) (ns : List ℕ) → ((n : ℕ) → is_above after n ≡ true → option_map_or p (f n) false ≡ false)
+    → list_any p (filter_map f (filter (is_above after) ns)) ≡ false
+none_from p f after [] fail = refl
+none_from p f after (n ∷ ns) fail = by_test (is_above after n) (none_from p f after ns fail) refl
   where
-    by_test : (a : Bool) → list_any p (filter_map f (filter (is_above (Some w)) ns)) ≡ false → nat_lt w n ≡ a → list_any p (filter_map f (cond a (n ∷ filter (is_above (Some w)) ns) (filter (is_above (Some w)) ns))) ≡ false
+    by_test : (a : Bool) → list_any p (filter_map f (filter (is_above after) ns)) ≡ false → is_above after n ≡ a → list_any p (filter_map f (cond a (n ∷ filter (is_above after) ns) (filter (is_above after) ns))) ≡ false
     by_test true rest low =
-        any_given p (f n) (filter_map f (filter (is_above (Some w)) ns)) ∙ neither _ _ (fail n (grind (arith, nat_tests, low))) rest
+        any_given p (f n) (filter_map f (filter (is_above after) ns)) ∙ neither _ _ (fail n low) rest
     by_test false rest low = rest
 
 fewer_above : (w g : ℕ) (ns : List ℕ) → w ≤ g → length (filter (is_above (Some g)) ns) ≤ length (filter (is_above (Some w)) ns)
@@ -133,6 +134,38 @@ fewer_above w g (n ∷ ns) le = by_tests (nat_lt w n) (nat_lt g n) (fewer_above 
     by_tests true false rest low high = omega arith
     by_tests false true rest low high = absurd (grind (arith, nat_tests, low, high, le))
     by_tests false false rest low high = rest
+
+-- ---- where the walk begins
+
+-- who has no filing does not wait
+pub none_filed : (journal : List Receipt) (person m : ℕ) (entries : List Entry) → slice_get (filings_of journal person) 0 ≡ None
+    → false ≡ list_any (λ q. eqb q person) (waiting_applicants journal m entries)
+none_filed journal person m entries none =
+    sym (none_from (λ q. eqb q person) (applicant_of journal) None (waiting_before m entries)
+    (λ n any. sym (listed_where_applied journal person n) ∙ ap (list_any (λ k. eqb k n)) (no_first (filings_of journal person) none)))
+    ∙ all_left (λ q. eqb q person) journal m entries
+  where
+    no_first : (xs : List ℕ) → slice_get xs 0 ≡ None → xs ≡ []
+    no_first [] e = refl
+    no_first (x ∷ xs) e = absurd (false≢true (sym (ap is_some e)))
+
+-- none is listed below the first
+below_first : (n first : ℕ) (xs : List ℕ) → AscendsBy (λ k. k) 1 xs → slice_get xs 0 ≡ Some first → n ≤ first - 1 → list_any (λ k. eqb k n) xs ≡ false
+below_first n first [] up is low = refl
+below_first n first (x ∷ xs) up is low =
+    let same : x ≡ first = cc in
+    let some = up.0 in
+    below_start x n (x ∷ xs) (omega arith, up.1) (grind (arith, same, some, low))
+
+-- whose first filing is above a number waits with those above it
+pub from_first : (journal : List Receipt) (person m first : ℕ) (after : Option ℕ) (entries : List Entry) → slice_get (filings_of journal person) 0 ≡ Some first
+    → IfSome after (λ k. k ≡ first - 1)
+    → list_any (λ q. eqb q person) (applicants_above journal after m entries) ≡ list_any (λ q. eqb q person) (waiting_applicants journal m entries)
+from_first journal person m first None entries is value = all_left (λ q. eqb q person) journal m entries
+from_first journal person m first (Some g) entries is value =
+    sym (skip_to (λ q. eqb q person) (applicant_of journal) None g (waiting_before m entries) (λ n above. refl)
+    (λ n any low. sym (listed_where_applied journal person n) ∙ below_first n first (filings_of journal person) (filings_ascend journal person) is (subst (λ k. n ≤ k) value low)))
+    ∙ all_left (λ q. eqb q person) journal m entries
 
 -- ---- one step
 
@@ -154,7 +187,7 @@ module _ (journal : List Receipt) (person : ℕ) (after : Option ℕ) (m w : ℕ
       → false ≡ list_any is_person (waiting_applicants journal m entries)
   no_other is next so_far =
       let fails : (n : ℕ) → w ≤ n → option_map_or is_person (applicant_of journal n) false ≡ false = λ n above. sym (listed_where_applied journal person n) ∙ none_listed w n (filings_of journal person) next above in
-      sym (none_from is_person (applicant_of journal) w (waiting_before m entries) (λ n above. fails n (omega arith)))
+      sym (none_from is_person (applicant_of journal) (Some w) (waiting_before m entries) (λ n above. fails n (grind (arith, nat_tests, above))))
       ∙ asked_first is_person journal after m w false entries is so_far (fails w (omega arith))
 
   -- the next of the person is above it
@@ -163,7 +196,7 @@ module _ (journal : List Receipt) (person : ℕ) (after : Option ℕ) (m w : ℕ
       → list_any is_person (applicants_above journal (Some g) m entries) ≡ list_any is_person (waiting_applicants journal m entries)
   leaps f g is next low high so_far =
       let fails : (n : ℕ) → w ≤ n → n < f → option_map_or is_person (applicant_of journal n) false ≡ false = λ n above less. sym (listed_where_applied journal person n) ∙ none_between 1 w n f (filings_of journal person) (filings_ascend journal person) next above less in
-      sym (skip_to is_person (applicant_of journal) w g (waiting_before m entries) low (λ n above less. fails n (omega arith) (omega arith)))
+      sym (skip_to is_person (applicant_of journal) (Some w) g (waiting_before m entries) (λ n above. grind (arith, nat_tests, above, low)) (λ n above less. fails n (grind (arith, nat_tests, above)) (omega arith)))
       ∙ asked_first is_person journal after m w false entries is so_far (fails w (omega arith) (omega arith))
 
   pub fewer_behind : (g : ℕ) → Some w ≡ find (is_above after) (waiting_before m entries) → w ≤ g → length (left_above (Some g) m entries) < length (left_above after m entries)

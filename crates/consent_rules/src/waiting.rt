@@ -1,5 +1,5 @@
 //! The earlier filings that wait at a right (BGB § 876).
-ghost use Rattle.std.specs.Prelude.{◌≡◌, ◌==◌, false, find, is_some, nat_le, None};
+ghost use Rattle.std.specs.Prelude.{◌≡◌, ◌==◌, ◌-◌, ◌↔◌, false, find, is_some, nat_le, IfSome, IsNone, None};
 ghost use Rattle.std.specs.List.{list_any, slice_get};
 ghost use Rattle.std.specs.Option.{option_map_or};
 ghost use Rattle.gb_base.specs.Ascending.{AscendsBy};
@@ -93,12 +93,16 @@ fn some_filing_waits(before: ReceiptNo, part: &RightPart) -> bool
 }
 
 /// Whether the person is an applicant of an earlier filing that waits at the right: a filing that
-/// waits and one of the person, each the next at or above the other, until they are the same.
+/// waits and one of the person, each the next at or above the other, from the person's first until
+/// they are the same.
 fn waits(journal: &Journal, before: ReceiptNo, part: &RightPart, person: Person) -> bool
     ensures { result ≡ list_any (λ q. q == person) (waiting_applicants journal.now.receipts before part.now.entries) }
 {
     let filings = journal.filings_of(person);
-    let mut after = None;
+    let Some(first) = number_at(filings, 0) else {
+        return false;
+    };
+    let mut after = number_below(first);
     while let Some(waiting) = part.next_pending(after, before) {
         let Some(filing) = first_from(filings, waiting) else {
             return false;
@@ -106,9 +110,17 @@ fn waits(journal: &Journal, before: ReceiptNo, part: &RightPart, person: Person)
         if filing.get() == waiting.get() {
             return true;
         }
-        after = ReceiptNo::new(filing.get() - 1);
+        after = number_below(filing);
     }
     false
+}
+
+/// The number below this one; None below the first.
+fn number_below(n: ReceiptNo) -> Option<ReceiptNo>
+    ensures none { IsNone result ↔ (n - 1 ≡ 0) }
+    ensures value { IfSome result (λ k. k ≡ n - 1) }
+{
+    ReceiptNo::new(n.get() - 1)
 }
 
 /// The first of these numbers, which ascend, that is not below another.
