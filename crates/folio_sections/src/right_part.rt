@@ -66,8 +66,10 @@ impl RightPart {
         ensures unchanged { OnErr result (self.new ≡ self.old) }
         ensures succeeds { n ≤ self.old.room → IsOk result }
     {
+        self.list.reserve(n)?;
+        // Behind what the entries need, so that marks take no memory from them.
         self.marks.reserve(self.list.entries().len(), n);
-        self.list.reserve(n)
+        Ok(())
     }
 
     /// Adds an entry at the end. It takes no memory.
