@@ -25,3 +25,4 @@ pub mod SweptFilings
 pub mod Titles
 pub mod Unchanged
 pub mod Unnoticed
+pub mod WiderKeys

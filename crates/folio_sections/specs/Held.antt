@@ -1,5 +1,5 @@
 -- The parts of a register at some keys, as a list with at most one part a key.
-use Rattle.std.specs.Prelude.{ℕ, Bool, List, [], find}
+use Rattle.std.specs.Prelude.{◌≡◌, ℕ, Bool, false, List, [], find, IsTrue}
 use Rattle.std.specs.Option.{option_map_or}
 use Rattle.std.specs.List.{list_any}
 use Rattle.gb_base.specs.Keys.{same_key}
@@ -22,3 +22,8 @@ room_at parts key = option_map_or (λ p. p.room) (find (λ p. same_key p.key key
 -- the key is one of these
 abbrev pub is_given : List Key → Key → Bool
 is_given keys key = list_any (λ k. same_key k key) keys
+
+-- no key is lost, and none is added but these
+pub record WidensBy (these : Key → Bool) (before after : List PartState) : Type 0 where
+  pub kept : (k : Key) → IsTrue (is_held before k) → IsTrue (is_held after k)
+  pub others : (k : Key) → these k ≡ false → is_held after k ≡ is_held before k

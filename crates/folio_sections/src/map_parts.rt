@@ -10,7 +10,7 @@ ghost use Rattle.gb_base.specs.Limits.{most_acts};
 ghost use Rattle.gb_base.specs.declared.keys.Key.{Key};
 ghost use Rattle.act_model.specs.Touches.{new_right};
 ghost use Rattle.folio_sections.specs.Exchanged.{TakesAt};
-ghost use Rattle.folio_sections.specs.Held.{is_held, entries_at, room_at, is_given};
+ghost use Rattle.folio_sections.specs.Held.{WidensBy, is_held, entries_at, room_at, is_given};
 ghost use Rattle.folio_sections.specs.HeldRights.{held_rights, last_number};
 ghost use Rattle.folio_sections.specs.Limits.{most_at_a_key};
 ghost use Rattle.folio_sections.specs.inner.PartIndex.{Grows, IsIndexOf, KeepsPlaces};
@@ -114,6 +114,7 @@ impl MapParts {
     pub fn hold_with_room(&mut self, key: &Key, n: usize) -> Result<(), NoMemory>
         requires few { n ≤ most_at_a_key }
         ensures held { OnOk result ((k : Key) → is_held self.new k ≡ (is_held self.old k || same_key key.now k)) }
+        ensures widens { WidensBy (same_key key.now) self.old self.new }
         ensures entries { entries_at self.new ≡ entries_at self.old }
         ensures room { OnOk result (length (entries_at self.new key.now) + n ≤ room_at self.new key.now) }
         ensures kept { (k : Key) → room_at self.old k ≤ room_at self.new k }

@@ -1,12 +1,13 @@
-use Rattle.std.proofs.Common.{◌≡◌, ◌≤◌, ◌+◌, ◌∙◌, ◌||◌, [], IsTrue, ap, arith, get_or, length, set, subst, sym}
+use Rattle.std.proofs.Common.{◌≤◌, ◌+◌, ◌∙◌, [], IsTrue, ap, arith, get_or, length, set, subst, sym}
 use Rattle.std.specs.Option.{option_map_or}
 use Rattle.std.proofs.lemmas.Result.{on_ok_weaker}
 use Rattle.folio_sections.specs.PartState.{PartState}
 use Rattle.std.proofs.lemmas.Bool.{or_right}
 use Rattle.act_model.proofs.KeyOrder.{itself}
 use Rattle.gb_base.specs.Keys.{same_key}
-use Rattle.folio_sections.specs.Held.{is_held, room_at}
+use Rattle.folio_sections.specs.Held.{is_held}
 use Rattle.folio_sections.proofs.HeldParts.{all_grow_at, entries_grown, found_set, found_there, held_again, held_found, held_grown, nothing_there, room_grown}
+use Rattle.folio_sections.proofs.WiderKeys.{held_same, held_too}
 use Rattle.folio_sections.proofs.map_parts.MapParts.hold_with_room.Goals as goal
 
 pub returns-in-Some-clause-entries : goal.returns-in-Some-clause-entries
@@ -35,6 +36,14 @@ returns-in-Some-clause-held c =
     ∙ held_again c.args.self.now c.args.key.now (held_found c.args.self.now c.args.key.now part found) k)
     c.reserve.ensures.room
 
+pub returns-in-Some-clause-widens : goal.returns-in-Some-clause-widens
+returns-in-Some-clause-widens c =
+    held_same (same_key c.args.key.now) c.args.self.now (set c.self.inside.parts.items c.in-Some.index c.reserve.new.self)
+    (held_grown c.args.self.now (set c.self.inside.parts.items c.in-Some.index c.reserve.new.self)
+    (all_grow_at c.args.self.now c.self.inside.parts.items c.args.key.now c.in-Some.index c.index_mut-part.result.now c.reserve.new.self c.self.view_is
+    (sym c.index_of.ensures ∙ c.in-Some.is) c.index_mut-part.ensures.value
+    (record { key = c.reserve.ensures.key; entries = c.reserve.ensures.entries; room = c.reserve.ensures.kept })))
+
 pub returns-in-Some-clause-room : goal.returns-in-Some-clause-room
 returns-in-Some-clause-room c =
     let found = found_set c.args.self.now c.self.inside.parts.items c.args.key.now c.in-Some.index c.index_mut-part.result.now c.reserve.new.self c.self.view_is
@@ -55,3 +64,8 @@ returns-in_ok-hold-in-None-clause-room c =
     let there : IsTrue (is_held c.reserve-in-None.new.self key)
     = ap (λ f. f key) c.reserve-in-None.ensures.held ∙ c.in_ok-hold-in-None.ensures.held key ∙ or_right (is_held c.args.self.now key) (same_key key key) (itself key) in
     on_ok_weaker c.reserve-in-None.result (λ room. let enough = room there in omega (arith, none, enough)) c.reserve-in-None.ensures.room
+
+pub returns-in_ok-hold-in-None-clause-widens : goal.returns-in_ok-hold-in-None-clause-widens
+returns-in_ok-hold-in-None-clause-widens c =
+    held_too (same_key c.args.key.now) c.args.self.now c.reserve-in-None.new.self
+    (λ k. ap (λ f. f k) c.reserve-in-None.ensures.held ∙ c.in_ok-hold-in-None.ensures.held k)
