@@ -147,7 +147,23 @@ impl Waiters {
                 self.count_ended();
                 self.pass_noticed();
             }
-            _ => {}
+            What::Opened { .. }
+            | What::Owner { .. }
+            | What::AwardOwner { .. }
+            | What::Placed { .. }
+            | What::Created(_)
+            | What::Converted
+            | What::Holder { .. }
+            | What::Cancelled { .. }
+            | What::Exchanged { .. }
+            | What::Exercised { .. }
+            | What::Remains { .. }
+            | What::Expired
+            | What::Seized
+            | What::Registered
+            | What::Bids { .. }
+            | What::Awarded { .. }
+            | What::Distributed => {}
         }
     }
 
