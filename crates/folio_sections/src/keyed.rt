@@ -2,8 +2,8 @@
 ghost use Rattle.std.specs.Prelude.{◌≡◌, find, is_some, IfSome, IsTrue};
 ghost use Rattle.folio_sections.specs.Waiting.{is_above, pending, waiting_unnoticed};
 
-use crate::Parts;
 use crate::entry_list::EntryList;
+use crate::{Entry, Parts};
 use gb_base::{Day, Key, ReceiptNo};
 
 /// Whether the part of a key is held.
@@ -11,6 +11,17 @@ pub fn is_held<P: Parts>(parts: &P, key: &Key) -> bool
     ensures { result ≡ P.holds parts.now key.now }
 {
     list_at(parts, key).is_some()
+}
+
+/// The entries at a key, in order; None where its part is not held.
+pub fn entries_at<'a, P: Parts>(parts: &'a P, key: &Key) -> Option<&'a [Entry]>
+    ensures held { is_some result ≡ P.holds parts.now key.now }
+    ensures value { IfSome result (λ entries. entries.now ≡ P.at parts.now key.now) }
+{
+    match list_at(parts, key) {
+        Some(list) => Some(list.entries()),
+        None => None,
+    }
 }
 
 /// The day until which a filing waits for cures at a key; None where it does not wait there.

@@ -29,7 +29,7 @@ pub use adding::{add, day_of, entry_by};
 pub use case_front::CaseFront;
 pub use case_part::CasePart;
 pub use entries::{Created, Entry, RightForm, What};
-pub use keyed::{is_held, next_unnoticed_at, pending_at};
+pub use keyed::{entries_at, is_held, next_unnoticed_at, pending_at};
 pub use map_parts::MapParts;
 pub use parts::Parts;
 pub use right_front::RightFront;
