@@ -5,8 +5,8 @@ ghost use Rattle.folio_sections.specs.Held.{is_held};
 ghost use Rattle.desk_pool.specs.FolioPairs.{AreApart, either_holds};
 ghost use Rattle.gb_base.specs.declared.keys.Key.{Key};
 
-use folio_sections::{CasePart, Entry, MapParts, Parts, RightPart, TitlePart};
-use gb_base::{FolioId, Key, NoMemory, RightId};
+use folio_sections::{CasePart, Entry, MapParts, Parts, RightPart, TitlePart, is_held};
+use gb_base::{FolioId, NoMemory, RightId};
 use std::alloc::Global;
 use std::marker::Model;
 use std::mem;
@@ -53,17 +53,6 @@ impl FolioPair {
     }
 }
 
-/// Whether the part of a key is among these.
-fn holds(parts: &MapParts, key: Key) -> bool
-    ensures { result ≡ is_held parts.now key }
-{
-    match key {
-        Key::Title(folio) => parts.title(folio).is_some(),
-        Key::Right(folio, right) => parts.right(folio, right).is_some(),
-        Key::Case(folio) => parts.case(folio).is_some(),
-    }
-}
-
 impl Parts for FolioPair {
     ghost use Rattle.desk_pool.specs.FolioPairs.{either_at, either_holds, either_room};
 
@@ -95,7 +84,7 @@ impl Parts for FolioPair {
     }
 
     fn append(&mut self, entry: Entry) {
-        if holds(&self.first, entry.key) {
+        if is_held(&self.first, &entry.key) {
             self.first.append(entry);
         } else {
             self.second.append(entry);
