@@ -1,5 +1,5 @@
 -- Where an item of a forced sale is not refused, each of its grounds fails.
-use Rattle.std.proofs.Common.{◌≡◌, ℕ, Bool, true, false, cond, ◌||◌, List, [], ◌∷◌, find, Option, Some, None, is_none, is_some, option_and_then, option_map, refl, sym, ap}
+use Rattle.std.proofs.Common.{◌≡◌, ℕ, Bool, true, false, cond, ◌||◌, List, [], ◌∷◌, find, Option, Some, None, is_some, option_and_then, option_map, refl, sym, ap}
 use Rattle.std.specs.List.{AllByRecursion}
 use Rattle.std.proofs.lemmas.Bool.{false≢true}
 use Rattle.act_model.specs.declared.sales.Basis.{Basis}
@@ -7,7 +7,7 @@ use Rattle.act_model.specs.declared.sales.Registration.{Registration}
 use Rattle.auction_classes.specs.Sales.{Sale}
 use Rattle.gb_base.specs.declared.sections.Section.{Section}
 use Rattle.gb_base.specs.declared.sections.Section.TheVariants as section
-use Rattle.sale_rules.specs.SaleGrounds.{first_ground, has_all_registrations, has_all_seizures, is_awarded, is_filed_behind, lacks_call, lacks_case, lacks_folio, lacks_right, lowest, refusal_by, refusal_of_award, refusal_of_call, refusal_of_registration, refusal_of_seizure, repeats_arrears, section_against_award, short_of_cash}
+use Rattle.sale_rules.specs.SaleGrounds.{first_ground, has_all_registrations, has_all_seizures, is_awarded, is_filed_behind, lacks_call, lacks_case, lacks_folio, lacks_right, lacks_served_claim, lowest, refusal_by, refusal_of_award, refusal_of_call, refusal_of_registration, refusal_of_seizure, repeats_arrears, section_against_award, short_of_cash}
 use Rattle.sale_rules.specs.declared.awards.AwardRefusal.{AwardRefusal}
 
 -- where no ground is named, each fails
@@ -53,11 +53,11 @@ registration_let_in s r none =
 pub record IsCallLetIn (s : Sale) : Type 0 where
   pub runs : lacks_case s ≡ false
   pub awarded : is_awarded s ≡ false
-  pub served : is_none (lowest s) ≡ false
+  pub served : lacks_served_claim s ≡ false
 
 pub call_let_in : (s : Sale) → refusal_of_call s ≡ None → IsCallLetIn s
 call_let_in s none =
-    let all = all_fail ((lacks_case s, section.Zvg15) ∷ (is_awarded s, section.Zvg81) ∷ (is_none (lowest s), section.Zvg43) ∷ []) none in
+    let all = all_fail ((lacks_case s, section.Zvg15) ∷ (is_awarded s, section.Zvg81) ∷ (lacks_served_claim s, section.Zvg43) ∷ []) none in
     record { runs = all.0; awarded = all.1.0; served = all.1.1.0 }
 
 -- those of an award
@@ -65,7 +65,7 @@ pub record IsAwardLetIn (s : Sale) (bid : ℕ) : Type 0 where
   pub runs : lacks_case s ≡ false
   pub awarded : is_awarded s ≡ false
   pub called : lacks_call s ≡ false
-  pub served : is_none (lowest s) ≡ false
+  pub served : lacks_served_claim s ≡ false
   pub enough : option_and_then (short_of_cash bid) (lowest s) ≡ None
 
 no_section : (o : Option Section) (low : Option AwardRefusal) → refusal_by o low ≡ None → (o ≡ None) × (low ≡ None)
@@ -75,5 +75,5 @@ no_section (Some s) low none = absurd (false≢true (sym (ap is_some none)))
 pub award_let_in : (s : Sale) (bid : ℕ) → refusal_of_award s bid ≡ None → IsAwardLetIn s bid
 award_let_in s bid none =
     let both = no_section (section_against_award s) (option_and_then (short_of_cash bid) (lowest s)) none in
-    let all = all_fail ((lacks_case s, section.Zvg15) ∷ (is_awarded s, section.Zvg81) ∷ (lacks_call s, section.Zvg66) ∷ (is_none (lowest s), section.Zvg43) ∷ []) both.0 in
+    let all = all_fail ((lacks_case s, section.Zvg15) ∷ (is_awarded s, section.Zvg81) ∷ (lacks_call s, section.Zvg66) ∷ (lacks_served_claim s, section.Zvg43) ∷ []) both.0 in
     record { runs = all.0; awarded = all.1.0; called = all.1.1.0; served = all.1.1.1.0; enough = both.1 }

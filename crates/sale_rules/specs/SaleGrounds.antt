@@ -48,6 +48,10 @@ lacks_call s = is_none (call (at_case s))
 abbrev pub lowest : Sale → Option Lowest
 lowest s = lowest_bid (claimed_in s)
 
+-- ZVG § 43: no claim is served in time for which the sale goes on (ZVG §§ 43(2), 44(2)), so that there is no lowest bid
+abbrev pub lacks_served_claim : Sale → Bool
+lacks_served_claim s = is_none (lowest s)
+
 -- ---- seizures
 
 -- GBO § 3: the folio is not open
@@ -106,7 +110,7 @@ refusal_of_registration s r =
 -- why a call to bid is refused; none where it is let in (ZVG § 66)
 abbrev pub refusal_of_call : Sale → Option Section
 refusal_of_call s =
-    first_ground ((lacks_case s, section.Zvg15) ∷ (is_awarded s, section.Zvg81) ∷ (is_none (lowest s), section.Zvg43) ∷ [])
+    first_ground ((lacks_case s, section.Zvg15) ∷ (is_awarded s, section.Zvg81) ∷ (lacks_served_claim s, section.Zvg43) ∷ [])
 
 -- ---- awards
 
@@ -114,7 +118,7 @@ refusal_of_call s =
 abbrev pub section_against_award : Sale → Option Section
 section_against_award s =
     first_ground
-    ((lacks_case s, section.Zvg15) ∷ (is_awarded s, section.Zvg81) ∷ (lacks_call s, section.Zvg66) ∷ (is_none (lowest s), section.Zvg43) ∷ [])
+    ((lacks_case s, section.Zvg15) ∷ (is_awarded s, section.Zvg81) ∷ (lacks_call s, section.Zvg66) ∷ (lacks_served_claim s, section.Zvg43) ∷ [])
 
 -- ZVG §§ 44, 49: the bid is below the part of the lowest bid that is paid in cash
 abbrev pub short_of_cash : ℕ → Lowest → Option AwardRefusal
