@@ -11,6 +11,7 @@ use Rattle.act_model.specs.declared.sales.Registration.{Registration}
 use Rattle.auction_classes.specs.Sales.{Sale, sale_at}
 use Rattle.auction_classes.specs.declared.lowest_bids.Lowest.{Lowest}
 use Rattle.gb_base.specs.declared.sections.Section.{Section}
+use Rattle.gb_base.specs.declared.sections.Section.TheVariants as section
 use Rattle.sale_rules.specs.SaleEntries.{award_brought, call_brought, distribution_brought, registration_brought, seizure_brought}
 use Rattle.sale_rules.specs.SaleGrounds.{lowest, refusal_of_award, refusal_of_call, refusal_of_distribution, refusal_of_registration, refusal_of_seizure}
 use Rattle.sale_rules.specs.SaleMoney.{money}
@@ -83,10 +84,10 @@ brought_by_seizure s b = record { entries = seizure_brought s b; verdict = verdi
 abbrev pub brought_by_registration : Sale → Registration → Brought
 brought_by_registration s r = record { entries = registration_brought s r; verdict = verdict_unless (refusal_of_registration s r) verdict.Registered }
 
--- the lowest bid as a verdict; where there is none the call is refused, so that there is nothing to say never comes about
+-- the lowest bid as a verdict; where there is none no claim is served, for which the call is refused (ZVG § 43)
 abbrev pub lowest_said : Option Lowest → Verdict
 lowest_said (Some least) = verdict.Lowest least.total least.cash
-lowest_said None = verdict.NotPending
+lowest_said None = verdict.Rejected section.Zvg43
 
 -- a call to bid says the lowest bid, or is refused (ZVG § 66)
 abbrev pub brought_by_call : Sale → ℕ → Brought
