@@ -5,7 +5,6 @@ use Rattle.gb_base.specs.Interest.{days360, interest}
 use Rattle.act_model.specs.Receiving.{day_of, item_at}
 use Rattle.act_model.specs.declared.items.Item.{Item}
 use Rattle.act_model.specs.declared.items.Item.TheVariants as item
-use Rattle.act_model.specs.declared.receipts.Receipt.{Receipt}
 use Rattle.folio_sections.specs.Cases.{award}
 use Rattle.auction_classes.specs.Sales.{Sale, at_case}
 
