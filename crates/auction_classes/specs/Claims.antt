@@ -89,7 +89,8 @@ right_found s x = right_with (finding_of s) (registrations_found s) x (at_right 
 abbrev pub interest_of : Sale → CreatedRight → ℕ
 interest_of s x = (right_found s x).interest
 
--- the live rights of the folio, by filing, group and act
+-- The live rights of the folio, by filing, group and act. A priority notice counts as its right (ZVG § 48); a filing that waits has no
+-- right yet, and an official notice claims nothing for it (the office's own rule).
 abbrev pub rights_found : Sale → List CreatedRight
 rights_found s = live_rights (read s) s.folio
 

@@ -47,27 +47,32 @@ least numbers = fold lesser None numbers
 abbrev pub cover_of_base : Filled → List SeizedFor → Option ℕ
 cover_of_base four seizures = least (filter_map (cover_served four seizures) (enumerate_from 1 seizures))
 
--- the part of that cover that lies on the line of class 4
+-- The part of that cover that lies on the line of class 4. ZVG § 44 covers what stands ahead: that this is counted along the line,
+-- cent by cent, is the office's own rule.
 abbrev pub cover_on_line : SaleClaims → ℕ → ℕ
 cover_on_line c cover = min cover (length (line c.line_four))
 
 -- ---- what remains
 
--- a right of a group remains only where the cover reaches the end of the group on the line
+-- A right remains as far as it is in the lowest bid and is not paid in cash (ZVG § 52(1)). What becomes of one that the cover reaches
+-- in part, ZVG does not say: the three tests that follow are the office's own rules.
+
+-- a right of a group remains only where the cover reaches the end of the group on the line (the office's own rule)
 abbrev pub reaches_group : Filled → RightNo → ℕ → Bool
 reaches_group filled right cover =
     length (group_of filled.places right) == 1 || list_all (λ p. reaches_end filled p.right cover) (group_of filled.places right)
 
--- a right whose reservation was exercised, or that was so exercised, remains only where the cover reaches the end of both
+-- A right whose reservation was exercised (BGB § 881), or that was so exercised, remains only where the cover reaches the end of both
+-- (the office's own rule).
 abbrev pub reaches_knot : Filled → RightNo → ℕ → Bool
 reaches_knot filled right cover =
     option_map_or (λ k. reaches_end filled k.reserved cover && reaches_end filled k.exercised cover) (knot_of filled.knots right) true
 
--- a right of division II remains only where it gets its whole claim
+-- a right of division II, which is no sum of money, remains only where it gets its whole claim (the office's own rule)
 abbrev pub is_paid_enough : Filled → RightClaimed → ℕ → Bool
 is_paid_enough filled x got = x.in_division_three || nat_le (claim_of filled.places x.right) got
 
--- what remains of a right that gets so much: that less its interest (ZVG § 52)
+-- what remains of a right that gets so much: that less its interest, which is paid in cash (ZVG §§ 12 no. 2, 49(1), 52(1))
 abbrev pub remaining_by : Filled → ℕ → RightClaimed → ℕ → ℕ
 remaining_by filled cover x got =
     if is_paid_enough filled x got && (reaches_group filled x.right cover && reaches_knot filled x.right cover) then got - x.interest else 0
