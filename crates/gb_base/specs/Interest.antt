@@ -1,4 +1,5 @@
--- Interest as forced sales count it: a year has 360 days, and each month 30.
+-- Interest as forced sales count it: a year has 360 days, and each month 30. ZVG does not say how days are counted; this is the
+-- office's own rule.
 use Rattle.std.specs.Prelude.{ℕ, ◌+◌, ◌-◌, ◌*◌, ◌/◌, nat_lt, if◌then◌else◌, min}
 use Rattle.gb_base.specs.Calendar.{date_of}
 

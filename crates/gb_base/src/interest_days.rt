@@ -1,4 +1,5 @@
-//! Interest as forced sales count it: a year has 360 days, and each month 30.
+//! Interest as forced sales count it: a year has 360 days, and each month 30. ZVG does not say how
+//! days are counted; this is the office's own rule.
 ghost use Rattle.std.specs.Prelude.{◌≡◌, ◌+◌, ◌≤◌};
 ghost use Rattle.gb_base.specs.Interest.{commercial_day, days360, interest};
 ghost use Rattle.gb_base.specs.Limits.{most_interest_days, most_rate};
@@ -6,7 +7,7 @@ ghost use Rattle.gb_base.specs.Limits.{most_interest_days, most_rate};
 use crate::{Cents, Day};
 
 /// The days from day a up to day b, without day b itself, where a year has 360 days and each month
-/// 30: the 31st of a month counts as its 30th (ZVG § 47). 0 where b is before a.
+/// 30: the 31st of a month counts as its 30th (the office's own rule). 0 where b is before a.
 ///
 /// ```
 /// let a = Day::from_civil(2024, 1, 31)?;
