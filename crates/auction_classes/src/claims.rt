@@ -1,5 +1,5 @@
 //! The claims in a forced sale, in lists that keep their room.
-ghost use Rattle.std.specs.Prelude.{◌≡◌, ◌≤◌, List, Contains, IfOk, IsTrue, length};
+ghost use Rattle.std.specs.Prelude.{◌≡◌, ◌≤◌, ◌⊎◌, List, Contains, IfOk, IsTrue, length};
 ghost use Rattle.gb_base.specs.declared.keys.Key.{Key};
 ghost use Rattle.act_model.specs.SaleKeys.{earlier_rights, keys_of_sale};
 ghost use Rattle.folio_sections.specs.declared.entries.Entry.{Entry};
@@ -193,8 +193,10 @@ impl Claims {
     }
 
     /// Fills the line of class 4 or 6: its rights in order with their claims, and the exchanges and
-    /// exercised reservations among them (BGB §§ 879 to 881, ZVG § 11). Takes no memory.
+    /// exercised reservations among them (BGB §§ 879 to 881, ZVG § 11). No other class has a line.
+    /// Takes no memory.
     pub fn fill_line(&self, slots: &mut Slots, class: u8)
+        requires class { (class ≡ 4) ⊎ (class ≡ 6) }
         requires places { length (line_of class self.now.claimed).places ≤ slots.old.place_room }
         requires swaps { length (line_of class self.now.claimed).swaps ≤ slots.old.swap_room }
         ensures filled { slots.new.filled ≡ line_of class self.now.claimed }
