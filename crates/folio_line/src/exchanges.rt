@@ -72,8 +72,9 @@ fn add_counted<P: Parts>(
 }
 
 /// How many exchanges there are by which one of these rights rises, whether they count or not: as
-/// many a line of the folio wants room for. NoMemory where they are more than can be counted, for
-/// which no memory could be found. Takes none.
+/// many a line of the folio wants room for. They are those of all entries that are read: where no
+/// receipt ends the reading, also those behind an item for which room is kept. NoMemory where they
+/// are more than can be counted, for which no memory could be found. Takes none.
 pub fn count_rises<P: Parts>(reading: &FolioReading<P>, ids: &[RightId]) -> Result<usize, NoMemory>
     requires read { CanBeRead P.holds P.at reading.now }
     ensures value { IfOk result (λ n. n ≡ length (all_rises (reads P.holds P.at reading.now) reading.now.folio ids.now)) }
