@@ -24,7 +24,8 @@ use Rattle.folio_sections.proofs.Unchanged.{all_weaker}
 use Rattle.auction_classes.specs.Interest.{new_year}
 use Rattle.auction_classes.specs.LowestBid.{lowest_bid}
 use Rattle.auction_classes.specs.SaleClaims.{claimed_in}
-use Rattle.auction_classes.specs.Sales.{costs_found, costs_named, finding_of, is_behind, number_called, read, read_before, registered_by, registrations_found, sale_at, seizure_by, seizures_found}
+use Rattle.auction_classes.specs.Sales.{costs_found, costs_named, number_called, read, read_before, registered_by, registrations_found, sale_at, seizure_by, seizures_found}
+use Rattle.auction_classes.specs.inner.Findings.{finding_of, is_late_by}
 use Rattle.auction_classes.specs.declared.case_items.Registered.{Registered}
 use Rattle.auction_classes.proofs.ClaimsStay.{call_below, case_is_below}
 use Rattle.auction_classes.proofs.KeptSales.{below_twice}
@@ -104,9 +105,9 @@ module _ (entries : List Entry) (a : ℕ) (awarded : IsAwardedIn entries a) wher
       ∙ ap (λ xs. registration_numbers awarded.before ++ numbers xs) (filter_skips registers awarded.entry awarded.after (ap is_registration awarded.awards))
 
   -- and are late
-  behind_call : (m : ℕ) → a < m → is_behind (call awarded.before) m ≡ true
+  behind_call : (m : ℕ) → a < m → is_late_by (call awarded.before) m ≡ true
   behind_call m later =
-      elim (call awarded.before) as (λ o. IfSome o (λ c. c < a) → is_behind o m ≡ true) [
+      elim (call awarded.before) as (λ o. IfSome o (λ c. c < a) → is_late_by o m ≡ true) [
         | None ↦ λ _. refl
         | Some c ↦ λ less. grind (arith, nat_tests, less, later)
       ] (subst (λ xs. IfSome (call xs) (λ c. c < a)) awarded.found (call_below a None (case (below a entries)) tt (case_is_below a entries)))
@@ -118,15 +119,15 @@ registers_late late is None = tt
 registers_late late is (Some (item.Register folio what)) = is
 registers_late late is (Some other) = tt
 
-all_late : (journal : List Receipt) (called : Option ℕ) (ms : List ℕ) → AllByRecursion (λ m. is_behind called m ≡ true) ms
-    → AllLate (filter_map (λ m. option_and_then (registered_by (is_behind called m)) (item_at journal m)) ms)
+all_late : (journal : List Receipt) (called : Option ℕ) (ms : List ℕ) → AllByRecursion (λ m. is_late_by called m ≡ true) ms
+    → AllLate (filter_map (λ m. option_and_then (registered_by (is_late_by called m)) (item_at journal m)) ms)
 all_late journal called [] behind = tt
 all_late journal called (m ∷ ms) behind =
-    let found = filter_map (λ k. option_and_then (registered_by (is_behind called k)) (item_at journal k)) ms in
-    elim (option_and_then (registered_by (is_behind called m)) (item_at journal m)) as (λ o. IfSome o (λ (r : Registered). r.late ≡ true) → AllLate (cons_option o found)) [
+    let found = filter_map (λ k. option_and_then (registered_by (is_late_by called k)) (item_at journal k)) ms in
+    elim (option_and_then (registered_by (is_late_by called m)) (item_at journal m)) as (λ o. IfSome o (λ (r : Registered). r.late ≡ true) → AllLate (cons_option o found)) [
       | None ↦ λ _. all_late journal called ms behind.1
       | Some r ↦ λ is. (is, all_late journal called ms behind.1)
-    ] (registers_late (is_behind called m) behind.0 (item_at journal m))
+    ] (registers_late (is_late_by called m) behind.0 (item_at journal m))
 
 -- ---- the sale behind the award
 
@@ -182,10 +183,10 @@ module _ (journal : List Receipt) (stands : Key → List Entry) (folio n a : ℕ
   with_late : (more : List Registered) × (registrations_found (sale_at journal stands folio n) ≡ registrations_found (sale_at journal stands folio a) ++ more) × AllLate more
   with_late =
       let now = below n (stands (Case folio)) in
-      let found : Option ℕ → ℕ → Option Registered = λ o m. option_and_then (registered_by (is_behind o m)) (item_at journal m) in
+      let found : Option ℕ → ℕ → Option Registered = λ o m. option_and_then (registered_by (is_late_by o m)) (item_at journal m) in
       let then_called = number_called (sale_at journal stands folio a) in
       let ms = numbers (filter registers awarded.after) in
-      let all_behind = all_weaker (λ m. a < m) (λ m. is_behind then_called m ≡ true) ms (λ m later. ap (λ o. is_behind o m) called_then ∙ behind_call now a awarded m later)
+      let all_behind = all_weaker (λ m. a < m) (λ m. is_late_by then_called m ≡ true) ms (λ m later. ap (λ o. is_late_by o m) called_then ∙ behind_call now a awarded m later)
       (numbers_later a (filter registers awarded.after) (all_filtered (λ (e : Entry). (a < e.receipt) × (leaves_award e.what ≡ true)) registers awarded.after awarded.later)) in (
         filter_map (found then_called) ms,
         (λ j. filter_map (found (called j)) (registrations_are now a awarded j)) ∙ filter_map-append (found then_called) (registration_numbers awarded.before) ms

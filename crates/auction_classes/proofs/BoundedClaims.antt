@@ -18,10 +18,10 @@ use Rattle.act_model.specs.declared.sales.Registration.TheVariants as registrati
 use Rattle.folio_sections.specs.declared.entries.Entry.{Entry}
 use Rattle.folio_sections.proofs.FilteredLists.{all_filtered}
 use Rattle.folio_line.specs.declared.folio_rights.CreatedRight.{CreatedRight}
-use Rattle.auction_classes.specs.Claims.{behind_claim, claim_registered, claims_by, claims_of_right, in_order, in_row, is_claim, of_class, personal_claim, right_with}
+use Rattle.auction_classes.specs.Claims.{behind_claim, claim_registered, claims_by, claims_of_right, in_order, in_row, is_claim, of_class, personal_claim}
 use Rattle.auction_classes.specs.LowestBid.{cents_ahead, personal_amount}
-use Rattle.auction_classes.specs.SaleClaims.{seized_with}
 use Rattle.auction_classes.specs.Sales.{registered_by, seizure_by}
+use Rattle.auction_classes.specs.inner.Findings.{right_with, seized_with}
 use Rattle.auction_classes.specs.declared.case_items.Registered.{Registered}
 use Rattle.auction_classes.specs.declared.case_items.Seizure.{Seizure}
 use Rattle.auction_classes.specs.declared.claim_items.Claim.{Claim}

@@ -23,9 +23,10 @@ use Rattle.folio_sections.proofs.FilteredLists.{in_all}
 use Rattle.folio_line.specs.FolioSlots.{capital_at}
 use Rattle.folio_line.specs.declared.folio_rights.CreatedRight.{CreatedRight}
 use Rattle.kept_registers.specs.Kept.{Kept}
-use Rattle.auction_classes.specs.Claims.{accrual_by, are_both, arrears_found, arrears_named, at_right, interest_of, rights_found}
+use Rattle.auction_classes.specs.Claims.{are_both, arrears_found, arrears_named, at_right, interest_of, rights_found}
 use Rattle.auction_classes.specs.Interest.{arrears_in_class, current_interest}
-use Rattle.auction_classes.specs.Sales.{Sale, finding_of, is_late, number_seized, read, registered_by, registrations_found, sale_at, year_seized}
+use Rattle.auction_classes.specs.Sales.{Sale, is_late, number_seized, read, registered_by, registrations_found, sale_at, year_seized}
+use Rattle.auction_classes.specs.inner.Findings.{accrual_by, finding_of}
 use Rattle.auction_classes.specs.declared.accruals.Accrual.{Accrual}
 use Rattle.auction_classes.specs.declared.case_items.Registered.{Registered}
 use Rattle.auction_classes.specs.inner.Readings.{IsReadAs}

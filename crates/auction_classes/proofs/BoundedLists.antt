@@ -10,10 +10,10 @@ use Rattle.folio_sections.specs.Cases.{registration_numbers, seizure_numbers}
 use Rattle.folio_sections.specs.declared.entries.Entry.{Entry}
 use Rattle.folio_line.specs.declared.folio_rights.CreatedRight.{CreatedRight}
 use Rattle.auction_classes.specs.LowestBid.{cents_ahead, personal_amount}
-use Rattle.auction_classes.specs.SaleClaims.{seized_with}
-use Rattle.auction_classes.specs.Sales.{finding_of, is_late, registrations_found, sale_day, seizure_by, seizures_found, year_seized}
+use Rattle.auction_classes.specs.Sales.{is_late, registrations_found, sale_day, seizure_by, seizures_found, year_seized}
 use Rattle.auction_classes.specs.inner.CaseSales.{CanFind, sale_of_case}
 use Rattle.auction_classes.specs.inner.ClaimLists.{AreClaimedIn}
+use Rattle.auction_classes.specs.inner.Findings.{finding_of, seized_with}
 use Rattle.auction_classes.specs.declared.claim_lists.ClaimLists.{ClaimLists}
 use Rattle.auction_classes.proofs.BoundedClaims.{ahead_within, amounts_within, personal_within, seized_within}
 

@@ -9,11 +9,12 @@ use Rattle.folio_line.specs.FolioRights.{live_rights, rights_where}
 use Rattle.folio_line.specs.FolioSlots.{stands_on_line}
 use Rattle.folio_sections.specs.Fronts.{below}
 use Rattle.folio_sections.specs.declared.entries.Entry.{Entry}
-use Rattle.auction_classes.specs.Claims.{at_right, claims_by, in_order, in_row, owners_named, right_found, right_with, rights_found}
+use Rattle.auction_classes.specs.Claims.{at_right, claims_by, in_order, in_row, owners_named, right_found, rights_found}
 use Rattle.auction_classes.specs.ClassLines.{line_of_class}
-use Rattle.auction_classes.specs.SaleClaims.{claimed_in, of_class_four, seized_for, seized_with}
-use Rattle.auction_classes.specs.Sales.{finding_of, read, registrations_found, sale_at, sale_day, seizures_found}
+use Rattle.auction_classes.specs.SaleClaims.{claimed_in, of_class_four, seized_for}
+use Rattle.auction_classes.specs.Sales.{read, registrations_found, sale_at, sale_day, seizures_found}
 use Rattle.auction_classes.specs.inner.CaseSales.{sale_of_case}
+use Rattle.auction_classes.specs.inner.Findings.{finding_of, right_with, seized_with}
 use Rattle.auction_classes.specs.inner.LinesRead.{line_read}
 use Rattle.auction_classes.proofs.LinesAsRead.{line_as_read}
 use Rattle.auction_classes.proofs.ReadAlike.{ReadAlike}

@@ -18,11 +18,12 @@ use Rattle.folio_sections.specs.declared.entries.What.{What}
 use Rattle.folio_sections.specs.declared.entries.What.TheVariants as what
 use Rattle.folio_sections.proofs.FilteredLists.{all_filtered}
 use Rattle.rank_slots.specs.Filled.{Filled}
-use Rattle.auction_classes.specs.Claims.{at_right, claims_by, former_owners, in_order, in_row, right_with, rights_found, rights_of_class}
+use Rattle.auction_classes.specs.Claims.{at_right, claims_by, former_owners, in_order, in_row, rights_found, rights_of_class}
 use Rattle.auction_classes.specs.ClassLines.{exchanges_of_class, exercises_of_class, groups_of_class}
 use Rattle.auction_classes.specs.Interest.{new_year}
-use Rattle.auction_classes.specs.SaleClaims.{SaleClaims, claimed_in, of_class_four, seized_with}
-use Rattle.auction_classes.specs.Sales.{Sale, costs_found, costs_named, costs_named_by, finding_of, is_behind, number_called, number_seized, read, registered_by, registrations_found, sale_at, sale_day, seizure_by, seizures_found, year_seized}
+use Rattle.auction_classes.specs.SaleClaims.{SaleClaims, claimed_in, of_class_four}
+use Rattle.auction_classes.specs.Sales.{Sale, costs_found, costs_named, costs_named_by, number_called, number_seized, read, registered_by, registrations_found, sale_at, sale_day, seizure_by, seizures_found, year_seized}
+use Rattle.auction_classes.specs.inner.Findings.{finding_of, is_late_by, right_with, seized_with}
 use Rattle.auction_classes.specs.declared.case_items.Registered.{Registered}
 use Rattle.auction_classes.specs.declared.case_items.Seizure.{Seizure}
 use Rattle.auction_classes.specs.declared.findings.Finding.{Finding}
@@ -160,13 +161,13 @@ module _ (journal more : List Receipt) (stands : Key → List Entry) (folio i : 
 
   registrations_stay : registrations_found (sale_at (journal ++ more) stands folio i) ≡ registrations_found (sale_at journal stands folio i)
   registrations_stay =
-      ap (λ called. filter_map (λ n. option_and_then (registered_by (is_behind called n)) (item_at (journal ++ more) n)) (numbers_of stands folio i (λ e. is_registration e.what))) called_stays
+      ap (λ called. filter_map (λ n. option_and_then (registered_by (is_late_by called n)) (item_at (journal ++ more) n)) (numbers_of stands folio i (λ e. is_registration e.what))) called_stays
       ∙ same_found (λ n. option_and_then (registered_by (late n)) (item_at (journal ++ more) n)) (λ n. option_and_then (registered_by (late n)) (item_at journal n)) (numbers_of stands folio i (λ e. is_registration e.what))
       (each (numbers_of stands folio i (λ e. is_registration e.what))
       (all_inside (numbers_of stands folio i (λ e. is_registration e.what)) (numbers_below (λ e. is_registration e.what) i (case (below i (stands (Case folio)))) (case_is_below i (stands (Case folio))))))
     where
       late : ℕ → Bool
-      late n = is_behind (number_called (sale_at journal stands folio i)) n
+      late n = is_late_by (number_called (sale_at journal stands folio i)) n
 
       each : (ns : List ℕ) → AllByRecursion (λ n. item_at (journal ++ more) n ≡ item_at journal n) ns
           → AllByRecursion (λ n. option_and_then (registered_by (late n)) (item_at (journal ++ more) n) ≡ option_and_then (registered_by (late n)) (item_at journal n)) ns

@@ -22,11 +22,12 @@ use Rattle.folio_sections.specs.declared.entries.Entry.{Entry}
 use Rattle.folio_sections.proofs.FilteredLists.{filter_skips, filter_takes}
 use Rattle.rank_slots.specs.Filled.{Filled, line}
 use Rattle.rank_slots.specs.declared.places.Knot.{Knot}
-use Rattle.auction_classes.specs.Claims.{accrual_by, are_both, arrears_found, arrears_named, by_class, behind_claim, claim_of_person, claim_of_right, claim_registered, claims_by, claims_of_right, class_by, class_of_charge, in_order, in_row, is_claim, of_class, personal_claim, right_with}
+use Rattle.auction_classes.specs.Claims.{are_both, arrears_found, arrears_named, by_class, behind_claim, claim_of_person, claim_of_right, claim_registered, claims_by, claims_of_right, class_of_charge, in_order, in_row, is_claim, of_class, personal_claim}
 use Rattle.auction_classes.specs.Interest.{arrears_in_class, current_interest}
 use Rattle.auction_classes.specs.LowestBid.{cents_ahead, cover_of_base, lowest_bid, remaining_of}
-use Rattle.auction_classes.specs.SaleClaims.{claimed_in, of_class_four, right_claimed, seized_with}
-use Rattle.auction_classes.specs.Sales.{Sale, finding_of, read, registrations_found, seizures_found}
+use Rattle.auction_classes.specs.SaleClaims.{claimed_in, of_class_four, right_claimed}
+use Rattle.auction_classes.specs.Sales.{Sale, read, registrations_found, seizures_found}
+use Rattle.auction_classes.specs.inner.Findings.{accrual_by, class_by, finding_of, right_with, seized_with}
 use Rattle.auction_classes.specs.declared.accruals.Accrual.{Accrual}
 use Rattle.auction_classes.specs.declared.case_items.Registered.{Registered}
 use Rattle.auction_classes.specs.declared.case_items.Seizure.{Seizure}

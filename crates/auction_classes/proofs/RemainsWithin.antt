@@ -29,7 +29,7 @@ use Rattle.folio_line.proofs.PlacedOrder.{of_placed_rights, the_right}
 use Rattle.folio_line.proofs.PlacesBehind.{all_places}
 use Rattle.auction_classes.specs.Claims.{class_of_right, interest_of, right_found, rights_found, rights_of_class}
 use Rattle.auction_classes.specs.ClassLines.{claim_in_class, exchanges_of_class, exercises_of_class, line_of_class, stands_in_class}
-use Rattle.auction_classes.specs.LowestBid.{is_paid_enough, reaches_group, reaches_knot, remaining, remaining_by, remaining_of}
+use Rattle.auction_classes.specs.LowestBid.{is_paid_enough, reaches_group, reaches_knot, remaining, remaining_by_pay, remaining_of}
 use Rattle.auction_classes.specs.SaleClaims.{claimed_in, of_class_four, right_claimed}
 use Rattle.auction_classes.specs.Sales.{Sale, read, sale_at}
 use Rattle.auction_classes.specs.declared.claim_items.RightClaimed.{RightClaimed}
@@ -99,7 +99,7 @@ four_claims s x there =
 -- ---- what remains
 
 -- what is left without the interest
-left_at_most : (most cover got : ℕ) (line : Filled) (x : RightClaimed) → got ≤ x.interest + most → remaining_by line cover x got ≤ most
+left_at_most : (most cover got : ℕ) (line : Filled) (x : RightClaimed) → got ≤ x.interest + most → remaining_by_pay line cover x got ≤ most
 left_at_most most cover got line x within =
     elim (is_paid_enough line x got && (reaches_group line x.right cover && reaches_knot line x.right cover)) as (λ b. cond b (got - x.interest) 0 ≤ most) [
       | true ↦ omega (arith, within)

@@ -14,11 +14,12 @@ use Rattle.kept_registers.specs.Kept.{Kept}
 use Rattle.folio_line.specs.FolioRights.{is_live_with, live_rights}
 use Rattle.folio_line.specs.declared.folio_rights.CreatedRight.{CreatedRight}
 use Rattle.folio_line.proofs.PlacedOrder.{of_placed_rights}
-use Rattle.auction_classes.specs.Claims.{at_right, claims_by, in_order, in_row, owners_named, right_found, right_with, rights_found}
-use Rattle.auction_classes.specs.SaleClaims.{of_class_four, seized_for, seized_with}
-use Rattle.auction_classes.specs.Sales.{Sale, finding_of, read, registrations_found, sale_at, sale_day, seizures_found, year_seized}
+use Rattle.auction_classes.specs.Claims.{at_right, claims_by, in_order, in_row, owners_named, right_found, rights_found}
+use Rattle.auction_classes.specs.SaleClaims.{of_class_four, seized_for}
+use Rattle.auction_classes.specs.Sales.{Sale, read, registrations_found, sale_at, sale_day, seizures_found, year_seized}
 use Rattle.auction_classes.specs.inner.CaseSales.{sale_of_case}
 use Rattle.auction_classes.specs.inner.ClaimLists.{AreClaimedIn, AreClaimsOf, items_with, rights_with}
+use Rattle.auction_classes.specs.inner.Findings.{finding_of, right_with, seized_with}
 use Rattle.auction_classes.specs.inner.Readings.{IsReadAs}
 use Rattle.auction_classes.specs.declared.case_items.Seizure.{Seizure}
 use Rattle.auction_classes.specs.declared.claim_lists.ClaimLists.{ClaimLists}

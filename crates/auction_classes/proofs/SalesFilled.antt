@@ -11,9 +11,9 @@ use Rattle.rank_slots.specs.CanFill.{CanFill}
 use Rattle.auction_classes.specs.ClassLines.{line_of_class}
 use Rattle.auction_classes.specs.PayableClaims.{IsPayable}
 use Rattle.auction_classes.specs.SaleClaims.{SaleClaims, claimed_in}
-use Rattle.auction_classes.specs.Sales.{finding_of}
 use Rattle.auction_classes.specs.inner.CaseSales.{sale_of_case}
 use Rattle.auction_classes.specs.inner.ClaimLists.{AreClaimedIn, AreClaimsOf}
+use Rattle.auction_classes.specs.inner.Findings.{finding_of}
 use Rattle.auction_classes.specs.inner.LinesRead.{line_read}
 use Rattle.auction_classes.specs.Reckoning.{AreOnLine, CanCoverServed, IsReckonable, filled_of}
 use Rattle.auction_classes.specs.declared.claim_lists.ClaimLists.{ClaimLists}

@@ -25,11 +25,12 @@ use Rattle.folio_sections.specs.declared.entries.RightForm.TheVariants as form
 use Rattle.folio_sections.specs.declared.entries.What.{What}
 use Rattle.folio_sections.specs.declared.entries.What.TheVariants as what
 use Rattle.folio_sections.proofs.FilteredLists.{all_filtered}
-use Rattle.auction_classes.specs.Claims.{at_right, claims_by, class_by, in_order, in_row, owners_named, right_by, right_found, rights_found}
+use Rattle.auction_classes.specs.Claims.{at_right, claims_by, in_order, in_row, owners_named, right_found, rights_found}
 use Rattle.auction_classes.specs.ClassLines.{claim_in_class, exchanges_of_class, exercises_of_class, groups_of_class, line_of_class}
 use Rattle.auction_classes.specs.Interest.{rate_of}
 use Rattle.auction_classes.specs.SaleClaims.{claimed_in, is_basis_standing, of_class_four, seized_for}
-use Rattle.auction_classes.specs.Sales.{Sale, finding_of, read, read_before, registrations_found, sale_at, seizures_found}
+use Rattle.auction_classes.specs.Sales.{Sale, read, read_before, registrations_found, sale_at, seizures_found}
+use Rattle.auction_classes.specs.inner.Findings.{class_by, finding_of, right_by}
 use Rattle.auction_classes.specs.declared.case_items.Seizure.{Seizure}
 use Rattle.auction_classes.specs.inner.CaseSales.{sale_of_case}
 

@@ -14,14 +14,13 @@ use Rattle.folio_sections.specs.Titles.{owners}
 use Rattle.folio_sections.specs.declared.entries.Entry.{Entry}
 use Rattle.folio_line.specs.FolioRights.{live_rights}
 use Rattle.folio_line.specs.declared.folio_rights.CreatedRight.{CreatedRight}
-use Rattle.auction_classes.specs.Interest.{arrears_in_class, current_interest, old_arrears, rate_of}
-use Rattle.auction_classes.specs.Sales.{Sale, finding_of, number_seized, read, registrations_found, seizures_found, year_seized}
+use Rattle.auction_classes.specs.Interest.{arrears_in_class, current_interest, new_year, old_arrears, rate_of}
+use Rattle.auction_classes.specs.Sales.{Sale, number_seized, read, registrations_found, sale_day, seizures_found, year_seized}
 use Rattle.auction_classes.specs.declared.accruals.Accrual.{Accrual}
 use Rattle.auction_classes.specs.declared.case_items.Registered.{Registered}
 use Rattle.auction_classes.specs.declared.case_items.Seizure.{Seizure}
 use Rattle.auction_classes.specs.declared.claim_items.Claim.{Claim}
 use Rattle.auction_classes.specs.declared.claim_items.ClaimItem.{ClaimItem}
-use Rattle.auction_classes.specs.declared.findings.Finding.{Finding}
 use Rattle.auction_classes.specs.declared.rights_found.RightFound.{RightFound}
 
 -- the entries at a right of the folio
@@ -37,21 +36,18 @@ are_both false late = not late
 
 -- Rights whose filing was received before the first seizure's, whenever they were entered, are of class 4, others of class 6
 -- (ZVG § 10(1) nos. 4 and 6).
-abbrev pub class_by : ℕ → RightNo → ℕ
-class_by seized id = if nat_lt id.receipt seized then 4 else 6
-
 abbrev pub class_of_right : Sale → RightNo → ℕ
-class_of_right s id = class_by (number_seized s) id
+class_of_right s id = if nat_lt id.receipt (number_seized s) then 4 else 6
 
--- by what the interest of a right with these entries goes
-abbrev pub accrual_by : Finding → CreatedRight → List Entry → Accrual
-accrual_by f x entries = record {
-  capital = option_map_or (λ c. c) (capital entries) 0;
+-- by what the interest of a right goes
+abbrev pub accrual_of : Sale → CreatedRight → Accrual
+accrual_of s x = record {
+  capital = option_map_or (λ c. c) (capital (at_right s x.id)) 0;
   rate = rate_of x.made.spec.kind;
-  entered = option_map_or (λ day. day) (entered_on entries) 0;
-  sale = f.sale;
-  current_from = f.current_from;
-  arrears_from = f.arrears_from;
+  entered = option_map_or (λ day. day) (entered_on (at_right s x.id)) 0;
+  sale = sale_day s;
+  current_from = new_year (year_seized s - 1);
+  arrears_from = new_year (year_seized s - 3);
 }
 
 -- such a part of the arrears that are registered for a right
@@ -64,26 +60,22 @@ abbrev pub arrears_found : (Accrual → ℕ → ℕ → ℕ) → Bool → Accrua
 arrears_found part late x id registrations =
     sum_by (λ r. if are_both late r.late then arrears_named part x id r.what else 0) registrations
 
+-- the same of a right in the sale
+abbrev pub arrears_of_right : Sale → CreatedRight → (Accrual → ℕ → ℕ → ℕ) → Bool → ℕ
+arrears_of_right s x part late = arrears_found part late (accrual_of s x) x.id (registrations_found s)
+
 -- A right with what is claimed of it. The interest of its class is the current one and the arrears of its class that are timely.
-abbrev pub right_by : Accrual → ℕ → ℕ → List Registered → CreatedRight → RightFound
-right_by a class holder registrations x = record {
-  right = x;
-  class = class;
-  holder = holder;
-  capital = a.capital;
-  interest = current_interest a + arrears_found arrears_in_class false a x.id registrations;
-  old_arrears = arrears_found old_arrears false a x.id registrations;
-  late_arrears = arrears_found arrears_in_class true a x.id registrations;
-  late_old_arrears = arrears_found old_arrears true a x.id registrations;
-}
-
--- the same of a right with these entries
-abbrev pub right_with : Finding → List Registered → CreatedRight → List Entry → RightFound
-right_with f registrations x entries =
-    right_by (accrual_by f x entries) (class_by f.seized x.id) (option_map_or (λ p. p) (holder entries) 0) registrations x
-
 abbrev pub right_found : Sale → CreatedRight → RightFound
-right_found s x = right_with (finding_of s) (registrations_found s) x (at_right s x.id)
+right_found s x = record {
+  right = x;
+  class = class_of_right s x.id;
+  holder = option_map_or (λ p. p) (holder (at_right s x.id)) 0;
+  capital = (accrual_of s x).capital;
+  interest = current_interest (accrual_of s x) + arrears_of_right s x arrears_in_class false;
+  old_arrears = arrears_of_right s x old_arrears false;
+  late_arrears = arrears_of_right s x arrears_in_class true;
+  late_old_arrears = arrears_of_right s x old_arrears true;
+}
 
 -- the interest of a right in its class
 abbrev pub interest_of : Sale → CreatedRight → ℕ

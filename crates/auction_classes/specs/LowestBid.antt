@@ -73,13 +73,13 @@ abbrev pub is_paid_enough : Filled → RightClaimed → ℕ → Bool
 is_paid_enough filled x got = x.in_division_three || nat_le (claim_of filled.places x.right) got
 
 -- what remains of a right that gets so much: that less its interest, which is paid in cash (ZVG §§ 12 no. 2, 49(1), 52(1))
-abbrev pub remaining_by : Filled → ℕ → RightClaimed → ℕ → ℕ
-remaining_by filled cover x got =
+abbrev pub remaining_by_pay : Filled → ℕ → RightClaimed → ℕ → ℕ
+remaining_by_pay filled cover x got =
     if is_paid_enough filled x got && (reaches_group filled x.right cover && reaches_knot filled x.right cover) then got - x.interest else 0
 
 -- what remains of a right of class 4, whose line this is, at this cover
 abbrev pub remaining_of : Filled → ℕ → RightClaimed → ℕ
-remaining_of filled cover x = remaining_by filled cover x (pay filled x.right cover)
+remaining_of filled cover x = remaining_by_pay filled cover x (pay filled x.right cover)
 
 -- the same of the right of this number; 0 where it is no live right of class 4
 abbrev pub remaining : SaleClaims → ℕ → RightNo → ℕ

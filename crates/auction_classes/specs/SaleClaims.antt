@@ -51,12 +51,9 @@ pub record ClaimsState : Type 0 where
   pub claimed : SaleClaims
   pub capacity : ℕ
 
--- a seizure, where the sale is on this day, and this is read at each right
-abbrev pub seized_with : ℕ → (RightNo → List Entry) → Seizure → SeizedFor
-seized_with sale read seizure = record { basis = seizure.basis; served = is_served sale read seizure }
-
+-- a seizure, and whether it is served
 abbrev pub seized_for : Sale → Seizure → SeizedFor
-seized_for s seizure = seized_with (sale_day s) (at_right s) seizure
+seized_for s seizure = record { basis = seizure.basis; served = is_served (sale_day s) (at_right s) seizure }
 
 abbrev pub right_claimed : RightFound → RightClaimed
 right_claimed x = record { right = x.right.id; interest = x.interest; in_division_three = is_in_division_three x.right.made.spec.kind }

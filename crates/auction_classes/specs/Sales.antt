@@ -1,5 +1,5 @@
 -- The forced sale of a folio, as a call to bid, an award or a distribution finds it (ZVG §§ 20, 37, 66, 81).
-use Rattle.std.specs.Prelude.{ℕ, ◌+◌, ◌-◌, Bool, true, false, ◌==◌, nat_le, List, filter_map, length, slice_get, IsSome, IsTrue, Option, Some, None, option_and_then}
+use Rattle.std.specs.Prelude.{ℕ, ◌+◌, Bool, true, false, ◌==◌, nat_le, List, filter_map, length, slice_get, IsSome, IsTrue, Option, Some, None, option_and_then}
 use Rattle.std.specs.Option.{option_map_or}
 use Rattle.gb_base.specs.Calendar.{date_of}
 use Rattle.gb_base.specs.declared.keys.Key.{Key}
@@ -11,10 +11,8 @@ use Rattle.act_model.specs.declared.receipts.Receipt.{Receipt}
 use Rattle.folio_sections.specs.Cases.{award, call, registration_numbers, seizure_numbers}
 use Rattle.folio_sections.specs.Fronts.{below}
 use Rattle.folio_sections.specs.declared.entries.Entry.{Entry}
-use Rattle.auction_classes.specs.Interest.{new_year}
 use Rattle.auction_classes.specs.declared.case_items.Registered.{Registered}
 use Rattle.auction_classes.specs.declared.case_items.Seizure.{Seizure}
-use Rattle.auction_classes.specs.declared.findings.Finding.{Finding}
 
 -- The journal, what stands at each key by items below the one that finds the sale, the folio, and the number of that item.
 pub record Sale : Type 0 where
@@ -54,13 +52,9 @@ costs_found s = option_map_or (λ costs. costs) (option_and_then (costs_named_by
 abbrev pub sale_day : Sale → ℕ
 sale_day s = option_map_or (day_of s.journal) (number_called s) 0
 
--- receipt n did not come before the call
-abbrev pub is_behind : Option ℕ → ℕ → Bool
-is_behind called n = option_map_or (λ call. nat_le call n) called true
-
 -- a registration of this number is late: it did not come before the call (ZVG §§ 45, 110)
 abbrev pub is_late : Sale → ℕ → Bool
-is_late s n = is_behind (number_called s) n
+is_late s n = option_map_or (λ call. nat_le call n) (number_called s) true
 
 -- ---- seizures
 
@@ -95,18 +89,6 @@ registrations_found s = filter_map (λ n. option_and_then (registered_by (is_lat
 -- Rights and owners are read as they stood just before the award, where there is one, else before the item.
 abbrev pub read_before : Sale → ℕ
 read_before s = option_map_or (λ n. n) (award (at_case s)) s.item
-
--- all these numbers and days together
-abbrev pub finding_of : Sale → Finding
-finding_of s = record {
-  costs = costs_found s;
-  sale = sale_day s;
-  seized = number_seized s;
-  year = year_seized s;
-  current_from = new_year (year_seized s - 1);
-  arrears_from = new_year (year_seized s - 3);
-  before = read_before s;
-}
 
 -- what is then read at each key
 abbrev pub read : Sale → Key → List Entry

@@ -2,5 +2,6 @@
 pub mod CaseSales
 pub mod ClaimLists
 pub mod ClaimsRoom
+pub mod Findings
 pub mod LinesRead
 pub mod Readings

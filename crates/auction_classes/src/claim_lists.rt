@@ -2,10 +2,10 @@
 ghost use Rattle.std.specs.Prelude.{◌≡◌, ◌+◌, ◌*◌, ◌≤◌, All, IfOk, IfSome, IsSome, length};
 ghost use Rattle.folio_sections.specs.Titles.{owners};
 ghost use Rattle.folio_line.specs.FolioReading.{CanBeRead};
-ghost use Rattle.auction_classes.specs.Sales.{finding_of};
 ghost use Rattle.auction_classes.specs.inner.CaseSales.{CanFind, sale_of_case};
 ghost use Rattle.auction_classes.specs.inner.ClaimLists.{AreClaimedIn, HaveRoomFor, KeepRoom};
 ghost use Rattle.auction_classes.specs.inner.ClaimsRoom.{AreEmpty};
+ghost use Rattle.auction_classes.specs.inner.Findings.{finding_of};
 ghost use Rattle.auction_classes.specs.inner.LinesRead.{HasLowInterest};
 ghost use Rattle.auction_classes.specs.inner.Readings.{IsReadAs, rights_read};
 

@@ -6,8 +6,9 @@ ghost use Rattle.folio_sections.specs.Cases.{award, registration_numbers, seizur
 ghost use Rattle.folio_sections.specs.Limits.{most_registrations, most_seizures};
 ghost use Rattle.gb_base.specs.Calendar.{date_of};
 ghost use Rattle.gb_base.specs.Limits.{first_stamp_day, last_stamp_day, last_year};
-ghost use Rattle.auction_classes.specs.Sales.{costs_found, costs_named, finding_of, is_behind, number_called, read_before, registered_by, registrations_found, sale_day, seizure_by, seizures_found};
+ghost use Rattle.auction_classes.specs.Sales.{costs_found, costs_named, number_called, read_before, registered_by, registrations_found, sale_day, seizure_by, seizures_found};
 ghost use Rattle.auction_classes.specs.inner.CaseSales.{CanFind, sale_of_case};
+ghost use Rattle.auction_classes.specs.inner.Findings.{finding_of, is_late_by};
 
 use crate::accruals::new_year;
 use crate::case_items::{Registered, Seizure};
@@ -217,18 +218,18 @@ fn registrations_among(
     numbers: &[ReceiptNo],
 ) -> ArrayVec<Registered, 32>
     requires { length numbers.now ≤ most_registrations }
-    ensures { result.items ≡ filter_map (λ n. option_and_then (registered_by (is_behind called.now n)) (item_at journal.now.receipts n)) numbers.now }
+    ensures { result.items ≡ filter_map (λ n. option_and_then (registered_by (is_late_by called.now n)) (item_at journal.now.receipts n)) numbers.now }
 {
     let mut registrations = ArrayVec::new();
     for n in numbers {
-        add_registration(&mut registrations, journal, is_behind(called, *n), *n);
+        add_registration(&mut registrations, journal, is_late_by(called, *n), *n);
     }
     registrations
 }
 
 /// Whether a receipt did not come before the call.
-fn is_behind(called: &Option<ReceiptNo>, n: ReceiptNo) -> bool
-    ensures { result ≡ is_behind called.now n }
+fn is_late_by(called: &Option<ReceiptNo>, n: ReceiptNo) -> bool
+    ensures { result ≡ is_late_by called.now n }
 {
     match called {
         Some(call) => *call <= n,

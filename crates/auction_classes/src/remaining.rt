@@ -6,7 +6,7 @@ ghost use Rattle.gb_base.specs.RightNo.{same_right};
 ghost use Rattle.rank_slots.specs.Payments.{reaches_end};
 ghost use Rattle.auction_classes.specs.Reckoning.{AreOnLine};
 ghost use Rattle.rank_slots.specs.Groups.{keeps_place};
-ghost use Rattle.auction_classes.specs.LowestBid.{is_paid_enough, reaches_group, reaches_knot, remaining, remaining_by, remaining_of};
+ghost use Rattle.auction_classes.specs.LowestBid.{is_paid_enough, reaches_group, reaches_knot, remaining, remaining_by_pay, remaining_of};
 
 use crate::{Claims, RightClaimed};
 use gb_base::RightId;
@@ -63,15 +63,15 @@ fn remaining_of(slots: &Slots, cover: u64, claimed: &RightClaimed) -> u64
 {
     let got = slots.pay(claimed.right, cover);
     if got > claimed.interest {
-        remaining_by(slots, cover, claimed, got)
+        remaining_by_pay(slots, cover, claimed, got)
     } else {
         0
     }
 }
 
 /// What remains of a right that gets so much.
-fn remaining_by(slots: &Slots, cover: u64, claimed: &RightClaimed, got: u64) -> u64
-    ensures { result ≡ remaining_by slots.now.filled cover claimed.now got }
+fn remaining_by_pay(slots: &Slots, cover: u64, claimed: &RightClaimed, got: u64) -> u64
+    ensures { result ≡ remaining_by_pay slots.now.filled cover claimed.now got }
 {
     if is_paid_enough(slots, claimed, got)
         && (reaches_group(slots, claimed.right, cover)

@@ -1,6 +1,6 @@
 //! The classes of rights in a forced sale (ZVG § 10(1) nos. 4 and 6).
 ghost use Rattle.std.specs.Prelude.{◌≡◌};
-ghost use Rattle.auction_classes.specs.Claims.{class_by};
+ghost use Rattle.auction_classes.specs.inner.Findings.{class_by};
 ghost use Rattle.auction_classes.specs.inner.LinesRead.{is_of_class};
 
 use gb_base::{ReceiptNo, RightId};

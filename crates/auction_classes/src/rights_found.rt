@@ -4,8 +4,9 @@ ghost use Rattle.std.specs.Option.{option_map_or};
 ghost use Rattle.folio_sections.specs.Rights.{capital, created, entered_on, holder};
 ghost use Rattle.folio_line.specs.FolioReading.{CanBeRead};
 ghost use Rattle.gb_base.specs.Limits.{last_stamp_day, most_rate};
-ghost use Rattle.auction_classes.specs.Claims.{accrual_by, are_both, arrears_found, arrears_named, right_with};
+ghost use Rattle.auction_classes.specs.Claims.{are_both, arrears_found, arrears_named};
 ghost use Rattle.auction_classes.specs.Interest.{arrears_in_class, old_arrears, rate_of};
+ghost use Rattle.auction_classes.specs.inner.Findings.{accrual_by, right_with};
 ghost use Rattle.auction_classes.specs.inner.LinesRead.{HasLowInterest};
 ghost use Rattle.auction_classes.specs.inner.Readings.{IsReadAs, rights_read};
 

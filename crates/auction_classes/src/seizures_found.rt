@@ -2,7 +2,8 @@
 ghost use Rattle.std.specs.Prelude.{◌≡◌, ◌+◌, ◌<◌, ◌≤◌, ◌++◌, ◌∷◌, ◌&&◌, [], length, map, vec_capacity, vec_len};
 ghost use Rattle.folio_line.specs.FolioReading.{CanBeRead, reads};
 ghost use Rattle.folio_sections.specs.Rights.{is_full, is_live};
-ghost use Rattle.auction_classes.specs.SaleClaims.{is_basis_standing, is_served, seized_with};
+ghost use Rattle.auction_classes.specs.SaleClaims.{is_basis_standing, is_served};
+ghost use Rattle.auction_classes.specs.inner.Findings.{seized_with};
 ghost use Rattle.auction_classes.specs.inner.Readings.{rights_read};
 
 use crate::SeizedFor;

@@ -3,9 +3,10 @@ use Rattle.std.specs.Prelude.{◌≡◌, ℕ, ◌+◌, ◌*◌, ◌≤◌, List,
 use Rattle.gb_base.specs.RightNo.{RightNo}
 use Rattle.folio_sections.specs.declared.entries.Entry.{Entry}
 use Rattle.folio_line.specs.declared.folio_rights.CreatedRight.{CreatedRight}
-use Rattle.auction_classes.specs.Claims.{claims, claims_by, former_owners, in_order, in_row, owners_named, right_found, right_with, rights_found}
-use Rattle.auction_classes.specs.SaleClaims.{of_class_four, seized_for, seized_with}
-use Rattle.auction_classes.specs.Sales.{Sale, finding_of, registrations_found, sale_day, seizures_found, year_seized}
+use Rattle.auction_classes.specs.Claims.{claims, claims_by, former_owners, in_order, in_row, owners_named, right_found, rights_found}
+use Rattle.auction_classes.specs.SaleClaims.{of_class_four, seized_for}
+use Rattle.auction_classes.specs.Sales.{Sale, registrations_found, sale_day, seizures_found, year_seized}
+use Rattle.auction_classes.specs.inner.Findings.{finding_of, right_with, seized_with}
 use Rattle.auction_classes.specs.declared.claim_items.ClaimItem.{ClaimItem}
 use Rattle.auction_classes.specs.declared.claim_lists.ClaimLists.{ClaimLists}
 use Rattle.auction_classes.specs.declared.rights_found.RightFound.{RightFound}

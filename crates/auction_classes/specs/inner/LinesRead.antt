@@ -13,7 +13,7 @@ use Rattle.rank_slots.specs.Filled.{Filled}
 use Rattle.rank_slots.specs.declared.places.Knot.{Knot}
 use Rattle.rank_slots.specs.declared.places.Place.{Place}
 use Rattle.rank_slots.specs.declared.places.Swap.{Swap}
-use Rattle.auction_classes.specs.Claims.{class_by}
+use Rattle.auction_classes.specs.inner.Findings.{class_by}
 use Rattle.auction_classes.specs.declared.class_lines.ClassLine.{ClassLine}
 use Rattle.auction_classes.specs.declared.right_classes.RightClass.{RightClass}
 use Rattle.auction_classes.specs.declared.rights_found.RightFound.{RightFound}

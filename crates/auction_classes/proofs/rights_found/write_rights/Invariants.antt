@@ -1,6 +1,6 @@
 -- The rights so far.
 use Rattle.std.proofs.Common.{◌≡◌, All, map, take, vec_capacity, vec_len}
-use Rattle.auction_classes.specs.Claims.{right_with}
+use Rattle.auction_classes.specs.inner.Findings.{right_with}
 use Rattle.auction_classes.specs.inner.LinesRead.{HasLowInterest}
 use Rattle.auction_classes.specs.inner.Readings.{rights_read}
 use Rattle.auction_classes.proofs.rights_found.write_rights.Given as goal

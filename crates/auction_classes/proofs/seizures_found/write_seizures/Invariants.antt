@@ -1,6 +1,6 @@
 -- The seizures so far.
 use Rattle.std.proofs.Common.{◌≡◌, map, take, vec_capacity, vec_len}
-use Rattle.auction_classes.specs.SaleClaims.{seized_with}
+use Rattle.auction_classes.specs.inner.Findings.{seized_with}
 use Rattle.auction_classes.specs.inner.Readings.{rights_read}
 use Rattle.auction_classes.proofs.seizures_found.write_seizures.Given as goal
 

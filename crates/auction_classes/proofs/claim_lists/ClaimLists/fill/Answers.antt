@@ -1,7 +1,8 @@
 -- Each list is written from those before it, and the first of them from what is found of the sale.
 use Rattle.std.proofs.Common.{None, map, ap, ◌∙◌}
-use Rattle.auction_classes.specs.Claims.{claims_by, in_order, in_row, right_with}
-use Rattle.auction_classes.specs.SaleClaims.{of_class_four, seized_with}
+use Rattle.auction_classes.specs.Claims.{claims_by, in_order, in_row}
+use Rattle.auction_classes.specs.SaleClaims.{of_class_four}
+use Rattle.auction_classes.specs.inner.Findings.{right_with, seized_with}
 use Rattle.auction_classes.specs.inner.Readings.{rights_read}
 use Rattle.auction_classes.specs.declared.findings.Finding.{Finding}
 use Rattle.auction_classes.proofs.claim_lists.ClaimLists.fill.Goals as goal
