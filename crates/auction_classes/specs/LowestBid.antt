@@ -1,6 +1,6 @@
 -- The lowest bid, and what remains of each right (ZVG §§ 43, 44, 49, 52).
-use Rattle.std.specs.Prelude.{ℕ, ◌+◌, ◌-◌, Bool, true, not, ◌==◌, ◌&&◌, ◌||◌, nat_le, if◌then◌else◌, List, filter_map, find, fold, length, min, sum_by, take, Option, Some, None, option_map}
-use Rattle.std.specs.List.{enumerate_from, list_all}
+use Rattle.std.specs.Prelude.{ℕ, ◌+◌, ◌-◌, Bool, true, not, ◌==◌, ◌&&◌, ◌||◌, nat_le, if◌then◌else◌, List, [], ◌∷◌, find, length, min, sum_by, Option, option_map}
+use Rattle.std.specs.List.{list_all}
 use Rattle.std.specs.Option.{option_map_or}
 use Rattle.gb_base.specs.RightNo.{RightNo, same_right}
 use Rattle.act_model.specs.declared.sales.Basis.{Basis}
@@ -27,25 +27,21 @@ abbrev pub cover_by : Filled → ℕ → Basis → ℕ
 cover_by four before (basis.Personal creditor claim) = length (line four) + before
 cover_by four before (basis.FromRight right) = threshold four right
 
--- the cover of seizure i, from 1, of these, where it is served
-abbrev pub cover_served : Filled → List SeizedFor → ℕ × SeizedFor → Option ℕ
-cover_served four seizures numbered =
-    if numbered.1.served
-    then Some (cover_by four (sum_by (λ before. personal_amount before.basis) (take (numbered.0 - 1) seizures)) numbered.1.basis)
-    else None
+-- the covers of those of these seizures that are served, in order, with so much seized for personally before them
+abbrev pub covers_served : Filled → ℕ → List SeizedFor → List ℕ
+covers_served four before [] = []
+covers_served four before (z ∷ zs) =
+    if z.served
+    then cover_by four before z.basis ∷ covers_served four (before + personal_amount z.basis) zs
+    else covers_served four (before + personal_amount z.basis) zs
 
--- the lesser of two numbers, where the first is there
-abbrev pub lesser : Option ℕ → ℕ → Option ℕ
-lesser None n = Some n
-lesser (Some least) n = Some (min least n)
-
--- the least of some numbers; none where there are none
+-- the least of some numbers: one that is above none of them; none where there are none
 abbrev pub least : List ℕ → Option ℕ
-least numbers = fold lesser None numbers
+least numbers = find (λ n. list_all (λ m. nat_le n m) numbers) numbers
 
--- the cover of the base, which is the served seizure of least cover (ZVG § 44(2)); none where no seizure is served
+-- the cover of the base, which is a served seizure of least cover (ZVG § 44(2)); none where no seizure is served
 abbrev pub cover_of_base : Filled → List SeizedFor → Option ℕ
-cover_of_base four seizures = least (filter_map (cover_served four seizures) (enumerate_from 1 seizures))
+cover_of_base four seizures = least (covers_served four 0 seizures)
 
 -- The part of that cover that lies on the line of class 4. ZVG § 44 covers what stands ahead: that this is counted along the line,
 -- cent by cent, is the office's own rule.

@@ -2,6 +2,7 @@
 pub mod CaseSales
 pub mod ClaimLists
 pub mod ClaimsRoom
+pub mod Covers
 pub mod Findings
 pub mod LinesRead
 pub mod Readings
