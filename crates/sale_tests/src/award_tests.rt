@@ -3,15 +3,15 @@ use crate::sale_journals::Said::{
     Another, AwardOwner, Awarded, Called, Created, Expired, Registered, Remains, Seized,
 };
 use crate::sale_journals::{
-    are, at_case, at_right, at_title, by_owner, call_to_bid, charge, charged, is_awarded, receive,
-    seize_from, verdict,
+    are, at_case, at_right, at_title, by_owner, call_to_bid, charge, charged, is_awarded,
+    is_lowest, opened, receive, seize_from, verdict,
 };
 use act_model::Journal;
 use registrar::{Register, Verdict, alone};
 use std::alloc::Global;
 use std::process::Abort;
 use std::test::Fail;
-use test_items::{advance, award, day, right};
+use test_items::{advance, award, call, creation, day, land_charge, right};
 
 /// Receipts 2 and 3 create rights, 4 seizes from the second, 5 creates another. An advance of 3.00
 /// is registered, and receipt 7 calls to bid: 13.00 are in cash. Receipts 8 and 9 award.
@@ -60,6 +60,28 @@ fn check_entries(rt: &impl Abort, register: &Register) {
     assert!(rt; are(at_right(rt, register, right(3, 1)), &expired));
     let later = [(5, Created), (9, Expired)];
     assert!(rt; are(at_right(rt, register, right(5, 1)), &later));
+}
+
+/// A land charge of 100,000.00 at 5 percent stands ahead of the one that seized. Its interest runs from
+/// 2 January to the 15th day behind the last call, which is on 1 July: 194 days, 2,694.44. With 10.00 of
+/// costs that is the part in cash of an award; by the first call, on 3 June, it would be 2,315.55.
+#[test]
+fn an_award_goes_by_the_last_call(rt: HostRuntime) -> Result<(), Fail> {
+    let mut journal = opened(&rt, rt.alloc());
+    let ahead = creation(7, land_charge(10_000_000, 20, 1));
+    receive(&rt, &mut journal, day(1, 2), &by_owner(ahead));
+    receive(&rt, &mut journal, day(1, 2), &by_owner(charge(50_000)));
+    seize_from(&rt, &mut journal, right(3, 1));
+    call_to_bid(&rt, &mut journal);
+    receive(&rt, &mut journal, day(7, 1), &call(7, 1_000));
+    receive(&rt, &mut journal, day(7, 2), &award(7, 30, 270_443));
+    receive(&rt, &mut journal, day(7, 2), &award(7, 30, 270_444));
+    let register = alone(rt.alloc(), &journal)?;
+    assert!(rt; is_lowest(verdict(&rt, &register, 5), 10_231_555, 231_555));
+    assert!(rt; is_lowest(verdict(&rt, &register, 6), 10_270_444, 270_444));
+    assert!(rt; is_too_low(verdict(&rt, &register, 7), 270_443, 270_444));
+    assert!(rt; is_awarded(verdict(&rt, &register, 8)));
+    Ok(())
 }
 
 fn is_too_low(verdict: &Verdict, offered: u64, in_cash: u64) -> bool {

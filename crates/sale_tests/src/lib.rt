@@ -11,3 +11,5 @@ mod lowest_bid_tests;
 mod refusal_tests;
 #[cfg(test)]
 mod sale_journals;
+#[cfg(test)]
+mod sale_table_tests;

@@ -4,11 +4,11 @@ use crate::sale_journals::{
     seize_served, verdict,
 };
 use gb_base::Day;
-use registrar::alone;
+use registrar::{Verdict, alone};
 use std::test::Fail;
 use test_items::{
-    advance, arrears, creation, day, exchange, land_charge, public_charge, right, seizure_by,
-    usufruct,
+    advance, arrears, call, consent, creation, cure, day, exchange, filed, land_charge,
+    plain_consent, public_charge, right, seizure_by, seizure_from, usufruct,
 };
 
 /// Two land charges at 5 percent, of 100,000.00 and 50,000.00, are entered on 2 January 2024, and
@@ -75,6 +75,44 @@ fn a_second_call_counts_what_came_between(rt: HostRuntime) -> Result<(), Fail> {
     let register = alone(rt.alloc(), &journal)?;
     assert!(rt; is_lowest(verdict(&rt, &register, 5), 101_000, 1_000));
     assert!(rt; is_lowest(verdict(&rt, &register, 7), 101_300, 1_300));
+    Ok(())
+}
+
+/// A seizure from 3.1 that is served between the calls, on 3 June, is in time for a sale on 1 July, the
+/// 28th day behind it, and not for one on 30 June. Then 1,000.00 stand ahead in place of 1,500.00. The
+/// day is that of the last call.
+#[test]
+fn the_last_call_is_the_day_of_the_sale(rt: HostRuntime) -> Result<(), Fail> {
+    let mut journal = charged(&rt, rt.alloc());
+    seize_served(&rt, &mut journal, day(3, 1));
+    call_to_bid(&rt, &mut journal);
+    let between = seizure_from(7, right(3, 1), day(6, 3));
+    receive(&rt, &mut journal, day(6, 3), &between);
+    receive(&rt, &mut journal, day(6, 30), &call(7, 1_000));
+    receive(&rt, &mut journal, day(7, 1), &call(7, 1_000));
+    let register = alone(rt.alloc(), &journal)?;
+    assert!(rt; is_lowest(verdict(&rt, &register, 5), 151_000, 1_000));
+    assert!(rt; is_lowest(verdict(&rt, &register, 7), 151_000, 1_000));
+    assert!(rt; is_lowest(verdict(&rt, &register, 8), 101_000, 1_000));
+    Ok(())
+}
+
+/// A land charge of 100,000.00 at 5 percent is filed on 26 February, and a cure enters it on 4 March,
+/// behind the seizure from 3.1. It is of class 4, by its number, and stands ahead of 3.1. Its interest
+/// runs from its entry to 18 June, 104 days: 1,444.44.
+#[test]
+fn a_right_that_a_cure_enters_has_the_class_of_its_number(rt: HostRuntime) -> Result<(), Fail> {
+    let mut journal = opened(&rt, rt.alloc());
+    let waiting = creation(7, land_charge(10_000_000, 20, 1));
+    let plain = filed(10, waiting, &[plain_consent(1, 10)]);
+    receive(&rt, &mut journal, day(2, 26), &plain);
+    receive(&rt, &mut journal, day(2, 26), &by_owner(charge(50_000)));
+    seize_from(&rt, &mut journal, right(3, 1));
+    receive(&rt, &mut journal, day(3, 4), &cure(2, &[consent(1, 10)]));
+    call_to_bid(&rt, &mut journal);
+    let register = alone(rt.alloc(), &journal)?;
+    assert!(rt; matches!(verdict(&rt, &register, 2), Verdict::Interim { .. }));
+    assert!(rt; is_lowest(verdict(&rt, &register, 6), 10_145_444, 145_444));
     Ok(())
 }
 

@@ -3,32 +3,46 @@ ghost use Rattle.std.specs.Prelude.{◌≤◌};
 ghost use Rattle.gb_base.specs.Limits.{most_cents};
 ghost use Rattle.gb_base.specs.DayMinute.{IsStampDay};
 
-use act_model::{Act, Item, Journal, RightKind};
+use act_model::{Act, Item, Journal, RightKind, RightSpec};
 use folio_sections::{Entry, Parts, What};
 use gb_base::{Day, RightId, Section};
 use registrar::{Register, Verdict};
 use std::alloc::Global;
 use std::process::Abort;
 use test_items::{
-    call, consent, creation, day, filed, folio, opening, receipt, received, seizure_by,
-    seizure_from, spec,
+    call, consent, creation, day, filed, filing, folio, opening, receipt, received, seizure_by,
+    seizure_from, spec, two,
 };
 
 // ---- items
+
+/// A land charge of 20 without interest.
+pub fn without_interest(capital: u64) -> RightSpec
+    requires { capital ≤ most_cents }
+{
+    spec(RightKind::LandCharge { rate_bp: 0 }, capital, 20, 1)
+}
 
 /// The creation in folio 7 of a land charge of 20 without interest.
 pub fn charge(capital: u64) -> Act
     requires { capital ≤ most_cents }
 {
-    creation(
-        7,
-        spec(RightKind::LandCharge { rate_bp: 0 }, capital, 20, 1),
-    )
+    creation(7, without_interest(capital))
 }
 
 /// A filing of owner 10 of one act, with 10's consent.
 pub fn by_owner(act: Act) -> Item {
     filed(10, act, &[consent(1, 10)])
+}
+
+/// A filing of owner 10 that creates two such charges in one group, with 10's consents.
+pub fn charges_of_one_filing(first: u64, second: u64) -> Item
+    requires first { first ≤ most_cents }
+    requires second { second ≤ most_cents }
+{
+    let acts = two(charge(first), charge(second));
+    let consents = [consent(1, 10), consent(2, 10)];
+    Item::Filing(filing(10, acts, &consents))
 }
 
 /// A filing of owner 10 of one act of holder 20, with the consents of both.
@@ -92,6 +106,14 @@ pub fn is_refused(verdict: &Verdict, under: Section) -> bool {
     match verdict {
         Verdict::Rejected(section) => *section == under,
         _ => false,
+    }
+}
+
+/// The lowest bid with which bidders are called, and the part of it that is paid in cash.
+pub fn bid_of(verdict: &Verdict) -> Option<(u64, u64)> {
+    match verdict {
+        Verdict::Lowest { total, cash } => Some((*total, *cash)),
+        _ => None,
     }
 }
 
