@@ -7,7 +7,7 @@ ghost use Rattle.interim_orders.specs.Lapses.{lapse_at};
 
 use crate::room::reserve;
 use act_model::{Item, Journal, filing_at, filing_keys};
-use folio_sections::{Entry, MapParts, Parts, What};
+use folio_sections::{Entry, MapParts, What, entries_at};
 use gb_base::{Day, Key, NoMemory, ReceiptNo};
 use interim_orders::{
     FilingState, Lapse, close_order, enter_notices, lapse, laws, open_order, state,
@@ -123,11 +123,7 @@ pub fn lapsed(rt: &impl Abort, parts: &mut MapParts, journal: &Journal, item: u3
 
 /// The entries at a key.
 pub fn entries<'a>(rt: &impl Abort, parts: &'a MapParts, key: Key) -> &'a [Entry] {
-    match key {
-        Key::Title(folio) => parts.title(folio).expect(rt, "a part").entries(),
-        Key::Right(folio, right) => parts.right(folio, right).expect(rt, "a part").entries(),
-        Key::Case(folio) => parts.case(folio).expect(rt, "a part").entries(),
-    }
+    entries_at(parts, &key).expect(rt, "a part")
 }
 
 /// An entry at a key, from 0.

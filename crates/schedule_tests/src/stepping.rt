@@ -10,13 +10,12 @@ ghost use Rattle.schedule_tests.specs.KeptParts.{AreKept};
 
 use act_model::Journal;
 use conflict_queue::touches;
-use folio_sections::{Entry, MapParts};
+use folio_sections::{Entry, MapParts, entries_at};
 use gb_base::{Key, NoMemory, ReceiptNo};
 use kept_registers::laws::empty_register_is_kept;
 use registrar::{Scratch, Verdict, make_room, make_scratch, step};
 use std::alloc::Global;
 use std::process::Abort;
-use test_registers::entries_of;
 
 /// Parts at which nothing is entered yet.
 pub fn empty_parts(alloc: Global, journal: &Journal) -> Result<MapParts, NoMemory>
@@ -103,7 +102,7 @@ fn are_earlier(parts: &MapParts, keys: &[Key], item: ReceiptNo) -> bool
 fn is_earlier_at(parts: &MapParts, key: &Key, item: ReceiptNo) -> bool
     ensures { result ≡ (is_held parts.now key.now && list_all (λ e. nat_lt e.receipt item) (entries_at parts.now key.now)) }
 {
-    match entries_of(parts, key) {
+    match entries_at(parts, key) {
         Some(entries) => all_earlier(entries, item),
         None => false,
     }

@@ -5,6 +5,6 @@ mod entries;
 mod held;
 mod rights;
 
-pub use entries::{agree_at, entries_of};
+pub use entries::agree_at;
 pub use held::are_held;
 pub use rights::full_right;
