@@ -1,13 +1,14 @@
 -- Keys are held, and room is made at one after another.
-use Rattle.std.proofs.Common.{◌≡◌, ℕ, ◌+◌, ◌<◌, ◌≤◌, Bool, true, false, ◌||◌, List, [], ◌∷◌, ◌++◌, length, get_or, take, Contains, refl, sym, ap, subst, ◌∙◌, ⊎_elim, arith}
-use Rattle.std.proofs.lemmas.Bool.{cases_eq}
+use Rattle.std.proofs.Common.{◌≡◌, ℕ, suc, zero, ◌+◌, ◌<◌, ◌≤◌, Bool, true, false, ◌||◌, List, [], ◌∷◌, ◌++◌, length, get_or, take, Contains, refl, sym, ap, subst, ◌∙◌, ⊎_elim, arith}
+use Rattle.std.proofs.lemmas.Bool.{cases_eq, false≢true}
 use Rattle.std.proofs.lemmas.Grind.{take_at_read}
 use Rattle.std.proofs.lemmas.List.{get_or_default, take_all}
 use Rattle.std.proofs.lemmas.List.Folds.{list_any-append}
 use Rattle.gb_base.specs.Keys.{same_key}
 use Rattle.gb_base.specs.declared.keys.Key.{Key}
-use Rattle.folio_sections.specs.Held.{entries_at, is_given, is_held, room_at}
+use Rattle.folio_sections.specs.Held.{WidensBy, entries_at, is_given, is_held, room_at}
 use Rattle.folio_sections.specs.PartState.{PartState}
+use Rattle.folio_sections.proofs.WiderKeys.{held_then, held_too}
 use Rattle.registrar.specs.Rooms.{most_brought}
 
 -- the first of these keys are held too, and have room for what an item may bring; no entry has changed, and no key has less room
@@ -57,9 +58,40 @@ room_at_next before parts after keys i key so_far within is holds entries room k
       kept = λ k. let first = so_far.kept k in let last = kept k in omega arith;
     }
 
--- all keys
+-- ---- no other key is added
+
+left_no : (a b : Bool) → (a || b) ≡ false → a ≡ false
+left_no false b none = refl
+left_no true b none = none
+
+right_no : (a b : Bool) → (a || b) ≡ false → b ≡ false
+right_no false b none = none
+right_no true b none = absurd (false≢true (sym none))
+
+none_of_first : (i : ℕ) (keys : List Key) (k : Key) → is_given keys k ≡ false → is_given (take i keys) k ≡ false
+none_of_first zero keys k none = refl
+none_of_first (suc i) [] k none = refl
+none_of_first (suc i) (key ∷ keys) k none =
+    ap (λ b. b || is_given (take i keys) k) (left_no (same_key key k) (is_given keys k) none)
+    ∙ none_of_first i keys k (right_no (same_key key k) (is_given keys k) none)
+
+-- also where one more may have been
+pub widens_next : (before parts after : List PartState) (keys : List Key) (i : ℕ) (key : Key) → RoomSoFar before parts keys i → i < length keys → key ≡ get_or keys i key
+    → WidensBy (same_key key) parts after → WidensBy (is_given keys) before after
+widens_next before parts after keys i key so_far within is wide =
+    let neither : (k : Key) → is_given keys k ≡ false → (is_given (take i keys) k || same_key key k) ≡ false = λ k other. sym (given_next keys i key k within is) ∙ none_of_first (i + 1) keys k other in
+    held_then (is_given keys) (is_given (take i keys)) (same_key key) before parts after
+    (λ k other. left_no (is_given (take i keys) k) (same_key key k) (neither k other))
+    (λ k other. right_no (is_given (take i keys) k) (same_key key k) (neither k other))
+    (held_too (is_given (take i keys)) before parts so_far.held) wide
+
+-- ---- all keys
+
 pub held_all : (before parts : List PartState) (keys : List Key) (done : ℕ) (k : Key) → RoomSoFar before parts keys done → length keys ≤ done → is_held parts k ≡ (is_held before k || is_given keys k)
 held_all before parts keys done k so_far last = so_far.held k ∙ ap (λ ks. is_held before k || is_given ks k) (take_all done keys last)
+
+pub widens_all : (before parts : List PartState) (keys : List Key) (done : ℕ) → RoomSoFar before parts keys done → length keys ≤ done → WidensBy (is_given keys) before parts
+widens_all before parts keys done so_far last = held_too (is_given keys) before parts (λ k. held_all before parts keys done k so_far last)
 
 pub room_at_all : (before parts : List PartState) (keys : List Key) (done : ℕ) (k : Key) → RoomSoFar before parts keys done → length keys ≤ done → Contains keys k
     → length (entries_at parts k) + most_brought ≤ room_at parts k

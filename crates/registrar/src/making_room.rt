@@ -2,7 +2,7 @@
 //! Why so: docs/DECISIONS.md, "Room is kept at each key before an item is settled".
 ghost use Rattle.std.specs.Prelude.{◌≡◌, ◌||◌, ◌+◌, ◌≤◌, length, Contains, IsTrue, OnOk, option_and_then};
 ghost use Rattle.gb_base.specs.declared.keys.Key.{Key};
-ghost use Rattle.folio_sections.specs.Held.{entries_at, is_given, is_held, room_at};
+ghost use Rattle.folio_sections.specs.Held.{WidensBy, entries_at, is_given, is_held, room_at};
 ghost use Rattle.act_model.specs.Receiving.{item_at};
 ghost use Rattle.conflict_queue.specs.ItemKeys.{keys_of_item};
 ghost use Rattle.registrar.specs.Rooms.{HasItsScratch, most_brought};
@@ -21,10 +21,12 @@ const MOST_BROUGHT: usize = 3;
 /// Holds the keys of an item, and keeps room at each of them for what it may bring: three entries,
 /// and an official notice for each filing that waits there. Room for as many as stand there serves
 /// these notices, since each such filing has an entry there; and so a key that grows is moved
-/// seldom. No key has less room than before, also where no memory is found.
+/// seldom. No key is lost or has less room than before, and none is added but these, also where no
+/// memory is found.
 pub fn make_room(parts: &mut MapParts, keys: &[Key]) -> Result<(), NoMemory>
     ensures entries { entries_at parts.new ≡ entries_at parts.old }
     ensures held { OnOk result ((k : Key) → is_held parts.new k ≡ (is_held parts.old k || is_given keys.now k)) }
+    ensures widens { WidensBy (is_given keys.now) parts.old parts.new }
     ensures room { OnOk result ((k : Key) → Contains keys.now k → length (entries_at parts.new k) + most_brought ≤ room_at parts.new k) }
     ensures kept { (k : Key) → room_at parts.old k ≤ room_at parts.new k }
 {
