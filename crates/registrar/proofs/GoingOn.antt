@@ -12,14 +12,14 @@ use Rattle.conflict_queue.specs.Dockets.{keys_touched}
 use Rattle.conflict_queue.specs.ItemKeys.{keys_of_item}
 use Rattle.folio_sections.specs.Adding.{AddsAll}
 use Rattle.folio_sections.specs.Entries.{at as at_key}
-use Rattle.folio_sections.specs.Held.{entries_at, is_given, is_held}
+use Rattle.folio_sections.specs.Held.{WidensBy, entries_at, is_given, is_held}
 use Rattle.folio_sections.specs.PartState.{PartState}
 use Rattle.folio_sections.specs.Titles.{is_open, is_opening}
 use Rattle.folio_sections.specs.declared.entries.Entry.{Entry}
 use Rattle.kept_registers.specs.Kept.{Kept}
 use Rattle.registrar.proofs.AwardsKeep.{step_keeps}
 use Rattle.registrar.proofs.DistributionsKeep.{Distributes, step_distributes}
-use Rattle.registrar.proofs.JournalKeys.{given_next, not_given_is_apart}
+use Rattle.registrar.proofs.JournalKeys.{given_next, not_given_is_apart, widens_by_item}
 use Rattle.registrar.proofs.Listing.{in_listed, listed_behind, listed_in, open_in_order}
 use Rattle.registrar.proofs.OneListOfFolios.{one_list_of_folios, open_folios_are}
 use Rattle.registrar.proofs.Registering.{added_to, distributes_so_far, left_by, next_settled, none_settled}
@@ -32,10 +32,23 @@ use Rattle.registrar.specs.KeptAwards.{AwardsKept}
 use Rattle.registrar.specs.OpenFolios.{open_folios}
 use Rattle.registrar.specs.declared.settled.Settled.{Settled}
 use Rattle.registrar.specs.declared.verdicts.Verdict.{Verdict}
-use Rattle.registrar.specs.inner.Behind.{IsBehind, register_of}
+use Rattle.registrar.specs.inner.Behind.{IsBehind, Remains, register_of}
 use Rattle.registrar.specs.inner.Listed.{AreListed, closed_folio_of_title, is_listed}
 use Rattle.registrar.specs.inner.OpenFolios.{AreOpenFolios}
 use Rattle.registrar.specs.inner.SettledTo.{SettledTo}
+
+-- ---- no item more
+
+-- all that is settled stands, and no keys are held besides but those of the next item
+pub still_settled : (journal : List Receipt) (before after : Settled) (i : ℕ) (keys : List Key) → i ≡ length before.verdicts.items + 1 → keys ≡ keys_touched journal i
+    → WidensBy (is_given keys) before.parts after.parts → entries_at after.parts ≡ entries_at before.parts → after.verdicts.items ≡ before.verdicts.items → after.folios.items ≡ before.folios.items
+    → Remains journal before after
+still_settled journal before after i keys next are wide entries verdicts folios = record {
+  keys = widens_by_item journal i (length before.verdicts.items) keys before.parts after.parts next are wide;
+  entries = entries;
+  verdicts = verdicts;
+  folios = folios;
+}
 
 -- ---- one item more
 

@@ -16,7 +16,8 @@ use Rattle.act_model.specs.declared.items.Item.TheVariants as item
 use Rattle.act_model.specs.declared.receipts.Receipt.{Receipt}
 use Rattle.conflict_queue.specs.Dockets.{keys_touched}
 use Rattle.conflict_queue.specs.ItemKeys.{keys_of_item}
-use Rattle.folio_sections.specs.Held.{is_given}
+use Rattle.folio_sections.specs.Held.{WidensBy, is_given}
+use Rattle.folio_sections.specs.PartState.{PartState}
 use Rattle.folio_sections.specs.declared.entries.Entry.{Entry}
 use Rattle.registrar.proofs.Registering.{range_more}
 use Rattle.registrar.proofs.UnnoticedFew.{unnoticed_at_most}
@@ -56,6 +57,15 @@ touched_is_given journal i keys k are there =
 
 pub not_given_is_apart : (journal : List Receipt) (i : ℕ) (keys : List Key) (k : Key) → keys ≡ keys_touched journal i → is_given keys k ≡ false → Contains (keys_of_item journal i) k → ⊥
 not_given_is_apart journal i keys k are apart there = false≢true (sym apart ∙ touched_is_given journal i keys k are there)
+
+-- what may be held besides, of the keys in order, may be of all keys of the item
+pub widens_by_item : (journal : List Receipt) (i n : ℕ) (keys : List Key) (before after : List PartState) → i ≡ n + 1 → keys ≡ keys_touched journal i
+    → WidensBy (is_given keys) before after → WidensBy (is_given (keys_of_item journal (n + 1))) before after
+widens_by_item journal i n keys before after next are wide = record {
+  kept = wide.kept;
+  others = λ k other.
+      wide.others k (ap (λ ks. is_given ks k) are ∙ given_in_order journal i k ∙ ap (λ m. is_given (keys_of_item journal m) k) next ∙ other);
+}
 
 -- ---- the room at them
 

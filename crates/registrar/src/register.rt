@@ -3,8 +3,9 @@
 ghost use Rattle.std.specs.Prelude.{◌≡◌, ◌-◌, ◌+◌, ◌<◌, ◌≤◌, IfOk, IsTrue, OnErr, OnOk, length, slice_get};
 ghost use Rattle.std.specs.List.{enumerate_from};
 ghost use Rattle.std.specs.Option.{option_copied};
+ghost use Rattle.conflict_queue.specs.ItemKeys.{keys_of_item};
 ghost use Rattle.folio_sections.specs.Adding.{Adds};
-ghost use Rattle.folio_sections.specs.Held.{entries_at, is_held, room_at};
+ghost use Rattle.folio_sections.specs.Held.{WidensBy, entries_at, is_given, is_held, room_at};
 ghost use Rattle.folio_sections.specs.HeldRights.{held_rights};
 ghost use Rattle.kept_registers.specs.Kept.{Kept};
 ghost use Rattle.registrar.specs.HasSettled.{HasSettled};
@@ -69,7 +70,8 @@ impl Register {
 
     /// Settles the next item of the journal, behind those that are settled (GBO § 17). It keeps the
     /// room for it first: where no memory is found, nothing is settled and no entry, verdict or open
-    /// folio changes, but keys of the item may be held then, so such a register is to be made anew.
+    /// folio changes, but keys of the item, and no others, may be held besides then, so such a
+    /// register is to be made anew.
     pub fn settle_next(&mut self, scratch: &mut Scratch, journal: &Journal) -> Result<(), NoMemory>
         requires more { length self.old.verdicts < length journal.now.receipts }
         requires settled { HasSettled journal.now.receipts self.old }
@@ -80,6 +82,7 @@ impl Register {
         ensures entries { OnErr result (entries_at self.new.parts ≡ entries_at self.old.parts) }
         ensures verdicts { OnErr result (self.new.verdicts ≡ self.old.verdicts) }
         ensures folios { OnErr result (self.new.folios ≡ self.old.folios) }
+        ensures keys { OnErr result (WidensBy (is_given (keys_of_item journal.now.receipts (length self.old.verdicts + 1))) self.old.parts self.new.parts) }
     {
         // Called for their clauses: each prefix of a journal leaves a kept register, from the empty
         // one on.

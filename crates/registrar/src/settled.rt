@@ -51,7 +51,7 @@ impl Settled {
         ensures behind { OnOk result (IsBehind journal.now.receipts self.new) }
         ensures one_more { OnOk result (length self.new.verdicts.items ≡ length self.old.verdicts.items + 1) }
         ensures folios { OnOk result (length self.new.folios.items ≤ length self.old.folios.items → self.new.folios.items ≡ self.old.folios.items) }
-        ensures remains { OnErr result (Remains self.old self.new) }
+        ensures remains { OnErr result (Remains journal.now.receipts self.old self.new) }
     {
         let item = number_behind(journal, self.verdicts.len());
         let keys = touches(self.alloc, journal, item)?;
@@ -80,7 +80,7 @@ impl Settled {
         ensures behind { OnOk result (IsBehind journal.now.receipts self.new) }
         ensures one_more { OnOk result (length self.new.verdicts.items ≡ length self.old.verdicts.items + 1) }
         ensures ascending { OnOk result (AllPairs (λ folio later. folio < later) self.new.folios.items) }
-        ensures remains { OnErr result (Remains self.old self.new) }
+        ensures remains { OnErr result (Remains journal.now.receipts self.old self.new) }
     {
         let listed = self.folios.len();
         self.settle_next(scratch, journal)?;

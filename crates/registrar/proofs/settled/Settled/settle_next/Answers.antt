@@ -1,10 +1,11 @@
 use Rattle.std.proofs.Common.{◌<◌, ◌+◌, [], ◌∷◌, ◌++◌, All, filter, filter_map, refl, sym, ap, subst, ◌∙◌}
 use Rattle.std.proofs.lemmas.Bool.{or_right}
+use Rattle.std.proofs.lemmas.Result.{MatchResult-from_err}
 use Rattle.gb_base.specs.declared.keys.Key.TheVariants.{Title}
 use Rattle.folio_sections.specs.Held.{entries_at, is_given, is_held, room_at}
 use Rattle.folio_sections.specs.Titles.{is_open}
 use Rattle.kept_registers.specs.Kept.{Kept}
-use Rattle.registrar.proofs.GoingOn.{next_behind, nothing_added}
+use Rattle.registrar.proofs.GoingOn.{next_behind, nothing_added, still_settled}
 use Rattle.registrar.proofs.JournalKeys.{has_its_room, touched_is_given}
 use Rattle.registrar.specs.KeptAwards.{AwardsKept}
 use Rattle.registrar.specs.inner.Listed.{closed_folio_of_title}
@@ -59,3 +60,38 @@ pub returns-clause-folios : goal.returns-clause-folios
 returns-clause-folios c = λ short.
     nothing_added c.args.self.now.folios.items (filter (λ folio. is_open (entries_at c.step-verdict.new.parts (Title folio))) c.as_slice-3.result.now) c.list_open.new.list.items
     (c.list_open.ensures ∙ ap (λ fs. fs ++ filter (λ folio. is_open (entries_at c.step-verdict.new.parts (Title folio))) c.as_slice-3.result.now) c.reserve.ensures.items) short
+
+pub returns-in_err-make_room-clause-remains : goal.returns-in_err-make_room-clause-remains
+returns-in_err-make_room-clause-remains c =
+    MatchResult-from_err c.from_residual-in_err-make_room.result _ _ c.from_residual-in_err-make_room.ensures.0
+    (λ _. still_settled c.args.journal.now.receipts c.args.self.now _ c.number_behind-item.result c.as_slice.result.now
+    (c.number_behind-item.ensures.value ∙ ap (λ n. n + 1) (c.len.ensures ∙ c.args.self.now.verdicts.ok.0)) (c.as_slice.ensures.value ∙ c.in_ok-keys.ensures)
+    c.make_room.ensures.widens c.make_room.ensures.entries refl refl)
+
+pub returns-in_err-make_scratch-clause-remains : goal.returns-in_err-make_scratch-clause-remains
+returns-in_err-make_scratch-clause-remains c =
+    MatchResult-from_err c.from_residual-in_err-make_scratch.result _ _ c.from_residual-in_err-make_scratch.ensures.0
+    (λ _. still_settled c.args.journal.now.receipts c.args.self.now _ c.number_behind-item.result c.as_slice.result.now
+    (c.number_behind-item.ensures.value ∙ ap (λ n. n + 1) (c.len.ensures ∙ c.args.self.now.verdicts.ok.0)) (c.as_slice.ensures.value ∙ c.in_ok-keys.ensures)
+    c.make_room.ensures.widens c.make_room.ensures.entries refl refl)
+
+pub returns-in_err-closed-clause-remains : goal.returns-in_err-closed-clause-remains
+returns-in_err-closed-clause-remains c =
+    MatchResult-from_err c.from_residual-in_err-closed.result _ _ c.from_residual-in_err-closed.ensures.0
+    (λ _. still_settled c.args.journal.now.receipts c.args.self.now _ c.number_behind-item.result c.as_slice.result.now
+    (c.number_behind-item.ensures.value ∙ ap (λ n. n + 1) (c.len.ensures ∙ c.args.self.now.verdicts.ok.0)) (c.as_slice.ensures.value ∙ c.in_ok-keys.ensures)
+    c.make_room.ensures.widens c.make_room.ensures.entries refl refl)
+
+pub returns-in_err-reserve-clause-remains : goal.returns-in_err-reserve-clause-remains
+returns-in_err-reserve-clause-remains c =
+    MatchResult-from_err c.from_residual-in_err-reserve.result _ _ c.from_residual-in_err-reserve.ensures.0
+    (λ _. still_settled c.args.journal.now.receipts c.args.self.now _ c.number_behind-item.result c.as_slice.result.now
+    (c.number_behind-item.ensures.value ∙ ap (λ n. n + 1) (c.len.ensures ∙ c.args.self.now.verdicts.ok.0)) (c.as_slice.ensures.value ∙ c.in_ok-keys.ensures)
+    c.make_room.ensures.widens c.make_room.ensures.entries refl c.reserve.ensures.items)
+
+pub returns-in_err-reserve-2-clause-remains : goal.returns-in_err-reserve-2-clause-remains
+returns-in_err-reserve-2-clause-remains c =
+    MatchResult-from_err c.from_residual-in_err-reserve-2.result _ _ c.from_residual-in_err-reserve-2.ensures.0
+    (λ _. still_settled c.args.journal.now.receipts c.args.self.now _ c.number_behind-item.result c.as_slice.result.now
+    (c.number_behind-item.ensures.value ∙ ap (λ n. n + 1) (c.len.ensures ∙ c.args.self.now.verdicts.ok.0)) (c.as_slice.ensures.value ∙ c.in_ok-keys.ensures)
+    c.make_room.ensures.widens c.make_room.ensures.entries c.reserve-2.ensures.items c.reserve.ensures.items)
