@@ -92,6 +92,22 @@ fn a_case_has_eight_seizures(rt: HostRuntime) -> Result<(), Fail> {
     Ok(())
 }
 
+/// Behind an award a ninth seizure is refused for the award, which is asked first.
+#[test]
+fn an_award_is_named_ahead_of_the_limit(rt: HostRuntime) -> Result<(), Fail> {
+    let mut journal = opened(&rt, rt.alloc());
+    for _ in 0..8 {
+        seize_served(&rt, &mut journal, day(3, 1));
+    }
+    call_to_bid(&rt, &mut journal);
+    receive(&rt, &mut journal, day(6, 3), &award(7, 30, 1_000));
+    seize_served(&rt, &mut journal, day(6, 3));
+    let register = alone(rt.alloc(), &journal)?;
+    assert!(rt; is_awarded(verdict(&rt, &register, 11)));
+    assert!(rt; is_refused(verdict(&rt, &register, 12), Section::Zvg81));
+    Ok(())
+}
+
 /// Of 34 registrations the second arrears of one right are refused, and the thirty-third of those
 /// that are not.
 #[test]
