@@ -126,10 +126,10 @@ impl Claims {
     /// rights are those that stand before it. So they are as of receipt 11, since the folio is read as
     /// it stood before the award: the right that was cancelled is among them.
     ///
-    /// There is room for all exchanges that stand in the parts at the rights filed before that item,
-    /// also for those that were entered at it or behind it, of which none is read. So `count_rises`
-    /// counts them, when an item is settled and nothing behind it stands; what is reckoned later, as
-    /// a plan, keeps more room than it fills.
+    /// The room is for all exchanges that stand in the parts at rights filed before that item, also
+    /// for those entered at it or behind it, of which none is read. It is kept before an item is
+    /// settled, when nothing stands behind it, and so `count_rises` counts all; what is reckoned
+    /// later, as a plan, has room to spare.
     pub fn fill<P: Parts>(&mut self, parts: &P, journal: &Journal, folio: FolioId, as_of: ReceiptNo)
         requires held { (k : Key) → Contains (keys_of_sale journal.now.receipts as_of folio) k → IsTrue (P.holds parts.now k) }
         requires kept { StandsForKept journal.now.receipts (P.holds parts.now) (P.at parts.now) }
