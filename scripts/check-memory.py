@@ -1,9 +1,10 @@
 #!/usr/bin/env python3
-"""Refuses the built program each allocation of a run in turn, alone and with all behind it.
+"""Refuses the built program each call of malloc and realloc of a run in turn, alone and with all behind it.
 
 A run that was refused memory either needed none of it and writes what any run writes, or it writes
 the front of that and ends with the status and the line of want of memory. What `take` acknowledged
-stands in the file, and the same lines once more end with each of them received once.
+stands in the file, and the same lines once more end with each of them received once. At several desks
+the calls have no one order, so that one of them may be refused twice and another never.
 """
 
 import itertools

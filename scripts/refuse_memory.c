@@ -1,6 +1,6 @@
-/* Refuses memory to the program that it is loaded ahead of (LD_PRELOAD): the allocation of the number
- * REFUSED_AT, and all from the number REFUSED_FROM on, each counted from 1. Where it refuses one it makes
- * the file REFUSED, where that is named. */
+/* Refuses memory to the program that it is loaded ahead of (LD_PRELOAD): the call of malloc or realloc of
+ * the number REFUSED_AT, and all from the number REFUSED_FROM on, each counted from 1. Where it refuses one
+ * it makes the file REFUSED, where that is named. It wants glibc. */
 
 #include <errno.h>
 #include <fcntl.h>
