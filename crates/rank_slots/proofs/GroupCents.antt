@@ -96,7 +96,7 @@ inside filled r fits kept =
     first_within (is_of_group group) (line filled) (omega arith)
 
 -- two amounts that agree for the rights of a group come to the same
-sum_agrees : (f g : Place → ℕ) (group ps : List Place) → ((p : Place) → list_any (is_of p.right) group ≡ true → f p ≡ g p) → ((a : RightNo) → list_any (is_of a) ps ≡ true → list_any (is_of a) group ≡ true)
+pub sum_agrees : (f g : Place → ℕ) (group ps : List Place) → ((p : Place) → list_any (is_of p.right) group ≡ true → f p ≡ g p) → ((a : RightNo) → list_any (is_of a) ps ≡ true → list_any (is_of a) group ≡ true)
     → sum_by f ps ≡ sum_by g ps
 sum_agrees f g group [] same sub = refl
 sum_agrees f g group (p ∷ ps) same sub =

@@ -10,6 +10,7 @@ use Rattle.gb_base.specs.RightNo.{RightNo, same_right}
 use Rattle.gb_base.proofs.SameRights.{right_is}
 use Rattle.rank_slots.specs.CanFill.{StandsAlone}
 use Rattle.rank_slots.specs.Groups.{group_of, groups, is_of, joins, with_first}
+use Rattle.rank_slots.specs.Payments.{claim_of}
 use Rattle.rank_slots.specs.declared.places.Place.{Place}
 use Rattle.rank_slots.proofs.LineCounts.{counted, counted_both, counted_is, none_from_count, some_counted}
 use Rattle.rank_slots.proofs.PlaceLines.{AreDifferent, places_few}
@@ -89,6 +90,30 @@ in_none (g ∷ gs) a r none =
       | true ↦ parts.0
       | false ↦ in_none gs a r parts.1
     ]
+
+-- the first place of a right is in its group
+claim_first : (g ps : List Place) (r : RightNo) → list_any (is_of r) g ≡ true → claim_of (g ++ ps) r ≡ claim_of g r
+claim_first [] ps r there = absurd (false≢true there)
+claim_first (p ∷ g) ps r there =
+    elim (same_right p.right r)
+    as (λ b. (b || list_any (is_of r) g) ≡ true → option_map_or (λ (q : Place). q.claim) (cond b (Some p) (find (is_of r) (g ++ ps))) 0 ≡ option_map_or (λ (q : Place). q.claim) (cond b (Some p) (find (is_of r) g)) 0) [
+      | true ↦ λ h. refl
+      | false ↦ λ h. claim_first g ps r h
+    ] there
+
+claim_behind : (g ps : List Place) (r : RightNo) → list_any (is_of r) g ≡ false → claim_of (g ++ ps) r ≡ claim_of ps r
+claim_behind [] ps r none = refl
+claim_behind (p ∷ g) ps r none =
+    let parts = or_parts (same_right p.right r) (list_any (is_of r) g) none in
+    (λ i. option_map_or (λ (q : Place). q.claim) (cond (parts.0 i) (Some p) (find (is_of r) (g ++ ps))) 0) ∙ claim_behind g ps r parts.1
+
+in_claim : (gs : List (List Place)) (r : RightNo) → claim_of (group_in gs r) r ≡ claim_of (members gs) r
+in_claim [] r = refl
+in_claim (g ∷ gs) r =
+    elim (list_any (is_of r) g) as (λ b. list_any (is_of r) g ≡ b → claim_of (option_map_or (λ h. h) (cond b (Some g) (find (list_any (is_of r)) gs)) []) r ≡ claim_of (g ++ members gs) r) [
+      | true ↦ λ here. sym (claim_first g (members gs) r here)
+      | false ↦ λ no. in_claim gs r ∙ sym (claim_behind g (members gs) r no)
+    ] refl
 
 -- ---- a right that stands alone
 
@@ -171,6 +196,9 @@ apart_from_alone places a r differ one other =
 
 pub group_holds : (places : List Place) (r : RightNo) → list_any (is_of r) places ≡ true → list_any (is_of r) (group_of places r) ≡ true
 group_holds places r there = in_holds (groups places) r (subst (λ ps. list_any (is_of r) ps ≡ true) (sym (members_are places)) there)
+
+pub group_claim : (places : List Place) (r : RightNo) → claim_of (group_of places r) r ≡ claim_of places r
+group_claim places r = in_claim (groups places) r ∙ ap (λ ps. claim_of ps r) (members_are places)
 
 pub group_sum : (f : Place → ℕ) (places : List Place) (r : RightNo) → sum_by f (group_of places r) ≤ sum_by f places
 group_sum f places r = subst (λ ps. sum_by f (group_of places r) ≤ sum_by f ps) (members_are places) (in_sum f (groups places) r)

@@ -27,6 +27,7 @@ pub mod LineSwaps
 pub mod Lines
 pub mod LoneNumbers
 pub mod LonePay
+pub mod PlaceClaims
 pub mod PlaceLines
 pub mod PlaceNumbers
 pub mod Precedence
@@ -39,3 +40,4 @@ pub mod SpanLines
 pub mod SpanRows
 pub mod TakenOut
 pub mod ThirdRights
+pub mod WholeLine

@@ -115,18 +115,21 @@ exchange_kept s r cs =
 
 -- ---- all exchanges
 
-all_kept : (r : RightNo) (swaps : List Swap) (cs : List RightNo) → counted (same_right r) (exchange_all cs swaps) ≡ counted (same_right r) cs
+pub all_kept : (r : RightNo) (swaps : List Swap) (cs : List RightNo) → counted (same_right r) (exchange_all cs swaps) ≡ counted (same_right r) cs
 all_kept r [] cs = refl
 all_kept r (s ∷ swaps) cs = all_kept r swaps (exchange cs s) ∙ exchange_kept s r cs
 
 -- a right that is not dropped has all cents of its claim in the line
-pub kept_cents : (places : List Place) (swaps : List Swap) (r : RightNo) → AreDifferent places → keeps_place places r ≡ true → counted (same_right r) (cent_line places swaps) ≡ claim_of places r
+pub undropped_cents : (places : List Place) (swaps : List Swap) (r : RightNo) → AreDifferent places → is_dropped places r ≡ false → counted (same_right r) (cent_line places swaps) ≡ claim_of places r
 unfolding cent_line
-kept_cents places swaps r differ kept =
+undropped_cents places swaps r differ undropped =
     counted_kept (λ c. not (is_dropped places c)) (same_right r)
-    (λ c own. subst (λ z. not (is_dropped places z) ≡ true) (right_is r c own) (not_from_false (is_dropped places r) (kept_undropped r places differ kept)))
+    (λ c own. subst (λ z. not (is_dropped places z) ≡ true) (right_is r c own) (not_from_false (is_dropped places r) undropped))
     (exchange_all (written places) swaps)
     ∙ (all_kept r swaps (written places) ∙ claim_written r places differ)
+
+pub kept_cents : (places : List Place) (swaps : List Swap) (r : RightNo) → AreDifferent places → keeps_place places r ≡ true → counted (same_right r) (cent_line places swaps) ≡ claim_of places r
+kept_cents places swaps r differ kept = undropped_cents places swaps r differ (kept_undropped r places differ kept)
 
 -- so it has a cent there
 pub has_cents : (filled : Filled) (r : RightNo) → ArePlaces filled.places → keeps_place filled.places r ≡ true → 1 ≤ counted (same_right r) (line filled)

@@ -87,7 +87,7 @@ member_shares cents group once =
     ∙ ap (λ n. sum (map (share cents claims) (range_with_len 0 n))) (sym (length-map group (λ (q : Place). q.claim)))
 
 -- one that does not stand alone gets its share
-shared : (group : List Place) (r : RightNo) (cents : ℕ) → (length group == 1) ≡ false → share_in_group group r cents ≡ share cents (map (λ p. p.claim) group) (position_or_len (is_of r) group)
+pub shared : (group : List Place) (r : RightNo) (cents : ℕ) → (length group == 1) ≡ false → share_in_group group r cents ≡ share cents (map (λ p. p.claim) group) (position_or_len (is_of r) group)
 shared group r cents more = λ i. if more i then cents else share cents (map (λ (p : Place). p.claim) group) (position_or_len (is_of r) group)
 
 -- the claims come to a cent at least where a right has one of them

@@ -1,10 +1,10 @@
 //! Laws of the definitions that contracts cite. Each function does nothing; its contract is the
 //! law.
-ghost use Rattle.std.specs.Prelude.{◌≡◌, ◌+◌, ◌++◌, ◌≤◌, ℕ, Contains, List, false, filter, map, not, replicate, sum_by, true};
+ghost use Rattle.std.specs.Prelude.{◌≡◌, ◌+◌, ◌++◌, ◌≤◌, ℕ, Contains, List, false, filter, length, map, not, replicate, sum_by, true};
 ghost use Rattle.gb_base.specs.RightNo.{RightNo, same_right};
 ghost use Rattle.rank_slots.specs.CanFill.{CanFill, StandsAlone};
 ghost use Rattle.rank_slots.specs.CentLine.{cents_of, exchange, is_of_either};
-ghost use Rattle.rank_slots.specs.Filled.{Filled, with_swap, without_knots};
+ghost use Rattle.rank_slots.specs.Filled.{Filled, line, with_swap, without_knots};
 ghost use Rattle.rank_slots.specs.Groups.{group_of, keeps_place};
 ghost use Rattle.rank_slots.specs.Payments.{claim_of, paid_out, pay, pay_reserved, plain_pay, threshold};
 ghost use Rattle.rank_slots.specs.declared.places.Knot.{Knot};
@@ -62,4 +62,15 @@ pub fn pay_exercised()
     ensures together { (filled : Filled) (k : Knot) (t : ℕ) → CanFill filled → Contains filled.knots k
         → pay filled k.reserved t + pay filled k.exercised t
         ≡ pay (without_knots filled) k.reserved t + pay (without_knots filled) k.exercised t }
+{}
+
+/// Of a sum as great as the line each right that is not dropped gets its whole claim, whatever was
+/// exchanged and whether a knot ties it or not; and the line is as long as these claims together
+/// (BGB §§ 879 to 881).
+pub fn whole_line()
+    ensures length { (filled : Filled) → CanFill filled
+        → length (line filled) ≡ sum_by (λ p. p.claim) (filter (λ p. not p.dropped) filled.places) }
+    ensures paid { (filled : Filled) (right : RightNo) → CanFill filled
+        → keeps_place filled.places right ≡ true
+        → pay filled right (length (line filled)) ≡ claim_of filled.places right }
 {}
