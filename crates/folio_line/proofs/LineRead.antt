@@ -81,6 +81,9 @@ exchanges_written at folio live counted exchanges is wrote turned =
 
 -- ---- and there is room
 
+pub ids_fit : (ids : List RightNo) (asked room capacity : ℕ) → length ids ≤ asked → room ≡ asked → room ≤ capacity → length ids ≤ capacity
+ids_fit ids asked room capacity few same within = omega arith
+
 pub rights_fit : (find : RightNo → Option CreatedRight) (ids : List RightNo) (by_act : List CreatedRight) (asked room capacity : ℕ) → by_act ≡ filter_map find ids → length ids ≤ asked → room ≡ asked → room ≤ capacity
     → length by_act ≤ capacity
 rights_fit find ids by_act asked room capacity is few same within =

@@ -5,9 +5,10 @@ ghost use Rattle.gb_base.specs.declared.keys.Key.TheVariants.{Right};
 ghost use Rattle.folio_sections.specs.HeldRights.{receipt_numbers};
 ghost use Rattle.folio_sections.specs.Rights.{created};
 ghost use Rattle.folio_sections.specs.inner.RightsInKeys.{is_right_number};
+ghost use Rattle.folio_line.specs.AllRights.{AreAllRights};
 ghost use Rattle.folio_line.specs.FolioReading.{CanBeRead, reads};
 ghost use Rattle.folio_line.specs.FolioSlots.{recedes, stands_on_line};
-ghost use Rattle.folio_line.specs.FolioRights.{by_group, has_group, has_same_place};
+ghost use Rattle.folio_line.specs.FolioRights.{by_group, has_group, has_same_place, live_rights};
 ghost use Rattle.folio_line.specs.inner.FilingRuns.{AreOfFilings, is_of_filing};
 ghost use Rattle.folio_line.specs.inner.RightWalk.{right_found};
 ghost use Rattle.folio_line.specs.declared.folio_rights.CreatedRight.{CreatedRight};
@@ -24,6 +25,27 @@ pub struct CreatedRight {
     pub id: RightId,
     /// The right as it was created.
     pub made: Created,
+}
+
+/// Writes those of these rights that are live into two lists that have room: by filing and act, and
+/// from there by filing, group and act.
+pub(crate) fn write_live<P: Parts>(
+    live: &mut Vec<CreatedRight>,
+    by_act: &mut Vec<CreatedRight>,
+    reading: &FolioReading<P>,
+    ids: &[RightId],
+)
+    requires read { CanBeRead P.holds P.at reading.now }
+    requires all { AreAllRights ids.now (reads P.holds P.at reading.now) reading.now.folio }
+    requires live_room { length ids.now ≤ vec_capacity live.old }
+    requires room { length ids.now ≤ vec_capacity by_act.old }
+    ensures live { live.new.items ≡ live_rights (reads P.holds P.at reading.now) reading.now.folio }
+    ensures by_act { by_act.new.items ≡ filter_map (right_found (stands_on_line []) (reads P.holds P.at reading.now) reading.now.folio) ids.now }
+    ensures live_capacity { vec_capacity live.new ≡ vec_capacity live.old }
+    ensures capacity { vec_capacity by_act.new ≡ vec_capacity by_act.old }
+{
+    write_on_line(by_act, reading, &[], ids);
+    write_by_group(live, by_act);
 }
 
 /// Writes those of these rights that are live in the folio, and those that recede in these

@@ -12,7 +12,7 @@ use crate::FolioReading;
 use crate::exchange_turns::{Turn, put_in_turn};
 use crate::exchanges::{Exchange, write_counted};
 use crate::exercises::write_exercises;
-use crate::folio_rights::{CreatedRight, write_by_group, write_on_line, write_receding};
+use crate::folio_rights::{CreatedRight, write_by_group, write_live, write_receding};
 use folio_sections::Parts;
 use gb_base::{NoMemory, RightId};
 use rank_slots::Knot;
@@ -91,13 +91,26 @@ impl FolioLine {
         ensures exchange_room { self.new.exchange_room ≡ self.old.exchange_room }
         ensures memory { self.new.capacity ≡ self.old.capacity }
     {
-        write_on_line(&mut self.by_act, reading, &[], ids);
-        write_by_group(&mut self.live, &self.by_act);
+        write_live(&mut self.live, &mut self.by_act, reading, ids);
         write_exercises(&mut self.exercises, reading, &self.by_act);
         write_counted(&mut self.exchanges, reading, &self.live);
         put_in_turn(&mut self.exchanges, &mut self.turns);
         write_receding(&mut self.by_act, reading, &self.exchanges, ids);
         write_by_group(&mut self.rights, &self.by_act);
+    }
+
+    /// Reads the live rights of a folio anew, among these; of what else stands on the line nothing is
+    /// said then. Takes no memory.
+    pub fn read_live<P: Parts>(&mut self, reading: &FolioReading<P>, ids: &[RightId])
+        requires read { CanBeRead P.holds P.at reading.now }
+        requires all { AreAllRights ids.now (reads P.holds P.at reading.now) reading.now.folio }
+        requires rights { length ids.now ≤ self.old.right_room }
+        ensures live { self.new.live ≡ live_rights (reads P.holds P.at reading.now) reading.now.folio }
+        ensures right_room { self.new.right_room ≡ self.old.right_room }
+        ensures exchange_room { self.new.exchange_room ≡ self.old.exchange_room }
+        ensures memory { self.new.capacity ≡ self.old.capacity }
+    {
+        write_live(&mut self.live, &mut self.by_act, reading, ids);
     }
 
     /// The rights that are live, and those that recede in exchanges that count, by filing, group and
