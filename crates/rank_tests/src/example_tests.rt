@@ -4,7 +4,7 @@ ghost use Rattle.std.specs.Prelude.{◌≤◌};
 use crate::lines::{
     dropped, filled, joined, knot, paid, piece, place, relation, right, swap, threshold,
 };
-use rank_slots::{Piece, Relation, Slots};
+use rank_slots::{Piece, Place, Relation, Slots};
 use std::process::Abort;
 
 /// The line has these pieces.
@@ -129,4 +129,32 @@ fn a_group_shares_its_cents(rt: HostRuntime) {
     assert_eq!(rt; threshold(&rt, &slots, right(4)), 5);
     stands(&rt, &slots, 4, Relation::Equal, 2);
     stands(&rt, &slots, 4, Relation::Behind, 1);
+}
+
+/// Of as many cents as the line has each right that is not dropped gets its claim.
+fn each_gets_its_claim(rt: &impl Abort, slots: &Slots, places: &[Place]) {
+    for place in places {
+        if !place.dropped {
+            let cents = paid(rt, slots, place.right, slots.length());
+            assert_eq!(rt; cents, place.claim, "{place:?}");
+        }
+    }
+}
+
+#[test]
+fn the_whole_line_pays_each_claim(rt: HostRuntime) {
+    let places = [
+        place(1, 10),
+        place(2, 7),
+        dropped(3, 4),
+        place(4, 6),
+        joined(5, 3),
+        joined(6, 1),
+        place(7, 9),
+        place(8, 5),
+    ];
+    let swaps = [swap(2, 8), swap(3, 2), swap(8, 3)];
+    let slots = filled(&rt, rt.alloc(), &places, &swaps, &[knot(1, 7)]);
+    assert_eq!(rt; slots.length(), 41);
+    each_gets_its_claim(&rt, &slots, &places);
 }
