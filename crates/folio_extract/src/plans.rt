@@ -20,7 +20,7 @@ use crate::plan_lines::add_plan_lines;
 use crate::plan_lists::csv_of_lines;
 use act_model::{Item, Journal};
 use auction_classes::Claims;
-use folio_line::{FolioReading, count_rises, rights_filed};
+use folio_line::{FolioReading, count_exchanges, rights_filed};
 use folio_sections::{Entry, What};
 use gb_base::{FolioId, NoMemory, ReceiptNo};
 use proceeds_split::{Plan, split};
@@ -274,7 +274,7 @@ fn claims_of(
         folio,
         before: None,
     };
-    let exchanges = count_rises(&reading, rights)?;
+    let exchanges = count_exchanges(&reading, rights)?;
     let mut claims = Claims::with_room(alloc, rights.len(), exchanges)?;
     claims.fill(register, journal, folio, n);
     Ok(claims)

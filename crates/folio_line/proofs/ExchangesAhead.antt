@@ -55,7 +55,7 @@ rises_by_none right n (what.Exchanged recede rise act) is = absurd (false≢true
 rises_by_none right n other is = refl
 
 -- what a right rises by stands among the exchanges
-rises_there : (right : RightNo) (entries : List Entry)
+pub rises_there : (right : RightNo) (entries : List Entry)
     → filter_map (λ e. rise_by right e.receipt e.what) (filter (λ e. is_exchange e.what) entries) ≡ filter_map (λ e. rise_by right e.receipt e.what) entries
 rises_there right [] = refl
 rises_there right (e ∷ entries) =

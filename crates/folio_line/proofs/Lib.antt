@@ -29,6 +29,7 @@ pub mod ReadWhereHeld
 pub mod RightOrder
 pub mod RightWalks
 pub mod RightsInOrder
+pub mod RisesFew
 pub mod SortedLists
 pub mod SortedTurns
 pub mod Turns

@@ -1,8 +1,9 @@
 -- The line of a folio in lists that have room.
-use Rattle.std.specs.Prelude.{◌≡◌, ℕ, List, [], filter_map, flat_map}
+use Rattle.std.specs.Prelude.{◌≡◌, ℕ, List, filter_map, flat_map, sum_by}
 use Rattle.gb_base.specs.RightNo.{RightNo}
 use Rattle.gb_base.specs.declared.keys.Key.{Key}
 use Rattle.gb_base.specs.declared.keys.Key.TheVariants.{Right}
+use Rattle.folio_sections.specs.Rights.{exchanges}
 use Rattle.folio_sections.specs.declared.entries.Entry.{Entry}
 use Rattle.rank_slots.specs.declared.places.Knot.{Knot}
 use Rattle.folio_line.specs.Exchanges.{counted_exchanges, counted_exercises, rise_by}
@@ -36,3 +37,7 @@ rises_of at folio id = filter_map (λ e. rise_by id e.receipt e.what) (at (Right
 -- those by which one of these rights rises
 abbrev pub all_rises : (Key → List Entry) → ℕ → List RightNo → List Exchange
 all_rises at folio ids = flat_map (rises_of at folio) ids
+
+-- how many exchanges these rights are in, each exchange at both of its rights, whether they count or not
+abbrev pub all_exchanges : (Key → List Entry) → ℕ → List RightNo → ℕ
+all_exchanges at folio ids = sum_by (λ id. exchanges (at (Right folio id))) ids

@@ -1,11 +1,12 @@
 //! The exchanges of rank of a folio that count (BGB § 880).
-ghost use Rattle.std.specs.Prelude.{◌≡◌, ◌++◌, ◌≤◌, true, IfOk, filter, filter_map, flat_map, length, vec_capacity};
+ghost use Rattle.std.specs.Prelude.{◌≡◌, ◌++◌, ◌≤◌, true, IfOk, filter, flat_map, length, vec_capacity};
 ghost use Rattle.std.specs.List.{list_any};
 ghost use Rattle.gb_base.specs.RightNo.{same_right};
 ghost use Rattle.gb_base.specs.declared.keys.Key.TheVariants.{Right};
 ghost use Rattle.folio_line.specs.Exchanges.{counted_at, is_cancellation_by_consent, keeps_cents, rise_by};
-ghost use Rattle.folio_line.specs.FolioLine.{all_rises, rises_of};
-ghost use Rattle.folio_line.specs.FolioReading.{CanBeRead, reads};
+ghost use Rattle.folio_sections.specs.Rights.{exchanges};
+ghost use Rattle.folio_line.specs.FolioLine.{all_exchanges, all_rises};
+ghost use Rattle.folio_line.specs.FolioReading.{CanBeRead, reads, where_held};
 ghost use Rattle.folio_line.specs.inner.LiveLists.{AreLive};
 ghost use Rattle.folio_line.specs.inner.Turns.{has_turn};
 
@@ -71,37 +72,38 @@ fn add_counted<P: Parts>(
     }
 }
 
-/// How many exchanges there are by which one of these rights rises, whether they count or not: as
-/// many a line of the folio wants room for. They are those of all entries that are read: where no
-/// receipt ends the reading, also those behind an item for which room is kept. NoMemory where they
-/// are more than can be counted, for which no memory could be found. Takes none.
-pub fn count_rises<P: Parts>(reading: &FolioReading<P>, ids: &[RightId]) -> Result<usize, NoMemory>
-    requires read { CanBeRead P.holds P.at reading.now }
-    ensures value { IfOk result (λ n. n ≡ length (all_rises (reads P.holds P.at reading.now) reading.now.folio ids.now)) }
+/// For how many exchanges a line of these rights wants room: as many as stand at them, each at both
+/// of its rights, whether they count or not. They are those of all entries, also where a receipt
+/// ends the reading, and behind an item for which room is kept. NoMemory where they are more than
+/// can be counted, for which no memory could be found. Takes none, and walks no entries: each right
+/// knows how many it has.
+///
+/// 2.1 receded behind 4.1, and then 3.1 behind 2.1: of these three rights 2.1 is in two exchanges and
+/// the others in one each, which is room for four.
+pub fn count_exchanges<P: Parts>(
+    reading: &FolioReading<P>,
+    ids: &[RightId],
+) -> Result<usize, NoMemory>
+    ensures value { IfOk result (λ n. n ≡ all_exchanges (where_held (P.holds reading.now.parts.now) (P.at reading.now.parts.now)) reading.now.folio ids.now) }
+    ensures enough { IfOk result (λ n. length (all_rises (reads P.holds P.at reading.now) reading.now.folio ids.now) ≤ n) }
 {
     let mut count: usize = 0;
     for id in ids {
-        count = count.checked_add(rises_of(reading, *id)).ok_or(AllocError)?;
+        count = count
+            .checked_add(exchanges_of(reading, *id))
+            .ok_or(AllocError)?;
     }
     Ok(count)
 }
 
-/// How many exchanges there are by which the right rises.
-fn rises_of<P: Parts>(reading: &FolioReading<P>, id: RightId) -> usize
-    requires { CanBeRead P.holds P.at reading.now }
-    ensures { result ≡ length (rises_of (reads P.holds P.at reading.now) reading.now.folio id) }
+/// How many exchanges the right is in; 0 where the parts do not hold it.
+fn exchanges_of<P: Parts>(reading: &FolioReading<P>, id: RightId) -> usize
+    ensures { result ≡ exchanges (where_held (P.holds reading.now.parts.now) (P.at reading.now.parts.now) (Right reading.now.folio id)) }
 {
-    rises_among(id, exchange_entries(reading, id))
-}
-
-/// How many of these entries are exchanges by which the right rises.
-fn rises_among(id: RightId, entries: &[Entry]) -> usize
-    ensures { result ≡ length (filter_map (λ e. rise_by id e.receipt e.what) entries.now) }
-{
-    entries
-        .iter()
-        .filter_map(|entry| rise_by(id, entry))
-        .count()
+    match reading.parts.right(reading.folio, id) {
+        Some(part) => part.exchanges(),
+        None => 0,
+    }
 }
 
 /// The exchange that an entry is, where the right rises by it.

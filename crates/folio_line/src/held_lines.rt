@@ -3,7 +3,7 @@ ghost use Rattle.std.specs.Prelude.{IfOk};
 ghost use Rattle.folio_line.specs.FolioLine.{IsLineOf};
 ghost use Rattle.folio_line.specs.FolioReading.{CanBeRead, read_at};
 
-use crate::exchanges::count_rises;
+use crate::exchanges::count_exchanges;
 use crate::{FolioLine, FolioReading, HeldRights};
 use gb_base::NoMemory;
 use std::alloc::Global;
@@ -17,8 +17,8 @@ pub fn held_line<P: HeldRights>(
     ensures line { IfOk result (λ line. IsLineOf (read_at reading.now.before (P.at reading.now.parts.now)) reading.now.folio line) }
 {
     let held = reading.parts.rights_in(alloc, reading.folio)?;
-    let rises = count_rises(reading, &held)?;
-    let mut line = FolioLine::with_room(alloc, held.len(), rises)?;
+    let exchanges = count_exchanges(reading, &held)?;
+    let mut line = FolioLine::with_room(alloc, held.len(), exchanges)?;
     line.read(reading, &held);
     Ok(line)
 }

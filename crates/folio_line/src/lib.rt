@@ -15,7 +15,7 @@ mod line;
 mod readings;
 mod slots;
 
-pub use exchanges::{Exchange, count_rises};
+pub use exchanges::{Exchange, count_exchanges};
 pub use folio_reads::{capital_of, is_live, right_front};
 pub use folio_rights::{CreatedRight, has_same_place};
 pub use held_lines::held_line;

@@ -10,7 +10,7 @@ ghost use Rattle.registrar.specs.inner.Reckoned.{folio_reckoned};
 
 use crate::Scratch;
 use act_model::{Item, Journal};
-use folio_line::{FolioReading, count_rises, rights_filed};
+use folio_line::{FolioReading, count_exchanges, rights_filed};
 use folio_sections::MapParts;
 use gb_base::{FolioId, Key, NoMemory, ReceiptNo};
 use std::alloc::Global;
@@ -37,7 +37,7 @@ pub fn make_room(parts: &mut MapParts, keys: &[Key]) -> Result<(), NoMemory>
 }
 
 /// Keeps the room in a scratch that an item reckons in: for the rights of the folio in which it
-/// calls to bid or awards, and for the exchanges by which they rise. Other items want none.
+/// calls to bid or awards, and for the exchanges that they are in. Other items want none.
 pub fn make_scratch(
     alloc: Global,
     scratch: &mut Scratch,
@@ -56,7 +56,7 @@ pub fn make_scratch(
                 before: None,
             };
             let rights = rights_filed(journal, folio, Some(item));
-            let exchanges = count_rises(&reading, rights)?;
+            let exchanges = count_exchanges(&reading, rights)?;
             scratch.reserve(alloc, rights.len(), exchanges)
         }
         None => Ok(()),

@@ -20,12 +20,12 @@ pub fill-requires-clause-exchanges : goal.fill-requires-clause-exchanges
 fill-requires-clause-exchanges c =
     let parts = c.args.register.now.parts in
     let at = entries_at parts in
+    let enough = c.in_ok-exchanges.ensures.enough in
     let whole =
-    c.in_ok-exchanges.ensures.value
-    ∙ ap (λ (read : Key → List Entry). length (all_rises read c.args.folio c.rights_filed-rights.result.now)) (reads_all (is_held parts) at None (not_held parts))
+    ap (λ (read : Key → List Entry). length (all_rises read c.args.folio c.rights_filed-rights.result.now)) (reads_all (is_held parts) at None (not_held parts))
     ∙ ap (λ (ids : List RightNo). length (all_rises at c.args.folio ids)) c.rights_filed-rights.ensures.value in
     let room = c.in_ok-claims.ensures.exchanges in
-    omega (arith, whole, room)
+    omega (arith, enough, whole, room)
 
 pub returns-clause-claimed : goal.returns-clause-claimed
 returns-clause-claimed c = c.fill.ensures.claimed (entries_at c.args.register.now.parts) (λ k held. refl) c.requires.told.kept

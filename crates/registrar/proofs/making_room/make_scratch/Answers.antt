@@ -9,7 +9,7 @@ returns-in_ok-exchanges-in-Some c =
     let journal = c.args.journal.now.receipts in
     let scratch = c.reserve.new.self in
     let ids = c.rights_filed-rights.result.now in
-    let count = c.in_ok-exchanges-in-Some.ensures.value in
+    let count = c.in_ok-exchanges-in-Some.ensures.enough in
     both_on_ok c.reserve.result _ _ (HasItsScratch journal c.args.item (entries_at c.args.parts.now) scratch)
     (λ rights exchanges.
     roomy_in journal c.args.item c.in-Some.folio (is_held c.args.parts.now) (entries_at c.args.parts.now) scratch ids
