@@ -271,6 +271,16 @@ room_pushed parts all p k is =
     subst (λ ps. room_at parts k ≤ room_at ps k) (sym is)
     (subst (λ o. room_at parts k ≤ option_map_or (λ (q : PartState). q.room) o 0) (sym (found_pushed parts p k)) (no_less (find (is_at k) parts) (is_at k p) p))
 
+found_at_end : (o : Option PartState) (b : Bool) (p : PartState) → is_some o ≡ false → b ≡ true → option_map_or (λ (q : PartState). q.room) (option_or o (cond b (Some p) None)) 0 ≡ p.room
+found_at_end o b p none same = λ i. option_map_or (λ (q : PartState). q.room) (option_or (is_none_of o none i) (cond (same i) (Some p) None)) 0
+
+-- that part is found at its key, which was not held
+pub room_at_end : (parts all : List PartState) (p : PartState) (key : Key) → all ≡ parts ++ p ∷ [] → p.key ≡ key → is_held parts key ≡ false → room_at all key ≡ p.room
+room_at_end parts all p key is own apart =
+    ap (λ ps. room_at ps key) is
+    ∙ ap (λ o. option_map_or (λ (q : PartState). q.room) o 0) (found_pushed parts p key)
+    ∙ found_at_end (find (is_at key) parts) (is_at key p) p (is_some-find (is_at key) parts ∙ apart) (ap (λ k. same_key k key) own ∙ itself key)
+
 pub all_empty_pushed : (parts all : List PartState) (p : PartState) → all ≡ parts ++ p ∷ [] → All (λ q. q.entries ≡ []) parts → p.entries ≡ [] → All (λ q. q.entries ≡ []) all
 all_empty_pushed parts all p is none new =
     subst (All (λ q. q.entries ≡ [])) (sym is)

@@ -1,5 +1,5 @@
 //! Parts over keys that are given, found by key in logarithmic time.
-ghost use Rattle.std.specs.Prelude.{◌≡◌, ◌||◌, ◌≤◌, ◌+◌, [], All, List, IsTrue, IfOk, IsOk, OnOk, OnErr, filter_map, length, find, position};
+ghost use Rattle.std.specs.Prelude.{◌≡◌, ◌||◌, ◌≤◌, ◌+◌, false, [], All, List, IsTrue, IfOk, IsOk, OnOk, OnErr, filter_map, length, find, position};
 ghost use Rattle.std.specs.BTreeMap.{IsOrdered};
 ghost use Rattle.std.specs.BTreeMap.Range.{IsEntryInRange, IsLeBy};
 ghost use Rattle.std.specs.declared.ops.Bound.TheVariants.{Included};
@@ -110,7 +110,8 @@ impl MapParts {
     }
 
     /// Holds the part of a key, with room for as many entries more as stand there and for n besides; it
-    /// looks for the part once. Where no memory is found no entry changes, but the key may be held.
+    /// looks for the part once, and a further one gets its room before it is put among them. Where no
+    /// memory is found nothing changes.
     pub fn hold_with_room(&mut self, key: &Key, n: usize) -> Result<(), NoMemory>
         requires few { n ≤ most_at_a_key }
         ensures held { OnOk result ((k : Key) → is_held self.new k ≡ (is_held self.old k || same_key key.now k)) }
@@ -118,6 +119,7 @@ impl MapParts {
         ensures entries { entries_at self.new ≡ entries_at self.old }
         ensures room { OnOk result (length (entries_at self.new key.now) + n ≤ room_at self.new key.now) }
         ensures kept { (k : Key) → room_at self.old k ≤ room_at self.new k }
+        ensures unchanged { OnErr result (self.new ≡ self.old) }
     {
         match self.index_of(*key) {
             Some(index) => {
@@ -126,8 +128,9 @@ impl MapParts {
                 part.reserve(wanted)
             }
             None => {
-                self.hold(*key)?;
-                self.reserve(*key, n)
+                let mut part = AnyPart::new(self.alloc, *key);
+                part.reserve(n)?;
+                push_part(&mut self.parts, &mut self.index, *key, part)
             }
         }
     }
@@ -271,10 +274,32 @@ fn add_part(
     if index.contains_key(&key) {
         return Ok(());
     }
+    push_part(parts, index, key, AnyPart::new(alloc, key))
+}
+
+/// Adds the empty part of a key that is not held. Where no memory is found nothing changes.
+fn push_part(
+    parts: &mut Vec<AnyPart>,
+    index: &mut BTreeMap<Key, usize>,
+    key: Key,
+    part: AnyPart,
+) -> Result<(), NoMemory>
+    requires index { IsIndexOf index.old parts.old.items }
+    requires own { part.key ≡ key }
+    requires empty { part.entries ≡ [] }
+    requires apart { is_held parts.old.items key ≡ false }
+    ensures index { IsIndexOf index.new parts.new.items }
+    ensures held { OnOk result ((k : Key) → is_held parts.new.items k ≡ (is_held parts.old.items k || same_key key k)) }
+    ensures entries { entries_at parts.new.items ≡ entries_at parts.old.items }
+    ensures kept { (k : Key) → room_at parts.old.items k ≤ room_at parts.new.items k }
+    ensures room { OnOk result (room_at parts.new.items key ≡ part.room) }
+    ensures empty { All (λ p. p.entries ≡ []) parts.old.items → All (λ p. p.entries ≡ []) parts.new.items }
+    ensures unchanged { OnErr result (parts.new.items ≡ parts.old.items) }
+{
     let end = parts.len();
     parts.reserve(1)?;
     index.insert(key, end)?;
-    parts.push_reserved(AnyPart::new(alloc, key));
+    parts.push_reserved(part);
     Ok(())
 }
 

@@ -1,13 +1,12 @@
-use Rattle.std.proofs.Common.{◌≤◌, ◌+◌, ◌∙◌, [], IsTrue, ap, arith, get_or, length, set, subst, sym}
+use Rattle.std.proofs.Common.{◌≤◌, ◌+◌, ◌∙◌, [], ap, arith, get_or, is_some, length, set, subst, sym}
 use Rattle.std.specs.Option.{option_map_or}
 use Rattle.std.proofs.lemmas.Result.{on_ok_weaker}
 use Rattle.folio_sections.specs.PartState.{PartState}
-use Rattle.std.proofs.lemmas.Bool.{or_right}
-use Rattle.act_model.proofs.KeyOrder.{itself}
+use Rattle.folio_sections.proofs.Indexes.{is_some-position}
 use Rattle.gb_base.specs.Keys.{same_key}
-use Rattle.folio_sections.specs.Held.{is_held}
-use Rattle.folio_sections.proofs.HeldParts.{all_grow_at, entries_grown, found_set, found_there, held_again, held_found, held_grown, nothing_there, room_grown}
-use Rattle.folio_sections.proofs.WiderKeys.{held_same, held_too}
+use Rattle.folio_sections.specs.Held.{entries_at, is_held}
+use Rattle.folio_sections.proofs.HeldParts.{all_grow_at, entries_grown, found_set, found_there, held_again, held_found, held_grown, is_at, nothing_there, room_grown}
+use Rattle.folio_sections.proofs.WiderKeys.{held_same}
 use Rattle.folio_sections.proofs.map_parts.MapParts.hold_with_room.Goals as goal
 
 pub returns-in-Some-clause-entries : goal.returns-in-Some-clause-entries
@@ -53,19 +52,15 @@ returns-in-Some-clause-room c =
     (λ room. subst (λ o. length (option_map_or (λ (p : PartState). p.entries) o []) + c.args.n ≤ option_map_or (λ (p : PartState). p.room) o 0) (sym found) (omega (arith, count, room)))
     c.reserve.ensures.room
 
-pub returns-in_ok-hold-in-None-clause-held : goal.returns-in_ok-hold-in-None-clause-held
-returns-in_ok-hold-in-None-clause-held c =
-    on_ok_weaker c.reserve-in-None.result (λ _ k. ap (λ f. f k) c.reserve-in-None.ensures.held ∙ c.in_ok-hold-in-None.ensures.held k) c.reserve-in-None.ensures.room
+pub push_part-requires-clause-apart : goal.push_part-requires-clause-apart
+push_part-requires-clause-apart c =
+    ap (λ ps. is_held ps c.args.key.now) c.self.view_is
+    ∙ sym (is_some-position (is_at c.args.key.now) c.args.self.now) ∙ ap is_some (sym c.index_of.ensures ∙ c.in-None.is)
 
-pub returns-in_ok-hold-in-None-clause-room : goal.returns-in_ok-hold-in-None-clause-room
-returns-in_ok-hold-in-None-clause-room c =
+pub returns-in_ok-reserve-in-None-clause-room : goal.returns-in_ok-reserve-in-None-clause-room
+returns-in_ok-reserve-in-None-clause-room c =
     let key = c.args.key.now in
-    let none = ap (λ f. length (f key)) (c.reserve-in-None.ensures.entries ∙ c.hold.ensures.entries) ∙ ap length (nothing_there c.args.self.now key (sym c.index_of.ensures ∙ c.in-None.is)) in
-    let there : IsTrue (is_held c.reserve-in-None.new.self key)
-    = ap (λ f. f key) c.reserve-in-None.ensures.held ∙ c.in_ok-hold-in-None.ensures.held key ∙ or_right (is_held c.args.self.now key) (same_key key key) (itself key) in
-    on_ok_weaker c.reserve-in-None.result (λ room. let enough = room there in omega (arith, none, enough)) c.reserve-in-None.ensures.room
-
-pub returns-in_ok-hold-in-None-clause-widens : goal.returns-in_ok-hold-in-None-clause-widens
-returns-in_ok-hold-in-None-clause-widens c =
-    held_too (same_key c.args.key.now) c.args.self.now c.reserve-in-None.new.self
-    (λ k. ap (λ f. f k) c.reserve-in-None.ensures.held ∙ c.in_ok-hold-in-None.ensures.held k)
+    let none = ap (λ f. length (f key)) c.push_part.ensures.entries ∙ ap (λ ps. length (entries_at ps key)) c.self.view_is
+    ∙ ap length (nothing_there c.args.self.now key (sym c.index_of.ensures ∙ c.in-None.is)) in
+    let enough = c.in_ok-reserve-in-None.ensures.room in
+    on_ok_weaker c.push_part.result (λ there. omega (arith, none, enough, there)) c.push_part.ensures.room
