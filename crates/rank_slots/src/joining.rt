@@ -15,8 +15,9 @@ use crate::spans::{Span, Spans};
 use crate::{Piece, Place};
 
 impl Spans {
-    /// Joins neighbours where no exchange is left until then; says how many are, behind the one
-    /// that comes. After as many exchanges as there were spans they are twice as many at most.
+    /// Joins neighbours where no exchange is left ahead of the next joining, which is counted down in
+    /// `left`; says how many are left behind the one that comes. After as many exchanges as there were
+    /// spans they are twice as many at most.
     pub fn join_in_turn(&mut self, left: usize, pieces: &mut Vec<Piece>, places: &[Place]) -> usize
         requires places { ArePlaces places.now }
         requires cut { (row : List Span) × AreCut (lists_of self.old) places.now row }

@@ -72,7 +72,7 @@ impl Spans {
 }
 
 /// The exchanges behind the last ones, where the places are the last ones and the exchanges begin
-/// with the last ones.
+/// with the last ones. No clause says that this is always seen: with None the line is made anew.
 fn further<'a>(
     last_places: &[Place],
     last_swaps: &[Swap],
@@ -89,14 +89,14 @@ fn further<'a>(
     }
 }
 
-/// Whether these are the same places.
+/// Whether these are seen to be the same places.
 fn are_same(last: &[Place], places: &[Place]) -> bool
     ensures { result ≡ true → last.now ≡ places.now }
 {
     last == places
 }
 
-/// The exchanges behind these, where they begin with these.
+/// The exchanges behind these, where they are seen to begin with these.
 fn behind<'a>(last: &[Swap], swaps: &'a [Swap]) -> Option<&'a [Swap]>
     ensures { IfSome result (λ further. swaps.now ≡ last.now ++ further.now) }
 {

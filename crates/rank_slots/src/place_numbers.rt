@@ -25,8 +25,9 @@ pub(crate) fn number_of(places: &[Place], right: RightId) -> usize
     }
 }
 
-/// The number of the right's place where it is alone in its group; None elsewhere, and where the
-/// right has no place.
+/// The number of the right's place, where it is seen to be alone in its group; None elsewhere, and
+/// where the right has no place. What is said of a number is true, and no clause says that each lone
+/// right gets one: who gets None goes the long way.
 pub(crate) fn lone_number(places: &[Place], right: RightId) -> Option<usize>
     requires distinct { IsDistinct (λ p q. same_right p.right q.right) places.now }
     requires first { joins places.now ≡ false }

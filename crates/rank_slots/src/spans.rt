@@ -1,4 +1,4 @@
-//! The spans of a line, in no order, with a chain of those of each place.
+//! The spans of a line, with a chain of those of each place; in no order while exchanges are made.
 //! Why so: docs/DECISIONS.md, "An exchange walks the spans of its two rights".
 ghost use Rattle.std.specs.Prelude.{◌≡◌, ◌++◌, ◌∷◌, [], ◌+◌, ◌<◌, ◌≤◌, IfOk, List, length, slice_set, sum_by, vec_capacity};
 ghost use Rattle.gb_base.specs.Limits.{most_sum};
@@ -47,7 +47,7 @@ impl Span {
 /// A line in spans. Those of a place are a chain, the last one first.
 #[derive(Debug, Drop)]
 pub(crate) struct Spans {
-    /// The spans, in no order.
+    /// The spans: in no order while exchanges are made, in that of the line once they are joined.
     pub spans: Vec<Span>,
     /// For each span the number of the next one of its chain.
     pub links: Vec<Option<usize>>,
