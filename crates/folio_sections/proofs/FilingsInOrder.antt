@@ -87,14 +87,14 @@ is_behind m (x ∷ xs) zero none low = λ d within.
 is_behind m (x ∷ xs) (suc i) none low = λ d within. is_behind m xs i none (λ e inside. low e (omega arith)) d (omega arith)
 
 -- a search by halves gives what stands of the filing
-pub searched : {V : Type 0} (m : ℕ) (ws : List (OfFiling V)) (i : ℕ) → Ascends 0 ws → AreBelow m ws i → IsNotBelow m ws i → at_filing m (slice_get ws i) ≡ of_filing m ws
+pub searched : {V : Type 0} (m : ℕ) (ws : List (OfFiling V)) (i : ℕ) → Ascends 1 ws → AreBelow m ws i → IsNotBelow m ws i → at_filing m (slice_get ws i) ≡ of_filing m ws
 searched m ws i up below low =
     elim (at_filing m (slice_get ws i)) as (λ o. at_filing m (slice_get ws i) ≡ o → o ≡ of_filing m ws) [
       | Some v ↦ λ is.
           let of_it = is_of m (slice_get ws i) v is in
           let same : (v.filing == m) ≡ true = grind (arith, nat_tests, of_it.1) in
           sym (found m ws i v below of_it.0 same)
-      | None ↦ λ is. sym (not_found m 0 ws i up below (is_behind m ws i is low))
+      | None ↦ λ is. sym (not_found m 1 ws i up below (is_behind m ws i is low))
     ] refl
 
 -- ---- one behind others of lower filings

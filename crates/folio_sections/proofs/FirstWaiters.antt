@@ -1,17 +1,21 @@
--- The first filing among those that wait that passes a test, as that it waits, or lacks a notice, is the first filing of the entries that does.
-use Rattle.std.proofs.Common.{◌≡◌, ℕ, suc, zero, ◌+◌, ◌<◌, ◌≤◌, Bool, true, false, cond, ◌==◌, ◌&&◌, ◌⊎◌, inl, inr, ⊎_elim, nat_lt, List, [], ◌∷◌, Option, Some, None, drop, filter, find, get_or, is_none, is_some, length, option_and_then, option_map, position, take_while, refl, sym, ap, subst, ◌∙◌, arith}
-use Rattle.std.proofs.lemmas.Bool.{and_parts, eqb-true, false≢true}
+-- Those among the waiters that pass a test, as that they wait, or lack a notice, are the filings of the entries that do; so the first and the last of them are.
+use Rattle.std.proofs.Common.{◌≡◌, ℕ, suc, zero, ◌+◌, ◌-◌, ◌<◌, ◌≤◌, Bool, true, false, cond, ◌==◌, ◌&&◌, ◌⊎◌, inl, inr, ⊎_elim, nat_lt, List, [], ◌∷◌, Option, Some, None, drop, filter, find, get_or, is_none, is_some, length, map, option_and_then, option_map, position, reverse, take, take_while, refl, sym, ap, subst, ◌∙◌, arith}
+use Rattle.std.specs.List.{AllByRecursion, last_or, range_with_len}
+use Rattle.std.specs.Option.{option_or}
+use Rattle.std.proofs.lemmas.List.{reverse-append}
+use Rattle.std.proofs.lemmas.List.Folds.{find-append}
+use Rattle.std.proofs.lemmas.Bool.{eqb-true, false≢true}
 use Rattle.std.proofs.lemmas.Bool.Decides.{nat_tests}
 use Rattle.std.proofs.lemmas.List.Sums.{take_while-cons}
 use Rattle.folio_sections.specs.Waiting.{waiting_before, waiting_unnoticed, receipts_before, is_above, is_notice_of, is_pending}
 use Rattle.folio_sections.specs.declared.entries.Entry.{Entry}
 use Rattle.folio_sections.specs.declared.filing_list.OfFiling.{OfFiling}
 use Rattle.folio_sections.specs.inner.FilingLists.{Ascends, of_filing, value_in}
-use Rattle.folio_sections.specs.inner.Unnoticed.{first_that, floor, is_unnoticed, is_wanted}
+use Rattle.folio_sections.specs.inner.Unnoticed.{first_that, floor, is_before, is_unnoticed, is_wanted, last_that}
 use Rattle.folio_sections.specs.inner.Waiters.{SayAs, Until, lacks_notice, until_in, waits}
 use Rattle.folio_sections.proofs.Indexes.{find_passes, is_some-find, is_some-position}
-use Rattle.folio_sections.proofs.Unnoticed.{IsLeast, exchanged, first_below, one_least, unnoticed_is}
-use Rattle.folio_sections.proofs.FilingsInOrder.{none_below}
+use Rattle.folio_sections.proofs.Unnoticed.{unnoticed_is}
+use Rattle.folio_sections.proofs.FilingsInOrder.{AreBelow, IsNotBelow, none_below}
 
 -- ---- among the waiters
 
@@ -62,60 +66,59 @@ ends_there t low m a (w ∷ ws) up =
     ] refl
 
 -- the search begins behind those that are passed over
-pub searched_from : (t : Until → Bool) (low : ℕ) (m i : ℕ) (ws : List Until) → Ascends 0 ws → ((k : ℕ) (d : Until) → k < i → is_wanted t low m (get_or ws k d) ≡ false)
+pub searched_from : (t : Until → Bool) (low : ℕ) (m i : ℕ) (ws : List Until) → Ascends 1 ws → ((k : ℕ) (d : Until) → k < i → is_wanted t low m (get_or ws k d) ≡ false)
     → find (λ w. nat_lt low w.filing && t w) (take_while (λ w. nat_lt w.filing m) (drop i ws)) ≡ find (is_wanted t low m) ws
 searched_from t low m i ws up passed =
-    ends_there t low m 0 (drop i ws) (rises_behind 0 i ws up) ∙ sym (passed_over (is_wanted t low m) i ws (λ k d less within. passed k d less))
+    ends_there t low m 0 (drop i ws) (rises_behind 1 i ws up) ∙ sym (passed_over (is_wanted t low m) i ws (λ k d less within. passed k d less))
 
--- a waiter that is not wanted
-unwanted : (t : Until → Bool) (low : ℕ) (m : ℕ) (ws : List Until) → find (is_wanted t low m) ws ≡ None → (n : ℕ) (v : Until) → of_filing n ws ≡ Some v → is_wanted t low m v ≡ false
-unwanted t low m [] none n v is = cc
-unwanted t low m (w ∷ ws) none n v is =
-    elim (is_wanted t low m w) as (λ b. is_wanted t low m w ≡ b → cond b (Some w) (find (is_wanted t low m) ws) ≡ None → is_wanted t low m v ≡ false) [
-      | true ↦ λ wanted found. cc
-      | false ↦ λ not_wanted rest. elim (w.filing == n) as (λ b. cond b (Some w) (of_filing n ws) ≡ Some v → is_wanted t low m v ≡ false) [
-        | true ↦ λ here. let one : w ≡ v = cc in subst (λ u. is_wanted t low m u ≡ false) one not_wanted
-        | false ↦ λ later. unwanted t low m ws rest n v later
-      ] is
-    ] refl none
+-- ---- the last one
 
--- the first waiter that is wanted: it is that of its filing, and none of a lower one is wanted
-record IsFirst (t : Until → Bool) (low : ℕ) (m a : ℕ) (ws : List Until) (w : Until) : Type 0 where
-  from : a ≤ w.filing
-  there : of_filing w.filing ws ≡ Some w
-  wanted : is_wanted t low m w ≡ true
-  lower : (n : ℕ) (v : Until) → n < w.filing → of_filing n ws ≡ Some v → is_wanted t low m v ≡ false
+-- none of these is below m
+none_low : (t : Until → Bool) (m a : ℕ) (ws : List Until) → Ascends a ws → m ≤ a → filter (is_before t m) ws ≡ []
+none_low t m a [] up high = refl
+none_low t m a (w ∷ ws) up high =
+    let first = up.0 in
+    let not_below : nat_lt w.filing m ≡ false = grind (arith, nat_tests, first, high) in
+    rw not_below (none_low t m (w.filing + 1) ws up.1 (omega arith))
 
-first_is : (t : Until → Bool) (low : ℕ) (m a : ℕ) (ws : List Until) (w : Until) → Ascends a ws → find (is_wanted t low m) ws ≡ Some w → IsFirst t low m a ws w
-first_is t low m a [] w up is = cc
-first_is t low m a (x ∷ xs) w up is =
-    elim (is_wanted t low m x) as (λ b. is_wanted t low m x ≡ b → cond b (Some x) (find (is_wanted t low m) xs) ≡ Some w → IsFirst t low m a (x ∷ xs) w) [
-      | true ↦ λ wanted here.
-          let one : x ≡ w = cc in
-          subst (IsFirst t low m a (x ∷ xs)) one (record {
-            from = up.0;
-            there = let same : (x.filing == x.filing) ≡ true = grind (arith, nat_tests) in rw same refl;
-            wanted = wanted;
-            lower = λ n v less found.
-                let apart : (x.filing == n) ≡ false = grind (arith, nat_tests, less) in
-                let none : None ≡ Some v = sym (none_below n (x.filing + 1) xs up.1 (omega arith)) ∙ sym (ap (λ b. cond b (Some x) (of_filing n xs)) apart) ∙ found in
-                cc;
-          })
-      | false ↦ λ not_wanted later.
-          let rest = first_is t low m (x.filing + 1) xs w up.1 later in
-          let from = rest.from in
-          let first = up.0 in
-          let apart : (x.filing == w.filing) ≡ false = grind (arith, nat_tests, from) in
-          record {
-            from = omega arith;
-            there = ap (λ b. cond b (Some x) (of_filing w.filing xs)) apart ∙ rest.there;
-            wanted = rest.wanted;
-            lower = λ n v less found. elim (x.filing == n) as (λ b. cond b (Some x) (of_filing n xs) ≡ Some v → is_wanted t low m v ≡ false) [
-              | true ↦ λ here. let one : x ≡ v = cc in subst (λ u. is_wanted t low m u ≡ false) one not_wanted
-              | false ↦ λ behind. rest.lower n v less behind
-            ] found;
-          }
-    ] refl is
+-- those below m that pass are those that pass of the first i, where the i-th is not below m
+pub front_waits : (t : Until → Bool) (m a i : ℕ) (ws : List Until) → Ascends a ws → AreBelow m ws i → IsNotBelow m ws i → filter t (take i ws) ≡ filter (is_before t m) ws
+front_waits t m a zero [] up below behind = refl
+front_waits t m a (suc i) [] up below behind = refl
+front_waits t m a zero (w ∷ ws) up below behind =
+    let not_below = behind w (omega arith) in
+    let rest = none_low t m (w.filing + 1) ws up.1 (grind (arith, nat_tests, not_below)) in
+    sym (rw not_below rest)
+front_waits t m a (suc i) (w ∷ ws) up below behind =
+    let first : nat_lt w.filing m ≡ true = below zero w (omega arith) in
+    let rest = front_waits t m (w.filing + 1) i ws up.1 (λ k d less. below (suc k) d (omega arith)) (λ d within. behind d (omega arith)) in
+    ap (λ xs. cond (t w) (w ∷ xs) xs) rest ∙ ap (λ b. cond (b && t w) (w ∷ filter (is_before t m) ws) (filter (is_before t m) ws)) (sym first)
+
+-- where none of the first k passes, those that pass stand behind them
+pub behind_mark : (t : Until → Bool) (k i : ℕ) (ws : List Until) → AllByRecursion (λ x. t x ≡ false) (take k ws) → filter t (drop k (take i ws)) ≡ filter t (take i ws)
+behind_mark t zero i ws none = refl
+behind_mark t (suc k) zero ws none = refl
+behind_mark t (suc k) (suc i) [] none = refl
+behind_mark t (suc k) (suc i) (w ∷ ws) none = behind_mark t k i ws none.1 ∙ ap (λ b. cond b (w ∷ filter t (take i ws)) (filter t (take i ws))) (sym none.0)
+
+-- found from the end back
+pub found_last : (t : Until → Bool) (ws : List Until) → find t (reverse ws) ≡ last_or None (filter t ws)
+found_last t [] = refl
+found_last t (w ∷ ws) =
+    ap (find t) (reverse-append (w ∷ []) ws) ∙ find-append t (reverse ws) (w ∷ [])
+    ∙ ap (λ o. option_or o (find t (w ∷ []))) (found_last t ws) ∙ by_test (t w)
+  where
+    or_last : (o : Option Until) (vs : List Until) → option_or (last_or None vs) o ≡ last_or o vs
+    or_last o [] = refl
+    or_last o (v ∷ vs) = sym (behind_first o v vs)
+      where
+        behind_first : (o : Option Until) (v : Until) (vs : List Until) → last_or o (v ∷ vs) ≡ option_or (last_or None (v ∷ vs)) o
+        behind_first o v [] = refl
+        behind_first o v (u ∷ us) = behind_first o u us
+
+    by_test : (b : Bool) → option_or (last_or None (filter t ws)) (cond b (Some w) None) ≡ last_or None (cond b (w ∷ filter t ws) (filter t ws))
+    by_test true = or_last (Some w) (filter t ws)
+    by_test false = or_last None (filter t ws)
 
 -- ---- and among the entries
 
@@ -172,63 +175,102 @@ waits_of xs notices entries say n =
       | None ↦ refl
     ]
 
--- a filing below m that is not wanted
-not_wanted : (t : Until → Bool) (low : ℕ) (m n : ℕ) (ws : List Until) → n < m → ((v : Until) → of_filing n ws ≡ Some v → is_wanted t low m v ≡ false)
-    → (passes t (of_filing n ws) && nat_lt low n) ≡ false
-not_wanted t low m n ws less none_is =
-    elim (of_filing n ws) as (λ o. of_filing n ws ≡ o → (passes t o && nat_lt low n) ≡ false) [
-      | None ↦ λ none. refl
-      | Some v ↦ λ is.
-          let same = filing_is n ws v is in
-          let below : nat_lt v.filing m ≡ true = grind (arith, nat_tests, same, less) in
-          exchanged (t v) (nat_lt low n)
-          ∙ ap (λ f. nat_lt low f && t v) (sym same)
-          ∙ ap (λ b. b && (nat_lt low v.filing && t v)) (sym below)
-          ∙ none_is v is
+-- ---- all of them are those of the entries
+
+-- below m, the filings of those that pass are the numbers that do
+listed_from : (t : Until → Bool) (q : ℕ → Bool) (m a n : ℕ) (ws : List Until) → m ≡ a + n → Ascends a ws → ((k : ℕ) → a ≤ k → q k ≡ passes t (of_filing k ws))
+    → map (λ x. x.filing) (filter (is_before t m) ws) ≡ filter q (range_with_len a n)
+listed_from t q m a zero ws is up same = ap (map (λ x. x.filing)) (none_low t m a ws up (omega arith))
+listed_from t q m a (suc n) [] is up same =
+    let rest = filter q (range_with_len (a + 1) n) in
+    listed_from t q m (a + 1) n [] (omega arith) tt (λ k low. same k (omega arith)) ∙ ap (λ b. cond b (a ∷ rest) rest) (sym (same a (omega arith)))
+listed_from t q m a (suc n) (w ∷ ws) is up same =
+    let rest = filter q (range_with_len (a + 1) n) in
+    let low = up.0 in
+    elim (w.filing == a) as (λ b. (w.filing == a) ≡ b → map (λ x. x.filing) (filter (is_before t m) (w ∷ ws)) ≡ cond (q a) (a ∷ rest) rest) [
+      | true ↦ λ here.
+          let one : w.filing ≡ a = eqb-true w.filing a here in
+          let below : nat_lt w.filing m ≡ true = grind (arith, nat_tests, one, is) in
+          let behind = listed_from t q m (a + 1) n ws (omega arith) (subst (λ k. Ascends (k + 1) ws) one up.1)
+          (λ k high. let apart : (w.filing == k) ≡ false = grind (arith, nat_tests, one, high) in
+          same k (omega arith) ∙ ap (λ b. passes t (cond b (Some w) (of_filing k ws))) apart) in
+          ap (λ b. map (λ x. x.filing) (cond (b && t w) (w ∷ filter (is_before t m) ws) (filter (is_before t m) ws))) below
+          ∙ mapped (t w) w (filter (is_before t m) ws)
+          ∙ ap (λ k. cond (t w) (k ∷ map (λ x. x.filing) (filter (is_before t m) ws)) (map (λ x. x.filing) (filter (is_before t m) ws))) one
+          ∙ ap (λ ks. cond (t w) (a ∷ ks) ks) behind
+          ∙ ap (λ b. cond b (a ∷ rest) rest) (sym (same a (omega arith) ∙ ap (λ b. passes t (cond b (Some w) (of_filing a ws))) here))
+      | false ↦ λ apart.
+          let high : a + 1 ≤ w.filing = grind (arith, nat_tests, apart, low) in
+          listed_from t q m (a + 1) n (w ∷ ws) (omega arith) (high, up.1) (λ k more. same k (omega arith))
+          ∙ ap (λ b. cond b (a ∷ rest) rest) (sym (same a (omega arith) ∙ ap (passes t) (none_below a (a + 1) (w ∷ ws) (high, up.1) (omega arith))))
     ] refl
+  where
+    mapped : (b : Bool) (v : Until) (vs : List Until) → map (λ x. x.filing) (cond b (v ∷ vs) vs) ≡ cond b (v.filing ∷ map (λ x. x.filing) vs) (map (λ x. x.filing) vs)
+    mapped true v vs = refl
+    mapped false v vs = refl
+
+listed : (t : Until → Bool) (q : ℕ → Bool) (m : ℕ) (ws : List Until) → Ascends 1 ws → ((n : ℕ) → q n ≡ passes t (of_filing n ws))
+    → map (λ x. x.filing) (filter (is_before t m) ws) ≡ filter q (receipts_before m)
+listed t q zero ws up same = ap (map (λ x. x.filing)) (none_low t zero 1 ws up (omega arith))
+listed t q (suc n) ws up same = let behind : suc n ≡ 1 + (suc n - 1) = omega arith in listed_from t q (suc n) 1 (suc n - 1) ws behind up (λ k low. same k)
+
+-- ---- so the first and the last are
+
+mapped_first : (p : ℕ → Bool) (ws : List Until) → option_map (λ x. x.filing) (find (λ x. p x.filing) ws) ≡ find p (map (λ x. x.filing) ws)
+mapped_first p [] = refl
+mapped_first p (w ∷ ws) =
+    elim (p w.filing) as (λ b. option_map (λ x. x.filing) (cond b (Some w) (find (λ x. p x.filing) ws)) ≡ cond b (Some w.filing) (find p (map (λ x. x.filing) ws))) [
+      | true ↦ refl
+      | false ↦ mapped_first p ws
+    ]
+
+mapped_last : (o : Option Until) (ws : List Until) → option_map (λ x. x.filing) (last_or o ws) ≡ last_or (option_map (λ x. x.filing) o) (map (λ x. x.filing) ws)
+mapped_last o [] = refl
+mapped_last o (w ∷ ws) = mapped_last (Some w) ws
 
 -- a number from 1 on is above the floor where it is above the number
-above_floor : (after : Option ℕ) (n : ℕ) → 0 < n → is_above after n ≡ nat_lt (floor after) n
+above_floor : (after : Option ℕ) (n : ℕ) → 0 < n → nat_lt (floor after) n ≡ is_above after n
 above_floor None n above = grind (arith, nat_tests)
 above_floor (Some k) n above = refl
 
--- Filings pass a test on the entries as their waiters pass one.
-least : (t : Until → Bool) (q : ℕ → Bool) (after : Option ℕ) (m : ℕ) (ws : List Until) → Ascends 0 ws → ((n : ℕ) → q n ≡ passes t (of_filing n ws))
-    → IsLeast (λ n. q n && is_above after n) m (first_that t (floor after) m ws)
-least t q after m ws up same =
-    let low = floor after in
-    elim (find (is_wanted t low m) ws) as (λ o. find (is_wanted t low m) ws ≡ o → IsLeast (λ n. q n && is_above after n) m (option_map (λ w. w.filing) o)) [
-      | None ↦ λ none. λ n above less.
-          ap (λ b. q n && b) (above_floor after n above)
-          ∙ ap (λ b. b && nat_lt low n) (same n) ∙ not_wanted t low m n ws less (unwanted t low m ws none n)
-      | Some w ↦ λ is.
-          let first = first_is t low m 0 ws w up is in
-          let parts = and_parts (nat_lt w.filing m) (nat_lt low w.filing && t w) first.wanted in
-          let high = (and_parts (nat_lt low w.filing) (t w) parts.1).0 in
-          let below : w.filing < m = grind (arith, nat_tests, parts.0) in
-          let positive : 0 < w.filing = grind (arith, nat_tests, high) in (
-            positive,
-            below,
-            ap (λ b. q w.filing && b) (above_floor after w.filing positive)
-                ∙ ap (λ b. b && nat_lt low w.filing) (same w.filing ∙ ap (passes t) first.there)
-                ∙ exchanged (t w) (nat_lt low w.filing) ∙ parts.1,
-            λ n above less. ap (λ b. q n && b) (above_floor after n above)
-                ∙ ap (λ b. b && nat_lt low n) (same n)
-                ∙ not_wanted t low m n ws (omega arith) (λ v found. first.lower n v less found),
-          )
-    ] refl
+-- the first that is wanted is the first above the number of those below m that pass
+first_wanted : (t : Until → Bool) (after : Option ℕ) (m a : ℕ) (ws : List Until) → 0 < a → Ascends a ws
+    → find (is_wanted t (floor after) m) ws ≡ find (λ x. is_above after x.filing) (filter (is_before t m) ws)
+first_wanted t after m a [] positive up = refl
+first_wanted t after m a (w ∷ ws) positive up =
+    let low = up.0 in
+    let rest = first_wanted t after m (w.filing + 1) ws (omega arith) up.1 in
+    ap (λ b. cond (nat_lt w.filing m && (b && t w)) (Some w) (find (is_wanted t (floor after) m) ws)) (above_floor after w.filing (omega arith))
+    ∙ ap (cond (nat_lt w.filing m && (is_above after w.filing && t w)) (Some w)) rest
+    ∙ by_tests (nat_lt w.filing m) (is_above after w.filing) (t w) refl
+  where
+    by_tests : (b c d : Bool) → is_above after w.filing ≡ c
+        → cond (b && (c && d)) (Some w) (find (λ x. is_above after x.filing) (filter (is_before t m) ws)) ≡ find (λ x. is_above after x.filing) (cond (b && d) (w ∷ filter (is_before t m) ws) (filter (is_before t m) ws))
+    by_tests false c d is = refl
+    by_tests true true false is = refl
+    by_tests true false false is = refl
+    by_tests true c true is = both c ∙ ap (λ e. cond e (Some w) (find (λ x. is_above after x.filing) (filter (is_before t m) ws))) (sym is)
+      where
+        both : (c : Bool) → cond (c && true) (Some w) (find (λ x. is_above after x.filing) (filter (is_before t m) ws)) ≡ cond c (Some w) (find (λ x. is_above after x.filing) (filter (is_before t m) ws))
+        both true = refl
+        both false = refl
 
-first_of : (t : Until → Bool) (q : ℕ → Bool) (after : Option ℕ) (m : ℕ) (ws : List Until) → Ascends 0 ws → ((n : ℕ) → q n ≡ passes t (of_filing n ws))
+first_of : (t : Until → Bool) (q : ℕ → Bool) (after : Option ℕ) (m : ℕ) (ws : List Until) → Ascends 1 ws → ((n : ℕ) → q n ≡ passes t (of_filing n ws))
     → first_that t (floor after) m ws ≡ find (is_above after) (filter q (receipts_before m))
 first_of t q after m ws up same =
-    one_least (λ n. q n && is_above after n) m (first_that t (floor after) m ws) (find (is_above after) (filter q (receipts_before m)))
-    (least t q after m ws up same) (first_below (is_above after) q m)
+    ap (option_map (λ x. x.filing)) (first_wanted t after m 1 ws (omega arith) up)
+    ∙ mapped_first (is_above after) (filter (is_before t m) ws) ∙ ap (find (is_above after)) (listed t q m ws up same)
 
-pub first_unnoticed : (after : Option ℕ) (m : ℕ) (xs : List Until) (notices : List (OfFiling ℕ)) (entries : List Entry) → Ascends 0 xs → SayAs xs notices entries
+pub first_unnoticed : (after : Option ℕ) (m : ℕ) (xs : List Until) (notices : List (OfFiling ℕ)) (entries : List Entry) → Ascends 1 xs → SayAs xs notices entries
     → first_that (lacks_notice notices) (floor after) m xs ≡ find (is_above after) (waiting_unnoticed m entries)
 first_unnoticed after m xs notices entries up say =
     first_of (lacks_notice notices) (λ n. is_unnoticed n entries) after m xs up (unnoticed_of xs notices entries say) ∙ ap (find (is_above after)) (sym (unnoticed_is m entries))
 
-pub first_waiting : (after : Option ℕ) (m : ℕ) (xs : List Until) (notices : List (OfFiling ℕ)) (entries : List Entry) → Ascends 0 xs → SayAs xs notices entries
+pub first_waiting : (after : Option ℕ) (m : ℕ) (xs : List Until) (notices : List (OfFiling ℕ)) (entries : List Entry) → Ascends 1 xs → SayAs xs notices entries
     → first_that waits (floor after) m xs ≡ find (is_above after) (waiting_before m entries)
 first_waiting after m xs notices entries up say = first_of waits (λ n. is_pending n entries) after m xs up (waits_of xs notices entries say)
+
+pub last_waiting : (m : ℕ) (xs : List Until) (notices : List (OfFiling ℕ)) (entries : List Entry) → Ascends 1 xs → SayAs xs notices entries
+    → last_that waits m xs ≡ last_or None (waiting_before m entries)
+last_waiting m xs notices entries up say =
+    mapped_last None (filter (is_before waits m) xs) ∙ ap (last_or None) (listed waits (λ n. is_pending n entries) m xs up (waits_of xs notices entries say))

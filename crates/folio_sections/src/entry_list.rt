@@ -2,6 +2,7 @@
 //! stand that name who is concerned.
 //! Why so: docs/DECISIONS.md, "The common calls of parts stand in each part".
 ghost use Rattle.folio_sections.specs.inner.Naming.{last_below, Rises};
+ghost use Rattle.std.specs.List.{last_or};
 ghost use Rattle.std.specs.Prelude.{◌≡◌, ◌+◌, ◌<◌, ◌≤◌, vec_len, vec_capacity, [], ◌∷◌, ◌++◌, All, IsOk, OnOk, OnErr, None, find, if◌then◌else◌, length, option_copied, position};
 
 use crate::Entry;
@@ -148,6 +149,13 @@ impl EntryList {
         ensures { result ≡ find (is_above after) (waiting_before filing self.now.entries) }
     {
         self.waiters.next_pending(after, filing)
+    }
+
+    /// The last filing below `filing` that waits; None where there is none.
+    pub fn last_pending(&self, filing: ReceiptNo) -> Option<ReceiptNo>
+        ensures { result ≡ last_or None (waiting_before filing self.now.entries) }
+    {
+        self.waiters.last_pending(filing)
     }
 
     /// The first filing above `after`, and below `filing`, that waits without an official notice;

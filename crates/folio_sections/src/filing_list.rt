@@ -15,7 +15,7 @@ pub(crate) struct OfFiling<V> {
 
 /// The value of a filing; None where it has none.
 pub(crate) fn value_of<V: Copy>(list: &[OfFiling<V>], filing: ReceiptNo) -> Option<V>
-    requires { Ascends 0 list.now }
+    requires { Ascends 1 list.now }
     ensures { result ≡ value_in filing list.now }
 {
     value_at(list, count_below(list, filing), filing)
@@ -35,9 +35,9 @@ fn value_at<V: Copy>(list: &[OfFiling<V>], index: usize, filing: ReceiptNo) -> O
 /// answers at which index. If none of the first n passes a test, none of the first n does behind it,
 /// unless this one is among them and passes; and of all, at most one more passes than before.
 pub(crate) fn put<V: Copy>(list: &mut Vec<OfFiling<V>>, one: OfFiling<V>) -> usize
-    requires order { Ascends 0 list.old.items }
+    requires order { Ascends 1 list.old.items }
     requires room { vec_len list.old < vec_capacity list.old }
-    ensures order { Ascends 0 list.new.items }
+    ensures order { Ascends 1 list.new.items }
     ensures there { (m : ℕ) → value_in m list.new.items ≡ if one.filing == m then Some one.value else value_in m list.old.items }
     ensures first { (t : OfFiling V → Bool) (n : ℕ) → AllByRecursion (λ x. t x ≡ false) (take n list.old.items) → (result < n → t one ≡ false) → AllByRecursion (λ x. t x ≡ false) (take n list.new.items) }
     ensures counted { (t : OfFiling V → Bool) → count_by t list.new.items ≤ count_by t list.old.items + (if t one then 1 else 0) }
@@ -54,18 +54,20 @@ pub(crate) fn put<V: Copy>(list: &mut Vec<OfFiling<V>>, one: OfFiling<V>) -> usi
 }
 
 /// How many of them are of filings below this one.
-fn count_below<V: Copy>(list: &[OfFiling<V>], filing: ReceiptNo) -> usize
-    requires { Ascends 0 list.now }
+pub(crate) fn count_below<V: Copy>(list: &[OfFiling<V>], filing: ReceiptNo) -> usize
+    requires { Ascends 1 list.now }
+    ensures positive { 0 < filing }
     ensures within { result ≤ length list.now }
     ensures below { (k : ℕ) (d : OfFiling V) → k < result → nat_lt (get_or list.now k d).filing filing ≡ true }
     ensures behind { (d : OfFiling V) → result < length list.now → nat_lt (get_or list.now result d).filing filing ≡ false }
 {
-    list.partition_point(|one| one.filing < filing)
+    let number = filing.get();
+    list.partition_point(|one| one.filing.get() < number)
 }
 
 /// How many of them are of filings up to this number.
 pub(crate) fn count_to<V: Copy>(list: &[OfFiling<V>], floor: u32) -> usize
-    requires { Ascends 0 list.now }
+    requires { Ascends 1 list.now }
     ensures within { result ≤ length list.now }
     ensures passed { (k : ℕ) (d : OfFiling V) → k < result → nat_lt floor (get_or list.now k d).filing ≡ false }
 {

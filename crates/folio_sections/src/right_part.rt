@@ -37,7 +37,7 @@ impl Model for RightPart {
 }
 
 impl RightPart {
-    ghost use Rattle.std.specs.List.{find};
+    ghost use Rattle.std.specs.List.{find, last_or};
     ghost use Rattle.folio_sections.specs.Fronts.{NeverFall, below};
     ghost use Rattle.folio_sections.specs.Waiting.{waiting_before, waiting_unnoticed, pending, is_above, notice};
     ghost use Rattle.folio_sections.specs.Rights.{created, entered_on, is_live, is_full, holder, holder_for, capital, exchanges, is_spent};
@@ -260,6 +260,13 @@ impl RightPart {
         ensures { result ≡ find (is_above after) (waiting_before filing self.now.entries) }
     {
         self.list.next_pending(after, filing)
+    }
+
+    /// The last filing below `filing` that waits here (GBO § 18); None where there is none.
+    pub fn last_pending(&self, filing: ReceiptNo) -> Option<ReceiptNo>
+        ensures { result ≡ last_or None (waiting_before filing self.now.entries) }
+    {
+        self.list.last_pending(filing)
     }
 
     /// The first filing above `after`, and below `filing`, that waits here without an official

@@ -1,15 +1,16 @@
 //! The filings that wait at a key, beside its entries, so that no reader walks these.
 //! Why so: docs/DECISIONS.md, "A filing whose waiting has ended is swept, and its notice stays".
 //! Why so: docs/DECISIONS.md, "A part is asked for the next filing that waits without a notice".
-ghost use Rattle.std.specs.Prelude.{◌≡◌, ◌+◌, ◌≤◌, ◌<◌, ◌==◌, ◌&&◌, false, count_by, drop, take_while, ℕ, Some, None, [], length, find, if◌then◌else◌, get_or, option_map, is_none, nat_lt, min, vec_len, vec_capacity, OnOk, IsOk};
+ghost use Rattle.std.specs.Prelude.{◌≡◌, ◌+◌, ◌≤◌, ◌<◌, ◌==◌, ◌&&◌, false, count_by, drop, filter, take, take_while, ℕ, Bool, Some, None, [], length, find, if◌then◌else◌, get_or, option_map, is_none, nat_lt, min, vec_len, vec_capacity, OnOk, IsOk};
+ghost use Rattle.std.specs.List.{last_or, position_or_len};
 ghost use Rattle.std.specs.Option.{option_or};
 ghost use Rattle.folio_sections.specs.Waiting.{is_notice_of, until_by};
 ghost use Rattle.folio_sections.specs.inner.FilingLists.{Ascends, value_in};
-ghost use Rattle.folio_sections.specs.inner.Unnoticed.{first_that, floor, is_wanted};
-ghost use Rattle.folio_sections.specs.inner.Waiters.{AreInOrder, FewEnded, Until, has_ended, lacks_notice, until_in, waits};
+ghost use Rattle.folio_sections.specs.inner.Unnoticed.{first_that, floor, is_wanted, last_that};
+ghost use Rattle.folio_sections.specs.inner.Waiters.{AreInOrder, FewEnded, IsMark, Until, has_ended, lacks_notice, until_in, waits};
 
 use crate::What;
-use crate::filing_list::{OfFiling, count_to, put, value_of};
+use crate::filing_list::{OfFiling, count_below, count_to, put, value_of};
 use crate::list_room::keep_room;
 use gb_base::{Day, NoMemory, ReceiptNo};
 use std::alloc::Global;
@@ -23,6 +24,8 @@ pub(crate) struct Waiters {
     /// How many entries stand ahead of the first official notice of a filing, in the order of
     /// filings.
     notices: Vec<OfFiling<usize>>,
+    /// None of the first so many of `until` waits.
+    passed: usize,
     /// None of the first so many of `until` waits without a notice.
     noticed: usize,
     /// At most so many have ended: it counts each end since those that had ended were taken away.
@@ -40,6 +43,7 @@ impl Waiters {
         Waiters {
             until: Vec::new(alloc),
             notices: Vec::new(alloc),
+            passed: 0,
             noticed: 0,
             ended: 0,
         }
@@ -67,8 +71,18 @@ impl Waiters {
         ensures { result ≡ first_that waits (floor after) filing self.now.until.items }
     {
         let floor = floor(after);
-        let start = count_to(self.until.as_slice(), floor);
-        first_waiting(self.behind(start), floor, filing)
+        let start = self.start_above(floor, self.passed);
+        first_waiting(behind(self.until.as_slice(), start), floor, filing)
+    }
+
+    /// The last filing below `filing` that waits; None where there is none.
+    pub fn last_pending(&self, filing: ReceiptNo) -> Option<ReceiptNo>
+        requires { AreInOrder self.now }
+        ensures { result ≡ last_that waits filing self.now.until.items }
+    {
+        let below = count_below(self.until.as_slice(), filing);
+        let ahead = &self.until.as_slice()[..below];
+        last_waiting(behind(ahead, self.passed.min(below)))
     }
 
     /// The first filing above `after`, and below `filing`, that waits without an official notice;
@@ -78,25 +92,20 @@ impl Waiters {
         ensures { result ≡ first_that (lacks_notice self.now.notices.items) (floor after) filing self.now.until.items }
     {
         let floor = floor(after);
-        let start = self.start_above(floor);
-        first_unnoticed(self.behind(start), self.notices.as_slice(), floor, filing)
+        let start = self.start_above(floor, self.noticed);
+        let list = behind(self.until.as_slice(), start);
+        first_unnoticed(list, self.notices.as_slice(), floor, filing)
     }
 
-    /// What `until` has behind the first so many.
-    fn behind(&self, start: usize) -> &[OfFiling<Option<Day>>]
-        requires { start ≤ length self.now.until.items }
-        ensures { result.now ≡ drop start self.now.until.items }
-    {
-        &self.until.as_slice()[start..]
-    }
-
-    /// The place in `until` ahead of which no filing above this number lacks a notice.
-    fn start_above(&self, floor: u32) -> usize
-        requires { AreInOrder self.now }
+    /// The place in `until` ahead of which no filing above this number passes a test that none of
+    /// the first `mark` passes.
+    fn start_above(&self, floor: u32, mark: usize) -> usize
+        requires order { AreInOrder self.now }
+        requires within { mark ≤ length self.now.until.items }
         ensures within { result ≤ length self.now.until.items }
-        ensures passed { (m k : ℕ) (d : Until) → k < result → is_wanted (lacks_notice self.now.notices.items) floor m (get_or self.now.until.items k d) ≡ false }
+        ensures passed { (t : Until → Bool) (m k : ℕ) (d : Until) → IsMark t mark self.now.until.items → k < result → is_wanted t floor m (get_or self.now.until.items k d) ≡ false }
     {
-        count_to(self.until.as_slice(), floor).max(self.noticed)
+        count_to(self.until.as_slice(), floor).max(mark)
     }
 
     /// Keeps room for n filings in all.
@@ -105,6 +114,7 @@ impl Waiters {
         requires few_notices { vec_len self.old.notices ≤ n }
         ensures until { self.new.until.items ≡ self.old.until.items }
         ensures notices { self.new.notices.items ≡ self.old.notices.items }
+        ensures passed { self.new.passed ≡ self.old.passed }
         ensures noticed { self.new.noticed ≡ self.old.noticed }
         ensures ended { self.new.ended ≡ self.old.ended }
         ensures len_until { vec_len self.new.until ≡ vec_len self.old.until }
@@ -140,12 +150,12 @@ impl Waiters {
             What::Pending { filing, until } => self.set_to_wait(*filing, *until),
             What::Notice { filing } => {
                 self.keep_notice(*filing, ahead);
-                self.pass_noticed();
+                self.move_marks();
             }
             What::Settled { filing } => {
                 self.end(*filing);
                 self.count_ended();
-                self.pass_noticed();
+                self.move_marks();
             }
             What::Opened { .. }
             | What::Owner { .. }
@@ -182,6 +192,7 @@ impl Waiters {
         let notice = self.notice(filing);
         let value = Some(until);
         let index = put(&mut self.until, OfFiling { filing, value });
+        self.passed = self.passed.min(index);
         self.noticed = mark_behind(self.noticed, index, notice);
     }
 
@@ -231,6 +242,7 @@ impl Waiters {
         ensures capacity { vec_capacity self.new.until ≡ vec_capacity self.old.until }
     {
         self.until.retain(|one| one.value.is_some());
+        self.passed = 0;
         self.noticed = 0;
         self.ended = 0;
     }
@@ -250,19 +262,19 @@ impl Waiters {
         let _ = put(&mut self.notices, OfFiling { filing, value });
     }
 
-    /// Moves the mark past those that do not wait without a notice.
-    fn pass_noticed(&mut self)
+    /// Moves each mark past those behind it that it may pass.
+    fn move_marks(&mut self)
         requires order { AreInOrder self.old }
         ensures order { AreInOrder self.new }
         ensures until { self.new.until ≡ self.old.until }
         ensures ended { self.new.ended ≡ self.old.ended }
         ensures notices { self.new.notices ≡ self.old.notices }
     {
-        while self.noticed < self.until.len()
-            && !lacks_notice(self.notices.as_slice(), &self.until[self.noticed])
-        {
-            self.noticed += 1;
-        }
+        let until = self.until.as_slice();
+        let ended = count_ended_ahead(behind(until, self.passed));
+        let noticed = count_noticed_ahead(behind(until, self.noticed), self.notices.as_slice());
+        self.passed += ended;
+        self.noticed += noticed;
     }
 
     /// Forgets all of them, and keeps the room.
@@ -276,14 +288,40 @@ impl Waiters {
     {
         self.until.clear();
         self.notices.clear();
+        self.passed = 0;
         self.noticed = 0;
         self.ended = 0;
     }
 }
 
+/// What the list has behind the first so many.
+fn behind(list: &[OfFiling<Option<Day>>], start: usize) -> &[OfFiling<Option<Day>>]
+    requires { start ≤ length list.now }
+    ensures { result.now ≡ drop start list.now }
+{
+    &list[start..]
+}
+
+/// How many stand ahead of the first that waits.
+fn count_ended_ahead(list: &[OfFiling<Option<Day>>]) -> usize
+    ensures { result ≡ position_or_len waits list.now }
+{
+    list.iter().take_while(|one| one.value.is_none()).count()
+}
+
+/// How many stand ahead of the first that waits without one of these notices.
+fn count_noticed_ahead(list: &[OfFiling<Option<Day>>], notices: &[OfFiling<usize>]) -> usize
+    requires { Ascends 1 notices.now }
+    ensures { result ≡ position_or_len (lacks_notice notices.now) list.now }
+{
+    list.iter()
+        .take_while(|one| !lacks_notice(notices, one))
+        .count()
+}
+
 /// Whether the filing waits, and has none of these notices.
 fn lacks_notice(notices: &[OfFiling<usize>], one: &OfFiling<Option<Day>>) -> bool
-    requires { Ascends 0 notices.now }
+    requires { Ascends 1 notices.now }
     ensures { result ≡ lacks_notice notices.now one.now }
 {
     one.value.is_some() && value_of(notices, one.filing).is_none()
@@ -319,6 +357,16 @@ fn first_waiting(list: &[OfFiling<Option<Day>>], floor: u32, filing: ReceiptNo) 
         .map(|one| one.filing)
 }
 
+/// The last of these filings that waits.
+fn last_waiting(list: &[OfFiling<Option<Day>>]) -> Option<ReceiptNo>
+    ensures { result ≡ option_map (λ x. x.filing) (last_or None (filter waits list.now)) }
+{
+    list.iter()
+        .rev()
+        .find(|one| one.value.is_some())
+        .map(|one| one.filing)
+}
+
 /// The first of these filings that is above this number, and below `filing`, and lacks a notice.
 fn first_unnoticed(
     list: &[OfFiling<Option<Day>>],
@@ -326,7 +374,7 @@ fn first_unnoticed(
     floor: u32,
     filing: ReceiptNo,
 ) -> Option<ReceiptNo>
-    requires { Ascends 0 notices.now }
+    requires { Ascends 1 notices.now }
     ensures { result ≡ option_map (λ x. x.filing) (find (λ x. nat_lt floor x.filing && lacks_notice notices.now x) (take_while (λ x. nat_lt x.filing filing) list.now)) }
 {
     list.iter()

@@ -1,5 +1,6 @@
 -- The first filing that waits at a key without an official notice, among those that wait.
-use Rattle.std.specs.Prelude.{ℕ, Bool, ◌&&◌, nat_lt, List, Option, Some, None, find, is_none, option_map}
+use Rattle.std.specs.Prelude.{ℕ, Bool, ◌&&◌, nat_lt, List, Option, Some, None, filter, find, is_none, option_map}
+use Rattle.std.specs.List.{last_or}
 use Rattle.folio_sections.specs.Waiting.{is_pending, notice}
 use Rattle.folio_sections.specs.declared.entries.Entry.{Entry}
 use Rattle.folio_sections.specs.inner.Waiters.{Until}
@@ -20,3 +21,11 @@ is_wanted t low m x = nat_lt x.filing m && (nat_lt low x.filing && t x)
 -- the first filing of which one is so
 abbrev pub first_that : (Until → Bool) → ℕ → ℕ → List Until → Option ℕ
 first_that t low m xs = option_map (λ x. x.filing) (find (is_wanted t low m) xs)
+
+-- it is of a filing below filing m, and passes
+abbrev pub is_before : (Until → Bool) → ℕ → Until → Bool
+is_before t m x = nat_lt x.filing m && t x
+
+-- the last filing of which one is so
+abbrev pub last_that : (Until → Bool) → ℕ → List Until → Option ℕ
+last_that t m xs = option_map (λ x. x.filing) (last_or None (filter (is_before t m) xs))

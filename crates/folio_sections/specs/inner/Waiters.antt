@@ -27,12 +27,17 @@ has_ended x = is_none x.value
 abbrev pub lacks_notice : List (OfFiling ℕ) → Until → Bool
 lacks_notice notices x = waits x && is_none (value_in x.filing notices)
 
--- each filing stands once in each list, in ascending order, and none of the first waits without a notice
+-- none of the first n passes the test
+pub record IsMark (t : Until → Bool) (n : ℕ) (until : List Until) : Type 0 where
+  pub within : n ≤ length until
+  pub first : AllByRecursion (λ x. t x ≡ false) (take n until)
+
+-- Each filing stands once in each list, in ascending order. None ahead of one mark waits, and none ahead of the other waits without a notice.
 pub record AreInOrder (ws : Waiters) : Type 0 where
-  pub until : Ascends 0 ws.until.items
-  pub notices : Ascends 0 ws.notices.items
-  pub within : ws.noticed ≤ length ws.until.items
-  pub first : AllByRecursion (λ x. lacks_notice ws.notices.items x ≡ false) (take ws.noticed ws.until.items)
+  pub until : Ascends 1 ws.until.items
+  pub notices : Ascends 1 ws.notices.items
+  pub passed : IsMark waits ws.passed ws.until.items
+  pub noticed : IsMark (lacks_notice ws.notices.items) ws.noticed ws.until.items
 
 -- no more have ended than are counted, and these are at most half of all
 pub record FewEnded (until : List Until) (ended : ℕ) : Type 0 where

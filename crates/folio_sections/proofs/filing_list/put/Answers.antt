@@ -17,7 +17,7 @@ returns-in-Some-clause-order g c =
     let i = c.count_below-index.result in
     let at = subst (λ ys. option_map (λ x. x.value) (at_filing c.args.one.filing (slice_get ys i)) ≡ Some c.in-Some.field-0) c.as_slice-2.ensures.value (sym c.value_at.ensures ∙ c.in-Some.is) in
     let of_it = is_there c.args.one.filing (slice_get xs i) c.in-Some.field-0 at in
-    written_ascends 0 xs i of_it.0 c.args.one c.requires.order of_it.1.0 of_it.1.1
+    written_ascends 1 xs i of_it.0 c.args.one c.requires.order of_it.1.0 of_it.1.1
 
 pub returns-in-Some-clause-there : goal.returns-in-Some-clause-there
 returns-in-Some-clause-there g c = λ m.
@@ -44,7 +44,7 @@ returns-in-None-clause-order g c =
     let none = subst (λ ys. option_map (λ x. x.value) (at_filing c.args.one.filing (slice_get ys i)) ≡ None) c.as_slice-2.ensures.value (sym c.value_at.ensures ∙ c.in-None.is) in
     let behind = is_behind c.args.one.filing xs i (is_not_there (at_filing c.args.one.filing (slice_get xs i)) none) low in
     let items = put_if c.insert.result xs (insert xs i c.args.one) c.insert.new.self.items (c.insert.ensures.succeeds c.requires.room) c.insert.ensures.items in
-    subst (Ascends 0) (sym items) (put_in_ascends 0 xs i c.args.one c.requires.order (omega arith) within below behind)
+    subst (Ascends 1) (sym items) (put_in_ascends 1 xs i c.args.one c.requires.order (omega (arith, c.count_below-index.ensures.positive)) within below behind)
 
 pub returns-in-None-clause-there : goal.returns-in-None-clause-there
 returns-in-None-clause-there g c = λ m.

@@ -12,10 +12,10 @@ returns-clause-order c =
     let xs = c.args.self.now.until.items in
     let left = filter_same _ waits _ (λ x b f' k. search rules) _ _ c.retain.ensures.filtered in
     record {
-      until = subst (Ascends 0) (sym left) (filter_ascends (λ x. x.filing) waits 0 xs c.requires.order.until);
+      until = subst (Ascends 1) (sym left) (filter_ascends (λ x. x.filing) waits 1 xs c.requires.order.until);
       notices = c.requires.order.notices;
-      within = omega arith;
-      first = tt;
+      passed = record { within = omega arith; first = tt };
+      noticed = record { within = omega arith; first = tt };
     }
 
 pub returns-clause-few : goal.returns-clause-few
@@ -32,4 +32,4 @@ pub returns-clause-until : goal.returns-clause-until
 returns-clause-until c = λ m.
     let xs = c.args.self.now.until.items in
     let left = filter_same _ waits _ (λ x b f' k. search rules) _ _ c.retain.ensures.filtered in
-    ap (until_in m) left ∙ until_swept m 0 xs c.requires.order.until
+    ap (until_in m) left ∙ until_swept m 1 xs c.requires.order.until
