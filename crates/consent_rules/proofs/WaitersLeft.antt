@@ -1,8 +1,8 @@
 -- The applicants of those filings that wait at a right and stand above a number: the ones that a loop still has to ask.
-use Rattle.std.proofs.Common.{◌≡◌, ℕ, ◌<◌, Bool, false, ◌||◌, List, ◌∷◌, length, filter, filter_map, find, Option, Some, None, is_some, refl, sym, ap, ◌∙◌, arith}
-use Rattle.std.specs.List.{list_any}
+use Rattle.std.proofs.Common.{◌≡◌, ℕ, ◌<◌, Bool, true, false, ◌||◌, List, [], ◌∷◌, length, filter, filter_map, find, Option, Some, None, option_and_then, is_some, refl, sym, ap, ◌∙◌, arith}
+use Rattle.std.specs.List.{last_or, list_any}
 use Rattle.std.specs.Option.{option_eq, option_map_or}
-use Rattle.std.proofs.lemmas.Bool.{false≢true}
+use Rattle.std.proofs.lemmas.Bool.{false≢true, or_right}
 use Rattle.act_model.specs.declared.receipts.Receipt.{Receipt}
 use Rattle.act_model.specs.Touches.{applicant_of}
 use Rattle.folio_sections.specs.Waiting.{is_above, waiting_before}
@@ -62,6 +62,16 @@ none_wait p journal m entries none = none_pass p journal None m entries (not_som
     not_some : (o : Option ℕ) → is_some o ≡ false → None ≡ o
     not_some (Some n) some = absurd (false≢true (sym some))
     not_some None some = refl
+
+-- where the applicant of the last one passes, one does
+pub last_passes : (p : ℕ → Bool) (journal : List Receipt) (m : ℕ) (entries : List Entry) → option_map_or p (option_and_then (applicant_of journal) (last_or None (waiting_before m entries))) false ≡ true
+    → true ≡ list_any p (waiting_applicants journal m entries)
+last_passes p journal m entries is = sym (among (waiting_before m entries) is)
+  where
+    among : (ns : List ℕ) → option_map_or p (option_and_then (applicant_of journal) (last_or None ns)) false ≡ true → list_any p (filter_map (applicant_of journal) ns) ≡ true
+    among [] it = it
+    among (n ∷ []) it = any_given p (applicant_of journal n) [] ∙ ap (λ b. b || false) it
+    among (n ∷ k ∷ ns) it = any_given p (applicant_of journal n) (filter_map (applicant_of journal) (k ∷ ns)) ∙ or_right (option_map_or p (applicant_of journal n) false) _ (among (k ∷ ns) it)
 
 -- what may be there equals this
 pub given_is : (e : ℕ → ℕ → Bool) (o : Option ℕ) (y : ℕ) → option_map_or (λ x. e x y) o false ≡ option_eq e o (Some y)

@@ -1,8 +1,9 @@
 //! The earlier filings that wait at a right (BGB § 876).
-ghost use Rattle.std.specs.Prelude.{◌≡◌, ◌==◌, ◌-◌, ◌↔◌, false, find, is_some, nat_le, IfSome, IsNone, None};
-ghost use Rattle.std.specs.List.{list_any, slice_get};
+ghost use Rattle.std.specs.Prelude.{◌≡◌, ◌==◌, ◌-◌, ◌↔◌, false, find, is_some, nat_le, option_and_then, IfSome, IsNone, None};
+ghost use Rattle.std.specs.List.{last_or, list_any, slice_get};
 ghost use Rattle.std.specs.Option.{option_map_or};
 ghost use Rattle.gb_base.specs.Ascending.{AscendsBy};
+ghost use Rattle.act_model.specs.Touches.{applicant_of};
 ghost use Rattle.folio_sections.specs.Waiting.{is_above, waiting_before};
 ghost use Rattle.consent_rules.specs.Persons.{waiting_applicants};
 ghost use Rattle.consent_rules.specs.inner.Lacks.{is_lacking};
@@ -68,7 +69,7 @@ impl<'a> Waiting<'a> {
     }
 }
 
-/// One of those who wait.
+/// The test whether a person is one of those who wait.
 #[derive(Drop)]
 struct Waiter<'a> {
     waiting: &'a Waiting<'a>,
@@ -139,10 +140,15 @@ fn number_at(numbers: &[ReceiptNo], i: usize) -> Option<ReceiptNo>
     numbers.get(i).copied()
 }
 
-/// Whether this is lacking from an applicant of an earlier filing that waits at the right.
+/// Whether this is lacking from an applicant of an earlier filing that waits at the right. The last
+/// is asked first: where they consent in the order in which they wait, it is the one who has not
+/// yet, and each judgement until then asks nobody else.
 fn some_waits(journal: &Journal, before: ReceiptNo, part: &RightPart, lack: &Lack) -> bool
     ensures { result ≡ list_any (is_lacking lack.now) (waiting_applicants journal.now.receipts before part.now.entries) }
 {
+    if last_lacks(journal, before, part, lack) {
+        return true;
+    }
     let mut after = None;
     while let Some(filing) = part.next_pending(after, before) {
         if is_lacking_from(lack, applicant_of(journal, filing)) {
@@ -151,6 +157,16 @@ fn some_waits(journal: &Journal, before: ReceiptNo, part: &RightPart, lack: &Lac
         after = Some(filing);
     }
     false
+}
+
+/// Whether this is lacking from the applicant of the last earlier filing that waits at the right.
+fn last_lacks(journal: &Journal, before: ReceiptNo, part: &RightPart, lack: &Lack) -> bool
+    ensures { result ≡ option_map_or (is_lacking lack.now) (option_and_then (applicant_of journal.now.receipts) (last_or None (waiting_before before part.now.entries))) false }
+{
+    match part.last_pending(before) {
+        Some(filing) => is_lacking_from(lack, applicant_of(journal, filing)),
+        None => false,
+    }
 }
 
 /// Whether this is lacking from the applicant, if there is one.

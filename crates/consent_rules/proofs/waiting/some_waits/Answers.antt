@@ -1,8 +1,12 @@
 use Rattle.std.proofs.Common.{true, false, ap, sym, ◌∙◌}
 use Rattle.std.specs.Option.{option_map_or}
 use Rattle.consent_rules.specs.inner.Lacks.{is_lacking}
-use Rattle.consent_rules.proofs.WaitersLeft.{all_left, asked_first, fewer_left, none_pass}
+use Rattle.consent_rules.proofs.WaitersLeft.{all_left, asked_first, fewer_left, last_passes, none_pass}
 use Rattle.consent_rules.proofs.waiting.some_waits.Goals as goal
+
+pub returns-then-last_lacks : goal.returns-then-last_lacks
+returns-then-last_lacks c =
+    last_passes (is_lacking c.args.lack.now) c.args.journal.now.receipts c.args.before c.args.part.now.entries (sym c.last_lacks.ensures ∙ c.if-last_lacks.true)
 
 pub loop-filing-init : goal.loop-filing-init
 loop-filing-init c = all_left (is_lacking c.args.lack.now) c.args.journal.now.receipts c.args.before c.args.part.now.entries
