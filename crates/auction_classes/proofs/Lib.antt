@@ -42,3 +42,7 @@ pub mod SalesPayable
 pub mod StampYears
 pub mod UnreadEntries
 pub mod WeighedClaims
+pub mod WholeBids
+pub mod WholeCovers
+pub mod WholeLines
+pub mod WholeSales

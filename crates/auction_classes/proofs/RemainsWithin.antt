@@ -90,7 +90,7 @@ one_right s x y first second same =
     λ i. the_right (same i) (option_map_or (λ (c : Created). c) (one i) x.made)
 
 -- its claim is its interest and its capital
-four_claims : (s : Sale) (x : CreatedRight) → In x (rights_of_class s 4) → claim_in_class s 4 x.id ≡ interest_of s x + capital_at (read s) s.folio x.id
+pub four_claims : (s : Sale) (x : CreatedRight) → In x (rights_of_class s 4) → claim_in_class s 4 x.id ≡ interest_of s x + capital_at (read s) s.folio x.id
 four_claims s x there =
     let found = find_complete (λ (y : CreatedRight). same_right y.id x.id) (rights_of_class s 4) x there (right_self x.id) in
     let same : found.item ≡ x = one_right s found.item x found.there there (right_is found.item.id x.id found.passes) in

@@ -51,10 +51,10 @@ pub record AreWritten (r : SaleReading) (line : LineState) (finding : Finding) (
 
 -- ---- what is claimed
 
-found_is : (r : SaleReading) (register : Key → List Entry) (finding : Finding) → IsSaleRead r register → finding ≡ finding_of (sale_of_case r.journal r.entries r.item) → finding ≡ finding_of (sale_in r register)
+pub found_is : (r : SaleReading) (register : Key → List Entry) (finding : Finding) → IsSaleRead r register → finding ≡ finding_of (sale_of_case r.journal r.entries r.item) → finding ≡ finding_of (sale_in r register)
 found_is r register finding is found = found ∙ finding_as_read r.journal register r.folio r.item r.entries (case_is r register is)
 
-lists_are : (r : SaleReading) (register : Key → List Entry) (line : LineState) (lists : ClaimLists) → IsSaleRead r register → IsLineOf (reads_in r) r.folio line
+pub lists_are : (r : SaleReading) (register : Key → List Entry) (line : LineState) (lists : ClaimLists) → IsSaleRead r register → IsLineOf (reads_in r) r.folio line
     → AreClaimedIn (sale_of_case r.journal r.entries r.item) (λ id. reads_in r (Right r.folio id)) r.title line.live lists → AreClaimsOf (sale_in r register) lists
 lists_are r register line lists is of_line claimed =
     claimed_as_read r.journal register r.folio r.item r.entries (reads_in r) r.title line.live lists (sale_read_from r register line is of_line) claimed

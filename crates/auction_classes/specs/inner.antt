@@ -6,3 +6,4 @@ pub mod Covers
 pub mod Findings
 pub mod LinesRead
 pub mod Readings
+pub mod WholeBids

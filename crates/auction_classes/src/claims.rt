@@ -38,7 +38,7 @@ pub struct Claims {
     pub(crate) line_four: ClassLine,
     pub(crate) line_six: ClassLine,
     /// The line of the folio, of which those of the classes are made.
-    line: FolioLine,
+    pub(crate) line: FolioLine,
 }
 
 impl Model for Claims {

@@ -68,7 +68,7 @@ fn cover_by(slots: &Slots, before: u64, basis: Basis) -> u64
 }
 
 /// What a personal creditor seizes for, in cents; 0 where the seizure is from a right.
-fn personal_amount(basis: Basis) -> u64
+pub(crate) fn personal_amount(basis: Basis) -> u64
     ensures value { result ≡ personal_amount basis }
     ensures bound { result ≤ most_cents }
 {

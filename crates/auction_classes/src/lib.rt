@@ -16,12 +16,14 @@ mod findings;
 mod lists;
 mod lowest_bids;
 mod owners_found;
+mod reckoned;
 mod remaining;
 mod right_claims;
 mod right_classes;
 mod rights_found;
 mod sale_readings;
 mod seizures_found;
+mod whole_bids;
 
 pub use claim_items::{ClaimItem, RightClaimed, SeizedFor};
 pub use claims::Claims;

@@ -62,7 +62,7 @@ impl Claims {
 }
 
 /// What the timely claims of classes 1 and 3 come to, in cents.
-fn ahead_of_rights(items: &[ClaimItem]) -> u64
+pub(crate) fn ahead_of_rights(items: &[ClaimItem]) -> u64
     requires { sum_by cents_ahead items.now < most_sum }
     ensures { result ≡ sum_by cents_ahead items.now }
 {

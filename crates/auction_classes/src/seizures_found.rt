@@ -5,6 +5,7 @@ ghost use Rattle.folio_sections.specs.Rights.{is_full, is_live};
 ghost use Rattle.auction_classes.specs.SaleClaims.{is_basis_standing, is_served};
 ghost use Rattle.auction_classes.specs.inner.Findings.{seized_with};
 ghost use Rattle.auction_classes.specs.inner.Readings.{rights_read};
+ghost use Rattle.auction_classes.specs.inner.WholeBids.{are_personal, is_personal};
 
 use crate::SeizedFor;
 use crate::case_items::Seizure;
@@ -29,6 +30,34 @@ pub(crate) fn write_seizures<P: Parts>(
     list.clear();
     for seizure in seizures {
         push_copy(list, &seized_for(reading, sale, seizure));
+    }
+}
+
+/// Whether each of these seizures that is served is a personal creditor's, where the sale is on this
+/// day. Takes no memory.
+pub(crate) fn are_personal<P: Parts>(
+    reading: &FolioReading<P>,
+    sale: Day,
+    seizures: &[Seizure],
+) -> bool
+    requires read { CanBeRead P.holds P.at reading.now }
+    ensures { result ≡ are_personal (map (seized_with sale (rights_read P.holds P.at reading.now)) seizures.now) }
+{
+    for seizure in seizures {
+        if !is_personal(seizure.basis) && is_served(reading, sale, seizure) {
+            return false;
+        }
+    }
+    true
+}
+
+/// Whether a personal creditor seizes.
+fn is_personal(basis: Basis) -> bool
+    ensures { result ≡ is_personal basis }
+{
+    match basis {
+        Basis::Personal { .. } => true,
+        Basis::FromRight { .. } => false,
     }
 }
 

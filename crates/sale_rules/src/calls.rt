@@ -15,7 +15,6 @@ ghost use Rattle.sale_rules.specs.SaleParts.{CanSettle, OfEachKept};
 
 use crate::Scratch;
 use crate::grounds::{is_awarded, lacks_case};
-use crate::lowest_found::lowest_found;
 use act_model::Journal;
 use auction_classes::{Claims, Lowest};
 use folio_sections::{Parts, What, add, entry_by};
@@ -103,8 +102,8 @@ fn lowest_called<P: Parts>(
     if is_awarded(parts, folio, item) {
         return Err(Section::Zvg81);
     }
-    match lowest_found(parts, claims, slots, journal, item, folio) {
-        Some(lowest) => Ok(lowest),
-        None => Err(Section::Zvg43),
+    match claims.reckon_lowest(slots, parts, journal, folio, item) {
+        Ok(lowest) => Ok(lowest),
+        Err(_) => Err(Section::Zvg43),
     }
 }

@@ -186,6 +186,34 @@ fn an_exchange_turns_what_stands_ahead(rt: HostRuntime) -> Result<(), Fail> {
     Ok(())
 }
 
+/// 2.1, of 1,000.00, recedes behind 3.1, of 500.00. Of a personal creditor's lowest bid both get their
+/// whole claims, in either order.
+#[test]
+fn an_exchange_turns_nothing_for_a_personal_creditor(rt: HostRuntime) -> Result<(), Fail> {
+    let mut journal = charged(&rt, rt.alloc());
+    let turned = exchange(7, right(2, 1), right(3, 1));
+    receive(&rt, &mut journal, day(1, 3), &by_both(turned));
+    seize_served(&rt, &mut journal, day(3, 1));
+    call_to_bid(&rt, &mut journal);
+    let register = alone(rt.alloc(), &journal)?;
+    assert!(rt; is_lowest(verdict(&rt, &register, 6), 151_000, 1_000));
+    Ok(())
+}
+
+/// 3.1 seizes, but is served on the 27th day: the personal creditor behind it is the base, with all
+/// rights ahead.
+#[test]
+fn a_right_that_is_not_served_in_time_is_no_base(rt: HostRuntime) -> Result<(), Fail> {
+    let mut journal = charged(&rt, rt.alloc());
+    let late = seizure_from(7, right(3, 1), day(5, 7));
+    receive(&rt, &mut journal, day(3, 1), &late);
+    seize_served(&rt, &mut journal, day(3, 1));
+    call_to_bid(&rt, &mut journal);
+    let register = alone(rt.alloc(), &journal)?;
+    assert!(rt; is_lowest(verdict(&rt, &register, 6), 151_000, 1_000));
+    Ok(())
+}
+
 /// A usufruct of division II stands ahead with its highest replacement value and remains as a whole.
 #[test]
 fn a_usufruct_stands_ahead_with_its_value(rt: HostRuntime) -> Result<(), Fail> {

@@ -1,0 +1,7 @@
+-- What the item finds is reckoned with the exchanges or without them.
+use Rattle.std.proofs.Common.{sym, ap, ◌∙◌}
+use Rattle.auction_classes.specs.LowestBid.{lowest_bid}
+use Rattle.auction_classes.proofs.claims.Claims.reckon_lowest.Goals as goal
+
+pub reckon_whole-requires-clause-personal : goal.reckon_whole-requires-clause-personal
+reckon_whole-requires-clause-personal g c register stands kept = sym (c.is_of_persons.ensures register stands kept) ∙ c.if-is_of_persons.true
