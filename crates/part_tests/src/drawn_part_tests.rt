@@ -95,6 +95,7 @@ fn is_held_so_for(part: &RightPart, n: u32) -> bool {
     part.pending(filing) == plain::pending(filing, entries)
         && part.notice(filing) == plain::notice(filing, entries)
         && part.holder_for(filing) == plain::holder_for(filing, entries)
+        && part.last_pending(filing).map(|last| last.get()) == plain::last_pending(filing, entries)
         && (0..9).all(|after| {
             let next = part.next_pending(ReceiptNo::new(after), filing);
             next.map(|next| next.get()) == plain::next_pending(after, filing, entries)

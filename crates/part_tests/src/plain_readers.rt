@@ -45,6 +45,11 @@ pub fn next_pending(after: u32, filing: ReceiptNo, entries: &[Entry]) -> Option<
     (1..filing.get()).find(|n| after < *n && waits(*n, entries))
 }
 
+/// The last number below that of the filing of one that waits.
+pub fn last_pending(filing: ReceiptNo, entries: &[Entry]) -> Option<u32> {
+    (1..filing.get()).rev().find(|n| waits(*n, entries))
+}
+
 /// The first number above `after`, and below that of the filing, of one that waits without a notice.
 pub fn next_unnoticed(after: u32, filing: ReceiptNo, entries: &[Entry]) -> Option<u32> {
     (1..filing.get()).find(|n| after < *n && waits(*n, entries) && !has_notice(*n, entries))

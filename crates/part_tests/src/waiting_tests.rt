@@ -5,7 +5,7 @@ use crate::written_entries::entry;
 use folio_sections::{RightPart, What};
 use gb_base::{Day, NoMemory, ReceiptNo};
 use std::test::Fail;
-use test_items::{day, right, right_key};
+use test_items::{day, receipt, right, right_key};
 
 /// The most filings that wait.
 const FILINGS: u32 = 64;
@@ -42,6 +42,28 @@ fn waits_twice_so(part: &mut RightPart, step: u32, count: u32) -> Result<bool, N
     let noticed = is_read_so(part, count);
     let half_ended = end_so(part, step, count, count / 2)?;
     Ok(first && ended && again && noticed && half_ended)
+}
+
+#[test]
+fn a_filing_waits_again_ahead_of_the_others(rt: HostRuntime) -> Result<(), Fail> {
+    let mut part = RightPart::new(rt.alloc(), right_key(7, right(1, 2)));
+    let so = waits_again_so(&mut part)?;
+    assert!(rt; so);
+    Ok(())
+}
+
+/// Whether the second of eight filings, of which the first three have ended, waits again so.
+fn waits_again_so(part: &mut RightPart) -> Result<bool, NoMemory> {
+    set_to_wait(part, 1, 8)?;
+    let ended = end_so(part, 1, 8, 3)?;
+    let filing = receipt(2);
+    let until = some_day(2);
+    add(part, What::Pending { filing, until })?;
+    let next = part.next_pending(None, receipt(9));
+    let last = part.last_pending(receipt(4));
+    let again = next == Some(filing) && last == Some(filing) && is_read_so(part, 8);
+    add(part, What::Settled { filing })?;
+    Ok(ended && again && is_read_so(part, 8))
 }
 
 /// The filing of a place in a turn of this step; None where it is not one of the first so many.
@@ -81,6 +103,7 @@ fn end_so(part: &mut RightPart, step: u32, count: u32, most: u32) -> Result<bool
         if let Some(filing) = filing_in_turn(step, place, most) {
             add(part, What::Settled { filing })?;
             so = so && is_next_so(part, 0, count) && is_next_so(part, filing.get(), count);
+            so = so && is_last_so(part, filing.get()) && is_last_so(part, count);
         }
     }
     Ok(so && is_read_so(part, count))
@@ -114,6 +137,16 @@ fn waits_so(part: &RightPart, n: u32) -> bool {
     let entries = part.entries();
     part.pending(filing) == plain::pending(filing, entries)
         && part.notice(filing) == plain::notice(filing, entries)
+        && is_last_so(part, n)
+}
+
+/// Whether the last below filing n is the last of those before it.
+fn is_last_so(part: &RightPart, n: u32) -> bool {
+    let Some(filing) = ReceiptNo::new(n) else {
+        return true;
+    };
+    let last = part.last_pending(filing);
+    last.map(|last| last.get()) == plain::last_pending(filing, part.entries())
 }
 
 /// Whether the next behind a number are the next of the first so many filings.
