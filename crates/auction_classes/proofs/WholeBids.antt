@@ -1,5 +1,5 @@
 -- The lowest bid that is reckoned without the line is that of the sale.
-use Rattle.std.proofs.Common.{◌≡◌, ℕ, ◌+◌, ◌-◌, ◌≤◌, true, List, Some, None, length, map, min, option_map, sum_by, refl, sym, ap, ◌∙◌, arith}
+use Rattle.std.proofs.Common.{◌≡◌, ℕ, ◌+◌, ◌-◌, true, List, Some, None, length, map, min, option_map, sum_by, refl, sym, ap, ◌∙◌, arith}
 use Rattle.std.proofs.Math.Nat.{min-eq_right}
 use Rattle.gb_base.specs.declared.keys.Key.{Key}
 use Rattle.act_model.specs.Receiving.{IsJournal}
@@ -12,7 +12,7 @@ use Rattle.auction_classes.specs.ClassLines.{line_of_class}
 use Rattle.auction_classes.specs.LowestBid.{bid_by, cents_ahead, lowest_bid, remaining_of}
 use Rattle.auction_classes.specs.SaleClaims.{claimed_in}
 use Rattle.auction_classes.specs.Sales.{costs_found, sale_at}
-use Rattle.auction_classes.specs.inner.WholeBids.{are_personal, before_served, capital_in_four, claim_in_four, whole_bid, whole_bid_by}
+use Rattle.auction_classes.specs.inner.WholeBids.{are_personal, before_served, claim_in_four, whole_bid, whole_bid_by}
 use Rattle.auction_classes.proofs.WholeCovers.{whole_cover}
 use Rattle.auction_classes.proofs.WholeLines.{IsWholeLine, four_kept, four_remain}
 

@@ -6,7 +6,7 @@ use Rattle.act_model.specs.declared.sales.Basis.{Basis}
 use Rattle.act_model.specs.declared.sales.Basis.TheVariants as basis
 use Rattle.rank_slots.specs.Filled.{Filled, line}
 use Rattle.auction_classes.specs.LowestBid.{cover_by, cover_of_base, covers_served, personal_amount}
-use Rattle.auction_classes.specs.inner.Covers.{least_from, lesser}
+use Rattle.auction_classes.specs.inner.Covers.{least_from}
 use Rattle.auction_classes.specs.inner.WholeBids.{are_personal, before_served, is_personal}
 use Rattle.auction_classes.specs.declared.claim_items.SeizedFor.{SeizedFor}
 use Rattle.auction_classes.proofs.LeastCovers.{least_found}

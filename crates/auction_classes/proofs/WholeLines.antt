@@ -1,5 +1,5 @@
 -- The line of class 4 is as long as what its live rights claim, and of all of it each of them gets its whole claim: its capital remains.
-use Rattle.std.proofs.Common.{◌≡◌, ℕ, ◌+◌, ◌-◌, ◌<◌, ◌≤◌, Bool, true, false, cond, not, ◌==◌, ◌&&◌, ◌||◌, List, [], ◌∷◌, Option, Some, None, drop, filter, find, length, map, nat_le, sum_by, refl, sym, ap, ◌∙◌, subst, arith}
+use Rattle.std.proofs.Common.{◌≡◌, ℕ, ◌+◌, ◌-◌, ◌<◌, ◌≤◌, Bool, true, false, cond, not, ◌==◌, ◌&&◌, ◌||◌, List, [], ◌∷◌, Option, Some, None, filter, find, length, map, nat_le, sum_by, refl, sym, ap, ◌∙◌, subst, arith}
 use Rattle.std.specs.List.{AllByRecursion, list_all, list_any}
 use Rattle.std.specs.Option.{option_map_or}
 use Rattle.std.proofs.lemmas.Bool.{and_from, and_parts, false≢true, or_left}
@@ -10,7 +10,7 @@ use Rattle.gb_base.specs.Limits.{most_sum}
 use Rattle.gb_base.specs.RightNo.{RightNo, same_right}
 use Rattle.gb_base.specs.declared.keys.Key.{Key}
 use Rattle.gb_base.specs.declared.keys.Key.TheVariants.{Right}
-use Rattle.gb_base.proofs.Members.{In, of_map}
+use Rattle.gb_base.proofs.Members.{In}
 use Rattle.gb_base.proofs.SameRights.{right_is}
 use Rattle.act_model.specs.Receiving.{IsJournal}
 use Rattle.act_model.specs.declared.receipts.Receipt.{Receipt}
@@ -18,22 +18,21 @@ use Rattle.kept_registers.specs.Kept.{Kept}
 use Rattle.folio_sections.specs.Rights.{is_live}
 use Rattle.folio_sections.specs.declared.entries.Entry.{Entry}
 use Rattle.folio_sections.proofs.FilteredLists.{all_in, filter_alike, in_filter, of_filter}
-use Rattle.rank_slots.specs.CanFill.{CanFill}
 use Rattle.rank_slots.specs.Filled.{Filled, line}
 use Rattle.rank_slots.specs.Groups.{group_of, is_of, keeps_place}
 use Rattle.rank_slots.specs.Payments.{claim_of, knot_of, pay, reaches_end}
 use Rattle.rank_slots.specs.declared.places.Knot.{Knot}
 use Rattle.rank_slots.specs.declared.places.Place.{Place}
-use Rattle.folio_line.specs.FolioRights.{is_live_with, rights_where}
+use Rattle.folio_line.specs.FolioRights.{is_live_with}
 use Rattle.folio_line.specs.FolioSlots.{is_gone, stands_on_line}
 use Rattle.folio_line.specs.declared.folio_rights.CreatedRight.{CreatedRight}
 use Rattle.folio_line.specs.inner.PlaceByPlace.{place_behind, places_behind}
 use Rattle.folio_line.proofs.LineFills.{filling_is, its_places}
 use Rattle.folio_line.proofs.PlacedOrder.{of_placed_rights}
 use Rattle.folio_line.proofs.PlacesBehind.{all_places}
-use Rattle.auction_classes.specs.Claims.{at_right, class_of_right, right_found, rights_found, rights_of_class}
+use Rattle.auction_classes.specs.Claims.{class_of_right, right_found, rights_found, rights_of_class}
 use Rattle.auction_classes.specs.ClassLines.{claim_in_class, exchanges_of_class, exercises_of_class, line_of_class, stands_in_class}
-use Rattle.auction_classes.specs.LowestBid.{is_paid_enough, reaches_group, reaches_knot, remaining_by_pay, remaining_of}
+use Rattle.auction_classes.specs.LowestBid.{reaches_group, reaches_knot, remaining_by_pay, remaining_of}
 use Rattle.auction_classes.specs.SaleClaims.{of_class_four, right_claimed}
 use Rattle.auction_classes.specs.Sales.{Sale, read, sale_at}
 use Rattle.auction_classes.specs.declared.claim_items.RightClaimed.{RightClaimed}
@@ -239,7 +238,7 @@ four_remain journal at folio a kept stands whole =
         let first = sum_by-cons capital_in_four (found x) (map found xs) in
         let four = filter (λ (y : RightFound). y.class == 4) (map found xs) in
         elim (class_of_right s x.id == 4) as (λ b. (b ≡ true → left (right_claimed (found x)) ≡ (found x).capital) → sum_by capital_in_four (map found (x ∷ xs)) ≡ cond b (found x).capital 0 + sum_by capital_in_four (map found xs)
-            → sum_by capital_in_four (map found (x ∷ xs)) ≡ sum_by left (map right_claimed (cond b (found x ∷ four) four))) [
+        → sum_by capital_in_four (map found (x ∷ xs)) ≡ sum_by left (map right_claimed (cond b (found x ∷ four) four))) [
           | true ↦ λ is sum.
               let own = sum_by-cons left (right_claimed (found x)) (map right_claimed four) in
               let same = is refl in

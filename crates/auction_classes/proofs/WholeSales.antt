@@ -22,7 +22,6 @@ use Rattle.auction_classes.specs.inner.LinesRead.{HasLowInterest}
 use Rattle.auction_classes.specs.inner.WholeBids.{HaveWholeBid, are_personal, claim_in_four, whole_bid}
 use Rattle.auction_classes.specs.declared.claim_lists.ClaimLists.{ClaimLists}
 use Rattle.auction_classes.specs.declared.findings.Finding.{Finding}
-use Rattle.auction_classes.specs.declared.lowest_bids.Lowest.{Lowest}
 use Rattle.auction_classes.proofs.BoundedLists.{lists_within}
 use Rattle.auction_classes.proofs.ClassFills.{class_can_fill}
 use Rattle.auction_classes.proofs.EarlierRights.{filed_at_most}

@@ -42,14 +42,14 @@ fn least_with(least: Option<u64>, slots: &Slots, before: u64, seizure: &SeizedFo
 }
 
 /// The lesser of two covers, where the first is there.
-fn lesser(before: Option<u64>, cover: u64) -> Option<u64>
-    requires before { IfSome before (λ n. n < 2 * most_sum) }
+fn lesser(least: Option<u64>, cover: u64) -> Option<u64>
+    requires least { IfSome least (λ n. n < 2 * most_sum) }
     requires cover { cover < 2 * most_sum }
-    ensures value { result ≡ lesser before cover }
+    ensures value { result ≡ lesser least cover }
     ensures bound { IfSome result (λ n. n < 2 * most_sum) }
 {
-    match before {
-        Some(least) => Some(least.min(cover)),
+    match least {
+        Some(so_far) => Some(so_far.min(cover)),
         None => Some(cover),
     }
 }

@@ -108,12 +108,7 @@ impl Claims {
 
 /// Whether each seizure that is served is a personal creditor's, as an item finds the sale of a
 /// folio. Of the folio only the rights from which is seized are read.
-fn is_of_persons<P: Parts>(
-    parts: &P,
-    journal: &Journal,
-    folio: FolioId,
-    as_of: ReceiptNo,
-) -> bool
+fn is_of_persons<P: Parts>(parts: &P, journal: &Journal, folio: FolioId, as_of: ReceiptNo) -> bool
     requires held { (k : Key) → Contains (keys_of_sale journal.now.receipts as_of folio) k → IsTrue (P.holds parts.now k) }
     requires kept { StandsForKept journal.now.receipts (P.holds parts.now) (P.at parts.now) }
     requires found { IsFound (sale_at journal.now.receipts (P.at parts.now) folio as_of) }

@@ -1,5 +1,5 @@
 -- The seizures as they are read are those of the sale.
-use Rattle.std.proofs.Common.{◌≡◌, IsSome, Some, map, refl, slice_get, sym, ap, subst, ◌∙◌}
+use Rattle.std.proofs.Common.{IsSome, Some, map, refl, slice_get, sym, ap, subst, ◌∙◌}
 use Rattle.gb_base.specs.declared.keys.Key.TheVariants.{Right, Title}
 use Rattle.folio_sections.specs.Cases.{seizure_numbers}
 use Rattle.folio_sections.specs.Fronts.{below}
