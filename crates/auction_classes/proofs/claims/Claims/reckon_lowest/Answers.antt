@@ -1,6 +1,5 @@
 -- What the item finds is reckoned with the exchanges or without them.
-use Rattle.std.proofs.Common.{sym, ap, ◌∙◌}
-use Rattle.auction_classes.specs.LowestBid.{lowest_bid}
+use Rattle.std.proofs.Common.{sym, ◌∙◌}
 use Rattle.auction_classes.proofs.claims.Claims.reckon_lowest.Goals as goal
 
 pub reckon_whole-requires-clause-personal : goal.reckon_whole-requires-clause-personal

@@ -1,15 +1,13 @@
 -- What is read of the sale without its exchanges, and what it comes to.
-use Rattle.std.proofs.Common.{◌≡◌, List, All, IsSome, Some, length, slice_get, ◌+◌, sym, ap, subst, ◌∙◌, arith}
-use Rattle.gb_base.specs.declared.keys.Key.TheVariants.{Case, Right, Title}
+use Rattle.std.proofs.Common.{◌≡◌, IsSome, Some, length, slice_get, sym, ap, subst, ◌∙◌, arith}
+use Rattle.gb_base.specs.declared.keys.Key.TheVariants.{Case, Title}
 use Rattle.folio_sections.specs.Cases.{seizure_numbers}
 use Rattle.folio_line.specs.AllRights.{AreAllRights}
-use Rattle.folio_line.specs.declared.folio_rights.CreatedRight.{CreatedRight}
 use Rattle.auction_classes.specs.SaleClaims.{ClaimsState}
-use Rattle.auction_classes.specs.inner.Readings.{IsReadAs}
 use Rattle.auction_classes.specs.Reckoning.{filled_of}
 use Rattle.auction_classes.proofs.NoClaims.{emptied_payable, emptied_reckonable}
 use Rattle.auction_classes.proofs.RoomKept.{room_for_fewer, room_kept}
-use Rattle.auction_classes.proofs.SalesHeld.{SaleReading, can_be_read, can_find_case, held_rise, holds_sale, ids_are_all, ids_few, ids_in, reading_of, reads_in, sale_is_read, sale_live_as_read, sale_live_few}
+use Rattle.auction_classes.proofs.SalesHeld.{can_be_read, can_find_case, held_rise, holds_sale, ids_are_all, ids_few, ids_in, reading_of, reads_in, sale_is_read, sale_live_as_read, sale_live_few}
 use Rattle.auction_classes.proofs.WholeSales.{is_line_with, line_with, whole_lowest, whole_sums}
 use Rattle.auction_classes.proofs.claims.Claims.reckon_whole.Goals as goal
 
