@@ -127,9 +127,8 @@ impl Claims {
     /// it stood before the award: the right that was cancelled is among them.
     ///
     /// The room is for all exchanges that stand in the parts at rights filed before that item, also
-    /// for those entered at it or behind it, of which none is read. It is kept before an item is
-    /// settled, when nothing stands behind it; and `count_exchanges` counts each exchange at both of
-    /// its rights, so the room is enough.
+    /// for those entered at it or behind it, of which none is read. `count_exchanges` counts all that
+    /// stand there, each at both of its rights, which is enough.
     pub fn fill<P: Parts>(&mut self, parts: &P, journal: &Journal, folio: FolioId, as_of: ReceiptNo)
         requires held { (k : Key) → Contains (keys_of_sale journal.now.receipts as_of folio) k → IsTrue (P.holds parts.now k) }
         requires kept { StandsForKept journal.now.receipts (P.holds parts.now) (P.at parts.now) }

@@ -28,8 +28,8 @@ impl Claims {
     /// `lowest_bid` give it; NoServedCreditor where no seizure is served. Takes no memory.
     ///
     /// Where each served seizure is a personal creditor's, the cover reaches the end of the line of
-    /// class 4, so each right gets its whole claim, and no exchange is read. What is claimed is not
-    /// kept for other calls.
+    /// class 4, so each right gets its whole claim, and no exchange is read. Of what is claimed nothing
+    /// is said behind it.
     pub fn reckon_lowest<P: Parts>(
         &mut self,
         slots: &mut Slots,

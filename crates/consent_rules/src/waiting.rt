@@ -141,8 +141,8 @@ fn number_at(numbers: &[ReceiptNo], i: usize) -> Option<ReceiptNo>
 }
 
 /// Whether this is lacking from an applicant of an earlier filing that waits at the right. The last
-/// is asked first: where they consent in the order in which they wait, it is the one who has not
-/// yet, and each judgement until then asks nobody else.
+/// is asked first: where they consent in the order in which they wait, the last one consents last,
+/// and until then nobody else is asked.
 fn some_waits(journal: &Journal, before: ReceiptNo, part: &RightPart, lack: &Lack) -> bool
     ensures { result ≡ list_any (is_lacking lack.now) (waiting_applicants journal.now.receipts before part.now.entries) }
 {

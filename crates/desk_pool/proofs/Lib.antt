@@ -28,7 +28,6 @@ pub mod RoundOrders
 pub mod SaleRoom
 pub mod Saying
 pub mod Settling
-pub mod StandsSince
 pub mod TakingBack
 pub mod TakingOver
 pub mod TouchedKeys

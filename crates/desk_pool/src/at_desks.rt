@@ -21,12 +21,12 @@ use std::marker::Brand;
 use std::sync::Wait;
 use std::thread::Threads;
 
-/// Settles a journal at so many desks, 1 to 64, each in a thread of its own where one can be had.
-/// `gate` is called with each item ahead of its entries, while its desk has the item's folios to
-/// itself: one desk alone has all of them, others lock them. One desk settles a journal of one folio,
-/// and one whose filings have many acts. Whatever the desks do, the register is the one that
-/// `registrar::alone` gives (GBO § 17). Wants memory (NoMemory); several desks want all of it before
-/// the first item is settled.
+/// Settles a journal at as many desks as are asked for, 1 to 64, or at one: a journal of one folio,
+/// and one whose filings have many acts, is settled by one desk. Several work each in a thread of its
+/// own where one can be had. `gate` is called with each item ahead of its entries, while its desk has
+/// the item's folios to itself: one desk alone has all of them, others lock them. Whatever the desks
+/// do, the register is the one that `registrar::alone` gives (GBO § 17). Wants memory (NoMemory);
+/// several desks want all of it before the first item is settled.
 pub fn settle_at_desks<R: AllocGlobal + Threads + Wait + Sync, G: DeskGate>(
     rt: &R,
     journal: &Journal,

@@ -120,7 +120,8 @@ impl<N: JournalName> Board<N> {
         self.waiting = self.waiting.saturating_sub(1);
     }
 
-    /// Hands out an item that is ready.
+    /// Hands out an item that is ready: the one that became ready last, as it is at the end of a list.
+    /// Which one a desk takes changes nothing.
     pub fn take(&mut self) -> Option<ReceiptNo> {
         let item = self.ready.pop()?;
         self.in_hand = self.in_hand.saturating_add(1);

@@ -1,10 +1,11 @@
 //! Which journals one desk settles, however many there are.
-//! Why so: docs/DECISIONS.md, "A round keeps its room twice".
+//! Why so: docs/DECISIONS.md, "Which journals one desk settles".
 
 use act_model::{Item, Journal, Receipt};
 use gb_base::FolioId;
 
-/// From more acts for each item on, the room for a round takes longer to make than other desks save.
+/// With more acts for each item one desk settles. At eight acts a filing the room for a round took
+/// longer to make than other desks saved; where that begins was not measured.
 const MANY_ACTS: usize = 4;
 
 /// Whether one desk settles the journal: there is no other; or all items are of one folio, so that

@@ -41,7 +41,10 @@ use std::thread::Threads;
 const MOST_DESKS: usize = 64;
 
 /// All that the items of the named journal are settled in. From here on settling wants no memory and
-/// cannot fail.
+/// cannot fail. In contracts it is the numbers of the journal's receipts.
+///
+/// Each folio stands in `folios` where its queue stands in `queues`. No clause says so: who locks one
+/// looks whether it is the folio that is meant.
 #[derive(Drop)]
 pub struct Round<'a, N: JournalName> {
     pub(crate) journal: &'a Journal,

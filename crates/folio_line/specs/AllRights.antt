@@ -1,5 +1,5 @@
 -- Numbers among which are all rights that a folio ever had.
-use Rattle.std.specs.Prelude.{◌≡◌, ℕ, Bool, true, ◌&&◌, ◌||◌, ◌==◌, nat_lt, List, [], ◌∷◌, filter, take, Option, Some, None, IsSome, IsTrue}
+use Rattle.std.specs.Prelude.{ℕ, Bool, ◌&&◌, ◌||◌, ◌==◌, nat_lt, List, [], ◌∷◌, filter, take, Option, Some, None, IsSome, IsTrue}
 use Rattle.std.specs.List.{AllByRecursion, list_any}
 use Rattle.gb_base.specs.RightNo.{RightNo, same_right}
 use Rattle.gb_base.specs.declared.keys.Key.{Key}

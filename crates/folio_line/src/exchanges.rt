@@ -1,5 +1,5 @@
 //! The exchanges of rank of a folio that count (BGB § 880).
-ghost use Rattle.std.specs.Prelude.{◌≡◌, ◌++◌, ◌≤◌, true, IfOk, filter, flat_map, length, vec_capacity};
+ghost use Rattle.std.specs.Prelude.{◌≡◌, ◌++◌, ◌≤◌, true, IfOk, IsOk, filter, flat_map, length, vec_capacity};
 ghost use Rattle.std.specs.List.{list_any};
 ghost use Rattle.gb_base.specs.RightNo.{same_right};
 ghost use Rattle.gb_base.specs.declared.keys.Key.TheVariants.{Right};
@@ -86,6 +86,7 @@ pub fn count_exchanges<P: Parts>(
 ) -> Result<usize, NoMemory>
     ensures value { IfOk result (λ n. n ≡ all_exchanges (where_held (P.holds reading.now.parts.now) (P.at reading.now.parts.now)) reading.now.folio ids.now) }
     ensures enough { IfOk result (λ n. length (all_rises (reads P.holds P.at reading.now) reading.now.folio ids.now) ≤ n) }
+    ensures succeeds { all_exchanges (where_held (P.holds reading.now.parts.now) (P.at reading.now.parts.now)) reading.now.folio ids.now ≤ 18446744073709551615 → IsOk result }
 {
     let mut count: usize = 0;
     for id in ids {

@@ -18,7 +18,6 @@ pub mod Notices
 pub mod NumbersBehind
 pub mod Progress
 pub mod ReceiptNumbers
-pub mod ReceiptsBefore
 pub mod ReceiptsBelow
 pub mod Rights
 pub mod SweptFilings

@@ -1,4 +1,4 @@
--- The first filing above a number that waits without a notice, among all numbers.
+-- The filings that wait without a notice are those that pass one test.
 use Rattle.std.proofs.Common.{◌≡◌, ℕ, Bool, true, false, cond, ◌&&◌, List, [], ◌∷◌, filter, is_none, refl, ap}
 use Rattle.folio_sections.specs.Waiting.{waiting_unnoticed, receipts_before, is_pending, notice}
 use Rattle.folio_sections.specs.declared.entries.Entry.{Entry}

@@ -53,7 +53,7 @@ pub(crate) fn put<V: Copy>(list: &mut Vec<OfFiling<V>>, one: OfFiling<V>) -> usi
     index
 }
 
-/// How many of them are of filings below this one.
+/// How many of them are of filings below this one, whose number, as that of any receipt, is at least 1.
 pub(crate) fn count_below<V: Copy>(list: &[OfFiling<V>], filing: ReceiptNo) -> usize
     requires { Ascends 1 list.now }
     ensures positive { 0 < filing }

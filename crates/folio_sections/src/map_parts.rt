@@ -109,9 +109,10 @@ impl MapParts {
         }
     }
 
-    /// Holds the part of a key, with room for as many entries more as stand there and for n besides; it
-    /// looks for the part once, and a further one gets its room before it is put among them. Where no
-    /// memory is found nothing changes.
+    /// Holds the part of a key, with room for as many entries more as stand there and for n besides.
+    /// The part is looked for once; that of a key which is not held yet gets its room before it is put
+    /// among the others. Where no memory is found nothing changes. It succeeds where the key is held
+    /// and has the room already.
     pub fn hold_with_room(&mut self, key: &Key, n: usize) -> Result<(), NoMemory>
         requires few { n ≤ most_at_a_key }
         ensures held { OnOk result ((k : Key) → is_held self.new k ≡ (is_held self.old k || same_key key.now k)) }
@@ -120,6 +121,7 @@ impl MapParts {
         ensures room { OnOk result (length (entries_at self.new key.now) + n ≤ room_at self.new key.now) }
         ensures kept { (k : Key) → room_at self.old k ≤ room_at self.new k }
         ensures unchanged { OnErr result (self.new ≡ self.old) }
+        ensures succeeds { IsTrue (is_held self.old key.now) → length (entries_at self.old key.now) + n ≤ room_at self.old key.now → IsOk result }
     {
         match self.index_of(*key) {
             Some(index) => {

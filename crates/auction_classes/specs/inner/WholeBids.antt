@@ -1,4 +1,4 @@
--- The lowest bid where each seizure that is served is a personal creditor's: it is reckoned from what is claimed, without the line.
+-- The lowest bid where each seizure that is served is a personal creditor's (ZVG §§ 44, 49, 52): it is reckoned from what is claimed, without the line.
 use Rattle.std.specs.Prelude.{ℕ, ◌+◌, ◌-◌, ◌<◌, Bool, true, false, not, ◌==◌, ◌||◌, if◌then◌else◌, List, [], ◌∷◌, All, sum_by, Option, Some, None, option_map}
 use Rattle.std.specs.List.{list_all}
 use Rattle.gb_base.specs.Limits.{most_sum}

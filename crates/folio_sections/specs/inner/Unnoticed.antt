@@ -1,4 +1,4 @@
--- The first filing that waits at a key without an official notice, among those that wait.
+-- The first filing of those that wait at a key that passes a test, as that it lacks an official notice, and the last one.
 use Rattle.std.specs.Prelude.{ℕ, Bool, ◌&&◌, nat_lt, List, Option, Some, None, filter, find, is_none, option_map}
 use Rattle.std.specs.List.{last_or}
 use Rattle.folio_sections.specs.Waiting.{is_pending, notice}

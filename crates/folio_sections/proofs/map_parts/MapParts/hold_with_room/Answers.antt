@@ -5,7 +5,7 @@ use Rattle.folio_sections.specs.PartState.{PartState}
 use Rattle.folio_sections.proofs.Indexes.{is_some-position}
 use Rattle.gb_base.specs.Keys.{same_key}
 use Rattle.folio_sections.specs.Held.{entries_at, is_held}
-use Rattle.folio_sections.proofs.HeldParts.{all_grow_at, entries_grown, found_set, found_there, held_again, held_found, held_grown, is_at, nothing_there, room_grown}
+use Rattle.folio_sections.proofs.HeldParts.{all_grow_at, entries_grown, found_set, found_there, held_again, held_found, held_grown, is_at, no_index, nothing_there, room_grown}
 use Rattle.folio_sections.proofs.WiderKeys.{held_same}
 use Rattle.folio_sections.proofs.map_parts.MapParts.hold_with_room.Goals as goal
 
@@ -64,3 +64,17 @@ returns-in_ok-reserve-in-None-clause-room c =
     ∙ ap length (nothing_there c.args.self.now key (sym c.index_of.ensures ∙ c.in-None.is)) in
     let enough = c.in_ok-reserve-in-None.ensures.room in
     on_ok_weaker c.push_part.result (λ there. omega (arith, none, enough, there)) c.push_part.ensures.room
+
+pub returns-in-Some-clause-succeeds : goal.returns-in-Some-clause-succeeds
+returns-in-Some-clause-succeeds c = λ held roomy.
+    let part = c.index_mut-part.result.now in
+    let found = found_there c.args.self.now c.args.key.now c.in-Some.index part (sym c.index_of.ensures ∙ c.in-Some.is) (c.index_mut-part.ensures.value ∙ ap (λ xs. get_or xs c.in-Some.index part) c.self.view_is) in
+    let there = subst (λ o. length (option_map_or (λ (p : PartState). p.entries) o []) + c.args.n ≤ option_map_or (λ (p : PartState). p.room) o 0) found roomy in
+    let count = c.len.ensures.value in
+    c.reserve.ensures.succeeds (omega (arith, there, count))
+
+pub returns-in_ok-reserve-in-None-clause-succeeds : goal.returns-in_ok-reserve-in-None-clause-succeeds
+returns-in_ok-reserve-in-None-clause-succeeds c = λ held roomy. absurd (no_index c.args.self.now c.args.key.now (sym c.index_of.ensures ∙ c.in-None.is) held)
+
+pub returns-in_err-reserve-in-None-clause-succeeds : goal.returns-in_err-reserve-in-None-clause-succeeds
+returns-in_err-reserve-in-None-clause-succeeds c = λ held roomy. absurd (no_index c.args.self.now c.args.key.now (sym c.index_of.ensures ∙ c.in-None.is) held)
