@@ -25,7 +25,8 @@ fn is_passed<R: AllocGlobal + Threads + Wait + Sync + Abort>(
     }
 }
 
-/// So many desks do.
+/// So many desks do, and as many of a round, which has a board and locks also where one desk would
+/// settle the journal.
 fn is_passed_by<R: AllocGlobal + Threads + Wait + Sync + Abort>(
     rt: &R,
     journal: &Journal,
@@ -37,6 +38,9 @@ fn is_passed_by<R: AllocGlobal + Threads + Wait + Sync + Abort>(
     let docket = docket_of(rt, journal);
     let gate = gate_of(rt, &docket, slow);
     let left = left_by(rt, journal, desks, &gate);
+    is_left_alike(rt, journal, &left, &gate);
+    let gate = gate_of(rt, &docket, slow);
+    let left = by_a_round_of(rt, journal, desks, &gate);
     is_left_alike(rt, journal, &left, &gate);
 }
 
@@ -89,18 +93,6 @@ fn a_gate_is_called_once_for_each_item(rt: HostRuntime) {
     is_passed(&rt, &sold_beside_a_cure(&rt, rt.alloc()), &Slow::Never);
     for seed in 0..4 {
         is_passed(&rt, &crowded_journal(rt.alloc(), seed, 8, 60), &Slow::Never);
-    }
-}
-
-/// One desk of a round takes its items from the board, as several do.
-#[test]
-fn a_round_of_one_desk(rt: HostRuntime) {
-    for seed in 40..44 {
-        let journal = crowded_journal(rt.alloc(), seed, 4, 30);
-        let docket = docket_of(&rt, &journal);
-        let gate = gate_of(&rt, &docket, &Slow::Never);
-        let left = by_a_round_of(&rt, &journal, 1, &gate);
-        is_left_alike(&rt, &journal, &left, &gate);
     }
 }
 

@@ -1,9 +1,11 @@
 //! Journals that any number of desks settles as the one registrar does.
+ghost use Rattle.std.specs.Prelude.{◌≤◌};
+
 use crate::journals::{assigned_and_charged, of_lapses, of_many_acts, sold_beside_a_cure};
-use crate::registers::{left_by, register_of, say_the_same};
+use crate::registers::{by_a_round_of, left_by, register_of, say_the_same};
 use act_model::Journal;
 use gb_outside::OpenGate;
-use registrar::Verdict;
+use registrar::{Register, Verdict};
 use sample_journals::sample_journal;
 use std::process::Abort;
 use std::sync::Wait;
@@ -14,12 +16,30 @@ use std::thread::Threads;
 pub fn settles_alike<R: AllocGlobal + Threads + Wait + Sync + Abort>(rt: &R, journal: &Journal) {
     let wanted = register_of(rt, rt.alloc(), journal);
     for desks in [1, 2, 3, 8, 64] {
-        let left = left_by(rt, journal, desks, &OpenGate);
-        assert!(rt;
-            say_the_same(rt, rt.alloc(), journal, &wanted, &left),
-            "{desks} desks"
-        );
+        settles_alike_by(rt, journal, desks, &wanted);
     }
+}
+
+/// So many desks leave it; and so do as many of a round, which has a board and locks also where one
+/// desk would settle the journal.
+fn settles_alike_by<R: AllocGlobal + Threads + Wait + Sync + Abort>(
+    rt: &R,
+    journal: &Journal,
+    desks: u16,
+    wanted: &Register,
+)
+    requires { (1 ≤ desks) × (desks ≤ 64) }
+{
+    let left = left_by(rt, journal, desks, &OpenGate);
+    assert!(rt;
+        say_the_same(rt, rt.alloc(), journal, wanted, &left),
+        "{desks} desks"
+    );
+    let left = by_a_round_of(rt, journal, desks, &OpenGate);
+    assert!(rt;
+        say_the_same(rt, rt.alloc(), journal, wanted, &left),
+        "a round of {desks} desks"
+    );
 }
 
 #[test]

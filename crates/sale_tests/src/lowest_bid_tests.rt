@@ -203,7 +203,7 @@ fn an_exchange_turns_nothing_for_a_personal_creditor(rt: HostRuntime) -> Result<
 /// 3.1 seizes, but is served on the 27th day: the personal creditor behind it is the base, with all
 /// rights ahead.
 #[test]
-fn a_right_that_is_not_served_in_time_is_no_base(rt: HostRuntime) -> Result<(), Fail> {
+fn a_seizure_from_a_right_that_is_served_late_is_no_base(rt: HostRuntime) -> Result<(), Fail> {
     let mut journal = charged(&rt, rt.alloc());
     let late = seizure_from(7, right(3, 1), day(5, 7));
     receive(&rt, &mut journal, day(3, 1), &late);

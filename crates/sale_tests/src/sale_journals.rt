@@ -117,6 +117,14 @@ pub fn bid_of(verdict: &Verdict) -> Option<(u64, u64)> {
     }
 }
 
+/// The part in cash below which the bid of an award is; None where it is not refused for that.
+pub fn cash_wanted(verdict: &Verdict) -> Option<u64> {
+    match verdict {
+        Verdict::BidTooLow { cash, .. } => Some(*cash),
+        _ => None,
+    }
+}
+
 /// Whether bidders are called with this lowest bid, and this part of it in cash.
 pub fn is_lowest(verdict: &Verdict, wanted: u64, in_cash: u64) -> bool {
     match verdict {

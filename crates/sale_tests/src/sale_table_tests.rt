@@ -4,8 +4,8 @@
 ghost use Rattle.gb_base.specs.DayMinute.{IsStampDay};
 
 use crate::sale_journals::{
-    bid_of, by_owner, call_to_bid, charge, charges_of_one_filing, opened, receive, seize_from,
-    seize_served, verdict, without_interest,
+    bid_of, by_both, by_owner, call_to_bid, cash_wanted, charge, charges_of_one_filing, opened,
+    receive, seize_from, seize_served, verdict, without_interest,
 };
 use act_model::{Item, Journal};
 use gb_base::{Day, Stamp};
@@ -14,8 +14,8 @@ use std::alloc::Global;
 use std::process::Abort;
 use std::test::Fail;
 use test_items::{
-    advance, arrears, consent, creation, creation_reserving, day, exchange, exercise, filed,
-    land_charge, opening, public_charge, right, seizure_by, usufruct,
+    advance, arrears, award, cancellation, consent, creation, creation_reserving, day, exchange,
+    exercise, filed, land_charge, opening, public_charge, right, seizure_by, usufruct,
 };
 
 /// A sale of the table.
@@ -34,11 +34,16 @@ enum Sold {
     FromBehindAnExercise,
     FromBehindAnExerciseWithAGroup,
     WithAUsufructInPart,
+    ForAPersonBehindAGroup,
+    ForAPersonBehindAnExercise,
+    ForAPersonBehindAUsufruct,
+    ForAPersonBehindACancelledRight,
+    ForAPersonAheadOfLaterRights,
 }
 
 /// Each sale with its lowest bid and the part of it that is paid in cash, as the function says that
 /// makes it.
-const BIDS: [(Sold, (u64, u64)); 13] = [
+const BIDS: [(Sold, (u64, u64)); 18] = [
     (Sold::FromTheSecondRight, (10_732_944, 732_944)),
     (Sold::WithAnAdvance, (10_762_944, 762_944)),
     (Sold::WithACharge, (10_852_944, 852_944)),
@@ -52,6 +57,11 @@ const BIDS: [(Sold, (u64, u64)); 13] = [
     (Sold::FromBehindAnExercise, (4_000, 2_000)),
     (Sold::FromBehindAnExerciseWithAGroup, (4_000, 4_000)),
     (Sold::WithAUsufructInPart, (21_000, 16_000)),
+    (Sold::ForAPersonBehindAGroup, (46_000, 1_000)),
+    (Sold::ForAPersonBehindAnExercise, (9_000, 1_000)),
+    (Sold::ForAPersonBehindAUsufruct, (36_000, 1_000)),
+    (Sold::ForAPersonBehindACancelledRight, (6_000, 1_000)),
+    (Sold::ForAPersonAheadOfLaterRights, (6_000, 1_000)),
 ];
 
 #[test]
@@ -62,12 +72,20 @@ fn each_sale_has_its_lowest_bid(rt: HostRuntime) -> Result<(), Fail> {
     Ok(())
 }
 
+/// The call says the bid, and an award for a cent the part in cash. An award reckons with the line of
+/// class 4; a call of personal creditors goes without it.
 fn has_lowest_bid(rt: &impl Abort, alloc: Global, sold: Sold, wanted: (u64, u64)) {
     let mut journal = sale(rt, alloc, sold);
     call_to_bid(rt, &mut journal);
-    let register = alone(alloc, &journal).ok().expect(rt, "memory");
     let called = journal.len().max(1);
+    receive(rt, &mut journal, day(6, 3), &award(7, 30, 1));
+    let awarded = journal.len().max(1);
+    let register = alone(alloc, &journal).ok().expect(rt, "memory");
     assert_eq!(rt; bid_of(verdict(rt, &register, called)), Some(wanted));
+    assert_eq!(rt;
+        cash_wanted(verdict(rt, &register, awarded)),
+        Some(wanted.1)
+    );
 }
 
 /// The sale up to the call to bid.
@@ -86,6 +104,11 @@ fn sale(rt: &impl Abort, alloc: Global, sold: Sold) -> Journal {
         Sold::FromBehindAnExercise => from_behind_an_exercise(rt, alloc),
         Sold::FromBehindAnExerciseWithAGroup => { from_behind_an_exercise_with_a_group(rt, alloc) }
         Sold::WithAUsufructInPart => with_a_usufruct_in_part(rt, alloc),
+        Sold::ForAPersonBehindAGroup => for_a_person_behind_a_group(rt, alloc),
+        Sold::ForAPersonBehindAnExercise => for_a_person_behind_an_exercise(rt, alloc),
+        Sold::ForAPersonBehindAUsufruct => for_a_person_behind_a_usufruct(rt, alloc),
+        Sold::ForAPersonBehindACancelledRight => for_a_person_behind_a_cancelled_right(rt, alloc),
+        Sold::ForAPersonAheadOfLaterRights => for_a_person_ahead_of_later_rights(rt, alloc),
     }
 }
 
@@ -176,16 +199,22 @@ fn from_within_a_group(rt: &impl Abort, alloc: Global) -> Journal {
 }
 
 /// 2.1, of 10.00, reserves 50.00; behind it comes what is said, and 4.1, of 30.00, takes the
-/// reservation up. 2.1 seizes: 30.00 go to others before its first cent, so the total is 40.00. Of
-/// these 30.00 the line gives 10.00 to the place of 2.1 and 20.00 to what stands between. It does not
-/// reach the end of 4.1, so of 2.1 and 4.1 nothing remains.
-fn taken_up_behind(rt: &impl Abort, alloc: Global, between: &Item) -> Journal {
+/// reservation up.
+fn taken_up(rt: &impl Abort, alloc: Global, between: &Item) -> Journal {
     let mut journal = opened(rt, alloc);
     let reserving = creation_reserving(7, without_interest(1_000), 5_000);
     receive(rt, &mut journal, day(1, 2), &by_owner(reserving));
     receive(rt, &mut journal, day(1, 2), between);
     let taking = exercise(7, right(2, 1), without_interest(3_000));
     receive(rt, &mut journal, day(1, 2), &by_owner(taking));
+    journal
+}
+
+/// 2.1 seizes: 30.00 go to others before its first cent, so the total is 40.00. Of these 30.00 the
+/// line gives 10.00 to the place of 2.1 and 20.00 to what stands between. It does not reach the end of
+/// 4.1, so of 2.1 and 4.1 nothing remains.
+fn taken_up_behind(rt: &impl Abort, alloc: Global, between: &Item) -> Journal {
+    let mut journal = taken_up(rt, alloc, between);
     seize_from(rt, &mut journal, right(2, 1));
     journal
 }
@@ -200,9 +229,8 @@ fn from_behind_an_exercise_with_a_group(rt: &impl Abort, alloc: Global) -> Journ
     taken_up_behind(rt, alloc, &charges_of_one_filing(3_000, 1_000))
 }
 
-/// A usufruct of 200.00 recedes behind 4.1, of 50.00, with 3.1 between, which seizes. Ahead of it stand
-/// 50.00 of 4.1, which remain, and 150.00 of the usufruct, of which nothing does.
-fn with_a_usufruct_in_part(rt: &impl Abort, alloc: Global) -> Journal {
+/// A usufruct of 200.00 recedes behind 4.1, of 50.00, with 3.1, of 100.00, between.
+fn behind_a_usufruct(rt: &impl Abort, alloc: Global) -> Journal {
     let mut journal = opened(rt, alloc);
     let used = creation(7, usufruct(20_000, 20, 1));
     receive(rt, &mut journal, day(1, 2), &by_owner(used));
@@ -211,7 +239,62 @@ fn with_a_usufruct_in_part(rt: &impl Abort, alloc: Global) -> Journal {
     let turned = exchange(7, right(2, 1), right(4, 1));
     let by_holder = filed(20, turned, &[consent(1, 20)]);
     receive(rt, &mut journal, day(1, 3), &by_holder);
+    journal
+}
+
+/// 3.1 seizes. Ahead of it stand 50.00 of 4.1, which remain, and 150.00 of the usufruct, of which
+/// nothing does.
+fn with_a_usufruct_in_part(rt: &impl Abort, alloc: Global) -> Journal {
+    let mut journal = behind_a_usufruct(rt, alloc);
     seize_from(rt, &mut journal, right(3, 1));
+    journal
+}
+
+// ---- personal creditors, ahead of whom stands the whole line: all rights remain on it
+
+/// Ahead stand 400.00 of a group and 50.00.
+fn for_a_person_behind_a_group(rt: &impl Abort, alloc: Global) -> Journal {
+    let mut journal = with_a_group(rt, alloc);
+    seize_served(rt, &mut journal, day(5, 6));
+    journal
+}
+
+/// Ahead stand 10.00, 40.00 and 30.00.
+fn for_a_person_behind_an_exercise(rt: &impl Abort, alloc: Global) -> Journal {
+    let mut journal = taken_up(rt, alloc, &by_owner(charge(4_000)));
+    seize_served(rt, &mut journal, day(5, 6));
+    journal
+}
+
+/// Ahead stand 200.00, 100.00 and 50.00.
+fn for_a_person_behind_a_usufruct(rt: &impl Abort, alloc: Global) -> Journal {
+    let mut journal = behind_a_usufruct(rt, alloc);
+    seize_served(rt, &mut journal, day(5, 6));
+    journal
+}
+
+/// 2.1, of 100.00, recedes behind 3.1, of 50.00, and is cancelled: 50.00 stand ahead.
+fn for_a_person_behind_a_cancelled_right(rt: &impl Abort, alloc: Global) -> Journal {
+    let mut journal = opened(rt, alloc);
+    receive(rt, &mut journal, day(1, 2), &by_owner(charge(10_000)));
+    receive(rt, &mut journal, day(1, 2), &by_owner(charge(5_000)));
+    let turned = exchange(7, right(2, 1), right(3, 1));
+    receive(rt, &mut journal, day(1, 3), &by_both(turned));
+    let cancelled = cancellation(7, right(2, 1));
+    receive(rt, &mut journal, day(1, 4), &by_both(cancelled));
+    seize_served(rt, &mut journal, day(5, 6));
+    journal
+}
+
+/// 50.00 stand ahead. Behind the seizure rights of 70.00 and 30.00, of class 6, change their ranks.
+fn for_a_person_ahead_of_later_rights(rt: &impl Abort, alloc: Global) -> Journal {
+    let mut journal = opened(rt, alloc);
+    receive(rt, &mut journal, day(1, 2), &by_owner(charge(5_000)));
+    seize_served(rt, &mut journal, day(5, 6));
+    receive(rt, &mut journal, day(3, 2), &by_owner(charge(7_000)));
+    receive(rt, &mut journal, day(3, 2), &by_owner(charge(3_000)));
+    let turned = exchange(7, right(4, 1), right(5, 1));
+    receive(rt, &mut journal, day(3, 3), &by_both(turned));
     journal
 }
 
