@@ -1,5 +1,5 @@
 #!/usr/bin/env python3
-"""Tries at its full size what may want memory: a line of 65,536 bytes, 200,000 lines, 200,000 rows, and a folio of 256 rights."""
+"""Tries at its full size what may want memory: a line of 65,536 bytes, 200,000 lines, 200,000 rows, a folio of 256 rights, and 20,000 receipts at several desks."""
 
 import pathlib
 import tempfile
@@ -11,6 +11,7 @@ LINES = ["settle", "--desks", "1", "--lines"]
 MOST_LINE = 65_536
 MOST_RECEIPTS = 200_000
 MOST_RIGHTS = 256
+MANY_RECEIPTS = 20_000
 
 
 def replies(word, count):
@@ -70,6 +71,16 @@ def check_rights(look):
     look.same("257 rights of a folio: the last is beyond the limit", (verdicts.count("entered"), verdicts[-1][:8]), (MOST_RIGHTS + 1, "rejected"))
 
 
+def check_desks(look):
+    """A generated journal of 20,000 receipts is summed up alike at any number of desks."""
+    sample = ["sample", "--seed", "7", "--size", str(MANY_RECEIPTS), "--desks"]
+    status, alone, _ = checks.run([*sample, "1"])
+    look.same("20,000 receipts at 1 desk", (status, alone.split(b"\n")[0]), (0, b"receipts %d" % MANY_RECEIPTS))
+    for desks in ("2", "8"):
+        status, said, _ = checks.run([*sample, desks])
+        look.same(f"20,000 receipts at {desks} desks", (status, said), (0, alone))
+
+
 def main():
     checks.build()
     look = checks.Checks()
@@ -77,6 +88,7 @@ def main():
     check_lines(look)
     check_rows(look)
     check_rights(look)
+    check_desks(look)
     look.end()
 
 
