@@ -1,4 +1,5 @@
 -- Lemmas of this crate's own.
+pub mod ComesRound
 pub mod HeldLemmas
 pub mod ListLemmas
 pub mod NextFilings

@@ -13,8 +13,9 @@ use Rattle.act_model.proofs.ApplicantFilings.{filings_ascend, listed_where_appli
 use Rattle.folio_sections.specs.Waiting.{is_above, waiting_before}
 use Rattle.folio_sections.specs.declared.entries.Entry.{Entry}
 use Rattle.consent_rules.specs.Persons.{waiting_applicants}
+use Rattle.consent_rules.specs.inner.WaitersAbove.{applicants_above, left_above}
 use Rattle.consent_rules.proofs.ListLemmas.{any_given}
-use Rattle.consent_rules.proofs.WaitersLeft.{all_left, applicants_above, asked_first, fewer_left, left_above}
+use Rattle.consent_rules.proofs.WaitersLeft.{all_left, asked_first, fewer_left}
 
 -- ---- the first of ascending numbers that is not below another
 

@@ -1,5 +1,5 @@
 -- The applicants of those filings that wait at a right and stand above a number: the ones that a loop still has to ask.
-use Rattle.std.proofs.Common.{◌≡◌, ℕ, ◌<◌, Bool, true, false, ◌||◌, List, [], ◌∷◌, length, filter, filter_map, find, Option, Some, None, option_and_then, is_some, refl, sym, ap, ◌∙◌, arith}
+use Rattle.std.proofs.Common.{◌≡◌, ℕ, ◌<◌, Bool, true, false, ◌||◌, List, [], ◌∷◌, length, filter_map, find, Option, Some, None, option_and_then, is_some, refl, sym, ap, ◌∙◌, arith}
 use Rattle.std.specs.List.{last_or, list_any}
 use Rattle.std.specs.Option.{option_eq, option_map_or}
 use Rattle.std.proofs.lemmas.Bool.{false≢true, or_right}
@@ -9,14 +9,8 @@ use Rattle.folio_sections.specs.Waiting.{is_above, waiting_before}
 use Rattle.folio_sections.specs.declared.entries.Entry.{Entry}
 use Rattle.folio_sections.proofs.FirstAbove.{all_above, first_above, none_above, waiting_ascend}
 use Rattle.consent_rules.specs.Persons.{waiting_applicants}
+use Rattle.consent_rules.specs.inner.WaitersAbove.{applicants_above, left_above}
 use Rattle.consent_rules.proofs.ListLemmas.{any_given}
-
--- the filings that are left, and their applicants
-abbrev pub left_above : Option ℕ → ℕ → List Entry → List ℕ
-left_above after m entries = filter (is_above after) (waiting_before m entries)
-
-abbrev pub applicants_above : List Receipt → Option ℕ → ℕ → List Entry → List ℕ
-applicants_above journal after m entries = filter_map (applicant_of journal) (left_above after m entries)
 
 -- at first all are left
 pub all_left : (p : ℕ → Bool) (journal : List Receipt) (m : ℕ) (entries : List Entry)
@@ -40,17 +34,26 @@ next_left p journal after m n entries is =
     ap (λ ns. list_any p (filter_map (applicant_of journal) ns)) (first_left after m n entries is)
     ∙ any_given p (applicant_of journal n) (applicants_above journal (Some n) m entries)
 
--- so what its applicant answers, or those behind it, is what all do
-pub asked_first : (p : ℕ → Bool) (journal : List Receipt) (after : Option ℕ) (m n : ℕ) (b : Bool) (entries : List Entry) → Some n ≡ find (is_above after) (waiting_before m entries)
-    → list_any p (applicants_above journal after m entries) ≡ list_any p (waiting_applicants journal m entries) → option_map_or p (applicant_of journal n) false ≡ b
-    → (b || list_any p (applicants_above journal (Some n) m entries)) ≡ list_any p (waiting_applicants journal m entries)
+-- so what its applicant answers, or those behind it, is what all do whom the walk asks
+pub asked_first : {all : Bool} (p : ℕ → Bool) (journal : List Receipt) (after : Option ℕ) (m n : ℕ) (b : Bool) (entries : List Entry) → Some n ≡ find (is_above after) (waiting_before m entries)
+    → list_any p (applicants_above journal after m entries) ≡ all → option_map_or p (applicant_of journal n) false ≡ b
+    → (b || list_any p (applicants_above journal (Some n) m entries)) ≡ all
 asked_first p journal after m n b entries is so_far answer =
     ap (λ c. c || list_any p (applicants_above journal (Some n) m entries)) (sym answer) ∙ sym (next_left p journal after m n entries is) ∙ so_far
 
+-- of two walks in turn: what both ask next, or those behind, is what all do whom both ask
+pub asked_both : {all : Bool} (p : ℕ → Bool) (journal : List Receipt) (ahead behind next : Option ℕ) (s m n : ℕ) (b c : Bool) (entries : List Entry) → Some n ≡ find (is_above ahead) (waiting_before s entries)
+    → (list_any p (applicants_above journal ahead s entries) || list_any p (applicants_above journal behind m entries)) ≡ all → option_map_or p (applicant_of journal n) false ≡ b
+    → (c || list_any p (applicants_above journal next m entries)) ≡ list_any p (applicants_above journal behind m entries)
+    → ((b || list_any p (applicants_above journal (Some n) s entries)) || (c || list_any p (applicants_above journal next m entries))) ≡ all
+asked_both p journal ahead behind next s m n b c entries is so_far answer other =
+    ap (λ x. x || (c || list_any p (applicants_above journal next m entries))) (asked_first p journal ahead s n b entries is refl answer)
+    ∙ ap (λ y. list_any p (applicants_above journal ahead s entries) || y) other ∙ so_far
+
 -- where none is found none is left, and none passed
-pub none_pass : (p : ℕ → Bool) (journal : List Receipt) (after : Option ℕ) (m : ℕ) (entries : List Entry) → None ≡ find (is_above after) (waiting_before m entries)
-    → list_any p (applicants_above journal after m entries) ≡ list_any p (waiting_applicants journal m entries)
-    → false ≡ list_any p (waiting_applicants journal m entries)
+pub none_pass : {all : Bool} (p : ℕ → Bool) (journal : List Receipt) (after : Option ℕ) (m : ℕ) (entries : List Entry) → None ≡ find (is_above after) (waiting_before m entries)
+    → list_any p (applicants_above journal after m entries) ≡ all
+    → false ≡ all
 none_pass p journal after m entries is so_far =
     ap (λ ns. list_any p (filter_map (applicant_of journal) ns)) (sym (none_above (is_above after) (waiting_before m entries) (sym is))) ∙ so_far
 

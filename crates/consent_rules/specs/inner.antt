@@ -2,3 +2,4 @@
 pub mod Held
 pub mod Lacks
 pub mod Needed
+pub mod WaitersAbove

@@ -16,6 +16,7 @@ mod parts_read;
 mod persons;
 mod premises;
 mod waiting;
+mod walk_starts;
 
 pub use judgements::{Defect, Defects, Judgement};
 pub use judging::judge;

@@ -1,5 +1,5 @@
 //! The earlier filings that wait at a right (BGB § 876).
-ghost use Rattle.std.specs.Prelude.{◌≡◌, ◌==◌, ◌-◌, ◌↔◌, false, find, is_some, nat_le, option_and_then, IfSome, IsNone, None};
+ghost use Rattle.std.specs.Prelude.{◌≡◌, ◌||◌, ◌==◌, ◌-◌, ◌↔◌, false, find, is_some, nat_le, option_and_then, IfSome, IsNone, None};
 ghost use Rattle.std.specs.List.{last_or, list_any, slice_get};
 ghost use Rattle.std.specs.Option.{option_map_or};
 ghost use Rattle.gb_base.specs.Ascending.{AscendsBy};
@@ -7,8 +7,10 @@ ghost use Rattle.act_model.specs.Touches.{applicant_of};
 ghost use Rattle.folio_sections.specs.Waiting.{is_above, waiting_before};
 ghost use Rattle.consent_rules.specs.Persons.{waiting_applicants};
 ghost use Rattle.consent_rules.specs.inner.Lacks.{is_lacking};
+ghost use Rattle.consent_rules.specs.inner.WaitersAbove.{applicants_above};
 
 use crate::lacks::{Lack, is_lacking};
+use crate::walk_starts::start;
 use act_model::{Journal, PersonTest, applicant_of};
 use folio_sections::RightPart;
 use gb_base::{Person, ReceiptNo};
@@ -146,10 +148,63 @@ fn number_at(numbers: &[ReceiptNo], i: usize) -> Option<ReceiptNo>
 fn some_waits(journal: &Journal, before: ReceiptNo, part: &RightPart, lack: &Lack) -> bool
     ensures { result ≡ list_any (is_lacking lack.now) (waiting_applicants journal.now.receipts before part.now.entries) }
 {
-    if last_lacks(journal, before, part, lack) {
-        return true;
+    last_lacks(journal, before, part, lack) || some_lacks(journal, before, part, lack)
+}
+
+/// The same, asked of all. Two walks go on in turn: one from the first on, up to a filing of who
+/// consented last, and one from that filing to the end. Where they consent in the order in which they
+/// wait, also where they come round, the next one to consent stands right behind that filing; where
+/// they begin with the last, the first consents last.
+fn some_lacks(journal: &Journal, before: ReceiptNo, part: &RightPart, lack: &Lack) -> bool
+    ensures { result ≡ list_any (is_lacking lack.now) (waiting_applicants journal.now.receipts before part.now.entries) }
+{
+    let from = start(journal, before, part, lack);
+    let mut ahead = None;
+    let mut behind = number_below(from);
+    while let Some(filing) = part.next_pending(ahead, from) {
+        if is_lacking_from(lack, applicant_of(journal, filing)) {
+            return true;
+        }
+        if next_lacks(journal, &mut behind, before, part, lack) {
+            return true;
+        }
+        ahead = Some(filing);
     }
-    let mut after = None;
+    some_lacks_above(journal, behind, before, part, lack)
+}
+
+/// Whether this is lacking from the applicant of the next filing above `after` that waits at the
+/// right. Goes on to that filing, so that those above it are left to ask.
+fn next_lacks(
+    journal: &Journal,
+    after: &mut Option<ReceiptNo>,
+    before: ReceiptNo,
+    part: &RightPart,
+    lack: &Lack,
+) -> bool
+    ensures { (result || list_any (is_lacking lack.now) (applicants_above journal.now.receipts after.new before part.now.entries)) ≡ list_any (is_lacking lack.now) (applicants_above journal.now.receipts after.old before part.now.entries) }
+{
+    match part.next_pending(*after, before) {
+        Some(filing) => {
+            *after = Some(filing);
+            is_lacking_from(lack, applicant_of(journal, filing))
+        }
+        None => false,
+    }
+}
+
+/// Whether this is lacking from the applicant of an earlier filing above a number that waits at the
+/// right.
+fn some_lacks_above(
+    journal: &Journal,
+    above: Option<ReceiptNo>,
+    before: ReceiptNo,
+    part: &RightPart,
+    lack: &Lack,
+) -> bool
+    ensures { result ≡ list_any (is_lacking lack.now) (applicants_above journal.now.receipts above before part.now.entries) }
+{
+    let mut after = above;
     while let Some(filing) = part.next_pending(after, before) {
         if is_lacking_from(lack, applicant_of(journal, filing)) {
             return true;

@@ -5,8 +5,9 @@ use Rattle.gb_base.specs.Ascending.{AscendsBy}
 use Rattle.act_model.specs.Filings.{filings_of}
 use Rattle.act_model.proofs.ApplicantFilings.{filings_ascend}
 use Rattle.consent_rules.specs.Persons.{waiting_applicants}
+use Rattle.consent_rules.specs.inner.WaitersAbove.{applicants_above, left_above}
 use Rattle.consent_rules.proofs.NextFilings.{fewer_behind, found_passes, from_first, leaps, no_other, none_filed, not_below, number_below, same_one}
-use Rattle.consent_rules.proofs.WaitersLeft.{applicants_above, left_above, none_pass}
+use Rattle.consent_rules.proofs.WaitersLeft.{none_pass}
 use Rattle.consent_rules.proofs.waiting.waits.Goals as goal
 
 pub loop-waiting-init : goal.loop-waiting-init

@@ -1,7 +1,7 @@
 use Rattle.std.proofs.Common.{◌≡◌, ◌==◌, length}
 use Rattle.std.specs.List.{list_any}
 use Rattle.consent_rules.specs.Persons.{waiting_applicants}
-use Rattle.consent_rules.proofs.WaitersLeft.{applicants_above, left_above}
+use Rattle.consent_rules.specs.inner.WaitersAbove.{applicants_above, left_above}
 use Rattle.consent_rules.proofs.waiting.waits.Given as goal
 
 abbrev pub invariant-loop-waiting : goal.invariant-loop-waiting

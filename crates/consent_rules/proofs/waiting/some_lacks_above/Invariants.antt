@@ -1,14 +1,13 @@
 use Rattle.std.proofs.Common.{◌≡◌, length}
 use Rattle.std.specs.List.{list_any}
-use Rattle.consent_rules.specs.Persons.{waiting_applicants}
 use Rattle.consent_rules.specs.inner.Lacks.{is_lacking}
-use Rattle.consent_rules.proofs.WaitersLeft.{applicants_above, left_above}
-use Rattle.consent_rules.proofs.waiting.some_waits.Given as goal
+use Rattle.consent_rules.specs.inner.WaitersAbove.{applicants_above, left_above}
+use Rattle.consent_rules.proofs.waiting.some_lacks_above.Given as goal
 
 abbrev pub invariant-loop-filing : goal.invariant-loop-filing
 invariant-loop-filing l =
     list_any (is_lacking l.lack) (applicants_above l.journal.receipts l.after l.before l.part.entries)
-    ≡ list_any (is_lacking l.lack) (waiting_applicants l.journal.receipts l.before l.part.entries)
+    ≡ list_any (is_lacking l.lack) (applicants_above l.journal.receipts l.fn.above l.before l.part.entries)
 
 -- how many filings are left
 abbrev pub decreases-loop-filing : goal.decreases-loop-filing
