@@ -17,3 +17,5 @@ mod owner_tests;
 mod table_tests;
 #[cfg(test)]
 mod test_register;
+#[cfg(test)]
+mod waiting_tests;
