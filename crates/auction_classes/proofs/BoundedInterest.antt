@@ -29,6 +29,7 @@ use Rattle.auction_classes.specs.Sales.{Sale, is_late, number_seized, read, regi
 use Rattle.auction_classes.specs.inner.Findings.{accrual_by, finding_of}
 use Rattle.auction_classes.specs.declared.accruals.Accrual.{Accrual}
 use Rattle.auction_classes.specs.declared.case_items.Registered.{Registered}
+use Rattle.auction_classes.specs.inner.InterestLimits.{most_of_term}
 use Rattle.auction_classes.specs.inner.Readings.{IsReadAs}
 use Rattle.auction_classes.proofs.BoundedLists.{few_found}
 use Rattle.auction_classes.proofs.CommercialDays.{arrears_days, days_at_most, year_at_most}
@@ -36,11 +37,11 @@ use Rattle.auction_classes.proofs.KeptSales.{read_as}
 
 -- ---- the interest on an amount
 
-pub any_interest : (capital rate days : ℕ) → capital ≤ most_cents → rate ≤ most_rate → days ≤ 82830 → interest capital rate days ≤ 461111111111111
+pub any_interest : (capital rate days : ℕ) → capital ≤ most_cents → rate ≤ most_rate → days ≤ 82830 → interest capital rate days ≤ most_of_term
 any_interest capital rate days amount most few =
     let first : capital * rate ≤ 20000000000000000 = mul-le capital rate 10000000000000 2000 amount most in
     let second : capital * rate * days ≤ 1656600000000000000000 = mul-le (capital * rate) days 20000000000000000 82830 first few in
-    div-le_of_le-mul 3600000 {n = 461111111111111} (omega (arith, second))
+    div-le_of_le-mul 3600000 {n = most_of_term} (omega (arith, second))
 
 -- that of three years
 interest_of_years : (capital rate days : ℕ) → capital ≤ most_cents → rate ≤ most_rate → days ≤ 1079 → interest capital rate days ≤ 6000000000000
@@ -108,6 +109,6 @@ interest_at_most journal at folio a x kept stands there amount =
     let own = in_all (IsReadAs (at_right s)) (rights_found s) x (recursion_from_All (IsReadAs (at_right s)) (rights_found s) (read_as journal at folio a kept stands)) there in
     let it = accrues s x in
     let bounded = is_bounded s x own amount in
-    let current : current_interest it ≤ 461111111111111 = any_interest it.capital it.rate _ amount own.rate (days_at_most _ _) in
+    let current : current_interest it ≤ most_of_term = any_interest it.capital it.rate _ amount own.rate (days_at_most _ _) in
     let arrears = found_at_most false it x.id (registrations_found s) bounded (few_registrations journal at folio a kept) in
     omega (arith, current, arrears)

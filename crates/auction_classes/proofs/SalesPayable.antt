@@ -37,6 +37,7 @@ use Rattle.auction_classes.specs.Sales.{Sale, at_case, is_late, read, registrati
 use Rattle.auction_classes.specs.declared.case_items.Registered.{Registered}
 use Rattle.auction_classes.specs.declared.claim_items.RightClaimed.{RightClaimed}
 use Rattle.auction_classes.specs.declared.rights_found.RightFound.{RightFound}
+use Rattle.auction_classes.specs.inner.InterestLimits.{most_of_term}
 use Rattle.auction_classes.specs.inner.Readings.{IsReadAs}
 use Rattle.auction_classes.proofs.BoundedClaims.{amounts_within, seized_within}
 use Rattle.auction_classes.proofs.BoundedInterest.{accrues, any_interest, few_registrations, found_at_most, interest_at_most, is_bounded}
@@ -57,7 +58,7 @@ older_of s late x r = cond (are_both late r.late) (arrears_named old_arrears (ac
 
 -- the interest of the right is that of an amount
 abbrev HasAmount : Sale → CreatedRight → Type 0
-HasAmount s x = (from until : ℕ) → old_arrears (accrues s x) from until ≤ 461111111111111
+HasAmount s x = (from until : ℕ) → old_arrears (accrues s x) from until ≤ most_of_term
 
 -- a registration of another right claims nothing
 none_older : (s : Sale) (right : RightNo) (from until : ℕ) (xs : List CreatedRight) → AllByRecursion (λ (x : CreatedRight). same_right right x.id ≡ false) xs
@@ -75,14 +76,14 @@ others_differ : (right : RightNo) (x : CreatedRight) (xs : List CreatedRight) �
 others_differ right x xs own = subst (λ id. AllByRecursion (λ (y : CreatedRight). same_right id y.id ≡ false) xs → AllByRecursion (λ (y : CreatedRight). same_right right y.id ≡ false) xs) (right_is right x.id own) (λ all. all)
 
 one_older : (s : Sale) (right : RightNo) (from until : ℕ) (xs : List CreatedRight) → IsDistinct has_same_number xs → AllByRecursion (HasAmount s) xs
-    → sum_by (λ (x : CreatedRight). arrears_named old_arrears (accrues s x) x.id (registration.Arrears right from until)) xs ≤ 461111111111111
+    → sum_by (λ (x : CreatedRight). arrears_named old_arrears (accrues s x) x.id (registration.Arrears right from until)) xs ≤ most_of_term
 one_older s right from until [] differ all = omega arith
 one_older s right from until (x ∷ xs) differ all =
     let f : CreatedRight → ℕ = λ y. arrears_named old_arrears (accrues s y) y.id (registration.Arrears right from until) in
     let whole = sum_by-cons f x xs in
     let rest = one_older s right from until xs (IsDistinct-tail has_same_number x xs differ) all.1 in
-    let sum : f x + sum_by f xs ≤ 461111111111111 =
-    elim (same_right right x.id) as (λ b. same_right right x.id ≡ b → cond b (old_arrears (accrues s x) from until) 0 + sum_by f xs ≤ 461111111111111) [
+    let sum : f x + sum_by f xs ≤ most_of_term =
+    elim (same_right right x.id) as (λ b. same_right right x.id ≡ b → cond b (old_arrears (accrues s x) from until) 0 + sum_by f xs ≤ most_of_term) [
       | true ↦ λ own.
           let none = none_older s right from until xs (others_differ right x xs own (IsDistinct-head has_same_number x xs differ)) in
           let most = all.0 from until in omega (arith, none, most)
@@ -91,11 +92,11 @@ one_older s right from until (x ∷ xs) differ all =
     omega (arith, whole, sum)
 
 named_older : (s : Sale) (w : Registration) (xs : List CreatedRight) → IsDistinct has_same_number xs → AllByRecursion (HasAmount s) xs
-    → sum_by (λ (x : CreatedRight). arrears_named old_arrears (accrues s x) x.id w) xs ≤ 461111111111111
+    → sum_by (λ (x : CreatedRight). arrears_named old_arrears (accrues s x) x.id w) xs ≤ most_of_term
 named_older s (registration.Arrears right from until) xs differ all = one_older s right from until xs differ all
 named_older s other xs differ all = zeros xs
   where
-    zeros : (ys : List CreatedRight) → sum_by (λ (x : CreatedRight). 0) ys ≤ 461111111111111
+    zeros : (ys : List CreatedRight) → sum_by (λ (x : CreatedRight). 0) ys ≤ most_of_term
     zeros [] = omega arith
     zeros (y ∷ ys) = let whole = sum_by-cons (λ (x : CreatedRight). 0) y ys in omega (arith, whole, zeros ys)
 
@@ -119,15 +120,15 @@ sum_mapped w f (x ∷ xs) =
     omega (arith, left, right, sum_mapped w f xs)
 
 -- one registration, and all of them
-each_older : (s : Sale) (late : Bool) (r : Registered) (xs : List CreatedRight) → IsDistinct has_same_number xs → AllByRecursion (HasAmount s) xs → sum_by (λ (x : CreatedRight). older_of s late x r) xs ≤ 461111111111111
+each_older : (s : Sale) (late : Bool) (r : Registered) (xs : List CreatedRight) → IsDistinct has_same_number xs → AllByRecursion (HasAmount s) xs → sum_by (λ (x : CreatedRight). older_of s late x r) xs ≤ most_of_term
 each_older s late r xs differ all =
-    elim (are_both late r.late) as (λ b. sum_by (λ (x : CreatedRight). cond b (arrears_named old_arrears (accrues s x) x.id r.what) 0) xs ≤ 461111111111111) [
+    elim (are_both late r.late) as (λ b. sum_by (λ (x : CreatedRight). cond b (arrears_named old_arrears (accrues s x) x.id r.what) 0) xs ≤ most_of_term) [
       | true ↦ named_older s r.what xs differ all
       | false ↦ let none = sum_zeros xs in omega (arith, none)
     ]
 
 older_in_all : (s : Sale) (late : Bool) (rs : List Registered) (xs : List CreatedRight) → IsDistinct has_same_number xs → AllByRecursion (HasAmount s) xs
-    → sum_by (λ (x : CreatedRight). arrears_found old_arrears late (accrues s x) x.id rs) xs ≤ 461111111111111 * length rs
+    → sum_by (λ (x : CreatedRight). arrears_found old_arrears late (accrues s x) x.id rs) xs ≤ most_of_term * length rs
 older_in_all s late [] xs differ all = let none = sum_zeros xs in omega (arith, none)
 older_in_all s late (r ∷ rs) xs differ all =
     let parts = ap (λ (f : CreatedRight → ℕ). sum_by f xs) (λ i x. sum_by-cons (older_of s late x) r rs i) in

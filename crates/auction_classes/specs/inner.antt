@@ -4,6 +4,7 @@ pub mod ClaimLists
 pub mod ClaimsRoom
 pub mod Covers
 pub mod Findings
+pub mod InterestLimits
 pub mod LinesRead
 pub mod Readings
 pub mod WholeBids

@@ -2,6 +2,7 @@
 ghost use Rattle.std.specs.Prelude.{◌≡◌, ◌+◌, ◌≤◌};
 ghost use Rattle.gb_base.specs.Limits.{first_year, last_stamp_day, last_year, most_rate};
 ghost use Rattle.auction_classes.specs.Interest.{arrears_in_class, begin_of_current, current_interest, interest_between, new_year, old_arrears, rate_of};
+ghost use Rattle.auction_classes.specs.inner.InterestLimits.{most_of_term};
 
 use act_model::RightKind;
 use gb_base::{Cents, Day, days360, interest};
@@ -28,7 +29,7 @@ impl Accrual {
         requires rate { self.now.rate ≤ most_rate }
         requires sale { self.now.sale ≤ last_stamp_day }
         ensures value { result ≡ current_interest self.now }
-        ensures at_most { result ≤ 461111111111111 }
+        ensures at_most { result ≤ most_of_term }
     {
         let end = Day::new(self.sale.number() + 15).unwrap();
         self.interest_between(self.begin_of_current(), end)
@@ -38,7 +39,7 @@ impl Accrual {
     pub fn arrears_in_class(&self, from: Day, until: Day) -> u64
         requires rate { self.now.rate ≤ most_rate }
         ensures value { result ≡ arrears_in_class self.now from until }
-        ensures at_most { result ≤ 461111111111111 }
+        ensures at_most { result ≤ most_of_term }
     {
         let begin = from.max(self.arrears_from.max(self.entered));
         self.interest_between(begin, until.min(self.begin_of_current()))
@@ -48,7 +49,7 @@ impl Accrual {
     pub fn old_arrears(&self, from: Day, until: Day) -> u64
         requires rate { self.now.rate ≤ most_rate }
         ensures value { result ≡ old_arrears self.now from until }
-        ensures at_most { result ≤ 461111111111111 }
+        ensures at_most { result ≤ most_of_term }
     {
         self.interest_between(from.max(self.entered), until.min(self.arrears_from))
     }
@@ -64,7 +65,7 @@ impl Accrual {
     fn interest_between(&self, from: Day, until: Day) -> u64
         requires rate { self.now.rate ≤ most_rate }
         ensures value { result ≡ interest_between self.now from until }
-        ensures at_most { result ≤ 461111111111111 }
+        ensures at_most { result ≤ most_of_term }
     {
         interest(self.capital, self.rate, days360(from, until))
     }

@@ -7,6 +7,7 @@ ghost use Rattle.gb_base.specs.Limits.{last_stamp_day, most_rate};
 ghost use Rattle.auction_classes.specs.Claims.{are_both, arrears_found, arrears_named};
 ghost use Rattle.auction_classes.specs.Interest.{arrears_in_class, old_arrears, rate_of};
 ghost use Rattle.auction_classes.specs.inner.Findings.{accrual_by, right_with};
+ghost use Rattle.auction_classes.specs.inner.InterestLimits.{most_of_term};
 ghost use Rattle.auction_classes.specs.inner.LinesRead.{HasLowInterest};
 ghost use Rattle.auction_classes.specs.inner.Readings.{IsReadAs, rights_read};
 
@@ -170,7 +171,7 @@ fn arrears_found(
     requires few { length registrations.now ≤ 32 }
     ensures in_class { result.in_class ≡ arrears_found arrears_in_class late accrual.now right registrations.now }
     ensures old { result.old ≡ arrears_found old_arrears late accrual.now right registrations.now }
-    ensures at_most { result.in_class ≤ 32 * 461111111111111 }
+    ensures at_most { result.in_class ≤ 32 * most_of_term }
 {
     let mut in_class = 0;
     let mut old = 0;
@@ -187,8 +188,8 @@ fn arrears_by(accrual: &Accrual, right: RightId, late: bool, registered: &Regist
     requires rate { accrual.now.rate ≤ most_rate }
     ensures in_class { result.in_class ≡ (if are_both late registered.now.late then arrears_named arrears_in_class accrual.now right registered.now.what else 0) }
     ensures old { result.old ≡ (if are_both late registered.now.late then arrears_named old_arrears accrual.now right registered.now.what else 0) }
-    ensures at_most { result.in_class ≤ 461111111111111 }
-    ensures old_at_most { result.old ≤ 461111111111111 }
+    ensures at_most { result.in_class ≤ most_of_term }
+    ensures old_at_most { result.old ≤ most_of_term }
 {
     if are_both(late, registered.late) {
         arrears_named(accrual, right, &registered.what)
@@ -205,8 +206,8 @@ fn arrears_named(accrual: &Accrual, right: RightId, what: &Registration) -> Arre
     requires rate { accrual.now.rate ≤ most_rate }
     ensures in_class { result.in_class ≡ arrears_named arrears_in_class accrual.now right what.now }
     ensures old { result.old ≡ arrears_named old_arrears accrual.now right what.now }
-    ensures at_most { result.in_class ≤ 461111111111111 }
-    ensures old_at_most { result.old ≤ 461111111111111 }
+    ensures at_most { result.in_class ≤ most_of_term }
+    ensures old_at_most { result.old ≤ most_of_term }
 {
     match what {
         Registration::Arrears {

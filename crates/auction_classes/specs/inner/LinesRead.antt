@@ -14,6 +14,7 @@ use Rattle.rank_slots.specs.declared.places.Knot.{Knot}
 use Rattle.rank_slots.specs.declared.places.Place.{Place}
 use Rattle.rank_slots.specs.declared.places.Swap.{Swap}
 use Rattle.auction_classes.specs.inner.Findings.{class_by}
+use Rattle.auction_classes.specs.inner.InterestLimits.{most_of_term}
 use Rattle.auction_classes.specs.declared.class_lines.ClassLine.{ClassLine}
 use Rattle.auction_classes.specs.declared.right_classes.RightClass.{RightClass}
 use Rattle.auction_classes.specs.declared.rights_found.RightFound.{RightFound}
@@ -128,7 +129,7 @@ line_read class at folio found line = record {
 
 -- the interest of a right is at most that of 33 terms: the current one, and those of the registrations of a case
 abbrev pub most_interest : ℕ
-most_interest = 33 * 461111111111111
+most_interest = 33 * most_of_term
 
 abbrev pub HasLowInterest : RightFound → Type 0
 HasLowInterest x = x.interest ≤ most_interest

@@ -2,14 +2,15 @@
 use Rattle.std.proofs.Common.{◌≡◌, ℕ, ◌*◌, ◌≤◌, take}
 use Rattle.auction_classes.specs.Claims.{arrears_found}
 use Rattle.auction_classes.specs.Interest.{arrears_in_class, old_arrears}
+use Rattle.auction_classes.specs.inner.InterestLimits.{most_of_term}
 use Rattle.auction_classes.proofs.rights_found.arrears_found.Given as goal
 
 -- both sums, of as many registrations as are read
 pub record AreSums (own old index whole whole_old : ℕ) : Type 0 where
   pub sum : own ≡ whole
   pub sum_old : old ≡ whole_old
-  pub few : own ≤ index * 461111111111111
-  pub few_old : old ≤ index * 461111111111111
+  pub few : own ≤ index * most_of_term
+  pub few_old : old ≤ index * most_of_term
 
 abbrev pub invariant-loop-registered : goal.invariant-loop-registered
 invariant-loop-registered l =
