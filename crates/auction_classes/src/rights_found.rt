@@ -1,5 +1,5 @@
 //! The rights of a folio with what is claimed of them in a forced sale (ZVG §§ 10 to 13).
-ghost use Rattle.std.specs.Prelude.{◌≡◌, ◌*◌, ◌≤◌, All, IsSome, Some, if◌then◌else◌, length, map, vec_capacity};
+ghost use Rattle.std.specs.Prelude.{◌≡◌, ◌+◌, ◌*◌, ◌≤◌, true, false, All, IsSome, Some, if◌then◌else◌, length, map, vec_capacity};
 ghost use Rattle.std.specs.Option.{option_map_or};
 ghost use Rattle.folio_sections.specs.Rights.{capital, created, entered_on, holder};
 ghost use Rattle.folio_line.specs.FolioReading.{CanBeRead};
@@ -45,7 +45,16 @@ struct Arrears {
     /// Those that the right's own class has.
     in_class: u64,
     /// Those of class 8.
-    old: u64,
+    older: u64,
+}
+
+/// The arrears of a right that are registered.
+#[derive(Clone, Copy)]
+struct ArrearsFound {
+    /// In time.
+    timely: Arrears,
+    /// Behind the call to bid (ZVG § 110).
+    late: Arrears,
 }
 
 /// Writes the live rights of a folio with what is claimed of them anew. Takes no memory.
@@ -104,17 +113,16 @@ fn right_found(
     ensures interest { HasLowInterest result }
 {
     let accrual = accrual_by(finding, right, front);
-    let timely = arrears_found(&accrual, right.id, false, registrations);
-    let late = arrears_found(&accrual, right.id, true, registrations);
+    let arrears = arrears_found(&accrual, right.id, registrations);
     RightFound {
         right: *right,
         class: class_by(finding.seized, right.id),
         holder: holder_of(front),
         capital: accrual.capital,
-        interest: accrual.current_interest() + timely.in_class,
-        old_arrears: timely.old,
-        late_arrears: late.in_class,
-        late_old_arrears: late.old,
+        interest: accrual.current_interest() + arrears.timely.in_class,
+        old_arrears: arrears.timely.older,
+        late_arrears: arrears.late.in_class,
+        late_old_arrears: arrears.late.older,
     }
 }
 
@@ -160,68 +168,75 @@ fn entry_day(front: &RightFront) -> Day
     }
 }
 
-/// The arrears that are registered for a right in time, or late.
-fn arrears_found(
-    accrual: &Accrual,
-    right: RightId,
-    late: bool,
-    registrations: &[Registered],
-) -> Arrears
+/// The arrears that are registered for a right.
+fn arrears_found(accrual: &Accrual, right: RightId, registrations: &[Registered]) -> ArrearsFound
     requires rate { accrual.now.rate ≤ most_rate }
     requires few { length registrations.now ≤ 32 }
-    ensures in_class { result.in_class ≡ arrears_found arrears_in_class late accrual.now right registrations.now }
-    ensures old { result.old ≡ arrears_found old_arrears late accrual.now right registrations.now }
-    ensures at_most { result.in_class ≤ 32 * most_of_term }
+    ensures timely { result.timely.in_class ≡ arrears_found arrears_in_class false accrual.now right registrations.now }
+    ensures timely_older { result.timely.older ≡ arrears_found old_arrears false accrual.now right registrations.now }
+    ensures late { result.late.in_class ≡ arrears_found arrears_in_class true accrual.now right registrations.now }
+    ensures late_older { result.late.older ≡ arrears_found old_arrears true accrual.now right registrations.now }
+    ensures at_most { result.timely.in_class ≤ 32 * most_of_term }
 {
-    let mut in_class = 0;
-    let mut old = 0;
+    let mut found = ArrearsFound {
+        timely: Arrears {
+            in_class: 0,
+            older: 0,
+        },
+        late: Arrears {
+            in_class: 0,
+            older: 0,
+        },
+    };
     for registered in registrations {
-        let arrears = arrears_by(accrual, right, late, registered);
-        in_class += arrears.in_class;
-        old += arrears.old;
+        found.add(accrual, right, registered);
     }
-    Arrears { in_class, old }
+    found
 }
 
-/// The arrears that one registration names for a right, where it came in time, or late.
-fn arrears_by(accrual: &Accrual, right: RightId, late: bool, registered: &Registered) -> Arrears
-    requires rate { accrual.now.rate ≤ most_rate }
-    ensures in_class { result.in_class ≡ (if are_both late registered.now.late then arrears_named arrears_in_class accrual.now right registered.now.what else 0) }
-    ensures old { result.old ≡ (if are_both late registered.now.late then arrears_named old_arrears accrual.now right registered.now.what else 0) }
-    ensures at_most { result.in_class ≤ most_of_term }
-    ensures old_at_most { result.old ≤ most_of_term }
-{
-    if are_both(late, registered.late) {
-        arrears_named(accrual, right, &registered.what)
-    } else {
-        Arrears {
-            in_class: 0,
-            old: 0,
+impl ArrearsFound {
+    /// Adds the arrears that a registration names for a right. Most name another one.
+    fn add(&mut self, accrual: &Accrual, right: RightId, registered: &Registered)
+        requires rate { accrual.now.rate ≤ most_rate }
+        requires few { self.old.timely.in_class + self.old.late.in_class ≤ 31 * most_of_term }
+        requires few_older { self.old.timely.older + self.old.late.older ≤ 31 * most_of_term }
+        ensures timely { self.new.timely.in_class ≡ self.old.timely.in_class + (if are_both false registered.now.late then arrears_named arrears_in_class accrual.now right registered.now.what else 0) }
+        ensures timely_older { self.new.timely.older ≡ self.old.timely.older + (if are_both false registered.now.late then arrears_named old_arrears accrual.now right registered.now.what else 0) }
+        ensures late { self.new.late.in_class ≡ self.old.late.in_class + (if are_both true registered.now.late then arrears_named arrears_in_class accrual.now right registered.now.what else 0) }
+        ensures late_older { self.new.late.older ≡ self.old.late.older + (if are_both true registered.now.late then arrears_named old_arrears accrual.now right registered.now.what else 0) }
+        ensures at_most { self.new.timely.in_class + self.new.late.in_class ≤ self.old.timely.in_class + self.old.late.in_class + most_of_term }
+        ensures older_at_most { self.new.timely.older + self.new.late.older ≤ self.old.timely.older + self.old.late.older + most_of_term }
+    {
+        match &registered.what {
+            Registration::Arrears {
+                right: named,
+                from,
+                until,
+            } if *named == right => {
+                if registered.late {
+                    self.late.add(accrual, *from, *until);
+                } else {
+                    self.timely.add(accrual, *from, *until);
+                }
+            }
+            _ => {}
         }
     }
 }
 
-/// The arrears that a registration names for a right.
-fn arrears_named(accrual: &Accrual, right: RightId, what: &Registration) -> Arrears
-    requires rate { accrual.now.rate ≤ most_rate }
-    ensures in_class { result.in_class ≡ arrears_named arrears_in_class accrual.now right what.now }
-    ensures old { result.old ≡ arrears_named old_arrears accrual.now right what.now }
-    ensures at_most { result.in_class ≤ most_of_term }
-    ensures old_at_most { result.old ≤ most_of_term }
-{
-    match what {
-        Registration::Arrears {
-            right: named,
-            from,
-            until,
-        } if *named == right => Arrears {
-            in_class: accrual.arrears_in_class(*from, *until),
-            old: accrual.old_arrears(*from, *until),
-        },
-        _ => Arrears {
-            in_class: 0,
-            old: 0,
-        },
+impl Arrears {
+    /// Adds those from a day up to another.
+    fn add(&mut self, accrual: &Accrual, from: Day, until: Day)
+        requires rate { accrual.now.rate ≤ most_rate }
+        requires few { self.old.in_class ≤ 31 * most_of_term }
+        requires few_older { self.old.older ≤ 31 * most_of_term }
+        ensures in_class { self.new.in_class ≡ self.old.in_class + arrears_in_class accrual.now from until }
+        ensures older { self.new.older ≡ self.old.older + old_arrears accrual.now from until }
+        ensures at_most { self.new.in_class ≤ self.old.in_class + most_of_term }
+        ensures older_at_most { self.new.older ≤ self.old.older + most_of_term }
+    {
+        self.in_class += accrual.arrears_in_class(from, until);
+        self.older += accrual.old_arrears(from, until);
     }
 }
 
