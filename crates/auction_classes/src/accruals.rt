@@ -4,6 +4,7 @@ ghost use Rattle.gb_base.specs.Limits.{first_year, last_stamp_day, last_year, mo
 ghost use Rattle.auction_classes.specs.Interest.{arrears_in_class, begin_of_current, current_interest, interest_between, new_year, old_arrears, rate_of};
 ghost use Rattle.auction_classes.specs.inner.InterestLimits.{most_of_term};
 
+use crate::counted_days::CountedDays;
 use act_model::RightKind;
 use gb_base::{Cents, Day, days360, interest};
 
@@ -24,15 +25,15 @@ pub(crate) struct Accrual {
 }
 
 impl Accrual {
-    /// The current interest, in cents.
-    pub fn current_interest(&self) -> u64
+    /// The current interest, in cents. Most rights of a folio have it for the same days.
+    pub fn current_interest(&self, counted: &mut CountedDays) -> u64
         requires rate { self.now.rate ≤ most_rate }
         requires sale { self.now.sale ≤ last_stamp_day }
         ensures value { result ≡ current_interest self.now }
         ensures at_most { result ≤ most_of_term }
     {
-        let end = Day::new(self.sale.number() + 15).unwrap();
-        self.interest_between(self.begin_of_current(), end)
+        let days = counted.between(self.begin_of_current(), end_of_interest(self.sale));
+        interest(self.capital, self.rate, days)
     }
 
     /// The part of arrears from a day up to another that the right's own class has, in cents.
@@ -80,6 +81,14 @@ pub(crate) fn rate_of(kind: RightKind) -> u16
         RightKind::LandCharge { rate_bp } => rate_bp,
         _ => 0,
     }
+}
+
+/// The 15th day behind a sale, up to which interest runs (ZVG § 47).
+pub(crate) fn end_of_interest(sale: Day) -> Day
+    requires { sale ≤ last_stamp_day }
+    ensures { result ≡ sale + 15 }
+{
+    Day::new(sale.number() + 15).unwrap()
 }
 
 /// 1 January of a year.

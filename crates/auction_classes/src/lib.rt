@@ -11,6 +11,7 @@ mod claims;
 mod claims_found;
 mod class_lines;
 mod class_places;
+mod counted_days;
 mod covers;
 mod findings;
 mod lists;

@@ -11,8 +11,9 @@ ghost use Rattle.auction_classes.specs.inner.InterestLimits.{most_of_term};
 ghost use Rattle.auction_classes.specs.inner.LinesRead.{HasLowInterest};
 ghost use Rattle.auction_classes.specs.inner.Readings.{IsReadAs, rights_read};
 
-use crate::accruals::{Accrual, rate_of};
+use crate::accruals::{Accrual, end_of_interest, rate_of};
 use crate::case_items::Registered;
+use crate::counted_days::CountedDays;
 use crate::findings::Finding;
 use crate::lists::push_copy;
 use crate::right_classes::class_by;
@@ -74,9 +75,13 @@ pub(crate) fn write_rights<P: Parts>(
     ensures interest { All HasLowInterest found.new.items }
     ensures capacity { vec_capacity found.new ≡ vec_capacity found.old }
 {
+    let mut counted = CountedDays::of(finding.current_from, end_of_interest(finding.sale));
     found.clear();
     for right in rights {
-        push_copy(found, &right_read(reading, finding, registrations, right));
+        push_copy(
+            found,
+            &right_read(reading, finding, &mut counted, registrations, right),
+        );
     }
 }
 
@@ -84,6 +89,7 @@ pub(crate) fn write_rights<P: Parts>(
 fn right_read<P: Parts>(
     reading: &FolioReading<P>,
     finding: &Finding,
+    counted: &mut CountedDays,
     registrations: &[Registered],
     right: &CreatedRight,
 ) -> RightFound
@@ -95,12 +101,13 @@ fn right_read<P: Parts>(
     ensures interest { HasLowInterest result }
 {
     let front = right_front(reading, right.id).unwrap();
-    right_found(finding, registrations, right, &front)
+    right_found(finding, counted, registrations, right, &front)
 }
 
 /// A right as it is read, with what is claimed of it.
 fn right_found(
     finding: &Finding,
+    counted: &mut CountedDays,
     registrations: &[Registered],
     right: &CreatedRight,
     front: &RightFront,
@@ -119,7 +126,7 @@ fn right_found(
         class: class_by(finding.seized, right.id),
         holder: holder_of(front),
         capital: accrual.capital,
-        interest: accrual.current_interest() + arrears.timely.in_class,
+        interest: accrual.current_interest(counted) + arrears.timely.in_class,
         old_arrears: arrears.timely.older,
         late_arrears: arrears.late.in_class,
         late_old_arrears: arrears.late.older,
