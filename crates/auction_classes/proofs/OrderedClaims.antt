@@ -1,9 +1,9 @@
 -- Claims are written in order, and are no more than they were.
-use Rattle.std.proofs.Common.{◌≡◌, ℕ, zero, suc, ◌+◌, ◌-◌, ◌<◌, ◌≤◌, Bool, true, false, not, cond, ◌&&◌, ◌==◌, List, [], ◌∷◌, ◌++◌, length, flat_map, refl, sym, ap, subst, ◌∙◌, append_assoc, arith, drop, get_or}
+use Rattle.std.proofs.Common.{◌≡◌, ℕ, zero, suc, ◌+◌, ◌-◌, ◌<◌, ◌≤◌, Bool, true, false, not, cond, ◌&&◌, ◌==◌, List, [], ◌∷◌, ◌++◌, length, flat_map, refl, sym, ap, subst, ◌∙◌, append_assoc, append-nil, arith, drop, get_or}
 use Rattle.std.specs.List.{range_with_len}
 use Rattle.std.proofs.lemmas.Bool.{and_parts, eqb-true}
 use Rattle.std.proofs.lemmas.Bool.Decides.{nat_tests}
-use Rattle.std.proofs.lemmas.List.{drop_more, length-append}
+use Rattle.std.proofs.lemmas.List.{drop_more, length-append, nil_from_length}
 use Rattle.std.proofs.lemmas.List.Elements.{filter-append}
 use Rattle.auction_classes.specs.Claims.{are_both, by_class, of_class}
 use Rattle.auction_classes.specs.declared.claim_items.Claim.{Claim}
@@ -35,6 +35,16 @@ pub room_left : (start whole before here rest : List Claim) (left : List Claim) 
 room_left start whole before here rest left len₀ len₁ capacity₀ capacity₁ parts is room =
     let size = ap length parts ∙ length-append here rest in
     omega (arith, size, is.exact, is.same, room)
+
+-- where as many are written as there may be, the next claims are none
+pub none_left : (start whole list here rest : List Claim) (left : List Claim) (len₀ len capacity₀ capacity many : ℕ)
+    → left ≡ here ++ rest → AreBeingWritten start whole list left len₀ len capacity₀ capacity → len₀ + length whole ≤ many → many ≤ len
+    → AreBeingWritten start whole list rest len₀ len capacity₀ capacity
+none_left start whole list here rest left len₀ len capacity₀ capacity many parts is few full =
+    let size = ap length parts ∙ length-append here rest in
+    let none = nil_from_length here (omega (arith, size, is.exact, few, full)) in
+    let same = sym (append-nil list) ∙ ap (λ ys. list ++ ys) (sym none) in
+    more_written start whole list here rest list left len₀ len len capacity₀ capacity capacity parts is same (omega (arith, size, is.exact, few, full)) refl
 
 -- those of a class in what is left are the next claim, where it is of the class, and those behind it
 pub claims_left : (late : Bool) (class : ℕ) (xs : List Claim) (index : ℕ) (x : Claim) → index < length xs → x ≡ get_or xs index x

@@ -21,15 +21,20 @@ pub(crate) fn write_in_order(ordered: &mut Vec<Claim>, claims: &[Claim])
     add_by_class(ordered, claims, true);
 }
 
-/// Adds the timely ones of these claims, or the late ones, class by class.
+/// Adds the timely ones of these claims, or the late ones, class by class. No claim of the list is
+/// one of them yet.
 fn add_by_class(ordered: &mut Vec<Claim>, claims: &[Claim], late: bool)
+    requires few { vec_len ordered.old + length (by_class late claims.now) ≤ length claims.now }
     requires room { vec_len ordered.old + length (by_class late claims.now) ≤ vec_capacity ordered.old }
     ensures claims { ordered.new.items ≡ ordered.old.items ++ by_class late claims.now }
     ensures len { vec_len ordered.new ≡ vec_len ordered.old + length (by_class late claims.now) }
     ensures capacity { vec_capacity ordered.new ≡ vec_capacity ordered.old }
 {
     for class in 1..=8 {
-        add_class(ordered, claims, late, class);
+        // Once all claims are written, no class that is left has any.
+        if ordered.len() < claims.len() {
+            add_class(ordered, claims, late, class);
+        }
     }
 }
 
