@@ -124,18 +124,21 @@ fn add_of_right(claims: &mut Vec<Claim>, right: &RightFound)
         claims,
         &claim_of_right(right, right.class, false, right.interest, capital),
     );
-    add(
-        claims,
-        &claim_of_right(right, 8, false, 0, right.old_arrears),
-    );
-    add(
-        claims,
-        &claim_of_right(right, 4, true, 0, right.late_arrears),
-    );
-    add(
-        claims,
-        &claim_of_right(right, 8, true, 0, right.late_old_arrears),
-    );
+    add_arrears(claims, right, 8, false, right.old_arrears);
+    add_arrears(claims, right, 4, true, right.late_arrears);
+    add_arrears(claims, right, 8, true, right.late_old_arrears);
+}
+
+/// Adds arrears of a right, where they are of at least one cent. Most rights have none.
+fn add_arrears(claims: &mut Vec<Claim>, right: &RightFound, class: u8, late: bool, cents: u64)
+    requires room { vec_len claims.old < vec_capacity claims.old }
+    ensures claims { claims.new.items ≡ claims.old.items ++ filter is_claim (claim_of_right right.now class late 0 cents ∷ []) }
+    ensures few { vec_len claims.new ≤ vec_len claims.old + 1 }
+    ensures capacity { vec_capacity claims.new ≡ vec_capacity claims.old }
+{
+    if cents > 0 {
+        push_copy(claims, &claim_of_right(right, class, late, 0, cents));
+    }
 }
 
 /// Adds a claim, where it is of at least one cent.
