@@ -142,7 +142,7 @@ impl<N: JournalName> Board<N> {
         self.in_hand = self.in_hand.saturating_sub(1);
         if let Some(verdict) = verdict {
             self.say(item, verdict);
-            self.go_on(queues, keys);
+            self.next_in_each(queues, keys);
         }
     }
 
@@ -158,7 +158,7 @@ impl<N: JournalName> Board<N> {
     }
 
     /// The next item's turn comes in each folio of these keys, which are those of one or two folios.
-    fn go_on(&mut self, queues: &[FolioQueue], keys: &[Key]) {
+    fn next_in_each(&mut self, queues: &[FolioQueue], keys: &[Key]) {
         if let (Some(first), Some(last)) = (keys.first(), keys.last()) {
             let folio = first.folio();
             let other = last.folio();
@@ -214,13 +214,13 @@ fn are_all_said(said: &[bool]) -> bool
 fn count_folios(alloc: Global, docket: &Docket, items: &[ReceiptNo]) -> Result<Vec<u8>, NoMemory> {
     let mut counts = Vec::with_capacity(alloc, items.len())?;
     for item in items {
-        counts.push(folios_touched(docket, *item))?;
+        counts.push(folio_count(docket, *item))?;
     }
     Ok(counts)
 }
 
 /// How many folios an item touches: none, one or two.
-fn folios_touched(docket: &Docket, item: ReceiptNo) -> u8 {
+fn folio_count(docket: &Docket, item: ReceiptNo) -> u8 {
     if item.get() as usize > docket.len() {
         return 0;
     }

@@ -25,7 +25,7 @@ pub(crate) fn build_queues(
     ensures { IfOk result (λ queues. AreAllQueues journal.now.receipts queues.items) }
 {
     let items = items_by_folio(alloc, journal, docket)?;
-    in_order(alloc, items)
+    list_queues(alloc, items)
 }
 
 /// The items that touch each folio.
@@ -101,7 +101,7 @@ fn push_once(queue: &mut Vec<ReceiptNo>, item: ReceiptNo) -> Result<(), NoMemory
 }
 
 /// These queues as a list, ascending by folio.
-fn in_order(
+fn list_queues(
     alloc: Global,
     mut items: BTreeMap<FolioId, Vec<ReceiptNo>>,
 ) -> Result<Vec<FolioQueue>, NoMemory>

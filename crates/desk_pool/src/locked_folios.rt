@@ -94,6 +94,7 @@ impl<N: JournalName> LockedFolio<N> {
         ensures taken { IfSome result (λ verdict. self.new.taken ≡ self.old.taken + 1) }
         ensures unchanged { IfNone result (self.new ≡ self.old) }
     {
+        // Called for its clause.
         empty_register_is_kept();
         let taken = self.count_with(queue, item)?;
         let verdict = step(&mut self.parts, &mut self.scratch, journal, item);
@@ -103,12 +104,12 @@ impl<N: JournalName> LockedFolio<N> {
 
     /// Settles an item that touches these two folios and no other, where it is the next of both;
     /// else nothing changes. The first has the lower number: in that order a desk locks them. The
-    /// queues are the items of the first and of the second. The parts of both are moved to `place`
+    /// queues are the items of the first and of the second. The parts of both are moved into `pair`
     /// for the step, and back.
     pub fn settle_both(
         first: &mut LockedFolio<N>,
         second: &mut LockedFolio<N>,
-        place: &mut FolioPair,
+        pair: &mut FolioPair,
         journal: &Journal,
         first_queue: &[ReceiptNo],
         second_queue: &[ReceiptNo],
@@ -126,14 +127,15 @@ impl<N: JournalName> LockedFolio<N> {
         ensures first_taken { IfSome result (λ verdict. first.new.taken ≡ first.old.taken + 1) }
         ensures second_taken { IfSome result (λ verdict. second.new.taken ≡ second.old.taken + 1) }
         ensures unchanged { IfNone result ((first.new ≡ first.old) × (second.new ≡ second.old)) }
-        ensures place { place.new ≡ place.old }
+        ensures pair { pair.new ≡ pair.old }
     {
+        // Called for its clause.
         empty_register_is_kept();
         let first_taken = first.count_with(first_queue, item)?;
         let second_taken = second.count_with(second_queue, item)?;
-        place.swap(&mut first.parts, &mut second.parts);
-        let verdict = step(place, &mut first.scratch, journal, item);
-        place.swap(&mut first.parts, &mut second.parts);
+        pair.swap(&mut first.parts, &mut second.parts);
+        let verdict = step(pair, &mut first.scratch, journal, item);
+        pair.swap(&mut first.parts, &mut second.parts);
         first.taken = first_taken;
         second.taken = second_taken;
         Some(verdict)
@@ -146,11 +148,12 @@ impl<N: JournalName> LockedFolio<N> {
         ensures whole { IsTrue result → queue.now ≡ queue_of N.receipts self.now.folio
             → (k : Key) → IsTrue (is_held self.now.parts k) → entries_at self.now.parts k ≡ at (registrar N.receipts).entries k }
     {
+        // Called for its clause.
         empty_register_is_kept();
         self.taken == queue.len()
     }
 
-    /// The parts: at the folio's keys, and with place for all that the journal's items enter there.
+    /// The parts: at the folio's keys, and with room for all that the journal's items enter there.
     pub fn into_parts(self) -> MapParts
         ensures value { result ≡ self.parts }
         ensures held { (k : Key) → is_held result k ≡ is_key_of N.receipts self.folio k }

@@ -24,6 +24,7 @@ pub(crate) fn settle_nowhere(
     ensures nothing { nothing.new ≡ [] }
     ensures scratch { scratch.new ≡ scratch.old }
 {
+    // Called for its clause.
     empty_register_is_kept();
     // The item is one of the journal's.
     let number = item.get();

@@ -31,7 +31,7 @@ impl Model for FolioPair {
 }
 
 impl FolioPair {
-    /// A place for two folios, which holds none yet.
+    /// A pair that holds no folio yet.
     pub fn new(alloc: Global) -> Result<FolioPair, NoMemory>
         ensures none { IfOk result (λ pair. (k : Key) → either_holds pair k ≡ false) }
     {

@@ -56,7 +56,7 @@ pub struct Round<'a, N: JournalName> {
     /// Room for the parts of all folios, once the desks are done.
     pub(crate) back: Vec<MapParts>,
     pub(crate) board: Board<N>,
-    /// The places of 64 desks.
+    /// What each of 64 desks works with.
     pub(crate) seats: Vec<Seat>,
     /// What the journal is settled in without desks.
     pub(crate) prepared: Prepared,
@@ -250,7 +250,7 @@ fn put_behind_locks<N: JournalName>(
     Ok(locks)
 }
 
-/// The places of 64 desks.
+/// What each of 64 desks works with.
 fn list_seats(alloc: Global) -> Result<Vec<Seat>, NoMemory>
     ensures { IfOk result (λ seats. length seats.items ≡ 64) }
 {

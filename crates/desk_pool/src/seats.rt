@@ -7,7 +7,7 @@ use gb_base::NoMemory;
 use registrar::Scratch;
 use std::alloc::Global;
 
-/// The places that one desk alone works in.
+/// What one desk alone works with.
 #[derive(Drop)]
 pub(crate) struct Seat {
     /// Parts that hold nothing, for an item that touches no key.
@@ -20,7 +20,7 @@ pub(crate) struct Seat {
 }
 
 impl Seat {
-    /// The places of a desk. Wants memory (NoMemory).
+    /// What a desk works with. Wants memory (NoMemory).
     pub fn new(alloc: Global) -> Result<Seat, NoMemory> {
         Ok(Seat {
             nothing: MapParts::new(alloc, &[])?,

@@ -28,6 +28,7 @@ pub(crate) fn folios_touched(docket: &Docket, journal: &Journal, item: ReceiptNo
     requires docket { docket.now ≡ docket_of journal.now.receipts }
     ensures { AreTouched (keys_of_item journal.now.receipts item) result }
 {
+    // Called for its clause.
     items_touch_few_folios();
     let receipts = journal.len();
     prove!(item.get() <= receipts);
@@ -45,7 +46,7 @@ fn folios_of(keys: &[Key]) -> TouchedFolios
     let one = key.folio();
     match key_elsewhere(keys, one) {
         None => TouchedFolios::One(one),
-        Some(other) => in_order(one, other.folio()),
+        Some(other) => lower_first(one, other.folio()),
     }
 }
 
@@ -57,7 +58,7 @@ fn key_elsewhere(keys: &[Key], folio: FolioId) -> Option<&Key>
 }
 
 /// Two folios, the one with the lower number first.
-fn in_order(one: FolioId, other: FolioId) -> TouchedFolios
+fn lower_first(one: FolioId, other: FolioId) -> TouchedFolios
     ensures { result ≡ if nat_lt one other then Two one other else Two other one }
 {
     if one < other {

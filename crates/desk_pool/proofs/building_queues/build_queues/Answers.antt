@@ -9,5 +9,5 @@ pub returns : goal.returns
 returns c =
     let journal = c.args.journal.now.receipts in
     let items = c.in_ok-items.items in
-    IfOk-weaker c.in_order.result (λ queues. map as_entry queues.items ≡ items.entries) (λ queues. AreAllQueues journal queues.items)
-    (λ queues listed. all_queues journal items queues.items c.in_ok-items.ensures listed c.in_order.ensures.ordered) c.in_order.ensures.value
+    IfOk-weaker c.list_queues.result (λ queues. map as_entry queues.items ≡ items.entries) (λ queues. AreAllQueues journal queues.items)
+    (λ queues listed. all_queues journal items queues.items c.in_ok-items.ensures listed c.list_queues.ensures.ordered) c.list_queues.ensures.value

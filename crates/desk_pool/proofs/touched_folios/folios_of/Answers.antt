@@ -11,4 +11,4 @@ pub returns-in-Some-key_elsewhere : goal.returns-in-Some-key_elsewhere
 returns-in-Some-key_elsewhere c =
     let place = c.in-Some.ensures.item.3 in
     two_touched c.args.keys.now c.in-Some.key.now c.in-Some-key_elsewhere.other.now c.folio-one.result c.folio.result c.requires.few (0, place.0, sym (place.1 c.in-Some.key.now)) c.folio-one.ensures
-    (sym c.in-Some-key_elsewhere.ensures) c.folio.ensures c.in_order.result c.in_order.ensures
+    (sym c.in-Some-key_elsewhere.ensures) c.folio.ensures c.lower_first.result c.lower_first.ensures

@@ -1,6 +1,6 @@
 use Rattle.std.proofs.Common.{◌≡◌, ◌++◌, length, map}
 use Rattle.desk_pool.specs.inner.QueuesBuilt.{as_entry}
-use Rattle.desk_pool.proofs.building_queues.in_order.Given as goal
+use Rattle.desk_pool.proofs.building_queues.list_queues.Given as goal
 
 abbrev pub invariant-loop-folio : goal.invariant-loop-folio
 invariant-loop-folio l = record {
