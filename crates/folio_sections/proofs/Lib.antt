@@ -10,6 +10,7 @@ pub mod FirstWaiters
 pub mod HeldParts
 pub mod HeldRights
 pub mod Indexes
+pub mod KeysAtHand
 pub mod ListLemmas
 pub mod Listed
 pub mod Marks

@@ -1,5 +1,6 @@
 -- What private clauses and proofs alone use.
 pub mod FilingLists
+pub mod KeysAtHand
 pub mod Kinds
 pub mod Listed
 pub mod Marks

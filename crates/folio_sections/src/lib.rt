@@ -12,6 +12,7 @@ mod entries;
 mod entry_list;
 mod filing_list;
 mod fronts;
+mod key_index;
 mod keyed;
 mod list_room;
 mod map_parts;

@@ -13,10 +13,12 @@ ghost use Rattle.folio_sections.specs.Exchanged.{TakesAt};
 ghost use Rattle.folio_sections.specs.Held.{WidensBy, is_held, entries_at, room_at, is_given};
 ghost use Rattle.folio_sections.specs.HeldRights.{held_rights, last_number};
 ghost use Rattle.folio_sections.specs.Limits.{most_at_a_key};
+ghost use Rattle.folio_sections.specs.inner.KeysAtHand.{AreAtHand};
 ghost use Rattle.folio_sections.specs.inner.PartIndex.{Grows, IsIndexOf, KeepsPlaces};
 ghost use Rattle.folio_sections.specs.inner.RightsInKeys.{entries_from_to, right_in};
 
 use crate::any_part::AnyPart;
+use crate::key_index::KeyIndex;
 use crate::{CasePart, Entry, Parts, RightPart, TitlePart};
 use gb_base::{FolioId, Key, NoMemory, ReceiptNo, RightId};
 use std::alloc::Global;
@@ -29,20 +31,20 @@ use std::mem;
 pub struct MapParts {
     alloc: Global,
     parts: Vec<AnyPart>,
-    /// Where the part of a key stands.
-    index: BTreeMap<Key, usize>,
+    index: KeyIndex,
 }
 
 impl Model for MapParts {
     ghost use Rattle.std.specs.Prelude.{List};
     ghost use Rattle.folio_sections.specs.PartState.{PartState};
+    ghost use Rattle.folio_sections.specs.inner.KeysAtHand.{AreAtHand};
     ghost use Rattle.folio_sections.specs.inner.PartIndex.{IsIndexOf};
 
     ghost Value = { List PartState };
 
     ghost view = { λ a. a.parts.items };
 
-    ghost invariant = { λ a. IsIndexOf a.index a.parts.items };
+    ghost invariant = { λ a. IsIndexOf a.index.places a.parts.items × AreAtHand a.index.places a.index.slots.items };
 }
 
 impl MapParts {
@@ -53,7 +55,7 @@ impl MapParts {
         ensures empty { IfOk result (λ parts. All (λ p. p.entries ≡ []) parts) }
     {
         let mut parts: Vec<AnyPart> = Vec::new(alloc);
-        let mut index: BTreeMap<Key, usize> = BTreeMap::new(alloc);
+        let mut index = KeyIndex::new(alloc);
         for key in keys {
             add_part(alloc, &mut parts, &mut index, *key)?;
         }
@@ -125,6 +127,7 @@ impl MapParts {
     {
         match self.index_of(*key) {
             Some(index) => {
+                self.index.have_at_hand(key, index);
                 let part = &mut self.parts[index];
                 let wanted = part.len() + n;
                 part.reserve(wanted)
@@ -179,14 +182,14 @@ impl MapParts {
     {
         let first = Key::Right(folio, first_right());
         let last = Key::Right(folio, last_right());
-        rights_between(alloc, &self.index, first, last)
+        rights_between(alloc, &self.index.places, first, last)
     }
 
     /// Where the part of a key stands; None where it is not held.
     fn index_of(&self, key: Key) -> Option<usize>
         ensures { result ≡ position (λ p. same_key p.key key) self.now }
     {
-        self.index.get(&key).copied()
+        self.index.get(&key)
     }
 
     /// The part of a key; None where it is not held.
@@ -260,11 +263,13 @@ fn numbered(id: RightId) -> RightId
 fn add_part(
     alloc: Global,
     parts: &mut Vec<AnyPart>,
-    index: &mut BTreeMap<Key, usize>,
+    index: &mut KeyIndex,
     key: Key,
 ) -> Result<(), NoMemory>
-    requires { IsIndexOf index.old parts.old.items }
-    ensures index { IsIndexOf index.new parts.new.items }
+    requires index { IsIndexOf index.old.places parts.old.items }
+    requires at_hand { AreAtHand index.old.places index.old.slots.items }
+    ensures index { IsIndexOf index.new.places parts.new.items }
+    ensures at_hand { AreAtHand index.new.places index.new.slots.items }
     ensures held { OnOk result ((k : Key) → is_held parts.new.items k ≡ (is_held parts.old.items k || same_key key k)) }
     ensures entries { entries_at parts.new.items ≡ entries_at parts.old.items }
     ensures kept { (k : Key) → room_at parts.old.items k ≤ room_at parts.new.items k }
@@ -273,7 +278,7 @@ fn add_part(
     ensures succeeds { IsTrue (is_held parts.old.items key) → IsOk result }
     ensures same { IsTrue (is_held parts.old.items key) → parts.new.items ≡ parts.old.items }
 {
-    if index.contains_key(&key) {
+    if index.get(&key).is_some() {
         return Ok(());
     }
     push_part(parts, index, key, AnyPart::new(alloc, key))
@@ -282,15 +287,17 @@ fn add_part(
 /// Adds the empty part of a key that is not held. Where no memory is found nothing changes.
 fn push_part(
     parts: &mut Vec<AnyPart>,
-    index: &mut BTreeMap<Key, usize>,
+    index: &mut KeyIndex,
     key: Key,
     part: AnyPart,
 ) -> Result<(), NoMemory>
-    requires index { IsIndexOf index.old parts.old.items }
+    requires index { IsIndexOf index.old.places parts.old.items }
+    requires at_hand { AreAtHand index.old.places index.old.slots.items }
     requires own { part.key ≡ key }
     requires empty { part.entries ≡ [] }
     requires apart { is_held parts.old.items key ≡ false }
-    ensures index { IsIndexOf index.new parts.new.items }
+    ensures index { IsIndexOf index.new.places parts.new.items }
+    ensures at_hand { AreAtHand index.new.places index.new.slots.items }
     ensures held { OnOk result ((k : Key) → is_held parts.new.items k ≡ (is_held parts.old.items k || same_key key k)) }
     ensures entries { entries_at parts.new.items ≡ entries_at parts.old.items }
     ensures kept { (k : Key) → room_at parts.old.items k ≤ room_at parts.new.items k }
@@ -300,7 +307,7 @@ fn push_part(
 {
     let end = parts.len();
     parts.reserve(1)?;
-    index.insert(key, end)?;
+    index.insert(&key, end)?;
     parts.push_reserved(part);
     Ok(())
 }

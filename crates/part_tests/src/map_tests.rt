@@ -2,10 +2,10 @@
 ghost use Rattle.std.specs.Prelude.{◌≡◌, ◌≤◌, IsTrue};
 
 use crate::written_entries::entry;
-use folio_sections::{Entry, MapParts, Parts, What};
+use folio_sections::{Entry, MapParts, Parts, What, is_held};
 use gb_base::Key;
 use std::test::Fail;
-use test_items::{folio, receipt, right};
+use test_items::{case_key, folio, receipt, right, right_key, title_key};
 
 /// Adds two entries at one key, as an item does that writes twice at a title.
 fn add_two<P: Parts>(parts: &mut P, first: Entry, second: Entry)
@@ -95,4 +95,47 @@ fn the_rights_of_a_folio_by_receipt_and_act(rt: HostRuntime) -> Result<(), Fail>
     let title = MapParts::new(rt.alloc(), &[Key::Title(seven)])?;
     assert!(rt; title.rights_in(rt.alloc(), seven)?.is_empty());
     Ok(())
+}
+
+/// How many keys a test holds, so many that those held last push others out of their slots.
+const MANY: u32 = 2_000;
+
+#[test]
+fn each_of_many_keys_has_its_own_part(rt: HostRuntime) -> Result<(), Fail> {
+    let mut parts = MapParts::new(rt.alloc(), &[])?;
+    for n in 1..=MANY {
+        parts.hold_with_room(&numbered_key(n), 1)?;
+    }
+    for n in 1..=MANY {
+        assert!(rt; has_own_part(&parts, numbered_key(n)), "key {n}");
+        assert!(rt; !is_held(&parts, &numbered_key(n + MANY)), "key {n}");
+    }
+    // Keys that are held again come to hand again.
+    for n in 1..=MANY {
+        parts.hold_with_room(&numbered_key(n), 1)?;
+        assert!(rt; has_own_part(&parts, numbered_key(n)), "key {n}");
+    }
+    Ok(())
+}
+
+/// A title, a sale or a right, by turns.
+fn numbered_key(n: u32) -> Key
+    requires from { 1 ≤ n }
+    requires to { n ≤ 4000 }
+{
+    match n % 3 {
+        0 => title_key(n),
+        1 => case_key(n),
+        _ => right_key(7, right(n, 1)),
+    }
+}
+
+/// Whether the part that is lent for a key is of that key.
+fn has_own_part(parts: &MapParts, key: Key) -> bool {
+    let lent = match key {
+        Key::Title(folio) => parts.title(folio).map(|part| part.key()),
+        Key::Right(folio, right) => parts.right(folio, right).map(|part| part.key()),
+        Key::Case(folio) => parts.case(folio).map(|part| part.key()),
+    };
+    lent == Some(key)
 }

@@ -7,10 +7,12 @@ use Rattle.folio_sections.proofs.HeldParts.{nothing_at}
 use Rattle.folio_sections.proofs.map_parts.MapParts.clear.Goals as goal
 
 pub invariant_of-self : goal.invariant_of-self
-invariant_of-self c =
-    placed (λ ps. IsIndexOf c.self.inside.index ps) c.self.inside.parts.items c.self.inside.parts.items c.deref_mut.result.now c.clear_each.new.parts c.self.inside.parts.len
-    c.self.inside.parts.ok.0 c.deref_mut.ensures.value refl c.clear_each.ensures.places
-    (λ kept k. c.self.invariant k ∙ sym (position_placed c.self.inside.parts.items c.clear_each.new.parts kept k))
+invariant_of-self c = (
+  placed (λ ps. IsIndexOf c.self.inside.index.places ps) c.self.inside.parts.items c.self.inside.parts.items c.deref_mut.result.now c.clear_each.new.parts c.self.inside.parts.len
+      c.self.inside.parts.ok.0 c.deref_mut.ensures.value refl c.clear_each.ensures.places
+      (λ kept k. c.self.invariant.0 k ∙ sym (position_placed c.self.inside.parts.items c.clear_each.new.parts kept k)),
+  c.self.invariant.1,
+)
 
 pub returns-clause-held : goal.returns-clause-held
 returns-clause-held c =

@@ -7,10 +7,12 @@ use Rattle.folio_sections.proofs.HeldParts.{entries_grown, held_grown, position_
 use Rattle.folio_sections.proofs.map_parts.MapParts.reserve_all.Goals as goal
 
 pub invariant_of-self : goal.invariant_of-self
-invariant_of-self c =
-    written (λ ps. IsIndexOf c.self.inside.index ps) c.self.inside.parts.items c.self.inside.parts.items c.deref_mut.result.now c.reserve_each.new.parts c.self.inside.parts.len
-    c.self.inside.parts.ok.0 c.deref_mut.ensures.value refl c.reserve_each.ensures.grow
-    (λ grown k. c.self.invariant k ∙ sym (position_grown c.self.inside.parts.items c.reserve_each.new.parts grown k))
+invariant_of-self c = (
+  written (λ ps. IsIndexOf c.self.inside.index.places ps) c.self.inside.parts.items c.self.inside.parts.items c.deref_mut.result.now c.reserve_each.new.parts c.self.inside.parts.len
+      c.self.inside.parts.ok.0 c.deref_mut.ensures.value refl c.reserve_each.ensures.grow
+      (λ grown k. c.self.invariant.0 k ∙ sym (position_grown c.self.inside.parts.items c.reserve_each.new.parts grown k)),
+  c.self.invariant.1,
+)
 
 pub returns-clause-held : goal.returns-clause-held
 returns-clause-held c =

@@ -9,6 +9,6 @@ rights_between-requires c = in_turn c.args.folio c.first_right.result c.last_rig
 pub returns : goal.returns
 returns c =
     let listed =
-    rights_listed c.self.inside.index c.self.inside.parts.items c.args.self.now c.args.folio c.first_right.result c.last_right.result c.first_right.ensures c.last_right.ensures c.self.view_is
-    c.self.invariant c.rights_between.ensures.ordered c.rights_between.ensures.found in
+    rights_listed c.self.inside.index.places c.self.inside.parts.items c.args.self.now c.args.folio c.first_right.result c.last_right.result c.first_right.ensures c.last_right.ensures c.self.view_is
+    c.self.invariant.0 c.rights_between.ensures.ordered c.rights_between.ensures.found in
     record { rights = subst (λ (xs : List RightNo). IfOk c.rights_between.result (λ rights. rights.items ≡ xs)) listed c.rights_between.ensures.rights }

@@ -1,4 +1,4 @@
-use Rattle.std.proofs.Common.{◌≡◌, ◌∙◌, ◌&&◌, ℕ, drop, List, Option, ap, find, nat_lt, option_map, take_while}
+use Rattle.std.proofs.Common.{◌∙◌, ◌&&◌, ℕ, drop, List, Option, ap, find, nat_lt, option_map, take_while}
 use Rattle.folio_sections.specs.inner.Unnoticed.{first_that}
 use Rattle.folio_sections.specs.inner.Waiters.{Until, waits}
 use Rattle.folio_sections.proofs.FirstWaiters.{searched_from}
