@@ -21,8 +21,8 @@ pub(crate) fn write_in_order(ordered: &mut Vec<Claim>, claims: &[Claim])
     add_by_class(ordered, claims, true);
 }
 
-/// Adds the timely ones of these claims, or the late ones, class by class. No claim of the list is
-/// one of them yet.
+/// Adds the timely ones of these claims, or the late ones, class by class. With those of the list they
+/// are no more than these claims.
 fn add_by_class(ordered: &mut Vec<Claim>, claims: &[Claim], late: bool)
     requires few { vec_len ordered.old + length (by_class late claims.now) ≤ length claims.now }
     requires room { vec_len ordered.old + length (by_class late claims.now) ≤ vec_capacity ordered.old }

@@ -6,8 +6,8 @@ ghost use Rattle.gb_base.specs.Limits.{most_interest_days};
 use gb_base::{Day, days360};
 use std::marker::Model;
 
-/// The term whose days were counted last: rights that were entered on one day, or before current
-/// interest begins, have the same one.
+/// The term whose days were counted last: rights that were entered on one day, or no later than the
+/// day from which interest is current, have the same one.
 #[derive(Drop)]
 pub(crate) struct CountedDays {
     from: Day,

@@ -151,10 +151,11 @@ fn some_waits(journal: &Journal, before: ReceiptNo, part: &RightPart, lack: &Lac
     last_lacks(journal, before, part, lack) || some_lacks(journal, before, part, lack)
 }
 
-/// The same, asked of all. Two walks go on in turn: one from the first on, up to a filing of who
-/// consented last, and one from that filing to the end. Where they consent in the order in which they
-/// wait, also where they come round, the next one to consent stands right behind that filing; where
-/// they begin with the last, the first consents last.
+/// The same as `some_waits`, asked of all. Two walks go on in turn: one from the first on, up to a
+/// filing of somebody who consents in the item with which the filing is judged, and one from that
+/// filing to the end; with no such filing the first goes over all. Where they consent in the order in
+/// which they wait, also where they come round, the next one to consent stands right behind that
+/// filing; where they begin with the last, the first consents last.
 fn some_lacks(journal: &Journal, before: ReceiptNo, part: &RightPart, lack: &Lack) -> bool
     ensures { result ≡ list_any (is_lacking lack.now) (waiting_applicants journal.now.receipts before part.now.entries) }
 {

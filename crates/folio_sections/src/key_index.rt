@@ -20,8 +20,8 @@ const SLOTS: usize = 512;
 #[derive(Drop)]
 pub(crate) struct KeyIndex {
     pub places: BTreeMap<Key, usize>,
-    /// Some of the places once more, each at the slot of its key. None are there while keys are few,
-    /// nor where no memory for them was found.
+    /// Some of the places once more, each at the slot of its key. There are no slots while keys are
+    /// few, and fewer or none where memory for them is wanting.
     slots: Vec<Option<KeyPlace>>,
 }
 
@@ -94,7 +94,8 @@ impl KeyIndex {
     }
 }
 
-/// Makes the slots once keys are many. Want of memory for them is no failure: then none is at hand.
+/// Makes the slots once keys are many. Want of memory for them is no failure: then fewer keys are at
+/// hand, or none. (Of any type, since a push of a struct that holds a key is not covered.)
 fn make_slots<T: Copy>(slots: &mut Vec<Option<T>>, keys: usize)
     ensures { (slots.new.items ≡ slots.old.items) ⊎ All IsNone slots.new.items }
 {
@@ -114,10 +115,17 @@ fn add_empty<T: Copy>(slots: &mut Vec<Option<T>>)
     }
 }
 
-/// The slot of a key. Rights of one folio mostly are of receipts that follow one another, and a
-/// multiple of the golden ratio scatters such numbers evenly.
+/// The slot of a key. Receipts and folios often follow one another, or come at one distance from the
+/// next; both multiplications mix their bits, so that such keys are scattered as any others are.
 fn slot_of(key: &Key) -> usize {
-    let number = match key {
+    let number = key_number(key).wrapping_mul(0x9E37_79B1);
+    let mixed = (number ^ (number >> 15)).wrapping_mul(0x85EB_CA6B);
+    (mixed >> 16) as usize % SLOTS
+}
+
+/// A number that few keys share: a filing has at most eight acts, so rights have different ones.
+fn key_number(key: &Key) -> u32 {
+    match key {
         Key::Title(folio) => folio.get().wrapping_mul(8),
         Key::Right(_, right) => right
             .receipt()
@@ -125,6 +133,5 @@ fn slot_of(key: &Key) -> usize {
             .wrapping_mul(8)
             .wrapping_add(right.act() as u32),
         Key::Case(folio) => !folio.get().wrapping_mul(8),
-    };
-    (number.wrapping_mul(0x9E37_79B1) >> 23) as usize
+    }
 }

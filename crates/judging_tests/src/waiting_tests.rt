@@ -125,17 +125,38 @@ fn who_filed_before_waits_with_a_later_filing(rt: HostRuntime) {
 
 #[test]
 fn who_files_again_waits_with_the_first_filing(rt: HostRuntime) {
-    let mut register = cancelling_behind(&rt, rt.alloc(), 32, 31, 32);
+    let mut register = cancelling_behind(&rt, rt.alloc(), 31, 32, 32);
     let filing = receipt(6);
     at_charge(&rt, &mut register, 6, What::Settled { filing });
     add_consent(&rt, &mut register, 8, 32);
     assert!(rt; lacks_one(&rt, &register, 8));
     add_consent(&rt, &mut register, 9, 31);
     assert!(rt; lacks_none(&rt, &register, 9));
-    let mut register = cancelling_behind(&rt, rt.alloc(), 31, 32, 32);
-    at_charge(&rt, &mut register, 6, What::Settled { filing });
-    add_consent(&rt, &mut register, 8, 32);
-    assert!(rt; lacks_one(&rt, &register, 8));
-    add_consent(&rt, &mut register, 9, 31);
-    assert!(rt; lacks_none(&rt, &register, 9));
+}
+
+#[test]
+fn the_fourth_of_five_consents_last(rt: HostRuntime) {
+    let mut register = register(&rt, rt.alloc());
+    file_waiting(&rt, &mut register, 4, 31);
+    file_waiting(&rt, &mut register, 5, 32);
+    file_waiting(&rt, &mut register, 6, 33);
+    file_waiting(&rt, &mut register, 7, 34);
+    file_waiting(&rt, &mut register, 8, 35);
+    let act = cancellation(7, right(2, 1));
+    let cancelled = filed(10, act, &[consent(1, 20), consent(1, 10)]);
+    receive(&rt, &mut register.journal, 9, &cancelled);
+    let (first, second, third) = (consent(1, 35), consent(1, 31), consent(1, 32));
+    receive(
+        &rt,
+        &mut register.journal,
+        10,
+        &cure(9, &[first, second, third]),
+    );
+    // The owner is named last, who waits nowhere.
+    let by_the_third = [consent(1, 33), consent(1, 10)];
+    receive(&rt, &mut register.journal, 11, &cure(9, &by_the_third));
+    let judgement = judged(&rt, &register.parts, &register.journal, 9, 11);
+    assert!(rt; waits(&judgement, &[defect(Section::Bgb876, 1)]));
+    receive(&rt, &mut register.journal, 12, &cure(9, &[consent(1, 34)]));
+    assert!(rt; enters(&judged(&rt, &register.parts, &register.journal, 9, 12)));
 }

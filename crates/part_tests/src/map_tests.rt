@@ -110,7 +110,7 @@ fn each_of_many_keys_has_its_own_part(rt: HostRuntime) -> Result<(), Fail> {
         assert!(rt; has_own_part(&parts, numbered_key(n)), "key {n}");
         assert!(rt; !is_held(&parts, &numbered_key(n + MANY)), "key {n}");
     }
-    // Keys that are held again come to hand again.
+    // Keys that are held again are still found.
     for n in 1..=MANY {
         parts.hold_with_room(&numbered_key(n), 1)?;
         assert!(rt; has_own_part(&parts, numbered_key(n)), "key {n}");
@@ -121,7 +121,7 @@ fn each_of_many_keys_has_its_own_part(rt: HostRuntime) -> Result<(), Fail> {
 /// A title, a sale or a right, by turns.
 fn numbered_key(n: u32) -> Key
     requires from { 1 ≤ n }
-    requires to { n ≤ 4000 }
+    requires to { n ≤ 2 * 2000 }
 {
     match n % 3 {
         0 => title_key(n),
