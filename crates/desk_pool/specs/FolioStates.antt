@@ -1,5 +1,5 @@
 -- What lies behind the lock of a folio.
-use Rattle.std.specs.Prelude.{◌≡◌, ℕ, ◌+◌, ◌-◌, ◌≤◌, List, length, Bool, IsTrue}
+use Rattle.std.specs.Prelude.{◌≡◌, ℕ, ◌+◌, ◌-◌, ◌≤◌, List, length, Bool, IsTrue, Option, Some, None}
 use Rattle.gb_base.specs.declared.keys.Key.{Key}
 use Rattle.act_model.specs.Receiving.{IsJournal}
 use Rattle.act_model.specs.declared.receipts.Receipt.{Receipt}
@@ -13,12 +13,17 @@ use Rattle.registrar.specs.HasSettled.{settled_first}
 use Rattle.registrar.specs.Rooms.{HasItsScratch}
 use Rattle.sale_rules.specs.ScratchRoom.{ScratchRoom}
 
--- the folio, how many of its items are settled, its parts, and the scratch in which its sales are reckoned
+-- the folio, how many of its items are settled, its parts, and the room of the scratch in which its sales are reckoned
 pub record FolioState : Type 0 where
   pub folio : ℕ
   pub taken : ℕ
   pub parts : List PartState
   pub scratch : ScratchRoom
+
+-- the room of a folio's own scratch; a folio without one has no room
+abbrev pub scratch_of : Option ScratchRoom → ScratchRoom
+scratch_of (Some scratch) = scratch
+scratch_of None = record { rights = 0; exchanges = 0; capacity = 0 }
 
 -- at each key that is held stands what the one registrar leaves there behind the first n items
 abbrev pub StandsAt : List Receipt → ℕ → (Key → Bool) → (Key → List Entry) → Type 0

@@ -19,7 +19,7 @@ use crate::touched_folios::{TouchedFolios, folios_touched};
 use act_model::JournalName;
 use gb_base::{FolioId, Key, ReceiptNo};
 use gb_outside::DeskGate;
-use registrar::Verdict;
+use registrar::{Scratch, Verdict};
 use std::sync::{MutexGuard, Wait};
 
 /// Settles items until none is left: while others have items in hand behind which more may be, it
@@ -107,9 +107,18 @@ fn settle<N: JournalName, G: DeskGate, R: Wait>(
     }
     match folios_touched(round.docket, round.journal, item) {
         TouchedFolios::Nowhere => Some(settle_here(round, gate, seat, item)),
-        TouchedFolios::One(folio) => settle_in_one(rt, round, gate, item, folio),
+        TouchedFolios::One(folio) => settle_in_one(rt, round, gate, &mut seat.scratch, item, folio),
         TouchedFolios::Two(first, second) => {
-            settle_in_two(rt, round, gate, &mut seat.pair, item, first, second)
+            settle_in_two(
+                rt,
+                round,
+                gate,
+                &mut seat.pair,
+                &mut seat.scratch,
+                item,
+                first,
+                second,
+            )
         }
     }
 }
@@ -129,11 +138,12 @@ fn settle_here<N: JournalName, G: DeskGate>(
     settle_nowhere(&mut seat.nothing, &mut seat.scratch, round.journal, item)
 }
 
-/// The same of an item that touches one folio alone.
+/// The same of an item that touches one folio alone; `spare` serves where the folio has no scratch.
 fn settle_in_one<N: JournalName, G: DeskGate, R: Wait>(
     rt: &R,
     round: &SharedRound<'_, N>,
     gate: &G,
+    spare: &mut Scratch,
     item: ReceiptNo,
     folio: FolioId,
 ) -> Option<Verdict>
@@ -148,7 +158,7 @@ fn settle_in_one<N: JournalName, G: DeskGate, R: Wait>(
     if here.folio() != folio {
         return None;
     }
-    here.settle(round.journal, queue, item)
+    here.settle(spare, round.journal, queue, item)
 }
 
 /// The same of an item that touches two folios.
@@ -157,6 +167,7 @@ fn settle_in_two<N: JournalName, G: DeskGate, R: Wait>(
     round: &SharedRound<'_, N>,
     gate: &G,
     pair: &mut FolioPair,
+    spare: &mut Scratch,
     item: ReceiptNo,
     first: FolioId,
     second: FolioId,
@@ -181,6 +192,7 @@ fn settle_in_two<N: JournalName, G: DeskGate, R: Wait>(
         here,
         there,
         pair,
+        spare,
         round.journal,
         first_queue,
         second_queue,

@@ -8,6 +8,7 @@ mod desks;
 mod finishing;
 mod folio_parts;
 mod folio_queues;
+mod folio_scratches;
 mod key_rooms;
 pub mod laws;
 mod locked_folios;

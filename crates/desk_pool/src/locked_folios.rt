@@ -5,18 +5,19 @@ ghost use Rattle.gb_base.specs.Keys.{folio_of_key};
 ghost use Rattle.gb_base.specs.declared.keys.Key.{Key};
 ghost use Rattle.conflict_queue.specs.ItemKeys.{keys_of_item};
 ghost use Rattle.desk_pool.specs.FolioQueues.{is_key_of, is_next, queue_of};
-ghost use Rattle.desk_pool.specs.FolioStates.{HasAllRoom, IsBehindLock};
+ghost use Rattle.desk_pool.specs.FolioStates.{HasAllRoom, IsBehindLock, scratch_of};
 ghost use Rattle.folio_sections.specs.Entries.{at};
 ghost use Rattle.folio_sections.specs.Held.{entries_at, is_held, room_at};
 ghost use Rattle.registrar.specs.RegisterState.{verdict_among};
 ghost use Rattle.registrar.specs.Settling.{registrar};
 
+use crate::folio_scratches::step_in_own;
 use crate::pairs::FolioPair;
 use act_model::{Journal, JournalName};
 use folio_sections::MapParts;
 use gb_base::{FolioId, ReceiptNo};
 use kept_registers::laws::empty_register_is_kept;
-use registrar::{Scratch, Verdict, step};
+use registrar::{Scratch, Verdict};
 use std::marker::{Model, PhantomData};
 
 /// A folio of a round. Whenever its lock is free, its parts say what the one registrar of the named
@@ -28,25 +29,27 @@ pub(crate) struct LockedFolio<N: JournalName> {
     /// How many of the folio's items are settled.
     taken: usize,
     parts: MapParts,
-    scratch: Scratch,
+    /// What its sales are reckoned in; None where no item of the journal reckons there, and then
+    /// that of the desk serves.
+    scratch: Option<Scratch>,
     of: PhantomData<N>,
 }
 
 impl<N: JournalName> Model for LockedFolio<N> {
-    ghost use Rattle.desk_pool.specs.FolioStates.{FolioState, IsBehindLock};
+    ghost use Rattle.desk_pool.specs.FolioStates.{FolioState, IsBehindLock, scratch_of};
 
     ghost Value = { FolioState };
 
-    ghost view = { λ a. record { folio = a.folio; taken = a.taken; parts = a.parts; scratch = a.scratch } };
+    ghost view = { λ a. record { folio = a.folio; taken = a.taken; parts = a.parts; scratch = scratch_of a.scratch } };
 
-    ghost invariant = { λ a. IsBehindLock N.receipts (record { folio = a.folio; taken = a.taken; parts = a.parts; scratch = a.scratch }) };
+    ghost invariant = { λ a. IsBehindLock N.receipts (record { folio = a.folio; taken = a.taken; parts = a.parts; scratch = scratch_of a.scratch }) };
 }
 
 impl<N: JournalName> LockedFolio<N> {
     /// A folio of which no item is settled.
-    pub fn new(folio: FolioId, parts: MapParts, scratch: Scratch) -> LockedFolio<N>
-        requires { IsBehindLock N.receipts (record { folio = folio; taken = 0; parts = parts; scratch = scratch }) }
-        ensures { result ≡ record { folio = folio; taken = 0; parts = parts; scratch = scratch } }
+    pub fn new(folio: FolioId, parts: MapParts, scratch: Option<Scratch>) -> LockedFolio<N>
+        requires { IsBehindLock N.receipts (record { folio = folio; taken = 0; parts = parts; scratch = scratch_of scratch }) }
+        ensures { result ≡ record { folio = folio; taken = 0; parts = parts; scratch = scratch_of scratch } }
     {
         LockedFolio {
             folio,
@@ -78,9 +81,11 @@ impl<N: JournalName> LockedFolio<N> {
     }
 
     /// Settles an item that touches this folio alone, where it is the folio's next; else nothing
-    /// changes. `queue` are the items of the folio.
+    /// changes. `queue` are the items of the folio. The step is made in the spare scratch where the
+    /// folio has none of its own.
     pub fn settle(
         &mut self,
+        spare: &mut Scratch,
         journal: &Journal,
         queue: &[ReceiptNo],
         item: ReceiptNo,
@@ -93,11 +98,12 @@ impl<N: JournalName> LockedFolio<N> {
         ensures folio { self.new.folio ≡ self.old.folio }
         ensures taken { IfSome result (λ verdict. self.new.taken ≡ self.old.taken + 1) }
         ensures unchanged { IfNone result (self.new ≡ self.old) }
+        ensures spare { spare.new ≡ spare.old }
     {
         // Called for its clause.
         empty_register_is_kept();
         let taken = self.count_with(queue, item)?;
-        let verdict = step(&mut self.parts, &mut self.scratch, journal, item);
+        let verdict = step_in_own(&mut self.parts, &mut self.scratch, spare, journal, item);
         self.taken = taken;
         Some(verdict)
     }
@@ -105,11 +111,13 @@ impl<N: JournalName> LockedFolio<N> {
     /// Settles an item that touches these two folios and no other, where it is the next of both;
     /// else nothing changes. The first has the lower number: in that order a desk locks them. The
     /// queues are the items of the first and of the second. The parts of both are moved into `pair`
-    /// for the step, and back.
+    /// for the step, and back. It is made in the first folio's scratch, or in the spare one where
+    /// that folio has none.
     pub fn settle_both(
         first: &mut LockedFolio<N>,
         second: &mut LockedFolio<N>,
         pair: &mut FolioPair,
+        spare: &mut Scratch,
         journal: &Journal,
         first_queue: &[ReceiptNo],
         second_queue: &[ReceiptNo],
@@ -128,13 +136,14 @@ impl<N: JournalName> LockedFolio<N> {
         ensures second_taken { IfSome result (λ verdict. second.new.taken ≡ second.old.taken + 1) }
         ensures unchanged { IfNone result ((first.new ≡ first.old) × (second.new ≡ second.old)) }
         ensures pair { pair.new ≡ pair.old }
+        ensures spare { spare.new ≡ spare.old }
     {
         // Called for its clause.
         empty_register_is_kept();
         let first_taken = first.count_with(first_queue, item)?;
         let second_taken = second.count_with(second_queue, item)?;
         pair.swap(&mut first.parts, &mut second.parts);
-        let verdict = step(pair, &mut first.scratch, journal, item);
+        let verdict = step_in_own(pair, &mut first.scratch, spare, journal, item);
         pair.swap(&mut first.parts, &mut second.parts);
         first.taken = first_taken;
         second.taken = second_taken;

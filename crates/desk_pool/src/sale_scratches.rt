@@ -3,7 +3,7 @@ ghost use Rattle.std.specs.Prelude.{◌≡◌, ◌*◌, ◌≤◌, true, length,
 ghost use Rattle.gb_base.specs.declared.keys.Key.{Key};
 ghost use Rattle.gb_base.specs.declared.keys.Key.TheVariants.{Right};
 ghost use Rattle.act_model.specs.Limits.{most_creations, most_receipts};
-ghost use Rattle.desk_pool.specs.FolioStates.{HasAllScratch};
+ghost use Rattle.desk_pool.specs.FolioStates.{HasAllScratch, scratch_of};
 ghost use Rattle.desk_pool.specs.KeyRooms.{AreRooms, room_in};
 ghost use Rattle.desk_pool.specs.Preparing.{ServesEachItem};
 ghost use Rattle.desk_pool.specs.inner.PartsPrepared.{AreRoomsAt};
@@ -37,23 +37,24 @@ pub(crate) fn scratch_for_all(
     Ok(scratch)
 }
 
-/// A scratch for the items that touch a folio: for its rights where it has a sale, and for nothing
-/// where it has none. Wants memory (NoMemory).
+/// A scratch for the items that touch a folio: for its rights where it has a sale, and None where it
+/// has none, since one without room takes memory all the same. Wants memory (NoMemory).
 pub(crate) fn scratch_for_folio(
     alloc: Global,
     journal: &Journal,
     rooms: &BTreeMap<Key, usize>,
     folio: FolioId,
-) -> Result<Scratch, NoMemory>
+) -> Result<Option<Scratch>, NoMemory>
     requires rooms { AreRooms journal.now.receipts rooms.now }
-    ensures { IfOk result (HasAllScratch journal.now.receipts folio) }
+    ensures { IfOk result (λ scratch. HasAllScratch journal.now.receipts folio (scratch_of scratch)) }
 {
-    let mut scratch = Scratch::with_room(alloc, 0, 0)?;
     let case = Key::Case(folio);
-    if rooms.contains_key(&case) {
-        reserve_at(alloc, &mut scratch, journal, rooms, &case)?;
+    if !rooms.contains_key(&case) {
+        return Ok(None);
     }
-    Ok(scratch)
+    let mut scratch = Scratch::with_room(alloc, 0, 0)?;
+    reserve_at(alloc, &mut scratch, journal, rooms, &case)?;
+    Ok(Some(scratch))
 }
 
 /// Keeps the room in a scratch that a sale wants, where the key is one: for the rights of its folio,

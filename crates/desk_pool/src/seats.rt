@@ -12,7 +12,7 @@ use std::alloc::Global;
 pub(crate) struct Seat {
     /// Parts that hold nothing, for an item that touches no key.
     pub nothing: MapParts,
-    /// A scratch without room, for such an item.
+    /// A scratch without room, for such an item, and for one of a folio that has no scratch.
     pub scratch: Scratch,
     /// Where the parts of two folios are moved, for an item that touches both.
     pub pair: FolioPair,
