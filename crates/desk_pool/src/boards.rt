@@ -1,4 +1,5 @@
 //! The board that hands out the items whose turn has come.
+//! Why so: docs/DECISIONS.md, "The board is trusted for nothing".
 ghost use Rattle.std.specs.Prelude.{◌≡◌, ◌==◌, ◌&&◌, ◌≤◌, ◌-◌, ℕ, Some, IfSome, is_some, length, slice_get};
 ghost use Rattle.std.specs.List.{list_all};
 ghost use Rattle.registrar.specs.RegisterState.{verdict_among};

