@@ -1,4 +1,5 @@
 -- Lemmas that the answers cite.
+pub mod AddedRooms
 pub mod AgreeingScratches
 pub mod AllComplete
 pub mod AllPrepared
@@ -9,6 +10,7 @@ pub mod CountedRooms
 pub mod CutLists
 pub mod FewFolios
 pub mod FilingRoom
+pub mod FolioRooms
 pub mod FolioSteps
 pub mod ItemRoom
 pub mod NoKeys

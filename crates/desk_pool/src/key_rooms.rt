@@ -1,58 +1,153 @@
 //! The room that a round keeps at each key of a journal.
-ghost use Rattle.std.specs.Prelude.{◌≡◌, ◌||◌, ◌+◌, ◌*◌, ◌≤◌, if◌then◌else◌, is_some, IfOk, OnOk};
+ghost use Rattle.std.specs.Prelude.{◌≡◌, ◌||◌, ◌++◌, ◌+◌, ◌*◌, ◌≤◌, if◌then◌else◌, is_some, IfOk, OnOk};
 ghost use Rattle.act_model.specs.Limits.{most_receipts};
 ghost use Rattle.gb_base.specs.Keys.{key_cmp, same_key};
 ghost use Rattle.gb_base.specs.declared.keys.Key.{Key};
 ghost use Rattle.std.specs.BTreeMap.{get};
-ghost use Rattle.conflict_queue.specs.Dockets.{docket_of, has_key};
+ghost use Rattle.conflict_queue.specs.Dockets.{docket_of};
+ghost use Rattle.desk_pool.specs.AllQueues.{AreAllQueues};
+ghost use Rattle.desk_pool.specs.FolioQueues.{is_key_of, queue_of};
 ghost use Rattle.desk_pool.specs.KeyRooms.{AreRooms, room_in};
 ghost use Rattle.desk_pool.specs.RoundRooms.{room_for, room_for_item};
-ghost use Rattle.desk_pool.specs.inner.RoomsCounted.{with_room_at};
+ghost use Rattle.desk_pool.specs.inner.RoomsCounted.{is_listed, keys_with_room, room_if, room_of_folio, rooms_of_items, sum_at};
 
+use crate::folio_parts::KeyRoom;
+use crate::folio_queues::FolioQueue;
 use act_model::{Item, Journal};
 use conflict_queue::Docket;
-use gb_base::{Key, NoMemory, ReceiptNo};
+use gb_base::{FolioId, Key, NoMemory, ReceiptNo};
 use std::alloc::Global;
 use std::collections::BTreeMap;
 
-/// The room that the journal's items keep at each of their keys; no other key is in it. Wants
-/// memory (NoMemory).
+/// The room that the journal's items keep at each of their keys; no other key is in it. `queues` are
+/// those of all folios that the journal touches. Wants memory (NoMemory).
+///
+/// The map is asked once for each key, and not at each touch: what the items touch in a folio is
+/// listed and sorted, so that the same keys stand together.
 pub(crate) fn count_rooms(
     alloc: Global,
     journal: &Journal,
     docket: &Docket,
+    queues: &[FolioQueue],
 ) -> Result<BTreeMap<Key, usize>, NoMemory>
-    requires { docket.now ≡ docket_of journal.now.receipts }
+    requires docket { docket.now ≡ docket_of journal.now.receipts }
+    requires queues { AreAllQueues journal.now.receipts queues.now }
     ensures { IfOk result (AreRooms journal.now.receipts) }
 {
+    // Called for its clause.
+    journal.len();
     let mut rooms = BTreeMap::new(alloc);
-    for index in 0..journal.len() {
-        let item = ReceiptNo::new(index + 1).unwrap();
-        add_all(&mut rooms, docket.keys(item), room_for(journal, item))?;
+    // One list serves all folios.
+    let mut touched = Vec::new(alloc);
+    for queue in queues {
+        add_folio(&mut rooms, &mut touched, journal, docket, queue)?;
     }
     Ok(rooms)
 }
 
-/// Keeps so much room more at each of these keys.
-fn add_all(rooms: &mut BTreeMap<Key, usize>, keys: &[Key], room: usize) -> Result<(), NoMemory>
-    requires few { (k : Key) → with_room_at keys.now k room (room_in rooms.old k) ≤ 4 * most_receipts }
-    ensures room { OnOk result ((k : Key) → room_in rooms.new k ≡ with_room_at keys.now k room (room_in rooms.old k)) }
-    ensures keys { OnOk result ((k : Key) → is_some (get key_cmp rooms.new k) ≡ (is_some (get key_cmp rooms.old k) || has_key k keys.now)) }
+/// Keeps the room of the folio at each of its keys. What stands in `touched` is of no matter.
+fn add_folio(
+    rooms: &mut BTreeMap<Key, usize>,
+    touched: &mut Vec<KeyRoom>,
+    journal: &Journal,
+    docket: &Docket,
+    queue: &FolioQueue,
+) -> Result<(), NoMemory>
+    requires docket { docket.now ≡ docket_of journal.now.receipts }
+    requires own { queue.now.items.items ≡ queue_of journal.now.receipts queue.now.folio }
+    requires few { (k : Key) → room_in rooms.old k + room_of_folio journal.now.receipts queue.now.folio k ≤ 4 * most_receipts }
+    ensures room { OnOk result ((k : Key) → room_in rooms.new k ≡ room_in rooms.old k + room_of_folio journal.now.receipts queue.now.folio k) }
+    ensures keys { OnOk result ((k : Key) → is_some (get key_cmp rooms.new k) ≡ (is_some (get key_cmp rooms.old k) || is_key_of journal.now.receipts queue.now.folio k)) }
 {
-    for key in keys {
-        add(rooms, *key, room)?;
+    touched.clear();
+    list_items(touched, journal, docket, queue)?;
+    touched.sort_unstable_by_key(|one: &KeyRoom| one.key);
+    add_sums(rooms, touched.as_slice())
+}
+
+/// Lists the keys of the folio that its items touch behind these, each with its item's room.
+fn list_items(
+    touched: &mut Vec<KeyRoom>,
+    journal: &Journal,
+    docket: &Docket,
+    queue: &FolioQueue,
+) -> Result<(), NoMemory>
+    requires docket { docket.now ≡ docket_of journal.now.receipts }
+    requires own { queue.now.items.items ≡ queue_of journal.now.receipts queue.now.folio }
+    ensures { OnOk result (touched.new.items ≡ touched.old.items ++ rooms_of_items journal.now.receipts queue.now.folio queue.now.items.items) }
+{
+    for item in &queue.items {
+        let room = room_for(journal, *item);
+        list_keys(touched, docket.keys(*item), queue.folio, room)?;
     }
     Ok(())
 }
 
-/// Keeps so much room more at a key.
-fn add(rooms: &mut BTreeMap<Key, usize>, key: Key, room: usize) -> Result<(), NoMemory>
-    requires few { room_in rooms.old key + room ≤ 4 * most_receipts }
-    ensures room { OnOk result ((k : Key) → room_in rooms.new k ≡ if same_key key k then room_in rooms.old k + room else room_in rooms.old k) }
-    ensures keys { OnOk result ((k : Key) → is_some (get key_cmp rooms.new k) ≡ (is_some (get key_cmp rooms.old k) || same_key key k)) }
+/// Lists those of the keys that are of the folio behind these, each with so much room.
+fn list_keys(
+    touched: &mut Vec<KeyRoom>,
+    keys: &[Key],
+    folio: FolioId,
+    room: usize,
+) -> Result<(), NoMemory>
+    ensures { OnOk result (touched.new.items ≡ touched.old.items ++ keys_with_room keys.now folio room) }
 {
-    let before = room_at(rooms, &key);
-    rooms.insert(key, before + room)?;
+    for key in keys {
+        if key.folio() == folio {
+            touched.push(KeyRoom { key: *key, room })?;
+        }
+    }
+    Ok(())
+}
+
+/// Keeps at each key the sum of its rooms in the list more. Where the same keys stand together each
+/// is looked up once.
+fn add_sums(rooms: &mut BTreeMap<Key, usize>, touched: &[KeyRoom]) -> Result<(), NoMemory>
+    requires few { (k : Key) → room_in rooms.old k + sum_at touched.now k ≤ 4 * most_receipts }
+    ensures room { OnOk result ((k : Key) → room_in rooms.new k ≡ room_in rooms.old k + sum_at touched.now k) }
+    ensures keys { OnOk result ((k : Key) → is_some (get key_cmp rooms.new k) ≡ (is_some (get key_cmp rooms.old k) || is_listed touched.now k)) }
+{
+    match touched.split_first() {
+        Some((first, rest)) => add_from(rooms, first.key, first.room, rest),
+        None => Ok(()),
+    }
+}
+
+/// The same of a key with its room, and the list behind it.
+fn add_from(
+    rooms: &mut BTreeMap<Key, usize>,
+    first: Key,
+    room: usize,
+    rest: &[KeyRoom],
+) -> Result<(), NoMemory>
+    requires few { (k : Key) → room_in rooms.old k + room_if first room k + sum_at rest.now k ≤ 4 * most_receipts }
+    ensures room { OnOk result ((k : Key) → room_in rooms.new k ≡ room_in rooms.old k + room_if first room k + sum_at rest.now k) }
+    ensures keys { OnOk result ((k : Key) → is_some (get key_cmp rooms.new k) ≡ (is_some (get key_cmp rooms.old k) || (same_key first k || is_listed rest.now k))) }
+{
+    let mut key = first;
+    // The room of the last keys, which are all this one.
+    let mut sum = room;
+    for next in rest {
+        if next.key != key {
+            add(rooms, &key, sum)?;
+            key = next.key;
+            sum = 0;
+        }
+        sum += next.room;
+    }
+    add(rooms, &key, sum)
+}
+
+/// Keeps so much room more at a key.
+fn add(rooms: &mut BTreeMap<Key, usize>, key: &Key, room: usize) -> Result<(), NoMemory>
+    requires few { room_in rooms.old key.now + room ≤ 4 * most_receipts }
+    ensures room { OnOk result ((k : Key) → room_in rooms.new k ≡ if same_key key.now k then room_in rooms.old k + room else room_in rooms.old k) }
+    ensures keys { OnOk result ((k : Key) → is_some (get key_cmp rooms.new k) ≡ (is_some (get key_cmp rooms.old k) || same_key key.now k)) }
+{
+    // The key is most often a new one, and then it is looked up once.
+    if let Some(before) = rooms.insert(*key, room)? {
+        rooms.insert(*key, before + room)?;
+    }
     Ok(())
 }
 

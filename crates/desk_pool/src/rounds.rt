@@ -84,7 +84,7 @@ impl<'a, N: JournalName> Round<'a, N> {
     {
         let docket = Docket::build(alloc, journal)?;
         let queues = build_queues(alloc, journal, &docket)?;
-        let rooms = count_rooms(alloc, journal, &docket)?;
+        let rooms = count_rooms(alloc, journal, &docket, queues.as_slice())?;
         let folios = lock_folios(alloc, journal, &rooms, queues.as_slice())?;
         let receipts = list_receipts(alloc, journal)?;
         let board = Board::new(alloc, &docket, queues.as_slice(), receipts.as_slice())?;

@@ -1,40 +1,41 @@
--- One item after the other keeps its room at its keys.
-use Rattle.std.proofs.Common.{◌≡◌, ◌∙◌, ◌+◌, length, ap, ◌||◌, arith}
-use Rattle.std.proofs.lemmas.Grind.{common_steps}
-use Rattle.conflict_queue.proofs.Numbered.{docket_len}
-use Rattle.conflict_queue.specs.Dockets.{has_key}
-use Rattle.desk_pool.specs.KeyRooms.{room_in}
-use Rattle.desk_pool.specs.inner.RoomsCounted.{with_room_at}
-use Rattle.desk_pool.proofs.CountedRooms.{counted, room_few}
+-- The queues of all folios bring each key its room.
+use Rattle.std.proofs.Common.{◌+◌, ◌||◌, ◌∙◌, arith, ap, drop, length, sym}
+use Rattle.std.specs.Prelude.{is_some}
+use Rattle.std.specs.BTreeMap.{get}
+use Rattle.std.proofs.lemmas.List.{drop_all}
+use Rattle.std.proofs.lemmas.List.Sums.{sum_by-cons}
+use Rattle.gb_base.specs.Keys.{key_cmp}
+use Rattle.desk_pool.proofs.BuiltQueues.{or_none}
+use Rattle.desk_pool.proofs.CountedRooms.{cut, room_few}
+use Rattle.desk_pool.proofs.FolioRooms.{all_counted, all_given, is_key_of_any, room_of_folios}
+use Rattle.desk_pool.specs.inner.RoomsCounted.{room_of_folio}
 use Rattle.desk_pool.proofs.key_rooms.count_rooms.Goals as goal
-use Rattle.registrar.proofs.JournalKeys.{given_next}
 
-pub keys-requires : goal.keys-requires
-keys-requires c =
-    let number : c.unwrap-item.result ≡ c.loop-index.index + 1 = grind (arith, common_steps) in
-    let count = ap length c.requires ∙ docket_len c.args.journal.now.receipts in
-    omega (arith, number, count, c.loop-index-test.true, c.len-index-end.ensures.value)
-
-pub add_all-requires : goal.add_all-requires
-add_all-requires c =
+pub add_folio-requires-clause-few : goal.add_folio-requires-clause-few
+add_folio-requires-clause-few c = λ k.
     let journal = c.args.journal.now.receipts in
-    let number : c.unwrap-item.result ≡ c.loop-index.index + 1 = grind (arith, common_steps) in
-    record {
-      few = λ k.
-          let same = ap (λ r. with_room_at c.keys.result.now k r (room_in c.loop-index.rooms k)) c.room_for.ensures
-          ∙ counted journal c.loop-index.index c.unwrap-item.result c.keys.result.now k (room_in c.loop-index.rooms k) number (c.keys.ensures.touched journal c.requires) (c.loop-index.invariant.room k) in
-          let few = room_few journal (c.loop-index.index + 1) k in
-          omega (arith, same, few, c.loop-index-test.true, c.len-index-end.ensures.value, c.len-index-end.ensures.limit);
-    }
+    let queues = c.args.queues.now in
+    let queue = c.queue-item.result in
+    let i = c.loop-queue.queue-index in
+    let next = ap (λ qs. room_of_folios journal qs k) (cut queues i queue c.loop-queue-test.true c.queue-item.is) ∙ sum_by-cons (λ q. room_of_folio journal q.folio k) queue (drop (i + 1) queues) in
+    let so_far = c.loop-queue.invariant.room k in
+    let whole = all_counted journal queues k c.requires.queues in
+    let few = room_few journal (length journal) k in
+    omega (arith, next, so_far, whole, few, c.len.ensures.value, c.len.ensures.limit)
 
-pub loop-index-preserved : goal.loop-index-preserved
-loop-index-preserved c =
+pub returns : goal.returns
+returns c =
     let journal = c.args.journal.now.receipts in
-    let number : c.unwrap-item.result ≡ c.loop-index.index + 1 = grind (arith, common_steps) in
-    let are = c.keys.ensures.touched journal c.requires in
+    let queues = c.args.queues.now in
+    let none = drop_all c.loop-queue.queue-index queues c.loop-queue-test.false in
     record {
-      keys = λ k. c.in_ok-add_all.ensures.keys k ∙ ap (λ b. b || has_key k c.keys.result.now) (c.loop-index.invariant.keys k)
-          ∙ given_next journal c.loop-index.index c.unwrap-item.result c.keys.result.now k number are;
-      room = λ k. c.in_ok-add_all.ensures.room k ∙ ap (λ r. with_room_at c.keys.result.now k r (room_in c.loop-index.rooms k)) c.room_for.ensures
-          ∙ counted journal c.loop-index.index c.unwrap-item.result c.keys.result.now k (room_in c.loop-index.rooms k) number are (c.loop-index.invariant.room k);
+      keys = λ k.
+          sym (or_none (is_some (get key_cmp c.loop-queue.rooms k)))
+          ∙ ap (λ qs. is_some (get key_cmp c.loop-queue.rooms k) || is_key_of_any journal qs k) (sym none)
+          ∙ c.loop-queue.invariant.keys k ∙ all_given journal queues k c.requires.queues;
+      room = λ k.
+          let left = ap (λ qs. room_of_folios journal qs k) none in
+          let so_far = c.loop-queue.invariant.room k in
+          let whole = all_counted journal queues k c.requires.queues in
+          omega (arith, left, so_far, whole);
     }
