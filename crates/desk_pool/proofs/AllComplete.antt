@@ -24,8 +24,8 @@ use Rattle.registrar.specs.RegisterState.{verdict_among}
 use Rattle.registrar.specs.Settling.{registrar}
 use Rattle.registrar.specs.declared.verdicts.Verdict.{Verdict}
 use Rattle.desk_pool.specs.FolioStates.{HasAllRoom}
-use Rattle.desk_pool.specs.FoliosBack.{AreAllKeys}
-use Rattle.desk_pool.specs.Preparing.{HasPlaces}
+use Rattle.desk_pool.specs.FoliosBack.{AreAllKeys, IsBackAt}
+use Rattle.desk_pool.specs.Preparing.{HasFrame, HasPlaces}
 use Rattle.desk_pool.specs.declared.folio_parts.KeyRoom.{KeyRoom}
 use Rattle.desk_pool.specs.declared.prepared.Prepared.{Prepared}
 use Rattle.desk_pool.proofs.NothingBetween.{nothing_between}
@@ -36,10 +36,16 @@ use Rattle.desk_pool.proofs.Settling.{verdict_said}
 abbrev pub put_together : Prepared → List PartState → Vec Verdict Global → Prepared
 put_together s parts verdicts = record { alloc = s.alloc; parts = parts; scratch = s.scratch; verdicts = verdicts; folios = s.folios }
 
-pub places_together : (journal : List Receipt) (s : Prepared) (parts : List PartState) (verdicts : Vec Verdict Global) → HasPlaces journal s → is_held parts ≡ is_held s.parts
-    → HasAllRoom journal (is_held parts) (entries_at parts) (room_at parts) → length verdicts.items ≡ length journal → HasPlaces journal (put_together s parts verdicts)
-places_together journal s parts verdicts places held room count =
-    record { held = λ k. (λ i. held i k) ∙ places.held k; room = room; scratch = places.scratch; verdicts = count; folios = places.folios }
+pub frame_together : (journal : List Receipt) (s : Prepared) (parts : List PartState) (verdicts : Vec Verdict Global) → HasFrame journal s → is_held parts ≡ is_held s.parts
+    → length verdicts.items ≡ length journal → HasFrame journal (put_together s parts verdicts)
+frame_together journal s parts verdicts frame held count =
+    record { held = λ k. (λ i. held i k) ∙ frame.held k; scratch = frame.scratch; verdicts = count; folios = frame.folios }
+
+pub places_together : (journal : List Receipt) (s : Prepared) (parts : List PartState) (verdicts : Vec Verdict Global) → is_held parts ≡ is_held s.parts
+    → (HasAllRoom journal (is_held s.parts) (entries_at s.parts) (room_at s.parts) → HasAllRoom journal (is_held parts) (entries_at parts) (room_at parts)) → length verdicts.items ≡ length journal
+    → HasPlaces journal s → HasPlaces journal (put_together s parts verdicts)
+places_together journal s parts verdicts held room count places =
+    record { frame = frame_together journal s parts verdicts places.frame held count; room = room places.room }
 
 -- what holds of each of these keys holds of one that is given among them
 given_listed : (keys : List KeyRoom) (k : Key) (P : Key → Type 0) → is_given (map (λ w. w.key) keys) k ≡ true → All (λ w. P w.key) keys → P k
@@ -49,6 +55,11 @@ given_listed (w ∷ ws) k P given all =
     (λ same. subst P (same_is w.key k same) (All-head (λ v. P v.key) w ws all))
     (λ other. given_listed ws k P (sym (ap (λ b. b || is_given (map (λ v. v.key) ws) k) other) ∙ given) (All-tail (λ v. P v.key) w ws all))
     (cases_Bool (same_key w.key k))
+
+-- where all keys are back, each that is held has its room: the parts of the folios brought it along
+pub room_together : (journal : List Receipt) (parts : List PartState) (keys : List KeyRoom) → ((k : Key) → is_held parts k ≡ is_given (keys_of_first journal (length journal)) k) → AreAllKeys journal keys
+    → All (λ w. IsBackAt journal parts w.key) keys → HasAllRoom journal (is_held parts) (entries_at parts) (room_at parts)
+room_together journal parts keys held are all = λ k there. (given_listed keys k (IsBackAt journal parts) (are.all k ∙ sym (held k) ∙ there) all).room
 
 module _ (journal : List Receipt) (numbered : IsJournal journal) (empty : Kept journal (λ k. [])) where
   -- at a key that no item touches nothing stands
@@ -61,10 +72,10 @@ module _ (journal : List Receipt) (numbered : IsJournal journal) (empty : Kept j
       (cases_Bool (has_key k (keys_of_item journal i))))
 
   pub entries_together : (parts : List PartState) (keys : List KeyRoom) → ((k : Key) → is_held parts k ≡ is_given (keys_of_first journal (length journal)) k) → AreAllKeys journal keys
-      → All (λ w. entries_at parts w.key ≡ at (registrar journal).entries w.key) keys → (k : Key) → entries_at parts k ≡ at (registrar journal).entries k
+      → All (λ w. IsBackAt journal parts w.key) keys → (k : Key) → entries_at parts k ≡ at (registrar journal).entries k
   entries_together parts keys held are all k =
       ⊎_elim
-      (λ there. given_listed keys k (λ j. entries_at parts j ≡ at (registrar journal).entries j) (are.all k ∙ sym (held k) ∙ there) all)
+      (λ there. (given_listed keys k (IsBackAt journal parts) (are.all k ∙ sym (held k) ∙ there) all).stands)
       (λ none. not_held parts k none ∙ sym (untouched_is_empty k (sym (held k) ∙ none)))
       (cases_Bool (is_held parts k))
 

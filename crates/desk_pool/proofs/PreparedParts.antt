@@ -31,10 +31,14 @@ use Rattle.folio_sections.specs.inner.RightsInKeys.{entries_from_to}
 abbrev pub key_of : KeyRoom → Key
 key_of r = r.key
 
--- The first so many of these keys are held and have their room, and nothing stands in them.
-pub record HeldSoFar (parts : List PartState) (keys : List KeyRoom) (done : ℕ) : Type 0 where
+-- The first so many of these keys are held, and nothing stands in them.
+pub record AreHeldSoFar (parts : List PartState) (keys : List KeyRoom) (done : ℕ) : Type 0 where
   pub held : (k : Key) → is_held parts k ≡ is_given (map key_of (take done keys)) k
   pub empty : (k : Key) → entries_at parts k ≡ []
+
+-- They have their room too.
+pub record HeldSoFar (parts : List PartState) (keys : List KeyRoom) (done : ℕ) : Type 0 where
+  pub so_far : AreHeldSoFar parts keys done
   pub room : (i : ℕ) (d : KeyRoom) → i < done → (get_or keys i d).room ≤ room_at parts (get_or keys i d).key
 
 none_stands : (parts : List PartState) (k : Key) → All (λ p. p.entries ≡ []) parts → option_map_or (λ (p : PartState). p.entries) (find (λ p. same_key p.key k) parts) [] ≡ []
@@ -45,8 +49,11 @@ none_stands (p ∷ ps) k empty =
       | false ↦ none_stands ps k (λ i d within. empty (suc i) d (omega (arith, within)))
     ]
 
+pub none_held : (parts : List PartState) (keys : List KeyRoom) → ((k : Key) → is_held parts k ≡ is_given [] k) → All (λ p. p.entries ≡ []) parts → AreHeldSoFar parts keys 0
+none_held parts keys holds empty = record { held = holds; empty = λ k. none_stands parts k empty }
+
 pub held_none : (parts : List PartState) (keys : List KeyRoom) → ((k : Key) → is_held parts k ≡ is_given [] k) → All (λ p. p.entries ≡ []) parts → HeldSoFar parts keys 0
-held_none parts keys holds empty = record { held = holds; empty = λ k. none_stands parts k empty; room = λ i d less. absurd (omega (arith, less)) }
+held_none parts keys holds empty = record { so_far = none_held parts keys holds empty; room = λ i d less. absurd (omega (arith, less)) }
 
 map_both : (xs ys : List KeyRoom) → map key_of (xs ++ ys) ≡ map key_of xs ++ map key_of ys
 map_both [] ys = refl
@@ -60,6 +67,13 @@ given_next keys i r k within is =
     ∙ list_any-append (λ j. same_key j k) (map key_of (take i keys)) (r.key ∷ [])
     ∙ ap (λ b. is_given (map key_of (take i keys)) k || b) (or_none (same_key r.key k))
 
+pub one_more_held : (parts held : List PartState) (keys : List KeyRoom) (i : ℕ) (r : KeyRoom) → AreHeldSoFar parts keys i → i < length keys → r ≡ get_or keys i r
+    → ((k : Key) → is_held held k ≡ (is_held parts k || same_key r.key k)) → entries_at held ≡ entries_at parts → AreHeldSoFar held keys (i + 1)
+one_more_held parts held keys i r so_far within is holds stays = record {
+  held = λ k. holds k ∙ ap (λ b. b || same_key r.key k) (so_far.held k) ∙ sym (given_next keys i r k within is);
+  empty = λ k. ap (λ f. f k) stays ∙ so_far.empty k;
+}
+
 pub held_next : (parts held after : List PartState) (keys : List KeyRoom) (i : ℕ) (r : KeyRoom) → HeldSoFar parts keys i → i < length keys → r ≡ get_or keys i r
     → ((k : Key) → is_held held k ≡ (is_held parts k || same_key r.key k)) → entries_at held ≡ entries_at parts → ((k : Key) → room_at parts k ≤ room_at held k)
     → is_held after ≡ is_held held → entries_at after ≡ entries_at held → (IsTrue (is_held after r.key) → r.room ≤ room_at after r.key)
@@ -68,8 +82,7 @@ held_next parts held after keys i r so_far within is holds stays wider same entr
     let there : IsTrue (is_held after r.key) = subst IsTrue (sym (ap (λ f. f r.key) same ∙ holds r.key)) (or_right (is_held parts r.key) (same_key r.key r.key) (itself r.key)) in
     let here : r.room ≤ room_at after r.key = room there in
     record {
-      held = λ k. ap (λ f. f k) same ∙ holds k ∙ ap (λ b. b || same_key r.key k) (so_far.held k) ∙ sym (given_next keys i r k within is);
-      empty = λ k. ap (λ f. f k) (entries ∙ stays) ∙ so_far.empty k;
+      so_far = one_more_held parts after keys i r so_far.so_far within is (λ k. ap (λ f. f k) same ∙ holds k) (entries ∙ stays);
       room = λ j d less.
           ⊎_elim
           (λ same_place.

@@ -49,7 +49,7 @@ pub all_said : (journal : List Receipt) (order : List ℕ) (s : Prepared) → Is
     → enumerate_from 1 s.verdicts.items ≡ (registrar journal).verdicts
 all_said journal order s numbered empty permitted taken =
     let vs = s.verdicts.items in
-    let count = taken.places.verdicts in
+    let count = taken.places.frame.verdicts in
     let each : (k : ℕ) → k < length vs → slice_get vs k ≡ Some (verdict_first journal (1 + k)) = λ k within.
     let back : k ≡ (1 + k) - 1 = omega arith in
     ap (slice_get vs) back ∙ taken.verdicts (1 + k) (contains_of_in order (1 + k) (in_order journal order (1 + k) permitted (omega arith) (omega (arith, within, count)))) in
@@ -76,11 +76,11 @@ open_ones journal s places =
     let p : ℕ → Bool = λ folio. is_open (entries_at s.parts (Title folio)) in
     let all = s.folios.items in
     record {
-      ascending = pairs_of_rises (filter p all) (rises_filtered p all (rises_of_pairs all places.folios.ascending));
+      ascending = pairs_of_rises (filter p all) (rises_filtered p all (rises_of_pairs all places.frame.folios.ascending));
       members = λ folio. (
         λ among. (of_filter p all folio (in_of_contains (filter p all) folio among)).1,
         λ is. contains_of_in (filter p all) folio
-            (in_filter p all folio (in_of_contains all folio ((places.folios.members folio).1 (sym (places.held (Title folio)) ∙ open_is_held s.parts (Title folio) is))) is),
+            (in_filter p all folio (in_of_contains all folio ((places.frame.folios.members folio).1 (sym (places.frame.held (Title folio)) ∙ open_is_held s.parts (Title folio) is))) is),
       );
     }
 
@@ -106,8 +106,8 @@ register_left journal order s register numbered empty permitted taken parts said
     let verdicts : register.verdicts ≡ (registrar journal).verdicts = said ∙ all_said journal order s numbered empty permitted taken in
     let folios : register.folios ≡ open_folios (registrar journal).entries =
     listed ∙ one_list_of_folios (filter (λ folio. is_open (entries_at s.parts (Title folio))) s.folios.items) (registrar journal).entries (entries_at s.parts) (open_ones journal s taken.places) stands in
-    let held : (k : Key) → is_held register.parts k ≡ is_given (keys_of_first journal (length journal)) k = λ k. ap (λ ps. is_held ps k) parts ∙ taken.places.held k in
-    let count : length register.verdicts ≡ length journal = ap length said ∙ length-enumerate_from 1 s.verdicts.items ∙ taken.places.verdicts in
+    let held : (k : Key) → is_held register.parts k ≡ is_given (keys_of_first journal (length journal)) k = λ k. ap (λ ps. is_held ps k) parts ∙ taken.places.frame.held k in
+    let count : length register.verdicts ≡ length journal = ap length said ∙ length-enumerate_from 1 s.verdicts.items ∙ taken.places.frame.verdicts in
     let all : length journal ≡ length register.verdicts = sym count in
     record {
       whole = record {
@@ -134,15 +134,17 @@ pub cleared : (journal : List Receipt) (before after : Prepared) → HasPlaces j
     → IsPrepared journal after
 cleared journal before after places holds none room scratch verdicts folios = record {
   places = record {
-    held = λ k. ap (λ h. h k) holds ∙ places.held k;
+    frame = record {
+      held = λ k. ap (λ h. h k) holds ∙ places.frame.held k;
+      scratch = subst (ServesEachItem journal) (sym scratch) places.frame.scratch;
+      verdicts = ap (λ vs. length vs.items) verdicts ∙ places.frame.verdicts;
+      folios = subst (λ fs. AreTitledFolios journal fs.items) (sym folios) places.frame.folios;
+    };
     room = λ k held.
         let place = places.room k (subst (λ h. IsTrue (h k)) holds held) in
         let more = room k in
         let nothing = ap length (none k) in
         omega (arith, place, more, nothing);
-    scratch = subst (ServesEachItem journal) (sym scratch) places.scratch;
-    verdicts = ap (λ vs. length vs.items) verdicts ∙ places.verdicts;
-    folios = subst (λ fs. AreTitledFolios journal fs.items) (sym folios) places.folios;
   };
   empty = none;
 }

@@ -99,7 +99,7 @@ module _ (journal : List Receipt) (done left : List ℕ) (i : ℕ) (numbered : I
       let found = found_at journal done left i numbered empty permitted in
       let row = range_with_len 1 (length journal) in
       let held : (k : Key) → Contains (keys_of_item journal i) k → IsTrue (is_held s.parts k) = λ k own.
-      taken.places.held k
+      taken.places.frame.held k
       ∙ (has_decides k (keys_of_first journal (length journal))).1
       (contains_part (keys_of_item journal) row i k (contains_of_in row i (in_range 1 (length journal) i of_journal.0 (omega (arith, of_journal.1)))) own) in
       let there : (k : Key) → Contains (keys_of_item journal i) k → entries_at s.parts k ≡ at (settled_first journal (i - 1)).entries k = λ k own.
@@ -114,7 +114,7 @@ module _ (journal : List Receipt) (done left : List ℕ) (i : ℕ) (numbered : I
             let place = taken.places.room k (held k own) in
             subst (λ es. room_wanted journal i es ≤ room_at s.parts k) (sym (there k own))
             (let fits = subst (λ es. room_of_first journal (length journal) k ≤ length es + room_at s.parts k) (there k own) place in omega (arith, suffices, grows, fits));
-        scratch = scratch_same journal i (at (settled_first journal (i - 1)).entries) (entries_at s.parts) s.scratch there (taken.places.scratch i of_journal.1);
+        scratch = scratch_same journal i (at (settled_first journal (i - 1)).entries) (entries_at s.parts) s.scratch there (taken.places.frame.scratch i of_journal.1);
         kept = record {
           register = at (settled_in_order journal done).entries;
           stands = λ k held. taken.entries k;
@@ -126,22 +126,24 @@ module _ (journal : List Receipt) (done left : List ℕ) (i : ℕ) (numbered : I
 
   places_stay : (s after : Prepared) (v : Verdict) → HasTaken journal done s → IsStep journal done i s after v → HasPlaces journal after
   places_stay s after v taken step = record {
-    held = λ k. ap (λ holds. holds k) step.held ∙ taken.places.held k;
+    frame = record {
+      held = λ k. ap (λ holds. holds k) step.held ∙ taken.places.frame.held k;
+      scratch = subst (ServesEachItem journal) (sym step.scratch) taken.places.frame.scratch;
+      verdicts = ap length step.verdicts ∙ length-set s.verdicts.items (i - 1) v ∙ taken.places.frame.verdicts;
+      folios = subst (λ fs. AreTitledFolios journal fs.items) (sym step.folios) taken.places.frame.folios;
+    };
     room = λ k held.
         let place = taken.places.room k (subst (λ holds. IsTrue (holds k)) step.held held) in
         let less = step.added.room k in
         let es = at (brings journal i (at (settled_in_order journal done).entries)).entries k in
         let more : length (entries_at after.parts k) ≡ length (entries_at s.parts k) + length es = ap length (step.added.there k) ∙ length-append (entries_at s.parts k) es in
         omega (arith, place, less, more);
-    scratch = subst (ServesEachItem journal) (sym step.scratch) taken.places.scratch;
-    verdicts = ap length step.verdicts ∙ length-set s.verdicts.items (i - 1) v ∙ taken.places.verdicts;
-    folios = subst (λ fs. AreTitledFolios journal fs.items) (sym step.folios) taken.places.folios;
   }
 
   said : (s after : Prepared) (v : Verdict) → HasTaken journal done s → IsStep journal done i s after v → (n : ℕ) → Contains (done ++ i ∷ []) n → slice_get after.verdicts.items (n - 1) ≡ Some (verdict_first journal n)
   said s after v taken step n there =
       let can = can_take s taken in
-      let count = taken.places.verdicts in
+      let count = taken.places.frame.verdicts in
       let found = found_at journal done left i numbered empty permitted in
       let own : v ≡ verdict_first journal i = step.verdict ∙ ap (λ (b : Brought). b.verdict) (found.same ∙ as_first_is journal i) in
       ap (λ vs. slice_get vs (n - 1)) step.verdicts

@@ -12,20 +12,16 @@ use Rattle.gb_base.specs.Keys.{key_cmp}
 use Rattle.gb_base.specs.declared.keys.Key.{Key}
 use Rattle.act_model.proofs.KeyOrder.{ties}
 use Rattle.act_model.specs.declared.receipts.Receipt.{Receipt}
-use Rattle.conflict_queue.specs.Dockets.{docket_of}
 use Rattle.conflict_queue.specs.Schedules.{in_receipt_order}
 use Rattle.desk_pool.proofs.PreparedParts.{all_listed, key_of}
-use Rattle.desk_pool.specs.AllQueues.{AreAllQueues}
 use Rattle.desk_pool.specs.FoliosBack.{AreAllKeys}
 use Rattle.desk_pool.specs.KeyRooms.{AreRooms}
 use Rattle.desk_pool.specs.Preparing.{IsPrepared}
 use Rattle.desk_pool.specs.Rounds.{IsRound}
 use Rattle.desk_pool.specs.declared.folio_parts.KeyRoom.{KeyRoom}
-use Rattle.desk_pool.specs.declared.folio_queues.FolioQueue.{FolioQueue}
 use Rattle.desk_pool.specs.declared.prepared.Prepared.{Prepared}
 use Rattle.desk_pool.specs.inner.PartsPrepared.{room_of_entry}
 use Rattle.folio_sections.specs.Held.{is_given}
-use Rattle.folio_sections.specs.PartState.{PartState}
 
 keys_are : (es : List (Key × ℕ)) → keys_of es ≡ map key_of (map room_of_entry es)
 keys_are [] = refl
@@ -44,20 +40,16 @@ all_keys journal rooms keys are ordered is = record {
       ∙ ap is_eq (subst (λ k. key_cmp k (get_or keys j d).key ≡ Less) first (subst (λ k. key_cmp (get_or (map key_of keys) i d.key) k ≡ Less) second below));
 }
 
-pub is_round : {journal lent : List Receipt} {docket : List (List Key)} {queues : List FolioQueue} (rooms : BTreeMap Key ℕ) {keys : List KeyRoom} {back : List (List PartState)} {prepared : Prepared} {seats : ℕ} {receipts : List ℕ} {passed : List Bool}
-    → lent ≡ journal → docket ≡ docket_of lent → AreAllQueues lent queues → AreRooms lent rooms → IsOrdered key_cmp rooms → keys ≡ map room_of_entry rooms.entries → back ≡ [] → IsPrepared lent prepared → seats ≡ 64
-    → receipts ≡ in_receipt_order lent → All (λ b. b ≡ false) passed → length passed ≡ length receipts → IsRound journal lent docket queues keys back prepared seats receipts passed
-is_round {journal} {lent} {docket} {queues} rooms {keys} {back} {prepared} {seats} {receipts} {passed} named docket_is queues_are rooms_are ordered listed none_back prepared_is seats_are receipts_are none_passed as_many =
-    let own : IsRound lent lent docket queues keys back prepared seats receipts passed = record {
+pub is_round : {journal lent : List Receipt} {prepared : Prepared} {seats : ℕ} {receipts : List ℕ} {passed : List Bool}
+    → lent ≡ journal → IsPrepared lent prepared → seats ≡ 64
+    → receipts ≡ in_receipt_order lent → All (λ b. b ≡ false) passed → length passed ≡ length receipts → IsRound journal lent prepared seats receipts passed
+is_round {journal} {lent} {prepared} {seats} {receipts} {passed} named prepared_is seats_are receipts_are none_passed as_many =
+    let own : IsRound lent lent prepared seats receipts passed = record {
       named = refl;
-      docket_is = docket_is;
-      queues_are = queues_are;
-      keys_are = all_keys lent rooms keys rooms_are ordered listed;
-      none_back = none_back;
       prepared_is = prepared_is;
       seats_are = seats_are;
       receipts_are = receipts_are;
       none_passed = none_passed;
       as_many = as_many ∙ ap length receipts_are ∙ length-range_with_len 1 (length lent);
     } in
-    subst (λ j. IsRound j lent docket queues keys back prepared seats receipts passed) named own
+    subst (λ j. IsRound j lent prepared seats receipts passed) named own

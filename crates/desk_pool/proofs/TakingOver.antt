@@ -40,23 +40,41 @@ back_at journal queues back k place d are there within held =
     let q = queued (slice_get queues place) (folio_of_key k) there in
     are place q.0 (get_or back place d) q.1 (slice_get-get_or back place d within) (sym q.2) held
 
+-- what was taken over is back at its key
+pub taken_back : (journal : List Receipt) (parts after from : List PartState) (key : Key) → TakesAt parts after from key → IsBackAt journal from key → IsBackAt journal after key
+taken_back journal parts after from key takes back =
+    let places = takes.room in
+    let enough = back.room in
+    let entries : length (entries_at after key) ≡ length (entries_at from key) = ap length takes.there in
+    record { stands = takes.there ∙ back.stands; room = omega (arith, entries, places, enough) }
+
+-- at the other keys there is as much place as before
+place_elsewhere : (parts after from : List PartState) (key k : Key) → TakesAt parts after from key → same_key key k ≡ false
+    → length (entries_at parts k) + room_at parts k ≤ length (entries_at after k) + room_at after k
+place_elsewhere parts after from key k takes apart =
+    let entries : length (entries_at after k) ≡ length (entries_at parts k) = ap length (takes.elsewhere k apart) in
+    let places = takes.elsewhere_room k apart in
+    omega (arith, entries, places)
+
+-- and those that were back are
+pub back_elsewhere : (journal : List Receipt) (parts after from : List PartState) (key : Key) → TakesAt parts after from key
+    → (k : Key) → same_key key k ≡ false → IsBackAt journal parts k → IsBackAt journal after k
+back_elsewhere journal parts after from key takes k apart back =
+    let place = place_elsewhere parts after from key k takes apart in
+    let enough = back.room in
+    record { stands = takes.elsewhere k apart ∙ back.stands; room = omega (arith, place, enough) }
+
 -- each key that is held has place, also where one was taken over
 pub room_taken : (journal : List Receipt) (parts after from : List PartState) (key : Key) → TakesAt parts after from key → IsBackAt journal from key
     → HasAllRoom journal (is_held parts) (entries_at parts) (room_at parts) → HasAllRoom journal (is_held after) (entries_at after) (room_at after)
 room_taken journal parts after from key takes back room = λ k held.
     ⊎_elim
     (λ same.
-    let here : key ≡ k = same_is key k same in
-    subst (λ j. room_of_first journal (length journal) j ≤ length (entries_at after j) + room_at after j) here
-    (let entries : length (entries_at after key) ≡ length (entries_at from key) = ap length takes.there in
-    let places = takes.room in
-    let enough = back.room in
-    omega (arith, entries, places, enough)))
+    subst (λ j. room_of_first journal (length journal) j ≤ length (entries_at after j) + room_at after j) (same_is key k same) (taken_back journal parts after from key takes back).room)
     (λ apart.
-    let entries : length (entries_at after k) ≡ length (entries_at parts k) = ap length (takes.elsewhere k apart) in
-    let places = takes.elsewhere_room k apart in
+    let place = place_elsewhere parts after from key k takes apart in
     let enough = room k (subst IsTrue (λ i. takes.held i k) held) in
-    omega (arith, entries, places, enough))
+    omega (arith, place, enough))
     (cases_Bool (same_key key k))
 
 -- the parts of each folio are still back at the other keys
@@ -90,14 +108,14 @@ back_later journal queues back key place d after parts within takes rest apart a
 -- So far the first i keys are taken over, and the others are still back.
 pub record AreTakenOver (journal : List Receipt) (queues : List FolioQueue) (before parts : List PartState) (lent : List (List PartState)) (keys : List KeyRoom) (i : ℕ) : Type 0 where
   pub held : is_held parts ≡ is_held before
-  pub room : HasAllRoom journal (is_held parts) (entries_at parts) (room_at parts)
-  pub entries : (j : ℕ) (d : KeyRoom) → j < i → entries_at parts (get_or keys j d).key ≡ at (registrar journal).entries (get_or keys j d).key
+  pub room : HasAllRoom journal (is_held before) (entries_at before) (room_at before) → HasAllRoom journal (is_held parts) (entries_at parts) (room_at parts)
+  pub taken : (j : ℕ) (d : KeyRoom) → j < i → IsBackAt journal parts (get_or keys j d).key
   pub back : (j : ℕ) (d : KeyRoom) → i ≤ j → j < length keys → IsBackFor journal queues lent (get_or keys j d).key
 
-pub none_taken_over : (journal : List Receipt) (queues : List FolioQueue) (parts : List PartState) (lent : List (List PartState)) (keys : List KeyRoom) → HasAllRoom journal (is_held parts) (entries_at parts) (room_at parts)
+pub none_taken_over : (journal : List Receipt) (queues : List FolioQueue) (parts : List PartState) (lent : List (List PartState)) (keys : List KeyRoom)
     → AreBack journal queues lent keys → AreTakenOver journal queues parts parts lent keys 0
-none_taken_over journal queues parts lent keys room are =
-    record { held = refl; room = room; entries = λ j d below. absurd (omega (arith, below)); back = λ j d above within. are j d within }
+none_taken_over journal queues parts lent keys are =
+    record { held = refl; room = λ room. room; taken = λ j d below. absurd (omega (arith, below)); back = λ j d above within. are j d within }
 
 -- the same element, whatever stands in for none
 any_default : {X : Type 0} (xs : List X) (i : ℕ) (d e : X) → i < length xs → get_or xs i d ≡ get_or xs i e
@@ -110,24 +128,25 @@ apart_back j k apart =
 -- one key more
 pub one_more_taken : (journal : List Receipt) (queues : List FolioQueue) (before parts after : List PartState) (lent left : List (List PartState)) (keys : List KeyRoom) (i : ℕ) (w : KeyRoom)
     → AllPairs (λ v later. same_key v.key later.key ≡ false) keys → i < length keys → w ≡ get_or keys i w → AreTakenOver journal queues before parts lent keys i
-    → is_held after ≡ is_held parts → HasAllRoom journal (is_held after) (entries_at after) (room_at after) → entries_at after w.key ≡ at (registrar journal).entries w.key
-    → ((k : Key) → same_key w.key k ≡ false → entries_at after k ≡ entries_at parts k)
+    → is_held after ≡ is_held parts
+    → (HasAllRoom journal (is_held parts) (entries_at parts) (room_at parts) → HasAllRoom journal (is_held after) (entries_at after) (room_at after)) → IsBackAt journal after w.key
+    → ((k : Key) → same_key w.key k ≡ false → IsBackAt journal parts k → IsBackAt journal after k)
     → ((rest : List KeyRoom) → All (λ v. same_key w.key v.key ≡ false) rest → AreBack journal queues lent rest → AreBack journal queues left rest)
     → AreTakenOver journal queues before after left keys (i + 1)
 one_more_taken journal queues before parts after lent left keys i w apart within is so_far held room here others later =
     let own : (d : KeyRoom) → w ≡ get_or keys i d = λ d. is ∙ any_default keys i w d within in
     record {
       held = held ∙ so_far.held;
-      room = room;
-      entries = λ j d below.
+      room = λ before. room (so_far.room before);
+      taken = λ j d below.
           ⊎_elim
           (λ earlier.
           let other : same_key w.key (get_or keys j d).key ≡ false = apart_back (get_or keys j d).key w.key (ap (λ v. same_key (get_or keys j d).key v.key) (own d) ∙ apart j i d earlier within) in
-          others (get_or keys j d).key other ∙ so_far.entries j d earlier)
+          others (get_or keys j d).key other (so_far.taken j d earlier))
           (λ last.
           let same : j ≡ i = omega (arith, last, below) in
           let there : w ≡ get_or keys j d = own d ∙ ap (λ n. get_or keys n d) (sym same) in
-          subst (λ v. entries_at after v.key ≡ at (registrar journal).entries v.key) there here)
+          subst (λ v. IsBackAt journal after v.key) there here)
           (cases_lt j i);
       back = λ j d above inside.
           let v = get_or keys j d in

@@ -1,6 +1,7 @@
 -- What contracts cite.
 pub mod AllQueues
 pub mod Boards
+pub mod Counted
 pub mod FolioPairs
 pub mod FolioQueues
 pub mod FolioStates
@@ -11,4 +12,5 @@ pub mod RoundRooms
 pub mod Rounds
 pub mod TouchedFolios
 pub mod Turns
+pub mod Worked
 pub mod inner

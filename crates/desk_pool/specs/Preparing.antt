@@ -22,14 +22,18 @@ abbrev pub ServesEachItem : List Receipt → ScratchRoom → Type 0
 ServesEachItem journal scratch =
     (i : ℕ) → i ≤ length journal → HasItsScratch journal i (at (settled_first journal (i - 1)).entries) scratch
 
--- Parts at the keys of the journal's items and at no other, with place at each for all that the items bring there; a scratch for
--- each item; as many verdicts as there are items; and the folios that may be open in the end.
-pub record HasPlaces (journal : List Receipt) (s : Prepared) : Type 0 where
+-- Parts at the keys of the journal's items and at no other; a scratch for each item; as many verdicts as there are items; and the
+-- folios that may be open in the end.
+pub record HasFrame (journal : List Receipt) (s : Prepared) : Type 0 where
   pub held : (k : Key) → is_held s.parts k ≡ is_given (keys_of_first journal (length journal)) k
-  pub room : HasAllRoom journal (is_held s.parts) (entries_at s.parts) (room_at s.parts)
   pub scratch : ServesEachItem journal s.scratch
   pub verdicts : length s.verdicts.items ≡ length journal
   pub folios : AreTitledFolios journal s.folios.items
+
+-- with place at each key for all that the items bring there
+pub record HasPlaces (journal : List Receipt) (s : Prepared) : Type 0 where
+  pub frame : HasFrame journal s
+  pub room : HasAllRoom journal (is_held s.parts) (entries_at s.parts) (room_at s.parts)
 
 -- and nothing stands in the parts yet
 pub record IsPrepared (journal : List Receipt) (s : Prepared) : Type 0 where

@@ -86,3 +86,15 @@ pub(crate) fn parts_at(alloc: Global, keys: &[KeyRoom]) -> Result<MapParts, NoMe
     }
     Ok(parts)
 }
+
+/// Empty parts at these keys, without room. Wants memory (NoMemory).
+pub(crate) fn parts_without_room(alloc: Global, keys: &[KeyRoom]) -> Result<MapParts, NoMemory>
+    ensures held { IfOk result (λ parts. (k : Key) → is_held parts k ≡ is_given (map (λ r. r.key) keys.now) k) }
+    ensures empty { IfOk result (λ parts. (k : Key) → entries_at parts k ≡ []) }
+{
+    let mut parts = MapParts::new(alloc, &[])?;
+    for wanted in keys {
+        parts.hold(wanted.key)?;
+    }
+    Ok(parts)
+}

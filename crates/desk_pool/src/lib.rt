@@ -4,6 +4,7 @@
 mod at_desks;
 mod boards;
 mod building_queues;
+mod counted;
 mod desks;
 mod finishing;
 mod folio_parts;
@@ -19,6 +20,7 @@ mod orders;
 mod pairs;
 mod prepared;
 mod preparing;
+mod ready_desks;
 mod rounds;
 mod sale_scratches;
 mod seats;

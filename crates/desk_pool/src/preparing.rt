@@ -1,15 +1,21 @@
 //! All that a journal is settled in, made beforehand.
 ghost use Rattle.std.specs.Prelude.{◌≡◌, filter_map, length, map, IfOk};
+ghost use Rattle.std.specs.BTreeMap.{IsOrdered};
+ghost use Rattle.gb_base.specs.Keys.{key_cmp};
+ghost use Rattle.gb_base.specs.declared.keys.Key.{Key};
 ghost use Rattle.desk_pool.specs.KeyRooms.{AreRooms};
-ghost use Rattle.desk_pool.specs.Preparing.{IsPrepared};
+ghost use Rattle.desk_pool.specs.Preparing.{HasFrame, IsPrepared};
+ghost use Rattle.desk_pool.specs.inner.PartsPrepared.{room_of_entry};
 ghost use Rattle.desk_pool.specs.inner.TitlesListed.{titled_folio};
+ghost use Rattle.folio_sections.specs.Held.{is_given, is_held};
 
-use crate::folio_parts::{KeyRoom, list_rooms, parts_at, parts_for_folio};
+use crate::folio_parts::{KeyRoom, list_rooms, parts_at, parts_for_folio, parts_without_room};
 use crate::folio_queues::FolioQueue;
 use crate::locked_folios::LockedFolio;
 use crate::prepared::Prepared;
 use crate::sale_scratches::{scratch_for_all, scratch_for_folio};
 use act_model::{Journal, JournalName};
+use folio_sections::MapParts;
 use gb_base::{FolioId, Key, NoMemory};
 use registrar::Verdict;
 use std::alloc::Global;
@@ -27,9 +33,42 @@ pub(crate) fn prepare_all(
 {
     let keys = list_rooms(alloc, rooms)?;
     let parts = parts_at(alloc, keys.as_slice())?;
-    let scratch = scratch_for_all(alloc, journal, rooms, keys.as_slice())?;
+    prepare_around(alloc, journal, rooms, keys.as_slice(), parts)
+}
+
+/// The same without room in the parts: what desks have settled is put together in it. Wants memory
+/// (NoMemory).
+pub(crate) fn prepare_frame(
+    alloc: Global,
+    journal: &Journal,
+    rooms: &BTreeMap<Key, usize>,
+) -> Result<Prepared, NoMemory>
+    requires { AreRooms journal.now.receipts rooms.now }
+    ensures { IfOk result (HasFrame journal.now.receipts) }
+{
+    let keys = list_rooms(alloc, rooms)?;
+    let parts = parts_without_room(alloc, keys.as_slice())?;
+    prepare_around(alloc, journal, rooms, keys.as_slice(), parts)
+}
+
+/// These parts, and what else a journal is settled in; `keys` are its keys. Wants memory (NoMemory).
+fn prepare_around(
+    alloc: Global,
+    journal: &Journal,
+    rooms: &BTreeMap<Key, usize>,
+    keys: &[KeyRoom],
+    parts: MapParts,
+) -> Result<Prepared, NoMemory>
+    requires rooms { AreRooms journal.now.receipts rooms.now }
+    requires ordered { IsOrdered key_cmp rooms.now }
+    requires keys { keys.now ≡ map room_of_entry rooms.now.entries }
+    requires held { (k : Key) → is_held parts k ≡ is_given (map (λ r. r.key) keys.now) k }
+    ensures frame { IfOk result (HasFrame journal.now.receipts) }
+    ensures parts { IfOk result (λ prepared. prepared.parts ≡ parts) }
+{
+    let scratch = scratch_for_all(alloc, journal, rooms, keys)?;
     let verdicts = no_verdicts(alloc, journal.len() as usize)?;
-    let folios = titled_folios(alloc, keys.as_slice())?;
+    let folios = titled_folios(alloc, keys)?;
     Ok(Prepared {
         alloc,
         parts,

@@ -12,29 +12,20 @@ ghost use Rattle.registrar.specs.KeptAwards.{AwardsKept};
 ghost use Rattle.registrar.specs.OpenFolios.{open_folios};
 ghost use Rattle.registrar.specs.Settling.{registrar};
 
-use crate::boards::Board;
-use crate::building_queues::build_queues;
+use crate::counted::{count, list_receipts};
 use crate::finishing::finish;
-use crate::folio_parts::{KeyRoom, list_rooms};
-use crate::folio_queues::FolioQueue;
-use crate::key_rooms::count_rooms;
-use crate::locked_folios::LockedFolio;
 use crate::orders::is_permitted;
 use crate::prepared::Prepared;
-use crate::preparing::{lock_folios, prepare_all};
-use crate::seats::Seat;
-use crate::taking_back::take_back;
-use crate::together::settle_together;
+use crate::preparing::prepare_all;
+use crate::ready_desks::{ReadyDesks, desks_wanted};
 use act_model::{Journal, JournalName};
-use conflict_queue::Docket;
 use conflict_queue::laws::receipts_in_turn;
-use folio_sections::MapParts;
 use gb_base::{NoMemory, ReceiptNo};
 use gb_outside::DeskGate;
 use registrar::Register;
 use std::alloc::Global;
 use std::marker::Model;
-use std::sync::{Mutex, Wait};
+use std::sync::Wait;
 use std::thread::Threads;
 
 /// How many desks there are at most.
@@ -42,22 +33,11 @@ const MOST_DESKS: usize = 64;
 
 /// All that the items of the named journal are settled in. From here on settling wants no memory and
 /// cannot fail. In contracts it is the numbers of the journal's receipts.
-///
-/// Each folio stands in `folios` where its queue stands in `queues`. No clause says so: who locks one
-/// looks whether it is the folio that is meant.
 #[derive(Drop)]
 pub struct Round<'a, N: JournalName> {
     pub(crate) journal: &'a Journal,
-    pub(crate) docket: Docket,
-    pub(crate) queues: Vec<FolioQueue>,
-    /// All keys that the items touch.
-    pub(crate) keys: Vec<KeyRoom>,
-    pub(crate) folios: Vec<Mutex<LockedFolio<N>>>,
-    /// Room for the parts of all folios, once the desks are done.
-    pub(crate) back: Vec<MapParts>,
-    pub(crate) board: Board<N>,
-    /// What each of 64 desks works with.
-    pub(crate) seats: Vec<Seat>,
+    /// 64 desks.
+    pub(crate) ready: ReadyDesks<N>,
     /// What the journal is settled in without desks.
     pub(crate) prepared: Prepared,
     /// The items in the order of their receipts.
@@ -74,7 +54,7 @@ impl<'a, N: JournalName> Model for Round<'a, N> {
 
     ghost view = { λ a. a.receipts.items };
 
-    ghost invariant = { λ a. IsRound N.receipts a.journal.now.receipts a.docket a.queues.items a.keys.items a.back.items a.prepared (length a.seats.items) a.receipts.items a.passed.items };
+    ghost invariant = { λ a. IsRound N.receipts a.journal.now.receipts a.prepared (length a.ready.seats.items) a.receipts.items a.passed.items };
 }
 
 impl<'a, N: JournalName> Round<'a, N> {
@@ -82,22 +62,14 @@ impl<'a, N: JournalName> Round<'a, N> {
     pub fn prepare(alloc: Global, journal: &'a Journal) -> Result<Round<'a, N>, NoMemory>
         requires { journal.now.receipts ≡ N.receipts }
     {
-        let docket = Docket::build(alloc, journal)?;
-        let queues = build_queues(alloc, journal, &docket)?;
-        let rooms = count_rooms(alloc, journal, &docket, queues.as_slice())?;
-        let folios = lock_folios(alloc, journal, &rooms, queues.as_slice())?;
+        let counted = count(alloc, journal)?;
         let receipts = list_receipts(alloc, journal)?;
-        let board = Board::new(alloc, &docket, queues.as_slice(), receipts.as_slice())?;
+        let prepared = prepare_all(alloc, journal, &counted.rooms)?;
+        let ready = ReadyDesks::prepare(alloc, journal, counted, receipts.as_slice(), MOST_DESKS)?;
         Ok(Round {
             journal,
-            docket,
-            keys: list_rooms(alloc, &rooms)?,
-            back: Vec::with_capacity(alloc, queues.len())?,
-            queues,
-            folios: put_behind_locks(alloc, folios)?,
-            board,
-            seats: list_seats(alloc)?,
-            prepared: prepare_all(alloc, journal, &rooms)?,
+            ready,
+            prepared,
             passed: list_unpassed(alloc, receipts.len())?,
             receipts,
         })
@@ -140,12 +112,12 @@ impl<'a, N: JournalName> Round<'a, N> {
     {
         let Round {
             journal,
-            docket,
+            ready,
             prepared,
             mut passed,
             ..
         } = self;
-        if !is_permitted(&docket, order, passed.as_mut_slice()) {
+        if !is_permitted(&ready.docket, order, passed.as_mut_slice()) {
             return None;
         }
         Some(prepared.settle_in(journal, order))
@@ -176,58 +148,15 @@ impl<'a, N: JournalName + Send + Sync> Round<'a, N> {
     {
         let Round {
             journal,
-            docket,
-            queues,
-            keys,
-            folios,
-            back,
-            board,
-            mut seats,
+            ready,
             prepared,
             receipts,
             ..
         } = self;
-        let verdicts = settle_together(
-            rt,
-            gate,
-            journal,
-            &docket,
-            queues.as_slice(),
-            folios.as_slice(),
-            board,
-            &mut seats[..desks_wanted(desks, queues.len())],
-        );
-        let back = take_back(folios, queues.as_slice(), back);
-        finish::<N>(
-            journal,
-            prepared,
-            verdicts,
-            back,
-            queues.as_slice(),
-            keys.as_slice(),
-            receipts.as_slice(),
-        )
+        let wanted = desks_wanted(desks, ready.queues.len());
+        let worked = ready.work(rt, journal, wanted, gate);
+        finish::<N>(journal, prepared, worked, receipts.as_slice())
     }
-}
-
-/// How many of the desks have something to do in so many folios: one at least.
-fn desks_wanted(desks: u16, folios: usize) -> usize
-    requires { 1 ≤ desks }
-    ensures least { 1 ≤ result }
-    ensures most { result ≤ desks }
-{
-    (desks as usize).min(folios.max(1))
-}
-
-/// The items of a journal, in the order of their receipts.
-fn list_receipts(alloc: Global, journal: &Journal) -> Result<Vec<ReceiptNo>, NoMemory>
-    ensures { IfOk result (λ receipts. receipts.items ≡ in_receipt_order journal.now.receipts) }
-{
-    let mut receipts = Vec::with_capacity(alloc, journal.len() as usize)?;
-    for index in 0..journal.len() {
-        receipts.push(ReceiptNo::new(index + 1).unwrap())?;
-    }
-    Ok(receipts)
 }
 
 /// So many items that no order was seen to have yet.
@@ -236,27 +165,4 @@ fn list_unpassed(alloc: Global, count: usize) -> Result<Vec<bool>, NoMemory>
     ensures count { IfOk result (λ passed. length passed.items ≡ count) }
 {
     vec![in alloc; false; count]
-}
-
-/// These folios, each behind a lock of its own.
-fn put_behind_locks<N: JournalName>(
-    alloc: Global,
-    folios: Vec<LockedFolio<N>>,
-) -> Result<Vec<Mutex<LockedFolio<N>>>, NoMemory> {
-    let mut locks = Vec::with_capacity(alloc, folios.len())?;
-    for folio in folios {
-        locks.push(Mutex::new(folio))?;
-    }
-    Ok(locks)
-}
-
-/// What each of 64 desks works with.
-fn list_seats(alloc: Global) -> Result<Vec<Seat>, NoMemory>
-    ensures { IfOk result (λ seats. length seats.items ≡ 64) }
-{
-    let mut seats = Vec::with_capacity(alloc, MOST_DESKS)?;
-    for _seat in 0..MOST_DESKS {
-        seats.push(Seat::new(alloc)?)?;
-    }
-    Ok(seats)
 }

@@ -4,11 +4,9 @@ ghost use Rattle.std.specs.Option.{option_map_or};
 ghost use Rattle.gb_base.specs.Keys.{same_key};
 ghost use Rattle.gb_base.specs.declared.keys.Key.{Key};
 ghost use Rattle.desk_pool.specs.FolioStates.{HasAllRoom};
-ghost use Rattle.desk_pool.specs.FoliosBack.{AreBack, IsBackFor};
+ghost use Rattle.desk_pool.specs.FoliosBack.{AreBack, IsBackAt, IsBackFor};
 ghost use Rattle.desk_pool.specs.declared.folio_parts.KeyRoom.{KeyRoom};
-ghost use Rattle.folio_sections.specs.Entries.{at};
 ghost use Rattle.folio_sections.specs.Held.{entries_at, is_held, room_at};
-ghost use Rattle.registrar.specs.Settling.{registrar};
 
 use crate::folio_parts::KeyRoom;
 use crate::folio_queues::{FolioQueue, place_of};
@@ -26,10 +24,9 @@ pub(crate) fn take_all_over<N: JournalName>(
 ) -> bool
     requires apart { AllPairs (λ w later. same_key w.key later.key ≡ false) keys.now }
     requires back { AreBack N.receipts queues.now back.old keys.now }
-    requires room { HasAllRoom N.receipts (is_held parts.old) (entries_at parts.old) (room_at parts.old) }
     ensures held { is_held parts.new ≡ is_held parts.old }
-    ensures room { HasAllRoom N.receipts (is_held parts.new) (entries_at parts.new) (room_at parts.new) }
-    ensures entries { IsTrue result → All (λ w. entries_at parts.new w.key ≡ at (registrar N.receipts).entries w.key) keys.now }
+    ensures room { HasAllRoom N.receipts (is_held parts.old) (entries_at parts.old) (room_at parts.old) → HasAllRoom N.receipts (is_held parts.new) (entries_at parts.new) (room_at parts.new) }
+    ensures taken { IsTrue result → All (λ w. IsBackAt N.receipts parts.new w.key) keys.now }
 {
     for wanted in keys {
         if !take_over::<N>(parts, back, queues, &wanted.key) {
@@ -48,11 +45,10 @@ fn take_over<N: JournalName>(
     key: &Key,
 ) -> bool
     requires back { IsBackFor N.receipts queues.now back.old key.now }
-    requires room { HasAllRoom N.receipts (is_held parts.old) (entries_at parts.old) (room_at parts.old) }
     ensures held { is_held parts.new ≡ is_held parts.old }
-    ensures room { HasAllRoom N.receipts (is_held parts.new) (entries_at parts.new) (room_at parts.new) }
-    ensures entries { IsTrue result → entries_at parts.new key.now ≡ at (registrar N.receipts).entries key.now }
-    ensures others { (k : Key) → same_key key.now k ≡ false → entries_at parts.new k ≡ entries_at parts.old k }
+    ensures room { HasAllRoom N.receipts (is_held parts.old) (entries_at parts.old) (room_at parts.old) → HasAllRoom N.receipts (is_held parts.new) (entries_at parts.new) (room_at parts.new) }
+    ensures taken { IsTrue result → IsBackAt N.receipts parts.new key.now }
+    ensures others { (k : Key) → same_key key.now k ≡ false → IsBackAt N.receipts parts.old k → IsBackAt N.receipts parts.new k }
     ensures later { (rest : List KeyRoom) → All (λ w. same_key key.now w.key ≡ false) rest → AreBack N.receipts queues.now back.old rest → AreBack N.receipts queues.now back.new rest }
 {
     let Some(place) = place_of(queues, key.folio()) else {

@@ -1,5 +1,5 @@
 use Rattle.std.proofs.Common.{◌∙◌, Some, get_or, ap}
-use Rattle.desk_pool.proofs.TakingOver.{back_at, back_later, held_there, room_taken}
+use Rattle.desk_pool.proofs.TakingOver.{back_at, back_elsewhere, back_later, held_there, room_taken, taken_back}
 use Rattle.desk_pool.proofs.taking_over.take_over.Goals as goal
 
 pub returns-clause-room : goal.returns-clause-room
@@ -8,14 +8,17 @@ returns-clause-room g c =
     (back_at g.N.JournalName.receipts c.args.queues.now c.args.back.now c.args.key.now c.in-Some.place c.index-back-place.result c.requires.back
     (c.in-Some.ensures.there ∙ ap Some c.folio.ensures) (c.is_held_in.ensures.within c.if-not-is_held_in.false)
     (held_there c.args.back.now c.in-Some.place c.index-back-place.result c.args.key.now c.is_held_in.result c.is_held_in.ensures.value c.if-not-is_held_in.false (c.is_held_in.ensures.within c.if-not-is_held_in.false)))
-    c.requires.room
 
-pub returns-clause-entries : goal.returns-clause-entries
-returns-clause-entries g c = λ done.
-    c.swap_at.ensures.here.there
-    ∙ (back_at g.N.JournalName.receipts c.args.queues.now c.args.back.now c.args.key.now c.in-Some.place c.index-back-place.result c.requires.back
+pub returns-clause-taken : goal.returns-clause-taken
+returns-clause-taken g c = λ done.
+    taken_back g.N.JournalName.receipts c.args.parts.now c.swap_at.new.self (get_or c.args.back.now c.in-Some.place c.index-back-place.result) c.args.key.now c.swap_at.ensures.here
+    (back_at g.N.JournalName.receipts c.args.queues.now c.args.back.now c.args.key.now c.in-Some.place c.index-back-place.result c.requires.back
     (c.in-Some.ensures.there ∙ ap Some c.folio.ensures) (c.is_held_in.ensures.within c.if-not-is_held_in.false)
-    (held_there c.args.back.now c.in-Some.place c.index-back-place.result c.args.key.now c.is_held_in.result c.is_held_in.ensures.value c.if-not-is_held_in.false (c.is_held_in.ensures.within c.if-not-is_held_in.false))).stands
+    (held_there c.args.back.now c.in-Some.place c.index-back-place.result c.args.key.now c.is_held_in.result c.is_held_in.ensures.value c.if-not-is_held_in.false (c.is_held_in.ensures.within c.if-not-is_held_in.false)))
+
+pub returns-clause-others : goal.returns-clause-others
+returns-clause-others g c =
+    back_elsewhere g.N.JournalName.receipts c.args.parts.now c.swap_at.new.self (get_or c.args.back.now c.in-Some.place c.index-back-place.result) c.args.key.now c.swap_at.ensures.here
 
 pub returns-clause-later : goal.returns-clause-later
 returns-clause-later g c =

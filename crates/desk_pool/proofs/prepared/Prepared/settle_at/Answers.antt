@@ -43,7 +43,7 @@ index_mut-requires c =
     let can =
     can_take c.args.journal.now.receipts (take c.args.place c.args.order.now) (drop (c.args.place + 1) c.args.order.now) c.index-order-place.result c.requires.numbered (c.empty_register_is_kept.ensures.kept c.args.journal.now.receipts)
     (cut_at_place c.args.journal.now.receipts c.args.order.now c.args.place c.index-order-place.result c.requires.place c.index-order-place.is c.requires.permitted) c.args.self.now c.requires.ahead in
-    let count = c.requires.ahead.places.verdicts in
+    let count = c.requires.ahead.places.frame.verdicts in
     let number = c.get.ensures.value in
     let len = c.args.self.now.verdicts.ok.0 in
     omega (arith, can.low, can.high, count, number, len)

@@ -1,4 +1,5 @@
 use Rattle.std.proofs.Common.{◌≡◌, ◌∙◌, All, false, ap, length, refl, subst, sym}
+use Rattle.std.proofs.lemmas.Bool.{true≢false}
 use Rattle.conflict_queue.proofs.Numbered.{docket_len}
 use Rattle.folio_sections.specs.Held.{is_given}
 use Rattle.registrar.specs.HeldKeys.{keys_of_first}
@@ -7,15 +8,20 @@ use Rattle.desk_pool.proofs.rounds.Round.in_order.Goals as goal
 
 pub is_permitted-requires-clause-len : goal.is_permitted-requires-clause-len
 is_permitted-requires-clause-len g c =
-    ap length c.as_mut_slice.ensures.value ∙ c.self.invariant.as_many ∙ sym (ap length c.self.invariant.docket_is ∙ docket_len g.N.JournalName.receipts)
+    ap length c.as_mut_slice.ensures.value ∙ c.self.invariant.as_many ∙ sym (ap length c.self.inside.ready.docket_is ∙ docket_len g.N.JournalName.receipts)
 
 pub is_permitted-requires-clause-none : goal.is_permitted-requires-clause-none
 is_permitted-requires-clause-none g c = subst (All (λ b. b ≡ false)) (sym c.as_mut_slice.ensures.value) c.self.invariant.none_passed
 
+pub returns-then-not-is_permitted-clause-permitted : goal.returns-then-not-is_permitted-clause-permitted
+returns-then-not-is_permitted-clause-permitted g c =
+    let tells = c.is_permitted.ensures.permitted g.N.JournalName.receipts c.self.inside.ready.docket_is in
+    (λ some. absurd some, λ permitted. absurd (true≢false (sym (tells.1 permitted) ∙ c.if-not-is_permitted.true)))
+
 pub settle_in-requires-clause-permitted : goal.settle_in-requires-clause-permitted
 settle_in-requires-clause-permitted g c =
     permitted_so g.N.JournalName.receipts c.self.inside.journal.now.receipts c.args.order.now c.args.order.now c.self.invariant.named refl
-    ((c.is_permitted.ensures.permitted g.N.JournalName.receipts c.self.invariant.docket_is).0 c.if-not-is_permitted.false)
+    ((c.is_permitted.ensures.permitted g.N.JournalName.receipts c.self.inside.ready.docket_is).0 c.if-not-is_permitted.false)
 
 pub returns-clause-held : goal.returns-clause-held
 returns-clause-held g c = λ k. c.settle_in.ensures.held k ∙ ap (λ j. is_given (keys_of_first j (length j)) k) c.self.invariant.named

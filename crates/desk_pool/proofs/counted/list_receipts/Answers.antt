@@ -1,7 +1,7 @@
 use Rattle.std.proofs.Common.{◌≡◌, ◌+◌, ◌++◌, ◌∷◌, ◌∙◌, [], IfSome, ap, subst, sym, arith}
 use Rattle.std.specs.List.{range_with_len}
 use Rattle.registrar.proofs.Registering.{range_more}
-use Rattle.desk_pool.proofs.rounds.list_receipts.Goals as goal
+use Rattle.desk_pool.proofs.counted.list_receipts.Goals as goal
 
 pub loop-index-preserved : goal.loop-index-preserved
 loop-index-preserved c =
