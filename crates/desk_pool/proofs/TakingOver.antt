@@ -14,11 +14,9 @@ use Rattle.desk_pool.specs.FoliosBack.{AreBack, IsBackAt, IsBackFor}
 use Rattle.desk_pool.specs.RoundRooms.{room_of_first}
 use Rattle.desk_pool.specs.declared.folio_parts.KeyRoom.{KeyRoom}
 use Rattle.desk_pool.specs.declared.folio_queues.FolioQueue.{FolioQueue}
-use Rattle.folio_sections.specs.Entries.{at}
 use Rattle.folio_sections.specs.Exchanged.{TakesAt}
 use Rattle.folio_sections.specs.Held.{entries_at, is_held, room_at}
 use Rattle.folio_sections.specs.PartState.{PartState}
-use Rattle.registrar.specs.Settling.{registrar}
 use Rattle.desk_pool.proofs.Saying.{same_inside, written_apart, written_there}
 
 -- the queue at a place has the folio

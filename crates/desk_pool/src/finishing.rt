@@ -56,8 +56,8 @@ pub(crate) fn finish<N: JournalName>(
     prepared.settle_in(journal, receipts)
 }
 
-/// The same where no room was kept for a second settlement: it takes memory as it goes, where it
-/// comes to that (NoMemory).
+/// The same where no room was kept to settle anew: `registrar::alone` does it, and takes memory as it
+/// goes (NoMemory).
 pub(crate) fn finish_or_settle<N: JournalName>(
     journal: &Journal,
     mut prepared: Prepared,
@@ -89,10 +89,7 @@ pub(crate) fn finish_or_settle<N: JournalName>(
 /// Puts the verdicts and the parts of the folios into what was prepared, where all are there. False
 /// where they are not; then some of them may stand there. The parts of the folios bring their room
 /// along, so what was prepared needs none.
-fn is_complete<N: JournalName>(
-    prepared: &mut Prepared,
-    worked: Worked,
-) -> bool
+fn is_complete<N: JournalName>(prepared: &mut Prepared, worked: Worked) -> bool
     requires numbered { IsJournal N.receipts }
     requires frame { HasFrame N.receipts prepared.old }
     requires worked { IsWorked N.receipts worked }

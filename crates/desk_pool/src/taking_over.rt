@@ -44,7 +44,7 @@ fn take_over<N: JournalName>(
     queues: &[FolioQueue],
     key: &Key,
 ) -> bool
-    requires back { IsBackFor N.receipts queues.now back.old key.now }
+    requires { IsBackFor N.receipts queues.now back.old key.now }
     ensures held { is_held parts.new ≡ is_held parts.old }
     ensures room { HasAllRoom N.receipts (is_held parts.old) (entries_at parts.old) (room_at parts.old) → HasAllRoom N.receipts (is_held parts.new) (entries_at parts.new) (room_at parts.new) }
     ensures taken { IsTrue result → IsBackAt N.receipts parts.new key.now }

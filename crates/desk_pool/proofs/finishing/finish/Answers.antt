@@ -15,7 +15,7 @@ returns-then-is_complete-clause-held g c = λ k. c.into_register.ensures.held k 
 
 pub settle_in-requires-clause-prepared : goal.settle_in-requires-clause-prepared
 settle_in-requires-clause-prepared g c =
-    c.reset.ensures.prepared c.args.journal.now.receipts (subst (λ j. HasPlaces j c.is_complete.new.prepared) (sym c.requires.named) c.is_complete.ensures.places)
+    c.reset.ensures.prepared c.args.journal.now.receipts (subst (λ j. HasPlaces j c.is_complete.new.prepared) (sym c.requires.named) (c.is_complete.ensures.places c.requires.prepared.places))
 
 pub settle_in-requires-clause-permitted : goal.settle_in-requires-clause-permitted
 settle_in-requires-clause-permitted g c =

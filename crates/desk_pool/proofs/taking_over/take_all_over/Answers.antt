@@ -6,8 +6,8 @@ use Rattle.desk_pool.proofs.taking_over.take_all_over.Goals as goal
 pub loop-wanted-init : goal.loop-wanted-init
 loop-wanted-init g c = none_taken_over g.N.JournalName.receipts c.args.queues.now c.args.parts.now c.args.back.now c.args.keys.now c.requires.back
 
-pub take_over-requires-clause-back : goal.take_over-requires-clause-back
-take_over-requires-clause-back g c =
+pub take_over-requires : goal.take_over-requires
+take_over-requires g c =
     subst (λ w. IsBackFor g.N.JournalName.receipts c.args.queues.now c.loop-wanted.back w.key) (sym c.wanted-item.is)
     (c.loop-wanted.invariant.back c.loop-wanted.wanted-index c.wanted-item.result (omega arith) c.loop-wanted-test.true)
 

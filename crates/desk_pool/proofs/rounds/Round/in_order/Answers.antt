@@ -1,5 +1,5 @@
 use Rattle.std.proofs.Common.{◌≡◌, ◌∙◌, All, false, ap, length, refl, subst, sym}
-use Rattle.std.proofs.lemmas.Bool.{true≢false}
+use Rattle.std.proofs.lemmas.Bool.{false≢true, true≢false}
 use Rattle.conflict_queue.proofs.Numbered.{docket_len}
 use Rattle.folio_sections.specs.Held.{is_given}
 use Rattle.registrar.specs.HeldKeys.{keys_of_first}
@@ -16,7 +16,7 @@ is_permitted-requires-clause-none g c = subst (All (λ b. b ≡ false)) (sym c.a
 pub returns-then-not-is_permitted-clause-permitted : goal.returns-then-not-is_permitted-clause-permitted
 returns-then-not-is_permitted-clause-permitted g c =
     let tells = c.is_permitted.ensures.permitted g.N.JournalName.receipts c.self.inside.ready.docket_is in
-    (λ some. absurd some, λ permitted. absurd (true≢false (sym (tells.1 permitted) ∙ c.if-not-is_permitted.true)))
+    (λ some. absurd (false≢true some), λ permitted. absurd (true≢false (sym (tells.1 permitted) ∙ c.if-not-is_permitted.true)))
 
 pub settle_in-requires-clause-permitted : goal.settle_in-requires-clause-permitted
 settle_in-requires-clause-permitted g c =
