@@ -60,12 +60,12 @@ pub(crate) fn finish<N: JournalName>(
 /// goes (NoMemory).
 pub(crate) fn finish_or_settle<N: JournalName>(
     journal: &Journal,
-    mut prepared: Prepared,
+    mut frame: Prepared,
     worked: Worked,
     receipts: &[ReceiptNo],
 ) -> Result<Register, NoMemory>
     requires named { journal.now.receipts ≡ N.receipts }
-    requires frame { HasFrame N.receipts prepared }
+    requires frame { HasFrame N.receipts frame }
     requires worked { IsWorked N.receipts worked }
     requires receipts { receipts.now ≡ in_receipt_order N.receipts }
     ensures settled { IfOk result (HasSettled N.receipts) }
@@ -80,10 +80,10 @@ pub(crate) fn finish_or_settle<N: JournalName>(
     // Called for their clauses.
     journal.len();
     receipts_in_turn();
-    if is_complete::<N>(&mut prepared, worked) {
-        return Ok(prepared.into_register(journal, receipts));
+    if is_complete::<N>(&mut frame, worked) {
+        return Ok(frame.into_register(journal, receipts));
     }
-    alone(prepared.alloc, journal)
+    alone(frame.alloc, journal)
 }
 
 /// Puts the verdicts and the parts of the folios into what was prepared, where all are there. False
