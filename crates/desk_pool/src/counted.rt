@@ -26,7 +26,7 @@ pub(crate) fn count(alloc: Global, journal: &Journal) -> Result<Counted, NoMemor
 {
     let docket = Docket::build(alloc, journal)?;
     let queues = build_queues(alloc, journal, &docket)?;
-    let rooms = count_rooms(alloc, journal, &docket)?;
+    let rooms = count_rooms(alloc, journal, &docket, queues.as_slice())?;
     Ok(Counted {
         docket,
         queues,
