@@ -1,4 +1,4 @@
-//! The room that a round keeps at each key of a journal.
+//! The room that is kept at each key of a journal.
 ghost use Rattle.std.specs.Prelude.{◌≡◌, ◌||◌, ◌++◌, ◌+◌, ◌*◌, ◌≤◌, if◌then◌else◌, is_some, IfOk, OnOk};
 ghost use Rattle.act_model.specs.Limits.{most_receipts};
 ghost use Rattle.gb_base.specs.Keys.{key_cmp, same_key};
@@ -100,8 +100,7 @@ fn list_keys(
     Ok(())
 }
 
-/// Keeps at each key the sum of its rooms in the list more. Where the same keys stand together each
-/// is looked up once.
+/// Adds to the room at each key the sum of its rooms in the list.
 fn add_sums(rooms: &mut BTreeMap<Key, usize>, touched: &[KeyRoom]) -> Result<(), NoMemory>
     requires few { (k : Key) → room_in rooms.old k + sum_at touched.now k ≤ 4 * most_receipts }
     ensures room { OnOk result ((k : Key) → room_in rooms.new k ≡ room_in rooms.old k + sum_at touched.now k) }
@@ -144,7 +143,8 @@ fn add(rooms: &mut BTreeMap<Key, usize>, key: &Key, room: usize) -> Result<(), N
     ensures room { OnOk result ((k : Key) → room_in rooms.new k ≡ if same_key key.now k then room_in rooms.old k + room else room_in rooms.old k) }
     ensures keys { OnOk result ((k : Key) → is_some (get key_cmp rooms.new k) ≡ (is_some (get key_cmp rooms.old k) || same_key key.now k)) }
 {
-    // The key is most often a new one, and then it is looked up once.
+    // The key is new, since the touches of its folio stand together; no clause says so, so the room of
+    // one that is there is added to.
     if let Some(before) = rooms.insert(*key, room)? {
         rooms.insert(*key, before + room)?;
     }

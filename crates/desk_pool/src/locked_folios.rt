@@ -20,7 +20,7 @@ use kept_registers::laws::empty_register_is_kept;
 use registrar::{Scratch, Verdict};
 use std::marker::{Model, PhantomData};
 
-/// A folio of a round. Whenever its lock is free, its parts say what the one registrar of the named
+/// A folio of a journal. Whenever its lock is free, its parts say what the one registrar of the named
 /// journal leaves there behind the last of the folio's items that are settled: so a desk that
 /// settles an item out of turn, leaves an entry out or makes one up has no value to put back.
 #[derive(Drop)]

@@ -23,9 +23,10 @@ use kept_registers::laws::empty_register_is_kept;
 use registrar::{Register, Scratch, Verdict, step};
 use std::alloc::Global;
 
-/// All that a journal is settled in: parts at its keys with room for what its items bring, a
-/// scratch, a verdict for each item, which says nothing yet, and the folios that may be open in the
-/// end. So the settlement itself wants no memory.
+/// What a journal is settled in: parts at its keys, a scratch, a verdict for each item, which says
+/// nothing yet, and the folios that may be open in the end. Where the parts have room for what the
+/// items bring (`IsPrepared`), the settlement itself wants no memory; where they have none, the parts
+/// that desks leave bring theirs along.
 #[derive(Drop)]
 pub(crate) struct Prepared {
     pub alloc: Global,

@@ -1,4 +1,4 @@
-//! All that a journal is settled in, made beforehand.
+//! What a journal is settled in, made beforehand.
 ghost use Rattle.std.specs.Prelude.{◌≡◌, filter_map, length, map, IfOk};
 ghost use Rattle.std.specs.BTreeMap.{IsOrdered};
 ghost use Rattle.gb_base.specs.Keys.{key_cmp};

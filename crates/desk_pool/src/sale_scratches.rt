@@ -1,4 +1,4 @@
-//! The scratches in which a round reckons sales.
+//! The scratches in which sales are reckoned.
 ghost use Rattle.std.specs.Prelude.{◌≡◌, ◌*◌, ◌≤◌, true, length, sum_by, IfOk, OnOk};
 ghost use Rattle.gb_base.specs.declared.keys.Key.{Key};
 ghost use Rattle.gb_base.specs.declared.keys.Key.TheVariants.{Right};
