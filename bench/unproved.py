@@ -5,9 +5,8 @@
 
 `rt try` runs a program with checks of addresses, which tells no times. But what it hands to the compiler
 is the program's module. So it is run with a copy of the kit whose compiler keeps the module, and the module
-is compiled and linked as the kit does it with a proved program. OUT settles as fast as the program that
-the proofs will give (2.53 s and 2.76 s at one and two desks, where the proved one took as long), and is
-for measuring alone. It takes two to three minutes.
+is compiled and linked as the kit does it with a proved program. OUT is for measuring alone. It takes two to
+three minutes, and ten beside proofs.
 """
 
 import os
@@ -18,20 +17,22 @@ import sys
 import tempfile
 
 ROOT = pathlib.Path(__file__).resolve().parent.parent
-KIT = pathlib.Path(os.path.realpath(shutil.which("rt"))).parent.parent
+RT = shutil.which("rt") or sys.exit("the kit's rt has to be on the path")
+KIT = pathlib.Path(os.path.realpath(RT)).parent.parent
 TARGET = "x86_64-unknown-linux-gnu"
 
 # `rt try` compiles a module of a few bytes first; the program's has 28 MB.
 KEEPER = """#!/bin/sh
 for word in "$@"; do
     case "$word" in
-    *.bc) if [ "$(/usr/bin/stat -c %s "$word")" -gt 100000 ]; then /bin/cp "$word" {kept}; exit 1; fi ;;
+    *.bc) if [ "$(/usr/bin/stat -c %s "$word")" -gt 100000 ]; then /bin/cp "$word" "{kept}"; exit 1; fi ;;
     esac
 done
-exec {clang} "$@"
+exec "{clang}" "$@"
 """
 
-# The words with which the kit compiles, and the level of a proved program.
+# The words with which rattle-kit-13f compiles a proved program: `ps` shows them while it does. Under
+# another kit look there again.
 COMPILE = """-march=x86-64-v2 -mllvm -no-trap-after-noreturn -ffunction-sections -fdata-sections
 -mllvm -trap-unreachable -mllvm -no-x86-call-frame-opt -mllvm -disable-machine-licm
 -mllvm -disable-postra-machine-licm -mllvm -sink-common-insts=false --no-default-config
