@@ -33,10 +33,11 @@ exec "{clang}" "$@"
 
 # The words with which rattle-kit-13f compiles a proved program: `ps` shows them while it does. Under
 # another kit look there again.
-COMPILE = """-march=x86-64-v2 -mllvm -no-trap-after-noreturn -ffunction-sections -fdata-sections
+COMPILE = """-march=x86-64 -mllvm -no-trap-after-noreturn -ffunction-sections -fdata-sections
 -mllvm -trap-unreachable -mllvm -no-x86-call-frame-opt -mllvm -disable-machine-licm
 -mllvm -disable-postra-machine-licm -mllvm -sink-common-insts=false --no-default-config
--no-canonical-prefixes -fintegrated-cc1 -fno-crash-diagnostics -c -fPIE -O3""".split()
+-no-canonical-prefixes -fintegrated-cc1 -fno-crash-diagnostics -Werror -c -fPIE -O3
+-Xclang -fmerge-functions -mllvm -mergefunc-use-aliases""".split()
 
 
 def kit_that_keeps(folder, kept):
