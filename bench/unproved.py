@@ -5,8 +5,9 @@
 
 `rt try` runs a program with checks of addresses, which tells no times. But what it hands to the compiler
 is the program's module. So it is run with a copy of the kit whose compiler keeps the module, and the module
-is compiled and linked as the kit does it with a proved program. OUT is for measuring alone. It takes two to
-three minutes, and ten beside proofs.
+is compiled and linked as the kit does it with a proved program. OUT is for measuring alone, beside another
+that was made so: it takes about a sixth longer than the proved program. To make it takes two to three
+minutes, and ten beside proofs.
 """
 
 import os
