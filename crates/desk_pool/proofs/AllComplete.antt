@@ -1,5 +1,5 @@
 -- What the desks have settled, put together, is the register of the one registrar.
-use Rattle.std.proofs.Common.{◌≡◌, ⊎_elim, ℕ, ◌-◌, ◌≤◌, true, false, ◌||◌, List, [], ◌∷◌, All, Contains, Global, Vec, length, map, Some, slice_get, refl, sym, ap, subst, ◌∙◌, arith}
+use Rattle.std.proofs.Common.{◌≡◌, ⊎_elim, ℕ, ◌-◌, true, false, ◌||◌, List, [], ◌∷◌, All, Contains, Global, Vec, length, map, Some, slice_get, refl, sym, ap, subst, ◌∙◌, arith}
 use Rattle.std.proofs.lemmas.Bool.{cases_Bool, false≢true}
 use Rattle.std.proofs.lemmas.List.Elements.{All-head, All-tail}
 use Rattle.gb_base.proofs.Members.{of_range}
@@ -13,19 +13,18 @@ use Rattle.conflict_queue.specs.ItemKeys.{keys_of_item}
 use Rattle.conflict_queue.specs.Schedules.{in_receipt_order}
 use Rattle.folio_line.specs.inner.NotHeld.{not_held}
 use Rattle.folio_sections.specs.Entries.{at}
-use Rattle.folio_sections.specs.Held.{entries_at, is_given, is_held, room_at}
+use Rattle.folio_sections.specs.Held.{entries_at, is_given, is_held}
 use Rattle.folio_sections.specs.PartState.{PartState}
 use Rattle.kept_registers.specs.Kept.{Kept}
 use Rattle.registrar.proofs.RisingNumbers.{in_of_contains}
 use Rattle.registrar.specs.Brings.{brings}
 use Rattle.registrar.specs.HasSettled.{settled_first}
 use Rattle.registrar.specs.HeldKeys.{keys_of_first}
-use Rattle.registrar.specs.RegisterState.{verdict_among}
 use Rattle.registrar.specs.Settling.{registrar}
 use Rattle.registrar.specs.declared.verdicts.Verdict.{Verdict}
-use Rattle.desk_pool.specs.FolioStates.{HasAllRoom}
-use Rattle.desk_pool.specs.FoliosBack.{AreAllKeys, IsBackAt}
-use Rattle.desk_pool.specs.Preparing.{HasFrame, HasPlaces}
+use Rattle.desk_pool.specs.inner.FoliosBack.{StandsSettled}
+use Rattle.desk_pool.specs.inner.Boards.{AreVerdicts}
+use Rattle.desk_pool.specs.Preparing.{HasFrame}
 use Rattle.desk_pool.specs.declared.folio_parts.KeyRoom.{KeyRoom}
 use Rattle.desk_pool.specs.declared.prepared.Prepared.{Prepared}
 use Rattle.desk_pool.proofs.NothingBetween.{nothing_between}
@@ -41,25 +40,14 @@ pub frame_together : (journal : List Receipt) (s : Prepared) (parts : List PartS
 frame_together journal s parts verdicts frame held count =
     record { held = λ k. (λ i. held i k) ∙ frame.held k; scratch = frame.scratch; verdicts = count; folios = frame.folios }
 
-pub places_together : (journal : List Receipt) (s : Prepared) (parts : List PartState) (verdicts : Vec Verdict Global) → is_held parts ≡ is_held s.parts
-    → (HasAllRoom journal (is_held s.parts) (entries_at s.parts) (room_at s.parts) → HasAllRoom journal (is_held parts) (entries_at parts) (room_at parts)) → length verdicts.items ≡ length journal
-    → HasPlaces journal s → HasPlaces journal (put_together s parts verdicts)
-places_together journal s parts verdicts held room count places =
-    record { frame = frame_together journal s parts verdicts places.frame held count; room = room places.room }
-
 -- what holds of each of these keys holds of one that is given among them
-given_listed : (keys : List KeyRoom) (k : Key) (P : Key → Type 0) → is_given (map (λ w. w.key) keys) k ≡ true → All (λ w. P w.key) keys → P k
+pub given_listed : (keys : List KeyRoom) (k : Key) (P : Key → Type 0) → is_given (map (λ w. w.key) keys) k ≡ true → All (λ w. P w.key) keys → P k
 given_listed [] k P given all = absurd (false≢true given)
 given_listed (w ∷ ws) k P given all =
     ⊎_elim
     (λ same. subst P (same_is w.key k same) (All-head (λ v. P v.key) w ws all))
     (λ other. given_listed ws k P (sym (ap (λ b. b || is_given (map (λ v. v.key) ws) k) other) ∙ given) (All-tail (λ v. P v.key) w ws all))
     (cases_Bool (same_key w.key k))
-
--- where all keys are back, each that is held has its room: the parts of the folios brought it along
-pub room_together : (journal : List Receipt) (parts : List PartState) (keys : List KeyRoom) → ((k : Key) → is_held parts k ≡ is_given (keys_of_first journal (length journal)) k) → AreAllKeys journal keys
-    → All (λ w. IsBackAt journal parts w.key) keys → HasAllRoom journal (is_held parts) (entries_at parts) (room_at parts)
-room_together journal parts keys held are all = λ k there. (given_listed keys k (IsBackAt journal parts) (are.all k ∙ sym (held k) ∙ there) all).room
 
 module _ (journal : List Receipt) (numbered : IsJournal journal) (empty : Kept journal (λ k. [])) where
   -- at a key that no item touches nothing stands
@@ -71,15 +59,15 @@ module _ (journal : List Receipt) (numbered : IsJournal journal) (empty : Kept j
       (λ lacks. lacks)
       (cases_Bool (has_key k (keys_of_item journal i))))
 
-  pub entries_together : (parts : List PartState) (keys : List KeyRoom) → ((k : Key) → is_held parts k ≡ is_given (keys_of_first journal (length journal)) k) → AreAllKeys journal keys
-      → All (λ w. IsBackAt journal parts w.key) keys → (k : Key) → entries_at parts k ≡ at (registrar journal).entries k
-  entries_together parts keys held are all k =
+  pub entries_together : (parts : List PartState) → ((k : Key) → is_held parts k ≡ is_given (keys_of_first journal (length journal)) k) → StandsSettled journal parts
+      → (k : Key) → entries_at parts k ≡ at (registrar journal).entries k
+  entries_together parts held stands k =
       ⊎_elim
-      (λ there. (given_listed keys k (IsBackAt journal parts) (are.all k ∙ sym (held k) ∙ there) all).stands)
+      (stands k)
       (λ none. not_held parts k none ∙ sym (untouched_is_empty k (sym (held k) ∙ none)))
       (cases_Bool (is_held parts k))
 
-  pub verdicts_together : (verdicts : List Verdict) → length verdicts ≡ length journal → ((n : ℕ) → 1 ≤ n → n ≤ length verdicts → slice_get verdicts (n - 1) ≡ verdict_among (registrar journal).verdicts n)
+  pub verdicts_together : (verdicts : List Verdict) → length verdicts ≡ length journal → AreVerdicts journal verdicts
       → (n : ℕ) → Contains (in_receipt_order journal) n → slice_get verdicts (n - 1) ≡ Some (brings journal n (at (settled_first journal (n - 1)).entries)).verdict
   verdicts_together verdicts count said n among =
       let is = of_range 1 (length journal) n (in_of_contains (in_receipt_order journal) n among) in

@@ -1,5 +1,5 @@
 -- What a round prepares is what the settling of a journal begins with.
-use Rattle.std.proofs.Common.{◌≡◌, ℕ, zero, suc, ◌<◌, Bool, true, false, ◌&&◌, ◌||◌, ◌==◌, List, [], ◌∷◌, Result, Ok, Err, IfOk, Contains, filter_map, get_or, length, map, refl, sym, ap, subst, ◌∙◌, arith}
+use Rattle.std.proofs.Common.{◌≡◌, ℕ, zero, suc, ◌<◌, Bool, true, false, ◌&&◌, ◌||◌, ◌==◌, List, [], ◌∷◌, Contains, filter_map, get_or, length, map, refl, sym, ap, subst, ◌∙◌, arith}
 use Rattle.std.specs.BTreeMap.{BTreeMap, IsOrdered}
 use Rattle.std.specs.List.{AllByRecursion, list_any}
 use Rattle.std.specs.List.Sorted.{IsStrictlySortedBy}
@@ -17,8 +17,8 @@ use Rattle.act_model.specs.declared.receipts.Receipt.{Receipt}
 use Rattle.desk_pool.proofs.BuiltQueues.{same_number}
 use Rattle.desk_pool.proofs.PreparedParts.{all_listed, key_of}
 use Rattle.desk_pool.specs.FolioStates.{HasAllRoom, HasAllScratch, IsBehindLock}
-use Rattle.desk_pool.specs.KeyRooms.{AreRooms}
-use Rattle.desk_pool.specs.Preparing.{AreTitledFolios, HasFrame, IsPrepared, ServesEachItem}
+use Rattle.desk_pool.specs.inner.KeyRooms.{AreRooms}
+use Rattle.desk_pool.specs.Preparing.{AreTitledFolios, HasFrame, ServesEachItem}
 use Rattle.desk_pool.specs.declared.folio_parts.KeyRoom.{KeyRoom}
 use Rattle.desk_pool.specs.declared.prepared.Prepared.{Prepared}
 use Rattle.desk_pool.specs.inner.PartsPrepared.{ArePartsFor, room_of_entry}
@@ -120,18 +120,3 @@ has_frame journal rooms keys s are ordered listed held serves said titled =
       verdicts = said;
       folios = subst (AreTitledFolios journal) (sym (titled ∙ ap (filter_map (λ (r : KeyRoom). titled_folio r.key)) listed)) (titled_folios journal rooms are ordered);
     }
-
--- a frame around parts with room in which nothing stands
-prepared_in : (journal : List Receipt) (rooms : BTreeMap Key ℕ) (parts : List PartState) (s : Prepared) → AreRooms journal rooms → ArePartsFor rooms (λ k. true) parts → HasFrame journal s → s.parts ≡ parts
-    → IsPrepared journal s
-prepared_in journal rooms parts s are prepared frame same =
-    let own : ArePartsFor rooms (λ k. true) s.parts = subst (ArePartsFor rooms (λ k. true)) (sym same) prepared in
-    record {
-      places = record { frame = frame; room = has_all_room journal rooms (λ k. true) s.parts are own };
-      empty = own.empty;
-    }
-
-pub prepared_on_ok : {Y : Type 0} (journal : List Receipt) (rooms : BTreeMap Key ℕ) (parts : List PartState) (r : Result Prepared Y) → AreRooms journal rooms → ArePartsFor rooms (λ k. true) parts
-    → IfOk r (HasFrame journal) → IfOk r (λ s. s.parts ≡ parts) → IfOk r (IsPrepared journal)
-prepared_on_ok journal rooms parts (Ok s) are prepared frame same = prepared_in journal rooms parts s are prepared frame same
-prepared_on_ok journal rooms parts (Err e) are prepared frame same = tt

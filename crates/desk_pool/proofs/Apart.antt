@@ -4,7 +4,7 @@ use Rattle.std.specs.Cmp.{both_ways}
 use Rattle.std.proofs.lemmas.Bool.{cases_Bool, or_cases, or_left, or_right}
 use Rattle.gb_base.specs.declared.keys.Key.{Key}
 use Rattle.folio_sections.specs.declared.entries.Entry.{Entry}
-use Rattle.desk_pool.specs.FolioPairs.{AreApart, of_either}
+use Rattle.desk_pool.specs.inner.FolioPairs.{AreApart, of_either}
 
 -- no key is of both
 pub not_both : (first second : Key → Bool) (k : Key) → AreApart first second → first k ≡ true → second k ≡ true → ⊥

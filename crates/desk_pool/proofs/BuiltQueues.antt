@@ -1,5 +1,5 @@
 -- The queues of folios grow by an item, and their list has each folio that a key is of.
-use Rattle.std.proofs.Common.{◌≡◌, ⊎_elim, ℕ, zero, suc, ◌+◌, ◌-◌, ◌<◌, ◌≤◌, Bool, true, false, cond, ◌||◌, ◌==◌, List, [], ◌∷◌, ◌++◌, Option, Some, None, Any, IsTrue, Vec, drop, filter, flat_map, get_or, length, map, slice_get, refl, sym, ap, subst, ◌∙◌, length-append, arith}
+use Rattle.std.proofs.Common.{◌≡◌, ⊎_elim, ℕ, zero, suc, ◌+◌, ◌-◌, ◌<◌, ◌≤◌, Bool, true, false, cond, ◌||◌, ◌==◌, List, [], ◌∷◌, ◌++◌, Option, Some, None, IsTrue, Vec, drop, filter, flat_map, get_or, length, map, slice_get, refl, sym, ap, subst, ◌∙◌, length-append, arith}
 use Rattle.std.specs.BTreeMap.{BTreeMap, IsOrdered, Updates, get, is_at}
 use Rattle.std.specs.List.{last_or, list_any, range_with_len}
 use Rattle.std.specs.List.Sorted.{IsStrictlySortedBy}
@@ -27,7 +27,7 @@ use Rattle.conflict_queue.proofs.Lists.{get_behind}
 use Rattle.conflict_queue.specs.Dockets.{has_key, keys_touched}
 use Rattle.conflict_queue.specs.ItemKeys.{keys_of_item}
 use Rattle.desk_pool.proofs.CountedRooms.{cut}
-use Rattle.desk_pool.specs.AllQueues.{AreAllQueues}
+use Rattle.desk_pool.specs.inner.AllQueues.{AreAllQueues, is_queued}
 use Rattle.desk_pool.specs.FolioQueues.{queue_of, touches_folio}
 use Rattle.desk_pool.specs.declared.folio_queues.FolioQueue.{FolioQueue}
 use Rattle.desk_pool.specs.inner.QueuesBuilt.{as_entry, is_last, items_at, items_in, with_item, with_item_at}
@@ -187,12 +187,12 @@ number_is f g e = grind (arith, nat_tests, e)
 some_not_none : {X : Type 0} (x : X) → None ≡ Some x → ⊥
 some_not_none x e = absurd (cc e)
 
-found : (queues : List FolioQueue) (f : ℕ) (v : Vec ℕ Global) → lookup (is_at (nat_cmp f)) (map as_entry queues) ≡ Some v → Any (λ q. q.folio ≡ f) queues
+found : (queues : List FolioQueue) (f : ℕ) (v : Vec ℕ Global) → lookup (is_at (nat_cmp f)) (map as_entry queues) ≡ Some v → is_queued queues f ≡ true
 found [] f v h = absurd (cc h)
 found (q ∷ qs) f v h =
-    elim (is_at (nat_cmp f) q.folio) as (λ b. is_at (nat_cmp f) q.folio ≡ b → cond b (Some q.items) (lookup (is_at (nat_cmp f)) (map as_entry qs)) ≡ Some v → Any (λ x. x.folio ≡ f) (q ∷ qs)) [
-      | true ↦ λ e _. (0, q, omega arith, refl, number_is f q.folio e)
-      | false ↦ λ e there. let rest = found qs f v there in (suc rest.0, rest.1, omega (arith, rest.2), rest.3, rest.4)
+    elim (is_at (nat_cmp f) q.folio) as (λ b. is_at (nat_cmp f) q.folio ≡ b → cond b (Some q.items) (lookup (is_at (nat_cmp f)) (map as_entry qs)) ≡ Some v → is_queued (q ∷ qs) f ≡ true) [
+      | true ↦ λ e _. ap (λ b. b || is_queued qs f) (ap (λ n. n == q.folio) (sym (number_is f q.folio e)) ∙ same_number q.folio)
+      | false ↦ λ e there. or_right (f == q.folio) (is_queued qs f) (found qs f v there)
     ] refl h
 
 folios_are : (queues : List FolioQueue) → keys_of (map as_entry queues) ≡ map (λ (q : FolioQueue). q.folio) queues
@@ -236,11 +236,11 @@ module _ (journal : List Receipt) (items : BTreeMap ℕ (Vec ℕ Global)) (queue
       let second = get_or-map folio queues j d d.folio within in
       omega (arith, below, first, second)
 
-  among : (k : Key) → IsTrue (is_given (keys_of_first journal (length journal)) k) → Any (λ q. q.folio ≡ folio_of_key k) queues
+  among : (k : Key) → IsTrue (is_given (keys_of_first journal (length journal)) k) → IsTrue (is_queued queues (folio_of_key k))
   among k given =
       let f = folio_of_key k in
       let whole = own f in
-      elim (get nat_cmp items f) as (λ o. get nat_cmp items f ≡ o → items_in o ≡ queue_of journal f → Any (λ q. q.folio ≡ f) queues) [
+      elim (get nat_cmp items f) as (λ o. get nat_cmp items f ≡ o → items_in o ≡ queue_of journal f → is_queued queues f ≡ true) [
         | Some v ↦ λ e _. found queues f v (ap (lookup (is_at (nat_cmp f))) listed ∙ e)
         | None ↦ λ _ h. absurd (not_empty journal k (range_with_len 1 (length journal)) given (sym h))
       ] refl whole

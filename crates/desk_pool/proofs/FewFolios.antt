@@ -26,7 +26,7 @@ use Rattle.folio_sections.proofs.Unchanged.{all_both, all_weaker}
 use Rattle.kept_registers.proofs.WellFiled.{well_filed}
 use Rattle.registrar.proofs.ContainedParts.{each_mapped}
 use Rattle.desk_pool.proofs.NoKeys.{no_key}
-use Rattle.desk_pool.specs.TouchedFolios.{AreOfFewFolios}
+use Rattle.desk_pool.specs.inner.TouchedFolios.{AreOfFewFolios}
 
 -- ---- numbers of which two are different
 

@@ -2,7 +2,7 @@
 use Rattle.std.proofs.Common.{◌≡◌, ℕ, zero, suc, ◌+◌, ◌<◌, Bool, true, false, cond, ◌&&◌, ◌||◌, ◌==◌, List, [], ◌∷◌, AllPairs, filter, flat_map, get_or, length, sum_by, refl, sym, ap, subst, ◌∙◌, arith}
 use Rattle.std.specs.List.{list_any, range_with_len}
 use Rattle.std.specs.List.Sorted.{IsPermutation, IsStrictlySortedBy}
-use Rattle.std.proofs.lemmas.Bool.{eqb-true, or_right}
+use Rattle.std.proofs.lemmas.Bool.{eqb-true}
 use Rattle.std.proofs.lemmas.Bool.Decides.{nat_tests}
 use Rattle.std.proofs.lemmas.List.Folds.{list_any-append}
 use Rattle.std.proofs.lemmas.List.Sorted.{list_any-IsPermutation, sum_by-IsPermutation}
@@ -15,7 +15,7 @@ use Rattle.conflict_queue.proofs.SaleKeys.{in_order_has}
 use Rattle.conflict_queue.specs.Dockets.{has_key, keys_touched}
 use Rattle.conflict_queue.specs.ItemKeys.{keys_of_item}
 use Rattle.desk_pool.proofs.Turns.{key_untouched}
-use Rattle.desk_pool.specs.AllQueues.{AreAllQueues}
+use Rattle.desk_pool.specs.inner.AllQueues.{AreAllQueues}
 use Rattle.desk_pool.specs.FolioQueues.{is_key_of, queue_of, touches_folio}
 use Rattle.desk_pool.specs.RoundRooms.{room_for, room_of_first}
 use Rattle.desk_pool.specs.declared.folio_queues.FolioQueue.{FolioQueue}
@@ -226,18 +226,9 @@ none_kept journal k (n ∷ ns) none =
       | false ↦ λ h. none_kept journal k ns h
     ] both
 
-own_there : (qs : List FolioQueue) (k : Key) (i : ℕ) (q : FolioQueue) → i < length qs → get_or qs i q ≡ q → q.folio ≡ folio_of_key k → is_own_of_any qs k ≡ true
-own_there [] k i q within there is = absurd (omega (arith, within))
-own_there (x ∷ xs) k zero q within there is =
-    let same : folio_of_key k ≡ x.folio = sym is ∙ ap (λ (y : FolioQueue). y.folio) (sym there) in
-    let own : is_own x.folio k ≡ true = grind (arith, nat_tests, same) in
-    ap (λ b. b || is_own_of_any xs k) own
-own_there (x ∷ xs) k (suc i) q within there is =
-    or_right (is_own x.folio k) (is_own_of_any xs k) (own_there xs k i q (omega (arith, within)) there is)
-
 module _ (journal : List Receipt) (queues : List FolioQueue) (k : Key) (are : AreAllQueues journal queues) where
   found : is_given (keys_of_first journal (length journal)) k ≡ true → is_own_of_any queues k ≡ true
-  found given = let there = are.all k given in own_there queues k there.0 there.1 there.2 there.3 there.4
+  found given = are.all k given
 
   pub all_counted : room_of_folios journal queues k ≡ room_of_first journal (length journal) k
   all_counted =

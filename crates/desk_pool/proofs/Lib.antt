@@ -10,8 +10,10 @@ pub mod CountedRooms
 pub mod CutLists
 pub mod FewFolios
 pub mod FilingRoom
+pub mod FolioPlaces
 pub mod FolioRooms
 pub mod FolioSteps
+pub mod FoliosInRow
 pub mod ItemRoom
 pub mod NoKeys
 pub mod NothingBetween

@@ -6,7 +6,7 @@ use Rattle.folio_sections.specs.Adding.{Adds}
 use Rattle.folio_sections.specs.Held.{entries_at, is_held, room_at}
 use Rattle.folio_sections.specs.PartState.{PartState}
 use Rattle.folio_sections.specs.declared.entries.Entry.{Entry}
-use Rattle.desk_pool.specs.FolioPairs.{AreApart, either_at, either_holds, either_room, of_either}
+use Rattle.desk_pool.specs.inner.FolioPairs.{AreApart, either_at, either_holds, either_room, of_either}
 
 -- what is read where the first holds the key, and where it does not
 pub of_first : {X : Type 0} (held : Key → Bool) (x y : Key → X) (k : Key) → held k ≡ true → of_either held x y k ≡ x k

@@ -21,7 +21,7 @@ use Rattle.registrar.proofs.PermittedRuns.{as_first, as_first_is, firsts}
 use Rattle.registrar.proofs.Registering.{first_keep_awards, registrar_kept}
 use Rattle.registrar.proofs.RisingNumbers.{contains_of_in, in_of_contains, pairs_of_rises, rises_of_pairs}
 use Rattle.registrar.proofs.SameSchedules.{same_entries}
-use Rattle.registrar.specs.HasSettled.{IsRegisterOf, settled_first}
+use Rattle.registrar.specs.HasSettled.{HasSettled, settled_first}
 use Rattle.registrar.specs.HeldKeys.{keys_of_first}
 use Rattle.registrar.specs.KeptAwards.{AwardsKept}
 use Rattle.registrar.specs.OpenFolios.{open_folios}
@@ -33,6 +33,7 @@ use Rattle.desk_pool.proofs.PreparedRuns.{verdict_first}
 use Rattle.desk_pool.specs.Preparing.{AreTitledFolios, HasPlaces, IsPrepared, ServesEachItem}
 use Rattle.desk_pool.specs.declared.prepared.Prepared.{Prepared}
 use Rattle.desk_pool.specs.inner.PreparedRuns.{HasTaken}
+use Rattle.desk_pool.specs.inner.TheRegister.{IsTheRegister}
 
 -- ---- verdicts
 
@@ -86,16 +87,6 @@ open_ones journal s places =
 
 -- ---- together
 
--- what the register of the one registrar is
-pub record IsTheRegister (journal : List Receipt) (register : RegisterState) : Type 0 where
-  pub whole : IsRegisterOf journal register
-  pub entries : entries_at register.parts ≡ at (registrar journal).entries
-  pub verdicts : register.verdicts ≡ (registrar journal).verdicts
-  pub folios : register.folios ≡ open_folios (registrar journal).entries
-  pub held : (k : Key) → is_held register.parts k ≡ is_given (keys_of_first journal (length journal)) k
-  pub kept : Kept journal (entries_at register.parts)
-  pub awards : AwardsKept journal (entries_at register.parts)
-
 pub register_left : (journal : List Receipt) (order : List ℕ) (s : Prepared) (register : RegisterState) → IsJournal journal → Kept journal (λ k. []) → IsPermitted journal order → HasTaken journal order s
     → register.parts ≡ s.parts → register.verdicts ≡ enumerate_from 1 s.verdicts.items → register.folios ≡ filter (λ folio. is_open (entries_at s.parts (Title folio))) s.folios.items
     → IsTheRegister journal register
@@ -109,16 +100,15 @@ register_left journal order s register numbered empty permitted taken parts said
     let held : (k : Key) → is_held register.parts k ≡ is_given (keys_of_first journal (length journal)) k = λ k. ap (λ ps. is_held ps k) parts ∙ taken.places.frame.held k in
     let count : length register.verdicts ≡ length journal = ap length said ∙ length-enumerate_from 1 s.verdicts.items ∙ taken.places.frame.verdicts in
     let all : length journal ≡ length register.verdicts = sym count in
+    let settled : HasSettled journal register = record {
+      entries = entries ∙ ap (λ n. at (settled_first journal n).entries) all;
+      verdicts = verdicts ∙ ap (λ n. (settled_first journal n).verdicts) all;
+      folios = folios ∙ ap (λ n. open_folios (settled_first journal n).entries) all;
+      held = λ k. held k ∙ ap (λ n. is_given (keys_of_first journal n) k) all;
+    } in
     record {
-      whole = record {
-        settled = record {
-          entries = entries ∙ ap (λ n. at (settled_first journal n).entries) all;
-          verdicts = verdicts ∙ ap (λ n. (settled_first journal n).verdicts) all;
-          folios = folios ∙ ap (λ n. open_folios (settled_first journal n).entries) all;
-          held = λ k. held k ∙ ap (λ n. is_given (keys_of_first journal n) k) all;
-        };
-        whole = count;
-      };
+      settled = settled;
+      whole = record { settled = settled; whole = count };
       entries = entries;
       verdicts = verdicts;
       folios = folios;

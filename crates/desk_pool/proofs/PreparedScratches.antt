@@ -26,7 +26,7 @@ use Rattle.desk_pool.proofs.CountedRooms.{room_few}
 use Rattle.desk_pool.proofs.PreparedParts.{in_list}
 use Rattle.desk_pool.proofs.RoomsSuffice.{exchanges_fit, room_grows}
 use Rattle.desk_pool.specs.FolioStates.{HasAllScratch}
-use Rattle.desk_pool.specs.KeyRooms.{AreRooms, room_in}
+use Rattle.desk_pool.specs.inner.KeyRooms.{AreRooms, room_in}
 use Rattle.desk_pool.specs.Preparing.{ServesEachItem}
 use Rattle.desk_pool.specs.RoundRooms.{room_of_first}
 use Rattle.desk_pool.specs.declared.folio_parts.KeyRoom.{KeyRoom}

@@ -9,7 +9,7 @@ use Rattle.registrar.specs.RegisterState.{verdict_among}
 use Rattle.registrar.specs.Settling.{registrar}
 use Rattle.registrar.specs.declared.verdicts.Verdict.{Verdict}
 use Rattle.registrar.specs.declared.verdicts.Verdict.TheVariants.{NotPending}
-use Rattle.desk_pool.specs.Boards.{AreSaid}
+use Rattle.desk_pool.specs.inner.Boards.{AreSaid}
 
 -- at its place a written element is found, and elsewhere what was there
 pub written_there : {X : Type 0} (xs : List X) (i : ℕ) (y : X) → i < length xs → slice_get (set xs i y) i ≡ Some y

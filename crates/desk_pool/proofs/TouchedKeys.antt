@@ -15,7 +15,7 @@ use Rattle.registrar.proofs.ContainedParts.{all_contained, contains_first}
 use Rattle.registrar.proofs.RisingNumbers.{contains_of_in, in_of_contains}
 use Rattle.desk_pool.proofs.NoKeys.{no_key}
 use Rattle.desk_pool.specs.FolioQueues.{has_folio}
-use Rattle.desk_pool.specs.TouchedFolios.{AreOfFewFolios, AreTouched}
+use Rattle.desk_pool.specs.inner.TouchedFolios.{AreOfFewFolios, AreTouched}
 use Rattle.desk_pool.specs.declared.touched_folios.TouchedFolios.{TouchedFolios}
 use Rattle.desk_pool.specs.declared.touched_folios.TouchedFolios.TheVariants as touched
 

@@ -2,13 +2,13 @@
 use Rattle.std.specs.Prelude.{◌≡◌, ℕ, Bool, false, List, All, length}
 use Rattle.act_model.specs.declared.receipts.Receipt.{Receipt}
 use Rattle.conflict_queue.specs.Schedules.{in_receipt_order}
-use Rattle.desk_pool.specs.Preparing.{IsPrepared}
+use Rattle.desk_pool.specs.Preparing.{HasFrame}
 use Rattle.desk_pool.specs.declared.prepared.Prepared.{Prepared}
 
--- All is of the named journal: the journal that is lent, and what it is settled in without desks; 64 desks have a place, and no order was looked through.
-pub record IsRound (journal lent : List Receipt) (prepared : Prepared) (seats : ℕ) (receipts : List ℕ) (passed : List Bool) : Type 0 where
+-- All is of the named journal: the journal that is lent, and the frame of its register; 64 desks have a place, and no order was looked through.
+pub record IsRound (journal lent : List Receipt) (frame : Prepared) (seats : ℕ) (receipts : List ℕ) (passed : List Bool) : Type 0 where
   pub named : lent ≡ journal
-  pub prepared_is : IsPrepared journal prepared
+  pub frame_is : HasFrame journal frame
   pub seats_are : seats ≡ 64
   pub receipts_are : receipts ≡ in_receipt_order journal
   pub none_passed : All (λ b. b ≡ false) passed

@@ -1,8 +1,19 @@
 -- What only private clauses and proofs use.
+pub mod AllQueues
+pub mod Boards
+pub mod Counted
+pub mod FolioPairs
+pub mod FolioRows
+pub mod FoliosBack
+pub mod FoliosInRow
+pub mod KeyRooms
 pub mod OrderWalks
 pub mod PartsPrepared
 pub mod PreparedRuns
 pub mod QueuesBuilt
 pub mod RoomsCounted
 pub mod ScratchesPrepared
+pub mod TakenOver
+pub mod TheRegister
 pub mod TitlesListed
+pub mod TouchedFolios

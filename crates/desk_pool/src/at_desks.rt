@@ -1,5 +1,5 @@
 //! Settling a journal at desks, from its first item to its last.
-//! Why so: docs/DECISIONS.md, "A round keeps its room twice".
+//! Why so: docs/DECISIONS.md, "Which journals one desk settles".
 ghost use Rattle.std.specs.Prelude.{◌≡◌, ◌≤◌, IfOk, length};
 ghost use Rattle.gb_base.specs.declared.keys.Key.{Key};
 ghost use Rattle.folio_sections.specs.Entries.{at};
@@ -11,11 +11,8 @@ ghost use Rattle.registrar.specs.KeptAwards.{AwardsKept};
 ghost use Rattle.registrar.specs.OpenFolios.{open_folios};
 ghost use Rattle.registrar.specs.Settling.{registrar};
 
-use crate::counted::{count, list_receipts};
-use crate::finishing::finish_or_settle;
 use crate::one_desk::is_for_one_desk;
-use crate::preparing::prepare_frame;
-use crate::ready_desks::{ReadyDesks, desks_wanted};
+use crate::rounds::Round;
 use act_model::{Journal, JournalName};
 use gb_base::{NoMemory, ReceiptNo};
 use gb_outside::DeskGate;
@@ -28,9 +25,8 @@ use std::thread::Threads;
 /// and one whose filings have many acts, is settled by one desk. Several work each in a thread of its
 /// own where one can be had. `gate` is called with each item ahead of its entries, while its desk has
 /// the item's folios to itself: one desk alone has all of them, others lock them. Whatever the desks
-/// do, the register is the one that `registrar::alone` gives (GBO § 17): where they leave something
-/// undone, it settles the whole journal anew. Wants memory (NoMemory); several desks want all that they
-/// settle in before the first item is settled.
+/// do, the register is the one that `registrar::alone` gives (GBO § 17). Wants memory (NoMemory);
+/// several desks want all of it before the first item is settled.
 pub fn settle_at_desks<R: AllocGlobal + Threads + Wait + Sync, G: DeskGate>(
     rt: &R,
     journal: &Journal,
@@ -62,8 +58,7 @@ fn call_with_each<G: DeskGate>(journal: &Journal, gate: &G) {
     }
 }
 
-/// The same of a journal that has a name, at several desks. What they have settled is put together in
-/// parts without room.
+/// The same of a journal that has a name, by a round.
 fn settle_named<N: JournalName + Send + Sync, R: AllocGlobal + Threads + Wait + Sync, G: DeskGate>(
     rt: &R,
     journal: &Journal,
@@ -81,12 +76,6 @@ fn settle_named<N: JournalName + Send + Sync, R: AllocGlobal + Threads + Wait + 
     ensures kept { IfOk result (λ register. Kept N.receipts (entries_at register.parts)) }
     ensures awards { IfOk result (λ register. AwardsKept N.receipts (entries_at register.parts)) }
 {
-    let alloc = rt.alloc();
-    let counted = count(alloc, journal)?;
-    let wanted = desks_wanted(desks, counted.queues.len());
-    let receipts = list_receipts(alloc, journal)?;
-    let frame = prepare_frame(alloc, journal, &counted.rooms)?;
-    let ready = ReadyDesks::<N>::prepare(alloc, journal, counted, receipts.as_slice(), wanted)?;
-    let worked = ready.work(rt, journal, wanted, gate);
-    finish_or_settle::<N>(journal, frame, worked, receipts.as_slice())
+    let round = Round::<N>::prepare(rt.alloc(), journal)?;
+    Ok(round.run(rt, desks, gate))
 }

@@ -1,7 +1,8 @@
 //! The board that hands out the items whose turn has come.
 //! Why so: docs/DECISIONS.md, "The board is trusted for nothing".
-ghost use Rattle.std.specs.Prelude.{◌≡◌, ◌==◌, ◌&&◌, ◌≤◌, ◌-◌, ℕ, Some, IfSome, is_some, length, slice_get};
+ghost use Rattle.std.specs.Prelude.{◌≡◌, ◌==◌, ◌&&◌, Some, IfSome, is_some, length};
 ghost use Rattle.std.specs.List.{list_all};
+ghost use Rattle.desk_pool.specs.inner.Boards.{AreVerdicts};
 ghost use Rattle.registrar.specs.RegisterState.{verdict_among};
 ghost use Rattle.registrar.specs.Settling.{registrar};
 
@@ -36,7 +37,7 @@ pub(crate) struct Board<N: JournalName> {
 }
 
 impl<N: JournalName> Model for Board<N> {
-    ghost use Rattle.desk_pool.specs.Boards.{AreSaid, BoardState};
+    ghost use Rattle.desk_pool.specs.inner.Boards.{AreSaid, BoardState};
 
     ghost Value = { BoardState };
 
@@ -91,8 +92,7 @@ impl<N: JournalName> Board<N> {
     /// The verdicts, where each is said: then they are those of the one registrar.
     pub fn into_verdicts(self) -> Option<Vec<Verdict>>
         ensures all_said { is_some result ≡ (length self.said == length self.verdicts && list_all (λ one. one) self.said) }
-        ensures verdicts { IfSome result (λ verdicts. (n : ℕ) → 1 ≤ n → n ≤ length verdicts.items
-            → slice_get verdicts.items (n - 1) ≡ verdict_among (registrar N.receipts).verdicts n) }
+        ensures verdicts { IfSome result (λ verdicts. AreVerdicts N.receipts verdicts.items) }
     {
         if self.said.len() != self.verdicts.len() || !are_all_said(self.said.as_slice()) {
             return None;

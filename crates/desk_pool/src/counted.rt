@@ -1,7 +1,7 @@
 //! What is counted of a journal before room is kept for it.
 ghost use Rattle.std.specs.Prelude.{◌≡◌, IfOk};
 ghost use Rattle.conflict_queue.specs.Schedules.{in_receipt_order};
-ghost use Rattle.desk_pool.specs.Counted.{IsCounted};
+ghost use Rattle.desk_pool.specs.inner.Counted.{IsCounted};
 
 use crate::building_queues::build_queues;
 use crate::folio_queues::FolioQueue;

@@ -11,6 +11,7 @@ ghost use Rattle.registrar.specs.Settling.{registrar};
 use crate::boards::Board;
 use crate::folio_queues::place_of;
 use crate::locked_folios::LockedFolio;
+use crate::marked_folios::RowName;
 use crate::nowhere::settle_nowhere;
 use crate::pairs::FolioPair;
 use crate::seats::Seat;
@@ -24,9 +25,9 @@ use std::sync::{MutexGuard, Wait};
 
 /// Settles items until none is left: while others have items in hand behind which more may be, it
 /// waits.
-pub(crate) fn work<N: JournalName, G: DeskGate, R: Wait>(
+pub(crate) fn work<N: JournalName, W: RowName, G: DeskGate, R: Wait>(
     rt: &R,
-    round: &SharedRound<'_, N>,
+    round: &SharedRound<'_, N, W>,
     gate: &G,
     seat: &mut Seat,
 ) {
@@ -41,15 +42,18 @@ pub(crate) fn work<N: JournalName, G: DeskGate, R: Wait>(
 }
 
 /// The first item of a desk.
-fn begin<N: JournalName, R: Wait>(rt: &R, round: &SharedRound<'_, N>) -> Option<ReceiptNo> {
+fn begin<N: JournalName, W: RowName, R: Wait>(
+    rt: &R,
+    round: &SharedRound<'_, N, W>,
+) -> Option<ReceiptNo> {
     let board = round.board.lock(rt);
     take_next(rt, round, board)
 }
 
 /// Puts an item back, and takes the next one.
-fn go_on<N: JournalName, R: Wait>(
+fn go_on<N: JournalName, W: RowName, R: Wait>(
     rt: &R,
-    round: &SharedRound<'_, N>,
+    round: &SharedRound<'_, N, W>,
     item: ReceiptNo,
     verdict: Option<Verdict>,
 ) -> Option<ReceiptNo>
@@ -63,9 +67,9 @@ fn go_on<N: JournalName, R: Wait>(
 
 /// The next item, once one is ready; None once none is left. Whoever takes one wakes those who wait,
 /// where more are ready, and whoever finds none left wakes them too.
-fn take_next<'a, N: JournalName, R: Wait>(
+fn take_next<'a, N: JournalName, W: RowName, R: Wait>(
     rt: &R,
-    round: &SharedRound<'a, N>,
+    round: &SharedRound<'a, N, W>,
     mut board: MutexGuard<'a, Board<N>>,
 ) -> Option<ReceiptNo> {
     if board.must_wait() {
@@ -81,7 +85,10 @@ fn take_next<'a, N: JournalName, R: Wait>(
 }
 
 /// The keys of an item; None where the journal has no such item.
-fn keys_of<'a, N: JournalName>(round: &SharedRound<'a, N>, item: ReceiptNo) -> Option<&'a [Key]>
+fn keys_of<'a, N: JournalName, W: RowName>(
+    round: &SharedRound<'a, N, W>,
+    item: ReceiptNo,
+) -> Option<&'a [Key]>
     ensures received { IfSome result (λ keys. item ≤ length N.receipts) }
     ensures keys { IfSome result (λ keys. keys.now ≡ keys_touched N.receipts item) }
 {
@@ -93,9 +100,9 @@ fn keys_of<'a, N: JournalName>(round: &SharedRound<'a, N>, item: ReceiptNo) -> O
 
 /// Settles an item under the locks of its folios, one or two of them, the lower number first.
 /// None where its turn has not come.
-fn settle<N: JournalName, G: DeskGate, R: Wait>(
+fn settle<N: JournalName, W: RowName, G: DeskGate, R: Wait>(
     rt: &R,
-    round: &SharedRound<'_, N>,
+    round: &SharedRound<'_, N, W>,
     gate: &G,
     seat: &mut Seat,
     item: ReceiptNo,
@@ -124,8 +131,8 @@ fn settle<N: JournalName, G: DeskGate, R: Wait>(
 }
 
 /// The same of an item that touches no key, and so no folio.
-fn settle_here<N: JournalName, G: DeskGate>(
-    round: &SharedRound<'_, N>,
+fn settle_here<N: JournalName, W: RowName, G: DeskGate>(
+    round: &SharedRound<'_, N, W>,
     gate: &G,
     seat: &mut Seat,
     item: ReceiptNo,
@@ -139,9 +146,9 @@ fn settle_here<N: JournalName, G: DeskGate>(
 }
 
 /// The same of an item that touches one folio alone; `spare` serves where the folio has no scratch.
-fn settle_in_one<N: JournalName, G: DeskGate, R: Wait>(
+fn settle_in_one<N: JournalName, W: RowName, G: DeskGate, R: Wait>(
     rt: &R,
-    round: &SharedRound<'_, N>,
+    round: &SharedRound<'_, N, W>,
     gate: &G,
     spare: &mut Scratch,
     item: ReceiptNo,
@@ -154,7 +161,7 @@ fn settle_in_one<N: JournalName, G: DeskGate, R: Wait>(
     let queue = queue_at(round, place, folio)?;
     let mut locked = round.folios.get(place)?.lock(rt);
     gate.at(item);
-    let here = &mut *locked;
+    let here = &mut locked.marked.folio;
     if here.folio() != folio {
         return None;
     }
@@ -162,9 +169,9 @@ fn settle_in_one<N: JournalName, G: DeskGate, R: Wait>(
 }
 
 /// The same of an item that touches two folios.
-fn settle_in_two<N: JournalName, G: DeskGate, R: Wait>(
+fn settle_in_two<N: JournalName, W: RowName, G: DeskGate, R: Wait>(
     rt: &R,
-    round: &SharedRound<'_, N>,
+    round: &SharedRound<'_, N, W>,
     gate: &G,
     pair: &mut FolioPair,
     spare: &mut Scratch,
@@ -183,8 +190,8 @@ fn settle_in_two<N: JournalName, G: DeskGate, R: Wait>(
     let mut first_lock = round.folios.get(first_place)?.lock(rt);
     let mut second_lock = round.folios.get(second_place)?.lock(rt);
     gate.at(item);
-    let here = &mut *first_lock;
-    let there = &mut *second_lock;
+    let here = &mut first_lock.marked.folio;
+    let there = &mut second_lock.marked.folio;
     if here.folio() != first || there.folio() != second {
         return None;
     }
@@ -201,8 +208,8 @@ fn settle_in_two<N: JournalName, G: DeskGate, R: Wait>(
 }
 
 /// The items of the folio whose queue stands at this place; None where another's does.
-fn queue_at<'a, N: JournalName>(
-    round: &SharedRound<'a, N>,
+fn queue_at<'a, N: JournalName, W: RowName>(
+    round: &SharedRound<'a, N, W>,
     place: usize,
     folio: FolioId,
 ) -> Option<&'a [ReceiptNo]>

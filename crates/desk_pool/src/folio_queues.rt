@@ -1,5 +1,6 @@
 //! The items of each folio, in the order of their receipts.
-ghost use Rattle.std.specs.Prelude.{◌≡◌, ◌<◌, IfSome, Some, length, option_map, slice_get};
+ghost use Rattle.std.specs.Prelude.{◌≡◌, ◌<◌, AllPairs, IfSome, IsSome, IsTrue, Some, length, option_map, slice_get};
+ghost use Rattle.desk_pool.specs.inner.AllQueues.{is_queued};
 
 use gb_base::{FolioId, ReceiptNo};
 
@@ -14,6 +15,7 @@ pub(crate) struct FolioQueue {
 pub(crate) fn place_of(queues: &[FolioQueue], folio: FolioId) -> Option<usize>
     ensures within { IfSome result (λ place. place < length queues.now) }
     ensures there { IfSome result (λ place. option_map (λ q. q.folio) (slice_get queues.now place) ≡ Some folio) }
+    ensures found { AllPairs (λ q later. q.folio < later.folio) queues.now → IsTrue (is_queued queues.now folio) → IsSome result }
 {
     let place = queues.partition_point(|queue| queue.folio < folio);
     match queues.get(place) {

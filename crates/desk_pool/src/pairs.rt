@@ -2,7 +2,7 @@
 //! Why so: docs/DECISIONS.md, "The parts of two folios are moved into a pair for a step".
 ghost use Rattle.std.specs.Prelude.{◌≡◌, false, IfOk};
 ghost use Rattle.folio_sections.specs.Held.{is_held};
-ghost use Rattle.desk_pool.specs.FolioPairs.{AreApart, either_holds};
+ghost use Rattle.desk_pool.specs.inner.FolioPairs.{AreApart, either_holds};
 ghost use Rattle.gb_base.specs.declared.keys.Key.{Key};
 
 use folio_sections::{CasePart, Entry, MapParts, Parts, RightPart, TitlePart, is_held};
@@ -21,7 +21,7 @@ pub(crate) struct FolioPair {
 
 impl Model for FolioPair {
     ghost use Rattle.folio_sections.specs.Held.{is_held};
-    ghost use Rattle.desk_pool.specs.FolioPairs.{AreApart, PairState};
+    ghost use Rattle.desk_pool.specs.inner.FolioPairs.{AreApart, PairState};
 
     ghost Value = { PairState };
 
@@ -54,7 +54,7 @@ impl FolioPair {
 }
 
 impl Parts for FolioPair {
-    ghost use Rattle.desk_pool.specs.FolioPairs.{either_at, either_holds, either_room};
+    ghost use Rattle.desk_pool.specs.inner.FolioPairs.{either_at, either_holds, either_room};
 
     ghost holds = { either_holds };
 

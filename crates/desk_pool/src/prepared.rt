@@ -1,19 +1,11 @@
 //! A journal settled in any permitted order, where all that it wants is there beforehand.
 ghost use Rattle.std.specs.Prelude.{◌≡◌, ◌<◌, ◌+◌, List, length, take};
-ghost use Rattle.gb_base.specs.declared.keys.Key.{Key};
 ghost use Rattle.act_model.specs.Receiving.{IsJournal};
 ghost use Rattle.act_model.specs.declared.receipts.Receipt.{Receipt};
 ghost use Rattle.conflict_queue.specs.Schedules.{IsPermitted};
 ghost use Rattle.desk_pool.specs.Preparing.{HasPlaces, IsPrepared};
 ghost use Rattle.desk_pool.specs.inner.PreparedRuns.{HasTaken};
-ghost use Rattle.folio_sections.specs.Entries.{at};
-ghost use Rattle.folio_sections.specs.Held.{entries_at, is_given, is_held};
-ghost use Rattle.kept_registers.specs.Kept.{Kept};
-ghost use Rattle.registrar.specs.HasSettled.{HasSettled, IsRegisterOf};
-ghost use Rattle.registrar.specs.HeldKeys.{keys_of_first};
-ghost use Rattle.registrar.specs.KeptAwards.{AwardsKept};
-ghost use Rattle.registrar.specs.OpenFolios.{open_folios};
-ghost use Rattle.registrar.specs.Settling.{registrar};
+ghost use Rattle.desk_pool.specs.inner.TheRegister.{IsTheRegister};
 
 use crate::open_folios::keep_open;
 use act_model::Journal;
@@ -23,10 +15,10 @@ use kept_registers::laws::empty_register_is_kept;
 use registrar::{Register, Scratch, Verdict, step};
 use std::alloc::Global;
 
-/// What a journal is settled in: parts at its keys, a scratch, a verdict for each item, which says
-/// nothing yet, and the folios that may be open in the end. Where the parts have room for what the
-/// items bring (`IsPrepared`), the settlement itself wants no memory; where they have none, the parts
-/// that desks leave bring theirs along.
+/// What a register is made in: parts at its keys, a scratch, a verdict for each item, which says
+/// nothing yet, and the folios that may be open in the end. The parts have no room of their own
+/// (`HasFrame`): those of the folios bring theirs along, and then settling wants no memory
+/// (`IsPrepared`).
 #[derive(Drop)]
 pub(crate) struct Prepared {
     pub alloc: Global,
@@ -41,14 +33,7 @@ impl Prepared {
     pub fn settle_in(mut self, journal: &Journal, order: &[ReceiptNo]) -> Register
         requires prepared { IsPrepared journal.now.receipts self }
         requires permitted { IsPermitted journal.now.receipts order.now }
-        ensures settled { HasSettled journal.now.receipts result }
-        ensures whole { IsRegisterOf journal.now.receipts result }
-        ensures entries { entries_at result.parts ≡ at (registrar journal.now.receipts).entries }
-        ensures verdicts { result.verdicts ≡ (registrar journal.now.receipts).verdicts }
-        ensures folios { result.folios ≡ open_folios (registrar journal.now.receipts).entries }
-        ensures held { (k : Key) → is_held result.parts k ≡ is_given (keys_of_first journal.now.receipts (length journal.now.receipts)) k }
-        ensures kept { Kept journal.now.receipts (entries_at result.parts) }
-        ensures awards { AwardsKept journal.now.receipts (entries_at result.parts) }
+        ensures { IsTheRegister journal.now.receipts result }
     {
         // Called for its clause.
         journal.len();
@@ -60,14 +45,7 @@ impl Prepared {
     pub fn into_register(mut self, journal: &Journal, order: &[ReceiptNo]) -> Register
         requires taken { HasTaken journal.now.receipts order.now self }
         requires permitted { IsPermitted journal.now.receipts order.now }
-        ensures settled { HasSettled journal.now.receipts result }
-        ensures whole { IsRegisterOf journal.now.receipts result }
-        ensures entries { entries_at result.parts ≡ at (registrar journal.now.receipts).entries }
-        ensures verdicts { result.verdicts ≡ (registrar journal.now.receipts).verdicts }
-        ensures folios { result.folios ≡ open_folios (registrar journal.now.receipts).entries }
-        ensures held { (k : Key) → is_held result.parts k ≡ is_given (keys_of_first journal.now.receipts (length journal.now.receipts)) k }
-        ensures kept { Kept journal.now.receipts (entries_at result.parts) }
-        ensures awards { AwardsKept journal.now.receipts (entries_at result.parts) }
+        ensures { IsTheRegister journal.now.receipts result }
     {
         // Called for their clauses.
         empty_register_is_kept();

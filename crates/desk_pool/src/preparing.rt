@@ -3,15 +3,18 @@ ghost use Rattle.std.specs.Prelude.{◌≡◌, filter_map, length, map, IfOk};
 ghost use Rattle.std.specs.BTreeMap.{IsOrdered};
 ghost use Rattle.gb_base.specs.Keys.{key_cmp};
 ghost use Rattle.gb_base.specs.declared.keys.Key.{Key};
-ghost use Rattle.desk_pool.specs.KeyRooms.{AreRooms};
-ghost use Rattle.desk_pool.specs.Preparing.{HasFrame, IsPrepared};
+ghost use Rattle.desk_pool.specs.inner.KeyRooms.{AreRooms};
+ghost use Rattle.desk_pool.specs.Preparing.{HasFrame};
+ghost use Rattle.desk_pool.specs.inner.FoliosInRow.{AreInPlaces};
 ghost use Rattle.desk_pool.specs.inner.PartsPrepared.{room_of_entry};
 ghost use Rattle.desk_pool.specs.inner.TitlesListed.{titled_folio};
 ghost use Rattle.folio_sections.specs.Held.{is_given, is_held};
 
-use crate::folio_parts::{KeyRoom, list_rooms, parts_at, parts_for_folio, parts_without_room};
+use crate::folio_parts::{KeyRoom, list_rooms, parts_for_folio, parts_without_room};
 use crate::folio_queues::FolioQueue;
 use crate::locked_folios::LockedFolio;
+use crate::marked_folios::MarkedFolio;
+use crate::marks::Mark;
 use crate::prepared::Prepared;
 use crate::sale_scratches::{scratch_for_all, scratch_for_folio};
 use act_model::{Journal, JournalName};
@@ -21,23 +24,9 @@ use registrar::Verdict;
 use std::alloc::Global;
 use std::collections::BTreeMap;
 
-/// All that the journal is settled in without threads; `rooms` is the room at each of its keys.
-/// Wants memory (NoMemory).
-pub(crate) fn prepare_all(
-    alloc: Global,
-    journal: &Journal,
-    rooms: &BTreeMap<Key, usize>,
-) -> Result<Prepared, NoMemory>
-    requires { AreRooms journal.now.receipts rooms.now }
-    ensures { IfOk result (IsPrepared journal.now.receipts) }
-{
-    let keys = list_rooms(alloc, rooms)?;
-    let parts = parts_at(alloc, keys.as_slice())?;
-    prepare_around(alloc, journal, rooms, keys.as_slice(), parts)
-}
-
-/// The same without room in the parts: what desks have settled is put together in it. Wants memory
-/// (NoMemory).
+/// What the parts of all folios are put together in: parts at all keys that have no room, as those of
+/// the folios bring theirs, and what else a register wants; `rooms` is the room at each of the
+/// journal's keys. Wants memory (NoMemory).
 pub(crate) fn prepare_frame(
     alloc: Global,
     journal: &Journal,
@@ -47,54 +36,35 @@ pub(crate) fn prepare_frame(
     ensures { IfOk result (HasFrame journal.now.receipts) }
 {
     let keys = list_rooms(alloc, rooms)?;
-    let parts = parts_without_room(alloc, keys.as_slice())?;
-    prepare_around(alloc, journal, rooms, keys.as_slice(), parts)
-}
-
-/// These parts, and what else a journal is settled in; `keys` are its keys. Wants memory (NoMemory).
-fn prepare_around(
-    alloc: Global,
-    journal: &Journal,
-    rooms: &BTreeMap<Key, usize>,
-    keys: &[KeyRoom],
-    parts: MapParts,
-) -> Result<Prepared, NoMemory>
-    requires rooms { AreRooms journal.now.receipts rooms.now }
-    requires ordered { IsOrdered key_cmp rooms.now }
-    requires keys { keys.now ≡ map room_of_entry rooms.now.entries }
-    requires held { (k : Key) → is_held parts k ≡ is_given (map (λ r. r.key) keys.now) k }
-    ensures frame { IfOk result (HasFrame journal.now.receipts) }
-    ensures parts { IfOk result (λ prepared. prepared.parts ≡ parts) }
-{
-    let scratch = scratch_for_all(alloc, journal, rooms, keys)?;
-    let verdicts = no_verdicts(alloc, journal.len() as usize)?;
-    let folios = titled_folios(alloc, keys)?;
     Ok(Prepared {
         alloc,
-        parts,
-        scratch,
-        verdicts,
-        folios,
+        parts: parts_without_room(alloc, keys.as_slice())?,
+        scratch: scratch_for_all(alloc, journal, rooms, keys.as_slice())?,
+        verdicts: no_verdicts(alloc, journal.len() as usize)?,
+        folios: titled_folios(alloc, keys.as_slice())?,
     })
 }
 
-/// The folios of the journal's queues, each with what lies behind its lock, in the order of the
-/// queues; `rooms` is the room at each of the journal's keys. Wants memory (NoMemory).
-pub(crate) fn lock_folios<N: JournalName>(
+/// The folios of the journal's queues, in their order, each with its mark; `rooms` is the room at each
+/// of the journal's keys. Wants memory (NoMemory).
+pub(crate) fn mark_folios<N: JournalName>(
     alloc: Global,
     journal: &Journal,
     rooms: &BTreeMap<Key, usize>,
     queues: &[FolioQueue],
-) -> Result<Vec<LockedFolio<N>>, NoMemory>
+) -> Result<Vec<Option<MarkedFolio<N>>>, NoMemory>
     requires named { journal.now.receipts ≡ N.receipts }
     requires rooms { AreRooms journal.now.receipts rooms.now }
-    ensures { IfOk result (λ folios. map (λ f. f.folio) folios.items ≡ map (λ q. q.folio) queues.now) }
+    ensures { IfOk result (λ places. AreInPlaces queues.now places.items) }
 {
-    let mut folios = Vec::with_capacity(alloc, queues.len())?;
+    let mut places = Vec::with_capacity(alloc, queues.len())?;
     for queue in queues {
-        folios.push(lock_folio(alloc, journal, rooms, queue.folio)?)?;
+        places.push(Some(MarkedFolio {
+            folio: lock_folio(alloc, journal, rooms, queue.folio)?,
+            mark: Mark::new(),
+        }))?;
     }
-    Ok(folios)
+    Ok(places)
 }
 
 /// What lies behind the lock of a folio of which no item is settled.

@@ -1,61 +1,46 @@
 //! Desks that are ready to work, and what they leave.
-ghost use Rattle.std.specs.Prelude.{◌≡◌, ◌≤◌, [], IfOk, length};
+ghost use Rattle.std.specs.Prelude.{◌≡◌, ◌≤◌, IfOk, IfSome, length};
 ghost use Rattle.conflict_queue.specs.Dockets.{docket_of};
-ghost use Rattle.desk_pool.specs.Counted.{IsCounted};
-ghost use Rattle.desk_pool.specs.FolioQueues.{AreQueues};
-ghost use Rattle.desk_pool.specs.FoliosBack.{AreAllKeys};
-ghost use Rattle.desk_pool.specs.Worked.{IsWorked};
+ghost use Rattle.desk_pool.specs.inner.Boards.{AreVerdicts};
+ghost use Rattle.desk_pool.specs.inner.Counted.{IsCounted};
 
 use crate::boards::Board;
 use crate::counted::Counted;
-use crate::folio_parts::{KeyRoom, list_rooms};
-use crate::folio_queues::FolioQueue;
-use crate::locked_folios::LockedFolio;
-use crate::preparing::lock_folios;
+use crate::folio_row::FolioRow;
+use crate::marked_folios::PlacedFolio;
 use crate::seats::Seat;
-use crate::taking_back::take_back;
 use crate::together::settle_together;
 use act_model::{Journal, JournalName};
+use bumpalo::Bump;
 use conflict_queue::Docket;
-use folio_sections::MapParts;
 use gb_base::{NoMemory, ReceiptNo};
 use gb_outside::DeskGate;
 use registrar::Verdict;
 use std::alloc::Global;
+use std::marker::Brand;
+use std::mem;
 use std::sync::{Mutex, Wait};
 use std::thread::Threads;
 
 /// All that desks settle the items of the named journal in: from here on they want no memory.
-///
-/// Each folio stands in `folios` where its queue stands in `queues`. No clause says so: who locks one
-/// looks whether it is the folio that is meant.
 #[derive(Drop)]
 pub(crate) struct ReadyDesks<N: JournalName> {
     pub docket: Docket,
-    pub queues: Vec<FolioQueue>,
-    /// All keys that the items touch.
-    pub keys: Vec<KeyRoom>,
-    pub folios: Vec<Mutex<LockedFolio<N>>>,
-    /// Room for the parts of all folios, once the desks are done.
-    pub back: Vec<MapParts>,
+    pub row: FolioRow<N>,
+    /// Room for the locks of all folios.
+    pub arena: Bump<Global>,
     pub board: Board<N>,
     /// What each desk works with.
     pub seats: Vec<Seat>,
     pub ghost docket_is: { docket ≡ docket_of N.receipts },
-    pub ghost queues_are: { AreQueues N.receipts queues.items },
-    pub ghost keys_are: { AreAllKeys N.receipts keys.items },
-    pub ghost none_back: { back.items ≡ [] },
 }
 
 /// What desks leave.
 #[derive(Drop)]
-pub(crate) struct Worked {
+pub(crate) struct Worked<N: JournalName> {
     /// The verdicts, where each is said.
     pub verdicts: Option<Vec<Verdict>>,
-    /// The parts of the folios, where all items of each are settled.
-    pub back: Option<Vec<MapParts>>,
-    pub queues: Vec<FolioQueue>,
-    pub keys: Vec<KeyRoom>,
+    pub row: FolioRow<N>,
 }
 
 impl<N: JournalName> ReadyDesks<N> {
@@ -77,14 +62,12 @@ impl<N: JournalName> ReadyDesks<N> {
             queues,
             rooms,
         } = counted;
-        let folios = lock_folios(alloc, journal, &rooms, queues.as_slice())?;
         let board = Board::new(alloc, &docket, queues.as_slice(), items)?;
+        let arena = arena_for::<N>(alloc, queues.len())?;
         Ok(ReadyDesks {
             docket,
-            keys: list_rooms(alloc, &rooms)?,
-            back: Vec::with_capacity(alloc, queues.len())?,
-            queues,
-            folios: put_behind_locks(alloc, folios)?,
+            row: FolioRow::prepare(alloc, journal, queues, &rooms)?,
+            arena,
             board,
             seats: list_seats(alloc, desks)?,
         })
@@ -92,44 +75,52 @@ impl<N: JournalName> ReadyDesks<N> {
 }
 
 impl<N: JournalName + Send + Sync> ReadyDesks<N> {
-    /// Lets so many of the desks work until no item is left, and takes the folios back.
+    /// Lets so many of the desks work until no item is left.
     pub fn work<R: Threads + Wait + Sync, G: DeskGate>(
         self,
         rt: &R,
         journal: &Journal,
         desks: usize,
         gate: &G,
-    ) -> Worked
+    ) -> Worked<N>
         requires named { journal.now.receipts ≡ N.receipts }
         requires desks { (1 ≤ desks) × (desks ≤ length self.seats.items) }
-        ensures { IsWorked N.receipts result }
+        ensures { IfSome result.verdicts (λ verdicts. AreVerdicts N.receipts verdicts.items) }
     {
         let ReadyDesks {
             docket,
-            queues,
-            keys,
-            folios,
-            back,
+            row,
+            arena,
             board,
             mut seats,
             ..
         } = self;
-        let verdicts = settle_together(
+        let FolioRow {
+            queues,
+            mut places,
+            keys,
+            back,
+            ..
+        } = row;
+        let verdicts = settle_together::<N, Brand, R, G>(
             rt,
             gate,
             journal,
             &docket,
             queues.as_slice(),
-            folios.as_slice(),
+            places.as_mut_slice(),
             board,
             &mut seats[..desks],
+            &arena,
         );
-        let back = take_back(folios, queues.as_slice(), back);
         Worked {
             verdicts,
-            back,
-            queues,
-            keys,
+            row: FolioRow {
+                queues,
+                places,
+                keys,
+                back,
+            },
         }
     }
 }
@@ -143,16 +134,13 @@ pub(crate) fn desks_wanted(desks: u16, folios: usize) -> usize
     (desks as usize).min(folios.max(1))
 }
 
-/// These folios, each behind a lock of its own.
-fn put_behind_locks<N: JournalName>(
-    alloc: Global,
-    folios: Vec<LockedFolio<N>>,
-) -> Result<Vec<Mutex<LockedFolio<N>>>, NoMemory> {
-    let mut locks = Vec::with_capacity(alloc, folios.len())?;
-    for folio in folios {
-        locks.push(Mutex::new(folio))?;
-    }
-    Ok(locks)
+/// An arena with room for the locks of so many folios, which takes no memory later on. Wants memory
+/// (NoMemory).
+fn arena_for<N: JournalName>(alloc: Global, folios: usize) -> Result<Bump<Global>, NoMemory> {
+    let lock = mem::size_of::<Mutex<PlacedFolio<N, Brand>>>();
+    let arena = Bump::try_with_capacity(alloc, folios.saturating_mul(lock))?;
+    arena.set_allocation_limit(Some(arena.allocated_bytes()));
+    Ok(arena)
 }
 
 /// What each of so many desks works with.

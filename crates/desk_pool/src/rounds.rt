@@ -1,5 +1,5 @@
 //! A round: a journal whose items are settled, by desks in threads or by one registrar.
-//! Why so: docs/DECISIONS.md, "A round keeps its room twice".
+//! Why so: docs/DECISIONS.md, "Folios carry marks behind their locks".
 ghost use Rattle.std.specs.Prelude.{◌≡◌, ◌↔◌, ◌≤◌, false, All, IfOk, IfSome, IsSome, length};
 ghost use Rattle.gb_base.specs.declared.keys.Key.{Key};
 ghost use Rattle.conflict_queue.specs.Schedules.{IsPermitted, in_receipt_order};
@@ -13,10 +13,10 @@ ghost use Rattle.registrar.specs.OpenFolios.{open_folios};
 ghost use Rattle.registrar.specs.Settling.{registrar};
 
 use crate::counted::{count, list_receipts};
-use crate::finishing::finish;
+use crate::finishing::{finish, settle_in_row};
 use crate::orders::is_permitted;
 use crate::prepared::Prepared;
-use crate::preparing::prepare_all;
+use crate::preparing::prepare_frame;
 use crate::ready_desks::{ReadyDesks, desks_wanted};
 use act_model::{Journal, JournalName};
 use conflict_queue::laws::receipts_in_turn;
@@ -38,8 +38,8 @@ pub struct Round<'a, N: JournalName> {
     pub(crate) journal: &'a Journal,
     /// 64 desks.
     pub(crate) ready: ReadyDesks<N>,
-    /// What the journal is settled in without desks.
-    pub(crate) prepared: Prepared,
+    /// What the parts of all folios are put together in.
+    pub(crate) frame: Prepared,
     /// The items in the order of their receipts.
     pub(crate) receipts: Vec<ReceiptNo>,
     /// For each item, whether it stood in the order that is looked through.
@@ -54,7 +54,7 @@ impl<'a, N: JournalName> Model for Round<'a, N> {
 
     ghost view = { λ a. a.receipts.items };
 
-    ghost invariant = { λ a. IsRound N.receipts a.journal.now.receipts a.prepared (length a.ready.seats.items) a.receipts.items a.passed.items };
+    ghost invariant = { λ a. IsRound N.receipts a.journal.now.receipts a.frame (length a.ready.seats.items) a.receipts.items a.passed.items };
 }
 
 impl<'a, N: JournalName> Round<'a, N> {
@@ -64,12 +64,12 @@ impl<'a, N: JournalName> Round<'a, N> {
     {
         let counted = count(alloc, journal)?;
         let receipts = list_receipts(alloc, journal)?;
-        let prepared = prepare_all(alloc, journal, &counted.rooms)?;
+        let frame = prepare_frame(alloc, journal, &counted.rooms)?;
         let ready = ReadyDesks::prepare(alloc, journal, counted, receipts.as_slice(), MOST_DESKS)?;
         Ok(Round {
             journal,
             ready,
-            prepared,
+            frame,
             passed: list_unpassed(alloc, receipts.len())?,
             receipts,
         })
@@ -90,11 +90,12 @@ impl<'a, N: JournalName> Round<'a, N> {
         receipts_in_turn();
         let Round {
             journal,
-            prepared,
+            ready,
+            frame,
             receipts,
             ..
         } = self;
-        prepared.settle_in(journal, receipts.as_slice())
+        settle_in_row(journal, frame, ready.row, receipts.as_slice())
     }
 
     /// Settles the journal in a given order, without threads and without memory; None just where the
@@ -113,14 +114,14 @@ impl<'a, N: JournalName> Round<'a, N> {
         let Round {
             journal,
             ready,
-            prepared,
+            frame,
             mut passed,
             ..
         } = self;
         if !is_permitted(&ready.docket, order, passed.as_mut_slice()) {
             return None;
         }
-        Some(prepared.settle_in(journal, order))
+        Some(settle_in_row(journal, frame, ready.row, order))
     }
 }
 
@@ -149,13 +150,13 @@ impl<'a, N: JournalName + Send + Sync> Round<'a, N> {
         let Round {
             journal,
             ready,
-            prepared,
+            frame,
             receipts,
             ..
         } = self;
-        let wanted = desks_wanted(desks, ready.queues.len());
+        let wanted = desks_wanted(desks, ready.row.queues.len());
         let worked = ready.work(rt, journal, wanted, gate);
-        finish::<N>(journal, prepared, worked, receipts.as_slice())
+        finish(journal, frame, worked, receipts.as_slice())
     }
 }
 

@@ -5,7 +5,7 @@ ghost use Rattle.desk_pool.specs.FolioQueues.{AreQueues};
 
 use crate::boards::Board;
 use crate::folio_queues::FolioQueue;
-use crate::locked_folios::LockedFolio;
+use crate::marked_folios::{PlacedFolio, RowName};
 use act_model::{Journal, JournalName};
 use conflict_queue::Docket;
 use std::sync::{Condvar, Mutex};
@@ -13,11 +13,11 @@ use std::sync::{Condvar, Mutex};
 /// The journal, the keys of its items, the queue of each folio, the folios, each behind its lock,
 /// and the board. All of it is of the named journal.
 #[derive(Drop)]
-pub(crate) struct SharedRound<'a, N: JournalName> {
+pub(crate) struct SharedRound<'a, N: JournalName, W: RowName> {
     pub journal: &'a Journal,
     pub docket: &'a Docket,
     pub queues: &'a [FolioQueue],
-    pub folios: &'a [Mutex<LockedFolio<N>>],
+    pub folios: &'a [Mutex<PlacedFolio<N, W>>],
     pub board: &'a Mutex<Board<N>>,
     /// An item was put back, so that others may be ready.
     pub moved: &'a Condvar,

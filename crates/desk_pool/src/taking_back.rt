@@ -1,57 +1,34 @@
-//! What comes back from behind the locks of the folios.
-//! Why so: docs/DECISIONS.md, "A round keeps its room twice".
-ghost use Rattle.std.specs.Prelude.{◌≡◌, IfSome, IsTrue, [], length};
+//! The parts of the folios, once their desks are done.
+ghost use Rattle.std.specs.Prelude.{◌≡◌, ◌≤◌, IsTrue, [], length, vec_capacity};
 ghost use Rattle.desk_pool.specs.FolioQueues.{AreQueues};
-ghost use Rattle.desk_pool.specs.FoliosBack.{AllBack};
+ghost use Rattle.desk_pool.specs.inner.FoliosBack.{AllBack, AreSettled};
+ghost use Rattle.desk_pool.specs.inner.FoliosInRow.{AreInPlaces};
 
 use crate::folio_queues::FolioQueue;
-use crate::locked_folios::LockedFolio;
+use crate::marked_folios::MarkedFolio;
 use act_model::JournalName;
 use folio_sections::MapParts;
-use std::sync::Mutex;
 
-/// Puts the parts of all folios into this list, one for each queue, where each is the folio of its
-/// queue and all its items are settled. None where one is not, or where the list has no room.
-pub(crate) fn take_back<N: JournalName>(
-    folios: Vec<Mutex<LockedFolio<N>>>,
-    queues: &[FolioQueue],
-    mut back: Vec<MapParts>,
-) -> Option<Vec<MapParts>>
-    requires queues { AreQueues N.receipts queues.now }
-    requires none { back.items ≡ [] }
-    ensures { IfSome result (λ back. AllBack N.receipts queues.now back.items) }
-{
-    for folio in folios {
-        if !take_one_back(folio.into_inner(), queues, &mut back) {
-            return None;
-        }
-    }
-    if back.len() == queues.len() {
-        Some(back)
-    } else {
-        None
-    }
-}
-
-/// The same of one folio, which is that of the queue behind those that are back.
-fn take_one_back<N: JournalName>(
-    folio: LockedFolio<N>,
+/// Takes the parts of the folios from their places into this list, in the order of their queues.
+/// Whether all items of each folio are settled.
+pub(crate) fn take_parts<N: JournalName>(
+    places: &mut [Option<MarkedFolio<N>>],
     queues: &[FolioQueue],
     back: &mut Vec<MapParts>,
 ) -> bool
     requires queues { AreQueues N.receipts queues.now }
-    requires back { AllBack N.receipts queues.now back.old.items }
-    ensures back { IsTrue result → AllBack N.receipts queues.now back.new.items }
+    requires in_places { AreInPlaces queues.now places.old }
+    requires none { back.old.items ≡ [] }
+    requires room { length queues.now ≤ vec_capacity back.old }
+    ensures back { AllBack N.receipts queues.now back.new.items }
+    ensures settled { IsTrue result → AreSettled N.receipts back.new.items }
 {
-    let Some(queue) = queues.get(back.len()) else {
-        return false;
-    };
-    if folio.folio() != queue.folio || !folio.is_done(queue.items.as_slice()) {
-        return false;
+    let mut settled = true;
+    for place in 0..queues.len() {
+        if let Some(marked) = places[place].take() {
+            settled = marked.folio.is_done(queues[place].items.as_slice()) && settled;
+            back.push_reserved(marked.folio.into_parts());
+        }
     }
-    if back.len() == back.capacity() {
-        return false;
-    }
-    back.push_reserved(folio.into_parts());
-    true
+    settled
 }

@@ -1,73 +1,51 @@
-//! The parts of the folios are taken over, once their desks are done.
-ghost use Rattle.std.specs.Prelude.{◌≡◌, ◌<◌, IsTrue, All, AllPairs, false, length, List, slice_get};
-ghost use Rattle.std.specs.Option.{option_map_or};
-ghost use Rattle.gb_base.specs.Keys.{same_key};
+//! What stands in the parts of the folios is taken over, key by key.
+ghost use Rattle.std.specs.Prelude.{◌≡◌, ◌<◌, AllPairs, IsTrue, length};
+ghost use Rattle.gb_base.specs.Keys.{folio_of_key};
 ghost use Rattle.gb_base.specs.declared.keys.Key.{Key};
+ghost use Rattle.desk_pool.specs.inner.AllQueues.{AreAllQueues, is_queued};
 ghost use Rattle.desk_pool.specs.FolioStates.{HasAllRoom};
-ghost use Rattle.desk_pool.specs.FoliosBack.{AreBack, IsBackAt, IsBackFor};
-ghost use Rattle.desk_pool.specs.declared.folio_parts.KeyRoom.{KeyRoom};
-ghost use Rattle.folio_sections.specs.Held.{entries_at, is_held, room_at};
+ghost use Rattle.desk_pool.specs.inner.FoliosBack.{AllBack, AreAllKeys, AreSettled, StandsSettled};
+ghost use Rattle.desk_pool.specs.inner.TakenOver.{IsHeldInFolio, IsTakenOver};
+ghost use Rattle.folio_sections.specs.Held.{entries_at, is_given, is_held, room_at};
+ghost use Rattle.registrar.specs.HeldKeys.{keys_of_first};
 
 use crate::folio_parts::KeyRoom;
 use crate::folio_queues::{FolioQueue, place_of};
 use act_model::JournalName;
-use folio_sections::{MapParts, is_held};
+use folio_sections::MapParts;
 use gb_base::Key;
 
-/// Takes what stands at each of these keys from the parts of its folio. False where a key is not
-/// held as it should be; then some are taken over, and some are not.
+/// Takes what stands at each of these keys from the parts of its folio, and its room: `keys` are all
+/// that the items of the named journal touch, and `back` are the parts of the folios in the order of
+/// their queues.
 pub(crate) fn take_all_over<N: JournalName>(
     parts: &mut MapParts,
     back: &mut [MapParts],
     queues: &[FolioQueue],
     keys: &[KeyRoom],
-) -> bool
-    requires apart { AllPairs (λ w later. same_key w.key later.key ≡ false) keys.now }
-    requires back { AreBack N.receipts queues.now back.old keys.now }
+)
+    requires held { (k : Key) → is_held parts.old k ≡ is_given (keys_of_first N.receipts (length N.receipts)) k }
+    requires queues { AreAllQueues N.receipts queues.now }
+    requires keys { AreAllKeys N.receipts keys.now }
+    requires back { AllBack N.receipts queues.now back.old }
     ensures held { is_held parts.new ≡ is_held parts.old }
-    ensures room { HasAllRoom N.receipts (is_held parts.old) (entries_at parts.old) (room_at parts.old) → HasAllRoom N.receipts (is_held parts.new) (entries_at parts.new) (room_at parts.new) }
-    ensures taken { IsTrue result → All (λ w. IsBackAt N.receipts parts.new w.key) keys.now }
+    ensures room { HasAllRoom N.receipts (is_held parts.new) (entries_at parts.new) (room_at parts.new) }
+    ensures settled { AreSettled N.receipts back.old → StandsSettled N.receipts parts.new }
 {
     for wanted in keys {
-        if !take_over::<N>(parts, back, queues, &wanted.key) {
-            return false;
-        }
+        take_over(parts, back, queues, &wanted.key);
     }
-    true
 }
 
-/// Takes what stands at a key from the parts of its folio. False where it is not held, and then
-/// nothing changes.
-fn take_over<N: JournalName>(
-    parts: &mut MapParts,
-    back: &mut [MapParts],
-    queues: &[FolioQueue],
-    key: &Key,
-) -> bool
-    requires { IsBackFor N.receipts queues.now back.old key.now }
-    ensures held { is_held parts.new ≡ is_held parts.old }
-    ensures room { HasAllRoom N.receipts (is_held parts.old) (entries_at parts.old) (room_at parts.old) → HasAllRoom N.receipts (is_held parts.new) (entries_at parts.new) (room_at parts.new) }
-    ensures taken { IsTrue result → IsBackAt N.receipts parts.new key.now }
-    ensures others { (k : Key) → same_key key.now k ≡ false → IsBackAt N.receipts parts.old k → IsBackAt N.receipts parts.new k }
-    ensures later { (rest : List KeyRoom) → All (λ w. same_key key.now w.key ≡ false) rest → AreBack N.receipts queues.now back.old rest → AreBack N.receipts queues.now back.new rest }
+/// Takes what stands at a key from the parts of its folio, which is among those of the queues.
+fn take_over(parts: &mut MapParts, back: &mut [MapParts], queues: &[FolioQueue], key: &Key)
+    requires here { IsTrue (is_held parts.old key.now) }
+    requires ascending { AllPairs (λ q later. q.folio < later.folio) queues.now }
+    requires among { IsTrue (is_queued queues.now (folio_of_key key.now)) }
+    requires there { IsHeldInFolio queues.now back.old key.now }
+    ensures { IsTakenOver queues.now parts.old parts.new back.old back.new key.now }
 {
-    let Some(place) = place_of(queues, key.folio()) else {
-        return false;
-    };
-    if !is_held(parts, key) || !is_held_in(back, place, key) {
-        return false;
-    }
-    parts.swap_at(&mut back[place], key);
-    true
-}
-
-/// Whether the parts at this place hold the key.
-fn is_held_in(back: &[MapParts], place: usize, key: &Key) -> bool
-    ensures value { result ≡ option_map_or (λ ps. is_held ps key.now) (slice_get back.now place) false }
-    ensures within { IsTrue result → place < length back.now }
-{
-    match back.get(place) {
-        Some(parts) => is_held(parts, key),
-        None => false,
+    if let Some(place) = place_of(queues, key.folio()) {
+        parts.swap_at(&mut back[place], key);
     }
 }

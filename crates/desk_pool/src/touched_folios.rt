@@ -5,7 +5,7 @@ ghost use Rattle.gb_base.specs.Keys.{folio_of_key};
 ghost use Rattle.conflict_queue.specs.Dockets.{docket_of};
 ghost use Rattle.conflict_queue.specs.ItemKeys.{keys_of_item};
 ghost use Rattle.desk_pool.specs.declared.touched_folios.TouchedFolios.TheVariants.{Two};
-ghost use Rattle.desk_pool.specs.TouchedFolios.{AreOfFewFolios, AreTouched};
+ghost use Rattle.desk_pool.specs.inner.TouchedFolios.{AreOfFewFolios, AreTouched};
 
 use crate::laws::items_touch_few_folios;
 use act_model::Journal;

@@ -1,6 +1,6 @@
 use Rattle.std.proofs.Common.{◌≡◌, map}
 use Rattle.std.proofs.lemmas.Result.{IfOk-weaker}
-use Rattle.desk_pool.specs.AllQueues.{AreAllQueues}
+use Rattle.desk_pool.specs.inner.AllQueues.{AreAllQueues}
 use Rattle.desk_pool.specs.inner.QueuesBuilt.{as_entry}
 use Rattle.desk_pool.proofs.BuiltQueues.{all_queues}
 use Rattle.desk_pool.proofs.building_queues.build_queues.Goals as goal

@@ -5,7 +5,7 @@ use Rattle.std.specs.BTreeMap.{get}
 use Rattle.std.proofs.lemmas.Result.{on_ok_weaker}
 use Rattle.gb_base.specs.Keys.{key_cmp}
 use Rattle.desk_pool.proofs.FolioRooms.{of_sorted}
-use Rattle.desk_pool.specs.KeyRooms.{room_in}
+use Rattle.desk_pool.specs.inner.KeyRooms.{room_in}
 use Rattle.desk_pool.specs.inner.RoomsCounted.{is_listed, rooms_of_items, sum_at}
 use Rattle.desk_pool.proofs.key_rooms.add_folio.Goals as goal
 

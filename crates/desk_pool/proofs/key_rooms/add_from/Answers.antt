@@ -9,7 +9,7 @@ use Rattle.gb_base.specs.Keys.{key_cmp, same_key}
 use Rattle.act_model.proofs.KeyOrder.{same_is}
 use Rattle.desk_pool.proofs.AddedRooms.{in_turn, listed_next, more_room, next_run, once_only, same_run, sum_next}
 use Rattle.desk_pool.proofs.BuiltQueues.{or_none}
-use Rattle.desk_pool.specs.KeyRooms.{room_in}
+use Rattle.desk_pool.specs.inner.KeyRooms.{room_in}
 use Rattle.desk_pool.specs.inner.RoomsCounted.{is_listed, sum_at}
 use Rattle.desk_pool.proofs.key_rooms.add_from.Goals as goal
 use Rattle.desk_pool.proofs.key_rooms.add_from.Goals.{then-ne+in_ok-add, else-ne}

@@ -4,7 +4,7 @@ use Rattle.std.specs.Prelude.{is_some}
 use Rattle.std.specs.BTreeMap.{get}
 use Rattle.gb_base.specs.Keys.{key_cmp, same_key}
 use Rattle.gb_base.specs.declared.keys.Key.{Key}
-use Rattle.desk_pool.specs.KeyRooms.{room_in}
+use Rattle.desk_pool.specs.inner.KeyRooms.{room_in}
 use Rattle.desk_pool.specs.inner.RoomsCounted.{is_listed, room_if, sum_at}
 use Rattle.desk_pool.proofs.key_rooms.add_from.Given as goal
 

@@ -4,7 +4,7 @@ use Rattle.std.specs.Prelude.{is_some}
 use Rattle.std.specs.BTreeMap.{get}
 use Rattle.gb_base.specs.Keys.{key_cmp}
 use Rattle.gb_base.specs.declared.keys.Key.{Key}
-use Rattle.desk_pool.specs.KeyRooms.{room_in}
+use Rattle.desk_pool.specs.inner.KeyRooms.{room_in}
 use Rattle.desk_pool.proofs.FolioRooms.{is_key_of_any, room_of_folios}
 use Rattle.desk_pool.proofs.key_rooms.count_rooms.Given as goal
 

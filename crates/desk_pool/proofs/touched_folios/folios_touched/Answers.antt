@@ -5,7 +5,7 @@ use Rattle.std.proofs.lemmas.List.FromFn.{length-range_with_len}
 use Rattle.conflict_queue.specs.Dockets.{keys_touched}
 use Rattle.conflict_queue.specs.ItemKeys.{keys_of_item}
 use Rattle.desk_pool.proofs.TouchedKeys.{few_in_order, touched_of_order}
-use Rattle.desk_pool.specs.TouchedFolios.{AreOfFewFolios, AreTouched}
+use Rattle.desk_pool.specs.inner.TouchedFolios.{AreOfFewFolios, AreTouched}
 use Rattle.desk_pool.proofs.touched_folios.folios_touched.Goals as goal
 
 pub keys-requires : goal.keys-requires

@@ -1,7 +1,7 @@
 use Rattle.std.proofs.Common.{sym, ap, subst, ◌∙◌}
 use Rattle.folio_sections.specs.Adding.{Adds}
 use Rattle.desk_pool.proofs.PairAdds.{adds_to_first, adds_to_second, holds_with_first, holds_with_second}
-use Rattle.desk_pool.specs.FolioPairs.{PairState, either_at, either_holds, either_room}
+use Rattle.desk_pool.specs.inner.FolioPairs.{PairState, either_at, either_holds, either_room}
 use Rattle.desk_pool.proofs.pairs.FolioPairParts.append.Goals as goal
 
 pub returns-then-is_held-clause-added : goal.returns-then-is_held-clause-added

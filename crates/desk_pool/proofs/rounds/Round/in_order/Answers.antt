@@ -1,9 +1,6 @@
-use Rattle.std.proofs.Common.{◌≡◌, ◌∙◌, All, false, ap, length, refl, subst, sym}
+use Rattle.std.proofs.Common.{◌≡◌, ◌∙◌, All, false, ap, length, subst, sym}
 use Rattle.std.proofs.lemmas.Bool.{false≢true, true≢false}
 use Rattle.conflict_queue.proofs.Numbered.{docket_len}
-use Rattle.folio_sections.specs.Held.{is_given}
-use Rattle.registrar.specs.HeldKeys.{keys_of_first}
-use Rattle.desk_pool.proofs.RoundOrders.{permitted_so}
 use Rattle.desk_pool.proofs.rounds.Round.in_order.Goals as goal
 
 pub is_permitted-requires-clause-len : goal.is_permitted-requires-clause-len
@@ -18,10 +15,5 @@ returns-then-not-is_permitted-clause-permitted g c =
     let tells = c.is_permitted.ensures.permitted g.N.JournalName.receipts c.self.inside.ready.docket_is in
     (λ some. absurd (false≢true some), λ permitted. absurd (true≢false (sym (tells.1 permitted) ∙ c.if-not-is_permitted.true)))
 
-pub settle_in-requires-clause-permitted : goal.settle_in-requires-clause-permitted
-settle_in-requires-clause-permitted g c =
-    permitted_so g.N.JournalName.receipts c.self.inside.journal.now.receipts c.args.order.now c.args.order.now c.self.invariant.named refl
-    ((c.is_permitted.ensures.permitted g.N.JournalName.receipts c.self.inside.ready.docket_is).0 c.if-not-is_permitted.false)
-
-pub returns-clause-held : goal.returns-clause-held
-returns-clause-held g c = λ k. c.settle_in.ensures.held k ∙ ap (λ j. is_given (keys_of_first j (length j)) k) c.self.invariant.named
+pub settle_in_row-requires-clause-permitted : goal.settle_in_row-requires-clause-permitted
+settle_in_row-requires-clause-permitted g c = (c.is_permitted.ensures.permitted g.N.JournalName.receipts c.self.inside.ready.docket_is).0 c.if-not-is_permitted.false

@@ -6,7 +6,7 @@ pub invariant_of-result : goal.invariant_of-result
 invariant_of-result g c =
     is_round
     c.requires
-    c.in_ok-prepared.ensures
+    c.in_ok-frame.ensures
     c.in_ok-ready.ensures
     c.in_ok-receipts.ensures
     c.in_ok-list_unpassed.ensures.none
