@@ -5,8 +5,8 @@ use Rattle.std.proofs.lemmas.List.Sums.{sum_by-cons}
 use Rattle.gb_base.specs.Keys.{same_key}
 use Rattle.gb_base.specs.declared.keys.Key.{Key}
 use Rattle.desk_pool.proofs.CountedRooms.{cut}
-use Rattle.desk_pool.specs.inner.KeyRooms.{room_in}
 use Rattle.desk_pool.specs.declared.folio_parts.KeyRoom.{KeyRoom}
+use Rattle.desk_pool.specs.inner.KeyRooms.{room_in}
 use Rattle.desk_pool.specs.inner.RoomsCounted.{is_listed, room_if, sum_at}
 
 -- ---- the next one of a list

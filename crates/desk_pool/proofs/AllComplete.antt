@@ -22,20 +22,20 @@ use Rattle.registrar.specs.HasSettled.{settled_first}
 use Rattle.registrar.specs.HeldKeys.{keys_of_first}
 use Rattle.registrar.specs.Settling.{registrar}
 use Rattle.registrar.specs.declared.verdicts.Verdict.{Verdict}
-use Rattle.desk_pool.specs.inner.FoliosBack.{StandsSettled}
-use Rattle.desk_pool.specs.inner.Boards.{AreVerdicts}
 use Rattle.desk_pool.specs.Preparing.{HasFrame}
 use Rattle.desk_pool.specs.declared.folio_parts.KeyRoom.{KeyRoom}
-use Rattle.desk_pool.specs.declared.prepared.Prepared.{Prepared}
+use Rattle.desk_pool.specs.declared.register_frames.RegisterFrame.{RegisterFrame}
+use Rattle.desk_pool.specs.inner.Boards.{AreVerdicts}
+use Rattle.desk_pool.specs.inner.FoliosBack.{StandsSettled}
 use Rattle.desk_pool.proofs.NothingBetween.{nothing_between}
 use Rattle.desk_pool.proofs.PreparedScratches.{given_at}
 use Rattle.desk_pool.proofs.Settling.{verdict_said}
 
 -- what was prepared, with other parts and other verdicts
-abbrev pub put_together : Prepared → List PartState → Vec Verdict Global → Prepared
+abbrev pub put_together : RegisterFrame → List PartState → Vec Verdict Global → RegisterFrame
 put_together s parts verdicts = record { alloc = s.alloc; parts = parts; scratch = s.scratch; verdicts = verdicts; folios = s.folios }
 
-pub frame_together : (journal : List Receipt) (s : Prepared) (parts : List PartState) (verdicts : Vec Verdict Global) → HasFrame journal s → is_held parts ≡ is_held s.parts
+pub frame_together : (journal : List Receipt) (s : RegisterFrame) (parts : List PartState) (verdicts : Vec Verdict Global) → HasFrame journal s → is_held parts ≡ is_held s.parts
     → length verdicts.items ≡ length journal → HasFrame journal (put_together s parts verdicts)
 frame_together journal s parts verdicts frame held count =
     record { held = λ k. (λ i. held i k) ∙ frame.held k; scratch = frame.scratch; verdicts = count; folios = frame.folios }

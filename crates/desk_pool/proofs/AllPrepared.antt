@@ -17,10 +17,10 @@ use Rattle.act_model.specs.declared.receipts.Receipt.{Receipt}
 use Rattle.desk_pool.proofs.BuiltQueues.{same_number}
 use Rattle.desk_pool.proofs.PreparedParts.{all_listed, key_of}
 use Rattle.desk_pool.specs.FolioStates.{HasAllRoom, HasAllScratch, IsBehindLock}
-use Rattle.desk_pool.specs.inner.KeyRooms.{AreRooms}
 use Rattle.desk_pool.specs.Preparing.{AreTitledFolios, HasFrame, ServesEachItem}
 use Rattle.desk_pool.specs.declared.folio_parts.KeyRoom.{KeyRoom}
-use Rattle.desk_pool.specs.declared.prepared.Prepared.{Prepared}
+use Rattle.desk_pool.specs.declared.register_frames.RegisterFrame.{RegisterFrame}
+use Rattle.desk_pool.specs.inner.KeyRooms.{AreRooms}
 use Rattle.desk_pool.specs.inner.PartsPrepared.{ArePartsFor, room_of_entry}
 use Rattle.desk_pool.specs.inner.TitlesListed.{titled_folio}
 use Rattle.folio_sections.specs.Held.{entries_at, is_given, is_held, room_at}
@@ -110,7 +110,7 @@ titled_folios journal rooms are ordered =
 
 -- ---- all of it
 
-pub has_frame : (journal : List Receipt) (rooms : BTreeMap Key ℕ) (keys : List KeyRoom) (s : Prepared) → AreRooms journal rooms → IsOrdered key_cmp rooms → keys ≡ map room_of_entry rooms.entries
+pub has_frame : (journal : List Receipt) (rooms : BTreeMap Key ℕ) (keys : List KeyRoom) (s : RegisterFrame) → AreRooms journal rooms → IsOrdered key_cmp rooms → keys ≡ map room_of_entry rooms.entries
     → ((k : Key) → is_held s.parts k ≡ is_given (map key_of keys) k) → ServesEachItem journal s.scratch → length s.verdicts.items ≡ length journal
     → s.folios.items ≡ filter_map (λ (r : KeyRoom). titled_folio r.key) keys → HasFrame journal s
 has_frame journal rooms keys s are ordered listed held serves said titled =

@@ -27,9 +27,9 @@ use Rattle.conflict_queue.proofs.Lists.{get_behind}
 use Rattle.conflict_queue.specs.Dockets.{has_key, keys_touched}
 use Rattle.conflict_queue.specs.ItemKeys.{keys_of_item}
 use Rattle.desk_pool.proofs.CountedRooms.{cut}
-use Rattle.desk_pool.specs.inner.AllQueues.{AreAllQueues, is_queued}
 use Rattle.desk_pool.specs.FolioQueues.{queue_of, touches_folio}
 use Rattle.desk_pool.specs.declared.folio_queues.FolioQueue.{FolioQueue}
+use Rattle.desk_pool.specs.inner.AllQueues.{AreAllQueues, is_queued}
 use Rattle.desk_pool.specs.inner.QueuesBuilt.{as_entry, is_last, items_at, items_in, with_item, with_item_at}
 use Rattle.folio_sections.specs.Held.{is_given}
 use Rattle.registrar.proofs.Registering.{range_more}
@@ -183,9 +183,6 @@ put_first old new folio item other queue none is updates =
 
 number_is : (f g : ℕ) → is_eq (nat_cmp f g) ≡ true → g ≡ f
 number_is f g e = grind (arith, nat_tests, e)
-
-some_not_none : {X : Type 0} (x : X) → None ≡ Some x → ⊥
-some_not_none x e = absurd (cc e)
 
 found : (queues : List FolioQueue) (f : ℕ) (v : Vec ℕ Global) → lookup (is_at (nat_cmp f)) (map as_entry queues) ≡ Some v → is_queued queues f ≡ true
 found [] f v h = absurd (cc h)

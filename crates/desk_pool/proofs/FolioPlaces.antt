@@ -61,5 +61,5 @@ within_behind [] f place rise queued point = absurd (false≢true queued)
 within_behind (q ∷ qs) f place rise queued point = (stands_behind (q ∷ qs) f rise place q queued point).0
 
 -- so one is found there
-pub found_behind : (place count : ℕ) (found : Bool) → found ≡ nat_lt place count → place < count → found ≡ true
-found_behind place count found is within = grind (arith, nat_tests, is, within)
+pub found_at : (place count : ℕ) (found : Bool) → found ≡ nat_lt place count → place < count → found ≡ true
+found_at place count found is within = grind (arith, nat_tests, is, within)

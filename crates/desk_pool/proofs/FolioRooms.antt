@@ -15,11 +15,11 @@ use Rattle.conflict_queue.proofs.SaleKeys.{in_order_has}
 use Rattle.conflict_queue.specs.Dockets.{has_key, keys_touched}
 use Rattle.conflict_queue.specs.ItemKeys.{keys_of_item}
 use Rattle.desk_pool.proofs.Turns.{key_untouched}
-use Rattle.desk_pool.specs.inner.AllQueues.{AreAllQueues}
 use Rattle.desk_pool.specs.FolioQueues.{is_key_of, queue_of, touches_folio}
 use Rattle.desk_pool.specs.RoundRooms.{room_for, room_of_first}
-use Rattle.desk_pool.specs.declared.folio_queues.FolioQueue.{FolioQueue}
 use Rattle.desk_pool.specs.declared.folio_parts.KeyRoom.{KeyRoom}
+use Rattle.desk_pool.specs.declared.folio_queues.FolioQueue.{FolioQueue}
+use Rattle.desk_pool.specs.inner.AllQueues.{AreAllQueues}
 use Rattle.desk_pool.specs.inner.RoomsCounted.{is_listed, keys_with_room, room_if, room_of_folio, rooms_of_items, sum_at}
 use Rattle.folio_sections.specs.Held.{is_given}
 use Rattle.registrar.specs.HeldKeys.{keys_of_first}

@@ -5,8 +5,8 @@ use Rattle.std.proofs.lemmas.Bool.Decides.{nat_tests}
 use Rattle.std.proofs.lemmas.List.{length-set}
 use Rattle.desk_pool.specs.declared.folio_queues.FolioQueue.{FolioQueue}
 use Rattle.desk_pool.specs.declared.marked_folios.MarkedFolio.{MarkedFolio}
-use Rattle.desk_pool.specs.inner.FolioRows.{MarkedAt, count_here}
-use Rattle.desk_pool.specs.inner.FoliosInRow.{AreInPlaces, AreInRow, AreSomeInRow, marked_at}
+use Rattle.desk_pool.specs.inner.FolioMarks.{FolioMark, count_here}
+use Rattle.desk_pool.specs.inner.FoliosInRow.{AreInPlaces, AreInRow, AreSomeInRow, mark_of}
 use Rattle.desk_pool.proofs.Saying.{same_inside, written_apart, written_there}
 
 -- ---- places
@@ -48,32 +48,32 @@ none_here (Some x ∷ xs) away = absurd (none_is_some x (same_inside None (Some 
 
 -- ---- a row
 
-pub row_length : {N : Type 0} (row : List MarkedAt) (places : List (Option (MarkedFolio N))) → AreInRow row places → length places ≡ length row
+pub row_length : {N : Type 0} (row : List FolioMark) (places : List (Option (MarkedFolio N))) → AreInRow row places → length places ≡ length row
 row_length [] [] are = refl
 row_length [] (p ∷ ps) are = absurd (grind (arith, are))
 row_length (r ∷ rs) [] are = absurd (grind (arith, are))
 row_length (r ∷ rs) (p ∷ ps) are = ap suc (row_length rs ps (ap tail are))
 
 -- what stands at a place of a full row
-pub in_row_at : {N : Type 0} (row : List MarkedAt) (places : List (Option (MarkedFolio N))) (i : ℕ) → AreInRow row places → i < length places
-    → (m : MarkedFolio N) × (slice_get places i ≡ Some (Some m)) × (slice_get row i ≡ Some (marked_at m))
+pub in_row_at : {N : Type 0} (row : List FolioMark) (places : List (Option (MarkedFolio N))) (i : ℕ) → AreInRow row places → i < length places
+    → (m : MarkedFolio N) × (slice_get places i ≡ Some (Some m)) × (slice_get row i ≡ Some (mark_of m))
 in_row_at row [] i are within = absurd (omega (arith, within))
 in_row_at [] (p ∷ ps) i are within = absurd (grind (arith, are))
 in_row_at (r ∷ rs) (None ∷ ps) i are within = absurd (none_is_some r (same_inside None (Some r) (ap (λ xs. slice_get xs 0) are)))
 in_row_at (r ∷ rs) (Some m ∷ ps) zero are within =
-    (m, refl, sym (same_inside (Some (marked_at m)) (Some r) (ap (λ xs. slice_get xs 0) are)))
+    (m, refl, sym (same_inside (Some (mark_of m)) (Some r) (ap (λ xs. slice_get xs 0) are)))
 in_row_at (r ∷ rs) (Some m ∷ ps) (suc i) are within = in_row_at rs ps i (ap tail are) (omega (arith, within))
 
 -- one more is put back at its place, where none stands
-pub put_in_row : {N : Type 0} (row : List MarkedAt) (places : List (Option (MarkedFolio N))) (i n : ℕ) (m : MarkedFolio N)
-    → slice_get places i ≡ Some None → slice_get row i ≡ Some (marked_at m) → AreSomeInRow row places n → AreSomeInRow row (set places i (Some m)) (n + 1)
+pub put_in_row : {N : Type 0} (row : List FolioMark) (places : List (Option (MarkedFolio N))) (i n : ℕ) (m : MarkedFolio N)
+    → slice_get places i ≡ Some None → slice_get row i ≡ Some (mark_of m) → AreSomeInRow row places n → AreSomeInRow row (set places i (Some m)) (n + 1)
 put_in_row row places i n m none here are =
     record {
       placed = λ j other there.
           ⊎_elim
           (λ same.
           let own : Some m ≡ Some other = same_inside (Some m) (Some other) (sym (written_there places i (Some m) (found_within places i None none)) ∙ ap (slice_get (set places i (Some m))) (sym same) ∙ there) in
-          ap (slice_get row) same ∙ here ∙ ap (λ f. Some (marked_at f)) (same_inside m other own))
+          ap (slice_get row) same ∙ here ∙ ap (λ f. Some (mark_of f)) (same_inside m other own))
           (λ apart. are.placed j other (sym (written_apart places i j (Some m) apart) ∙ there))
           (cases_eq j i);
       many = count_put places i m none ∙ ap (λ k. k + 1) are.many;
@@ -81,12 +81,12 @@ put_in_row row places i n m none here are =
     }
 
 -- two folios of one place have one mark
-pub same_mark : {N : Type 0} (row : List MarkedAt) (places : List (Option (MarkedFolio N))) (i n : ℕ) (m other : MarkedFolio N)
-    → slice_get places i ≡ Some (Some other) → slice_get row i ≡ Some (marked_at m) → AreSomeInRow row places n → m.mark.token.name ≡ other.mark.token.name
-same_mark row places i n m other there here are = ap (λ (a : MarkedAt). a.mark) (same_inside (marked_at m) (marked_at other) (sym here ∙ are.placed i other there))
+pub same_mark : {N : Type 0} (row : List FolioMark) (places : List (Option (MarkedFolio N))) (i n : ℕ) (m other : MarkedFolio N)
+    → slice_get places i ≡ Some (Some other) → slice_get row i ≡ Some (mark_of m) → AreSomeInRow row places n → m.mark.token.name ≡ other.mark.token.name
+same_mark row places i n m other there here are = ap (λ (a : FolioMark). a.mark) (same_inside (mark_of m) (mark_of other) (sym here ∙ are.placed i other there))
 
 -- where all are back, each stands at its place
-pub all_in_row : {N : Type 0} (row : List MarkedAt) (places : List (Option (MarkedFolio N))) → AreSomeInRow row places (length row) → AreInRow row places
+pub all_in_row : {N : Type 0} (row : List FolioMark) (places : List (Option (MarkedFolio N))) → AreSomeInRow row places (length row) → AreInRow row places
 all_in_row [] [] are = refl
 all_in_row [] (p ∷ ps) are = absurd (let count = are.places_are in omega (arith, count))
 all_in_row (r ∷ rs) [] are = absurd (let count = are.places_are in omega (arith, count))
@@ -99,7 +99,7 @@ all_in_row (r ∷ rs) (Some m ∷ ps) are =
     let count = are.places_are in
     let many = are.many in
     let rest : AreSomeInRow rs ps (length rs) = record { placed = λ i f there. are.placed (suc i) f there; many = omega (arith, many); places_are = omega (arith, count) } in
-    λ j. Some (same_inside (marked_at m) r (sym (are.placed 0 m refl)) j) ∷ all_in_row rs ps rest j
+    λ j. Some (same_inside (mark_of m) r (sym (are.placed 0 m refl)) j) ∷ all_in_row rs ps rest j
 
 -- all that leave their places, one after the other: the first so many are away, and the others stand where they stood
 pub record AreLeaving {N : Type 0} (before now : List (Option (MarkedFolio N))) (count : ℕ) : Type 0 where
@@ -125,22 +125,22 @@ one_leaves before now count left none within are =
     })
 
 -- what is taken from its place is what the row says
-pub taken_in_row : {N : Type 0} (row : List MarkedAt) (before now : List (Option (MarkedFolio N))) (i : ℕ) (m : MarkedFolio N) → AreInRow row before → AreLeaving before now i → i < length before
-    → slice_get now i ≡ Some (Some m) → slice_get row i ≡ Some (marked_at m)
+pub taken_in_row : {N : Type 0} (row : List FolioMark) (before now : List (Option (MarkedFolio N))) (i : ℕ) (m : MarkedFolio N) → AreInRow row before → AreLeaving before now i → i < length before
+    → slice_get now i ≡ Some (Some m) → slice_get row i ≡ Some (mark_of m)
 taken_in_row row before now i m are leaving within there =
     let found = in_row_at row before i are within in
     let same : Some found.0 ≡ Some m = same_inside (Some found.0) (Some m) (sym found.1 ∙ sym (leaving.stay i (omega arith)) ∙ there) in
-    found.2 ∙ ap (λ f. Some (marked_at f)) (same_inside found.0 m same)
+    found.2 ∙ ap (λ f. Some (mark_of f)) (same_inside found.0 m same)
 
 -- it cannot be away already
-pub still_there : {N : Type 0} (row : List MarkedAt) (before now : List (Option (MarkedFolio N))) (i : ℕ) (o : Option (MarkedFolio N)) → AreInRow row before → AreLeaving before now i → i < length before
+pub still_there : {N : Type 0} (row : List FolioMark) (before now : List (Option (MarkedFolio N))) (i : ℕ) (o : Option (MarkedFolio N)) → AreInRow row before → AreLeaving before now i → i < length before
     → slice_get now i ≡ Some o → ((m : MarkedFolio N) → o ≡ Some m → ⊥) → ⊥
 still_there row before now i o are leaving within there none =
     let found = in_row_at row before i are within in
     none found.0 (same_inside o (Some found.0) (sym there ∙ leaving.stay i (omega arith) ∙ found.1))
 
 -- all are away
-pub all_left : {N : Type 0} (row : List MarkedAt) (before now : List (Option (MarkedFolio N))) (count : ℕ) → AreInRow row before → length before ≤ count → AreLeaving before now count → AreSomeInRow row now 0
+pub all_left : {N : Type 0} (row : List FolioMark) (before now : List (Option (MarkedFolio N))) (count : ℕ) → AreInRow row before → length before ≤ count → AreLeaving before now count → AreSomeInRow row now 0
 all_left row before now count are whole leaving =
     record {
       placed = λ i m there. absurd (none_is_some m (same_inside None (Some m) (sym (leaving.away i (let within = found_within now i (Some m) there in let same = leaving.places_are in omega (arith, within, same, whole))) ∙ there)));
@@ -149,29 +149,29 @@ all_left row before now count are whole leaving =
     }
 
 -- the row of folios that stand at their places
-pub row_of_places : {N : Type 0} (queues : List FolioQueue) (places : List (Option (MarkedFolio N))) → AreInPlaces queues places → AreInRow (filter_map (option_map marked_at) places) places
+pub row_of_places : {N : Type 0} (queues : List FolioQueue) (places : List (Option (MarkedFolio N))) → AreInPlaces queues places → AreInRow (filter_map (option_map mark_of) places) places
 row_of_places [] [] are = refl
 row_of_places [] (p ∷ ps) are = absurd (grind (arith, are))
 row_of_places (q ∷ qs) [] are = absurd (grind (arith, are))
 row_of_places (q ∷ qs) (None ∷ ps) are = absurd (none_is_some q.folio (same_inside None (Some q.folio) (ap (λ xs. slice_get xs 0) are)))
-row_of_places (q ∷ qs) (Some m ∷ ps) are = λ j. Some (marked_at m) ∷ row_of_places qs ps (ap tail are) j
+row_of_places (q ∷ qs) (Some m ∷ ps) are = λ j. Some (mark_of m) ∷ row_of_places qs ps (ap tail are) j
 
-folios_of_row : {N : Type 0} (places : List (Option (MarkedFolio N))) → map (option_map (λ m. m.folio.folio)) places ≡ map (option_map (λ (a : MarkedAt). a.folio)) (map (option_map marked_at) places)
+folios_of_row : {N : Type 0} (places : List (Option (MarkedFolio N))) → map (option_map (λ m. m.folio.folio)) places ≡ map (option_map (λ (a : FolioMark). a.folio)) (map (option_map mark_of) places)
 folios_of_row [] = refl
 folios_of_row (None ∷ ps) = λ j. None ∷ folios_of_row ps j
 folios_of_row (Some m ∷ ps) = λ j. Some m.folio.folio ∷ folios_of_row ps j
 
 -- they stand there again
-pub places_kept : {N : Type 0} (row : List MarkedAt) (queues : List FolioQueue) (before now : List (Option (MarkedFolio N))) → AreInRow row before → AreInRow row now → AreInPlaces queues before → AreInPlaces queues now
+pub places_kept : {N : Type 0} (row : List FolioMark) (queues : List FolioQueue) (before now : List (Option (MarkedFolio N))) → AreInRow row before → AreInRow row now → AreInPlaces queues before → AreInPlaces queues now
 places_kept row queues before now one other are =
-    folios_of_row now ∙ ap (map (option_map (λ (a : MarkedAt). a.folio))) (other ∙ sym one) ∙ sym (folios_of_row before) ∙ are
+    folios_of_row now ∙ ap (map (option_map (λ (a : FolioMark). a.folio))) (other ∙ sym one) ∙ sym (folios_of_row before) ∙ are
 
 take_front : {X : Type 0} (xs ys : List X) → take (length xs) (xs ++ ys) ≡ xs
 take_front [] ys = refl
 take_front (x ∷ xs) ys = ap (λ zs. x ∷ zs) (take_front xs ys)
 
 -- so they do where they were lent from a longer list
-pub places_lent : {N : Type 0} (row : List MarkedAt) (queues : List FolioQueue) (before now lent : List (Option (MarkedFolio N))) (count : ℕ) → lent ≡ before → AreInRow row lent → AreInRow row now → count ≡ length before
+pub places_lent : {N : Type 0} (row : List FolioMark) (queues : List FolioQueue) (before now lent : List (Option (MarkedFolio N))) (count : ℕ) → lent ≡ before → AreInRow row lent → AreInRow row now → count ≡ length before
     → AreInPlaces queues before → AreInPlaces queues (take count (now ++ drop (length now) before))
 places_lent row queues before now lent count same one other whole are =
     let was : AreInRow row before = subst (AreInRow row) same one in

@@ -32,8 +32,8 @@ pub mod RoundOrders
 pub mod SaleRoom
 pub mod Saying
 pub mod Settling
-pub mod TakingBack
 pub mod TakingOver
+pub mod TakingParts
 pub mod TouchedKeys
 pub mod TurnedNeighbours
 pub mod Turns

@@ -23,10 +23,10 @@ use Rattle.desk_pool.proofs.FolioSteps.{ahead_of_step, behind_named, holds_key, 
 use Rattle.desk_pool.proofs.AgreeingScratches.{scratch_same}
 use Rattle.desk_pool.proofs.Settling.{CanStep, can_step, room_behind, stands_behind}
 use Rattle.desk_pool.proofs.Turns.{TurnComes, next_found, turn_comes}
-use Rattle.desk_pool.specs.inner.FolioPairs.{AreApart, PairState, either_at, either_holds, either_room}
 use Rattle.desk_pool.specs.FolioQueues.{is_next, queue_of}
 use Rattle.desk_pool.specs.FolioStates.{FolioState, HasAllRoom, IsBehindLock, StandsAt}
 use Rattle.desk_pool.specs.RoundRooms.{room_of_first}
+use Rattle.desk_pool.specs.inner.FolioPairs.{AreApart, PairState, either_at, either_holds, either_room}
 
 -- the parts of both
 abbrev pub pair_of : FolioState → FolioState → PairState

@@ -19,8 +19,8 @@ use Rattle.gb_base.specs.declared.keys.Key.{Key}
 use Rattle.gb_base.specs.declared.keys.Key.TheVariants.{Case, Right, Title}
 use Rattle.act_model.proofs.KeyOrder.{itself, same_is, ties, total}
 use Rattle.desk_pool.proofs.BuiltQueues.{or_none}
-use Rattle.desk_pool.specs.inner.KeyRooms.{room_in}
 use Rattle.desk_pool.specs.declared.folio_parts.KeyRoom.{KeyRoom}
+use Rattle.desk_pool.specs.inner.KeyRooms.{room_in}
 use Rattle.desk_pool.specs.inner.PartsPrepared.{ArePartsFor, AreRoomsAt, room_of_entry}
 use Rattle.folio_sections.specs.Held.{entries_at, is_given, is_held, room_at}
 use Rattle.folio_sections.specs.PartState.{PartState}

@@ -31,7 +31,7 @@ use Rattle.registrar.specs.declared.verdicts.Verdict.{Verdict}
 use Rattle.registrar.specs.inner.OpenFolios.{AreOpenFolios}
 use Rattle.desk_pool.proofs.PreparedRuns.{verdict_first}
 use Rattle.desk_pool.specs.Preparing.{AreTitledFolios, HasPlaces, IsPrepared, ServesEachItem}
-use Rattle.desk_pool.specs.declared.prepared.Prepared.{Prepared}
+use Rattle.desk_pool.specs.declared.register_frames.RegisterFrame.{RegisterFrame}
 use Rattle.desk_pool.specs.inner.PreparedRuns.{HasTaken}
 use Rattle.desk_pool.specs.inner.TheRegister.{IsTheRegister}
 
@@ -46,7 +46,7 @@ enumerated f a (v ∷ vs) each =
     let rest = enumerated f (a + 1) vs (λ k within. let next : a + suc k ≡ (a + 1) + k = omega arith in each (suc k) (omega (arith, within)) ∙ ap (λ n. Some (f n)) next) in
     λ j. (a, here j) ∷ rest j
 
-pub all_said : (journal : List Receipt) (order : List ℕ) (s : Prepared) → IsJournal journal → Kept journal (λ k. []) → IsPermitted journal order → HasTaken journal order s
+pub all_said : (journal : List Receipt) (order : List ℕ) (s : RegisterFrame) → IsJournal journal → Kept journal (λ k. []) → IsPermitted journal order → HasTaken journal order s
     → enumerate_from 1 s.verdicts.items ≡ (registrar journal).verdicts
 all_said journal order s numbered empty permitted taken =
     let vs = s.verdicts.items in
@@ -72,7 +72,7 @@ rises_filtered p (n ∷ ns) up =
       | false ↦ rises_filtered p ns up.1
     ]
 
-open_ones : (journal : List Receipt) (s : Prepared) → HasPlaces journal s → AreOpenFolios (filter (λ folio. is_open (entries_at s.parts (Title folio))) s.folios.items) (entries_at s.parts)
+open_ones : (journal : List Receipt) (s : RegisterFrame) → HasPlaces journal s → AreOpenFolios (filter (λ folio. is_open (entries_at s.parts (Title folio))) s.folios.items) (entries_at s.parts)
 open_ones journal s places =
     let p : ℕ → Bool = λ folio. is_open (entries_at s.parts (Title folio)) in
     let all = s.folios.items in
@@ -87,7 +87,7 @@ open_ones journal s places =
 
 -- ---- together
 
-pub register_left : (journal : List Receipt) (order : List ℕ) (s : Prepared) (register : RegisterState) → IsJournal journal → Kept journal (λ k. []) → IsPermitted journal order → HasTaken journal order s
+pub register_left : (journal : List Receipt) (order : List ℕ) (s : RegisterFrame) (register : RegisterState) → IsJournal journal → Kept journal (λ k. []) → IsPermitted journal order → HasTaken journal order s
     → register.parts ≡ s.parts → register.verdicts ≡ enumerate_from 1 s.verdicts.items → register.folios ≡ filter (λ folio. is_open (entries_at s.parts (Title folio))) s.folios.items
     → IsTheRegister journal register
 register_left journal order s register numbered empty permitted taken parts said listed =
@@ -119,7 +119,7 @@ register_left journal order s register numbered empty permitted taken parts said
 
 -- ---- parts that are cleared
 
-pub cleared : (journal : List Receipt) (before after : Prepared) → HasPlaces journal before → is_held after.parts ≡ is_held before.parts → ((k : Key) → entries_at after.parts k ≡ [])
+pub cleared : (journal : List Receipt) (before after : RegisterFrame) → HasPlaces journal before → is_held after.parts ≡ is_held before.parts → ((k : Key) → entries_at after.parts k ≡ [])
     → ((k : Key) → room_at after.parts k ≡ room_at before.parts k + length (entries_at before.parts k)) → after.scratch ≡ before.scratch → after.verdicts ≡ before.verdicts → after.folios ≡ before.folios
     → IsPrepared journal after
 cleared journal before after places holds none room scratch verdicts folios = record {

@@ -1,4 +1,4 @@
--- Prepared parts in which the items of a permitted order are settled, one after the other.
+-- RegisterFrame parts in which the items of a permitted order are settled, one after the other.
 use Rattle.std.proofs.Common.{◌≡◌, ℕ, ◌+◌, ◌-◌, ◌<◌, ◌≤◌, List, [], ◌∷◌, ◌++◌, All, Contains, IsTrue, Some, drop, get_or, length, set, slice_get, take, inl, refl, sym, ap, subst, ◌∙◌, ⊎_elim, length-append, arith}
 use Rattle.std.specs.List.{range_with_len}
 use Rattle.std.proofs.lemmas.Bool.{cases_eq}
@@ -32,11 +32,11 @@ use Rattle.desk_pool.proofs.RoomsSuffice.{room_grows, room_suffices}
 use Rattle.desk_pool.proofs.AgreeingScratches.{scratch_same}
 use Rattle.desk_pool.specs.Preparing.{AreTitledFolios, HasPlaces, IsPrepared, ServesEachItem}
 use Rattle.desk_pool.specs.RoundRooms.{room_of_first}
-use Rattle.desk_pool.specs.declared.prepared.Prepared.{Prepared}
+use Rattle.desk_pool.specs.declared.register_frames.RegisterFrame.{RegisterFrame}
 use Rattle.desk_pool.specs.inner.PreparedRuns.{HasTaken}
 
 -- nothing is settled yet
-pub none_taken : (journal : List Receipt) (s : Prepared) → IsPrepared journal s → HasTaken journal [] s
+pub none_taken : (journal : List Receipt) (s : RegisterFrame) → IsPrepared journal s → HasTaken journal [] s
 none_taken journal s prepared = record {
   places = prepared.places;
   entries = prepared.empty;
@@ -65,7 +65,7 @@ unwritten vs n i v w low high above unlike is =
     ∙ is
 
 -- all that a step asks of what it is lent
-pub record CanTake (journal : List Receipt) (i : ℕ) (s : Prepared) : Type 0 where
+pub record CanTake (journal : List Receipt) (i : ℕ) (s : RegisterFrame) : Type 0 where
   pub low : 1 ≤ i
   pub high : i ≤ length journal
   pub held : (k : Key) → Contains (keys_of_item journal i) k → IsTrue (is_held s.parts k)
@@ -75,7 +75,7 @@ pub record CanTake (journal : List Receipt) (i : ℕ) (s : Prepared) : Type 0 wh
   pub earlier : (k : Key) → Contains (keys_of_item journal i) k → All (λ e. e.receipt < i) (entries_at s.parts k)
 
 -- what a step leaves of an item that brings something to the register behind those that are done
-pub record IsStep (journal : List Receipt) (done : List ℕ) (i : ℕ) (before after : Prepared) (v : Verdict) : Type 0 where
+pub record IsStep (journal : List Receipt) (done : List ℕ) (i : ℕ) (before after : RegisterFrame) (v : Verdict) : Type 0 where
   pub held : is_held after.parts ≡ is_held before.parts
   pub added : AddsList (entries_at before.parts) (entries_at after.parts) (room_at before.parts) (room_at after.parts) (brings journal i (at (settled_in_order journal done).entries)).entries
   pub verdict : v ≡ (brings journal i (at (settled_in_order journal done).entries)).verdict
@@ -92,7 +92,7 @@ module _ (journal : List Receipt) (done left : List ℕ) (i : ℕ) (numbered : I
       (ahead_of journal done left i k permitted ((has_decides k (keys_of_item journal i)).1 own))
       ∙ sym ((firsts journal (i - 1) numbered empty).entries k)
 
-  pub can_take : (s : Prepared) → HasTaken journal done s → CanTake journal i s
+  pub can_take : (s : RegisterFrame) → HasTaken journal done s → CanTake journal i s
   can_take s taken =
       let of_journal = of_order journal (done ++ i ∷ left) i permitted (in_append_right done (i ∷ left) i (inl refl)) in
       let front = at_front journal done (i ∷ left) numbered empty permitted in
@@ -124,7 +124,7 @@ module _ (journal : List Receipt) (done left : List ℕ) (i : ℕ) (numbered : I
         earlier = λ k own. subst (All (λ e. e.receipt < i)) (sym (taken.entries k)) (found.earlier k own);
       }
 
-  places_stay : (s after : Prepared) (v : Verdict) → HasTaken journal done s → IsStep journal done i s after v → HasPlaces journal after
+  places_stay : (s after : RegisterFrame) (v : Verdict) → HasTaken journal done s → IsStep journal done i s after v → HasPlaces journal after
   places_stay s after v taken step = record {
     frame = record {
       held = λ k. ap (λ holds. holds k) step.held ∙ taken.places.frame.held k;
@@ -140,7 +140,7 @@ module _ (journal : List Receipt) (done left : List ℕ) (i : ℕ) (numbered : I
         omega (arith, place, less, more);
   }
 
-  said : (s after : Prepared) (v : Verdict) → HasTaken journal done s → IsStep journal done i s after v → (n : ℕ) → Contains (done ++ i ∷ []) n → slice_get after.verdicts.items (n - 1) ≡ Some (verdict_first journal n)
+  said : (s after : RegisterFrame) (v : Verdict) → HasTaken journal done s → IsStep journal done i s after v → (n : ℕ) → Contains (done ++ i ∷ []) n → slice_get after.verdicts.items (n - 1) ≡ Some (verdict_first journal n)
   said s after v taken step n there =
       let can = can_take s taken in
       let count = taken.places.frame.verdicts in
@@ -155,7 +155,7 @@ module _ (journal : List Receipt) (done left : List ℕ) (i : ℕ) (numbered : I
       unwritten s.verdicts.items n i v (verdict_first journal n) within.0 (omega (arith, within.1, count)) can.low unlike (taken.verdicts n (contains_of_in done n ahead)))
       (cases_eq n i)
 
-  pub taken_next : (s after : Prepared) (v : Verdict) → HasTaken journal done s → IsStep journal done i s after v → HasTaken journal (done ++ i ∷ []) after
+  pub taken_next : (s after : RegisterFrame) (v : Verdict) → HasTaken journal done s → IsStep journal done i s after v → HasTaken journal (done ++ i ∷ []) after
   taken_next s after v taken step =
       let es = at (brings journal i (at (settled_in_order journal done).entries)).entries in
       record {

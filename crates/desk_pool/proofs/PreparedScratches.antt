@@ -26,10 +26,10 @@ use Rattle.desk_pool.proofs.CountedRooms.{room_few}
 use Rattle.desk_pool.proofs.PreparedParts.{in_list}
 use Rattle.desk_pool.proofs.RoomsSuffice.{exchanges_fit, room_grows}
 use Rattle.desk_pool.specs.FolioStates.{HasAllScratch}
-use Rattle.desk_pool.specs.inner.KeyRooms.{AreRooms, room_in}
 use Rattle.desk_pool.specs.Preparing.{ServesEachItem}
 use Rattle.desk_pool.specs.RoundRooms.{room_of_first}
 use Rattle.desk_pool.specs.declared.folio_parts.KeyRoom.{KeyRoom}
+use Rattle.desk_pool.specs.inner.KeyRooms.{AreRooms, room_in}
 use Rattle.desk_pool.specs.inner.PartsPrepared.{AreRoomsAt}
 use Rattle.desk_pool.specs.inner.ScratchesPrepared.{IsNoSmaller, ServesAt, ServesFolio}
 use Rattle.folio_sections.specs.Entries.{at}

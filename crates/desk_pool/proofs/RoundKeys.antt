@@ -14,12 +14,12 @@ use Rattle.act_model.proofs.KeyOrder.{ties}
 use Rattle.act_model.specs.declared.receipts.Receipt.{Receipt}
 use Rattle.conflict_queue.specs.Schedules.{in_receipt_order}
 use Rattle.desk_pool.proofs.PreparedParts.{all_listed, key_of}
-use Rattle.desk_pool.specs.inner.FoliosBack.{AreAllKeys}
-use Rattle.desk_pool.specs.inner.KeyRooms.{AreRooms}
 use Rattle.desk_pool.specs.Preparing.{HasFrame}
 use Rattle.desk_pool.specs.Rounds.{IsRound}
 use Rattle.desk_pool.specs.declared.folio_parts.KeyRoom.{KeyRoom}
-use Rattle.desk_pool.specs.declared.prepared.Prepared.{Prepared}
+use Rattle.desk_pool.specs.declared.register_frames.RegisterFrame.{RegisterFrame}
+use Rattle.desk_pool.specs.inner.FoliosBack.{AreAllKeys}
+use Rattle.desk_pool.specs.inner.KeyRooms.{AreRooms}
 use Rattle.desk_pool.specs.inner.PartsPrepared.{room_of_entry}
 use Rattle.folio_sections.specs.Held.{is_given}
 
@@ -40,7 +40,7 @@ all_keys journal rooms keys are ordered is = record {
       ∙ ap is_eq (subst (λ k. key_cmp k (get_or keys j d).key ≡ Less) first (subst (λ k. key_cmp (get_or (map key_of keys) i d.key) k ≡ Less) second below));
 }
 
-pub is_round : {journal lent : List Receipt} {frame : Prepared} {seats : ℕ} {receipts : List ℕ} {passed : List Bool}
+pub is_round : {journal lent : List Receipt} {frame : RegisterFrame} {seats : ℕ} {receipts : List ℕ} {passed : List Bool}
     → lent ≡ journal → HasFrame lent frame → seats ≡ 64
     → receipts ≡ in_receipt_order lent → All (λ b. b ≡ false) passed → length passed ≡ length receipts → IsRound journal lent frame seats receipts passed
 is_round {journal} {lent} {frame} {seats} {receipts} {passed} named frame_is seats_are receipts_are none_passed as_many =

@@ -15,10 +15,10 @@ use Rattle.registrar.specs.HeldKeys.{keys_of_first}
 use Rattle.registrar.specs.Settling.{registrar}
 use Rattle.desk_pool.specs.FolioQueues.{is_key_of}
 use Rattle.desk_pool.specs.FolioStates.{HasAllRoom}
-use Rattle.desk_pool.specs.inner.FoliosBack.{AllBack, AreAllKeys, AreSettled, StandsSettled}
 use Rattle.desk_pool.specs.RoundRooms.{room_of_first}
 use Rattle.desk_pool.specs.declared.folio_parts.KeyRoom.{KeyRoom}
 use Rattle.desk_pool.specs.declared.folio_queues.FolioQueue.{FolioQueue}
+use Rattle.desk_pool.specs.inner.FoliosBack.{AllBack, AreAllKeys, AreSettled, StandsSettled}
 use Rattle.desk_pool.specs.inner.TakenOver.{IsHeldInFolio, IsTakenOver}
 use Rattle.desk_pool.proofs.AllComplete.{given_listed}
 use Rattle.desk_pool.proofs.BuiltQueues.{same_number}

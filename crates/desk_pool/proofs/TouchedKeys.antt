@@ -15,9 +15,9 @@ use Rattle.registrar.proofs.ContainedParts.{all_contained, contains_first}
 use Rattle.registrar.proofs.RisingNumbers.{contains_of_in, in_of_contains}
 use Rattle.desk_pool.proofs.NoKeys.{no_key}
 use Rattle.desk_pool.specs.FolioQueues.{has_folio}
-use Rattle.desk_pool.specs.inner.TouchedFolios.{AreOfFewFolios, AreTouched}
-use Rattle.desk_pool.specs.declared.touched_folios.TouchedFolios.{TouchedFolios}
 use Rattle.desk_pool.specs.declared.touched_folios.TouchedFolios.TheVariants as touched
+use Rattle.desk_pool.specs.declared.touched_folios.TouchedFolios.{TouchedFolios}
+use Rattle.desk_pool.specs.inner.TouchedFolios.{AreOfFewFolios, AreTouched}
 
 pub has_its_folio : (keys : List Key) (key : Key) (folio : ℕ) → Contains keys key → folio ≡ folio_of_key key → has_folio keys folio ≡ true
 has_its_folio keys key folio there is = any_in (λ k. folio_of_key k == folio) keys key (in_of_contains keys key there) (grind (arith, nat_tests, is))

@@ -10,7 +10,7 @@ use Rattle.registrar.specs.HeldKeys.{keys_of_first}
 use Rattle.registrar.specs.Rooms.{HasItsScratch}
 use Rattle.sale_rules.specs.ScratchRoom.{ScratchRoom}
 use Rattle.desk_pool.specs.FolioStates.{HasAllRoom}
-use Rattle.desk_pool.specs.declared.prepared.Prepared.{Prepared}
+use Rattle.desk_pool.specs.declared.register_frames.RegisterFrame.{RegisterFrame}
 
 -- just the folios whose title an item of the journal touches, ascending: no other folio is open behind it
 pub record AreTitledFolios (journal : List Receipt) (folios : List ℕ) : Type 0 where
@@ -24,18 +24,18 @@ ServesEachItem journal scratch =
 
 -- Parts at the keys of the journal's items and at no other; a scratch for each item; as many verdicts as there are items; and the
 -- folios that may be open in the end.
-pub record HasFrame (journal : List Receipt) (s : Prepared) : Type 0 where
+pub record HasFrame (journal : List Receipt) (s : RegisterFrame) : Type 0 where
   pub held : (k : Key) → is_held s.parts k ≡ is_given (keys_of_first journal (length journal)) k
   pub scratch : ServesEachItem journal s.scratch
   pub verdicts : length s.verdicts.items ≡ length journal
   pub folios : AreTitledFolios journal s.folios.items
 
 -- with place at each key for all that the items bring there
-pub record HasPlaces (journal : List Receipt) (s : Prepared) : Type 0 where
+pub record HasPlaces (journal : List Receipt) (s : RegisterFrame) : Type 0 where
   pub frame : HasFrame journal s
   pub room : HasAllRoom journal (is_held s.parts) (entries_at s.parts) (room_at s.parts)
 
 -- and nothing stands in the parts yet
-pub record IsPrepared (journal : List Receipt) (s : Prepared) : Type 0 where
+pub record IsPrepared (journal : List Receipt) (s : RegisterFrame) : Type 0 where
   pub places : HasPlaces journal s
   pub empty : (k : Key) → entries_at s.parts k ≡ []

@@ -2,8 +2,8 @@
 pub mod AllQueues
 pub mod Boards
 pub mod Counted
+pub mod FolioMarks
 pub mod FolioPairs
-pub mod FolioRows
 pub mod FoliosBack
 pub mod FoliosInRow
 pub mod KeyRooms

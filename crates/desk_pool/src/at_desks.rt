@@ -26,7 +26,8 @@ use std::thread::Threads;
 /// own where one can be had. `gate` is called with each item ahead of its entries, while its desk has
 /// the item's folios to itself: one desk alone has all of them, others lock them. Whatever the desks
 /// do, the register is the one that `registrar::alone` gives (GBO § 17). Wants memory (NoMemory);
-/// several desks want all of it before the first item is settled.
+/// several desks want all of it before the first item is settled, as a round has it, with seats for 64
+/// desks.
 pub fn settle_at_desks<R: AllocGlobal + Threads + Wait + Sync, G: DeskGate>(
     rt: &R,
     journal: &Journal,

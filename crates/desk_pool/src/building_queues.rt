@@ -3,8 +3,8 @@ ghost use Rattle.std.specs.Prelude.{◌≡◌, ◌==◌, ℕ, if◌then◌else�
 ghost use Rattle.std.specs.BTreeMap.{IsOrdered};
 ghost use Rattle.std.specs.Ordering.{nat_cmp};
 ghost use Rattle.conflict_queue.specs.Dockets.{docket_of};
-ghost use Rattle.desk_pool.specs.inner.AllQueues.{AreAllQueues};
 ghost use Rattle.desk_pool.specs.FolioQueues.{queue_of};
+ghost use Rattle.desk_pool.specs.inner.AllQueues.{AreAllQueues};
 ghost use Rattle.desk_pool.specs.inner.QueuesBuilt.{as_entry, items_at, with_item, with_item_at};
 
 use crate::folio_queues::FolioQueue;

@@ -25,7 +25,7 @@ use std::sync::{MutexGuard, Wait};
 
 /// Settles items until none is left: while others have items in hand behind which more may be, it
 /// waits.
-pub(crate) fn work<N: JournalName, W: RowName, G: DeskGate, R: Wait>(
+pub(crate) fn work<N: JournalName, W: RowName, R: Wait, G: DeskGate>(
     rt: &R,
     round: &SharedRound<'_, N, W>,
     gate: &G,
@@ -100,7 +100,7 @@ fn keys_of<'a, N: JournalName, W: RowName>(
 
 /// Settles an item under the locks of its folios, one or two of them, the lower number first.
 /// None where its turn has not come.
-fn settle<N: JournalName, W: RowName, G: DeskGate, R: Wait>(
+fn settle<N: JournalName, W: RowName, R: Wait, G: DeskGate>(
     rt: &R,
     round: &SharedRound<'_, N, W>,
     gate: &G,
@@ -146,7 +146,7 @@ fn settle_here<N: JournalName, W: RowName, G: DeskGate>(
 }
 
 /// The same of an item that touches one folio alone; `spare` serves where the folio has no scratch.
-fn settle_in_one<N: JournalName, W: RowName, G: DeskGate, R: Wait>(
+fn settle_in_one<N: JournalName, W: RowName, R: Wait, G: DeskGate>(
     rt: &R,
     round: &SharedRound<'_, N, W>,
     gate: &G,
@@ -169,7 +169,7 @@ fn settle_in_one<N: JournalName, W: RowName, G: DeskGate, R: Wait>(
 }
 
 /// The same of an item that touches two folios.
-fn settle_in_two<N: JournalName, W: RowName, G: DeskGate, R: Wait>(
+fn settle_in_two<N: JournalName, W: RowName, R: Wait, G: DeskGate>(
     rt: &R,
     round: &SharedRound<'_, N, W>,
     gate: &G,

@@ -1,16 +1,16 @@
-//! What the desks have settled is put together.
+//! What the desks have settled is put together, or all is settled anew.
 //! Why so: docs/DECISIONS.md, "Folios carry marks behind their locks".
 ghost use Rattle.std.specs.Prelude.{◌≡◌, IfSome, IsTrue};
 ghost use Rattle.act_model.specs.Receiving.{IsJournal};
 ghost use Rattle.conflict_queue.specs.Schedules.{IsPermitted, in_receipt_order};
-ghost use Rattle.desk_pool.specs.inner.Boards.{AreVerdicts};
 ghost use Rattle.desk_pool.specs.Preparing.{HasFrame, HasPlaces};
+ghost use Rattle.desk_pool.specs.inner.Boards.{AreVerdicts};
 ghost use Rattle.desk_pool.specs.inner.PreparedRuns.{HasTaken};
 ghost use Rattle.desk_pool.specs.inner.TheRegister.{IsTheRegister};
 
 use crate::folio_row::FolioRow;
-use crate::prepared::Prepared;
 use crate::ready_desks::Worked;
+use crate::register_frames::RegisterFrame;
 use act_model::{Journal, JournalName};
 use conflict_queue::laws::receipts_in_turn;
 use gb_base::ReceiptNo;
@@ -21,7 +21,7 @@ use registrar::Register;
 /// whole journal, settled anew in the order of the receipts. It takes no memory.
 pub(crate) fn finish<N: JournalName>(
     journal: &Journal,
-    mut frame: Prepared,
+    mut frame: RegisterFrame,
     worked: Worked<N>,
     receipts: &[ReceiptNo],
 ) -> Register
@@ -43,7 +43,7 @@ pub(crate) fn finish<N: JournalName>(
 
 /// Puts the verdicts and what stands in the folios into the frame. Whether all is there; else some of
 /// it may stand in the frame, which has the room of all folios either way.
-fn is_complete<N: JournalName>(frame: &mut Prepared, worked: Worked<N>) -> bool
+fn is_complete<N: JournalName>(frame: &mut RegisterFrame, worked: Worked<N>) -> bool
     requires numbered { IsJournal N.receipts }
     requires frame { HasFrame N.receipts frame.old }
     requires verdicts { IfSome worked.verdicts (λ verdicts. AreVerdicts N.receipts verdicts.items) }
@@ -68,7 +68,7 @@ fn is_complete<N: JournalName>(frame: &mut Prepared, worked: Worked<N>) -> bool
 /// takes no memory.
 pub(crate) fn settle_in_row<N: JournalName>(
     journal: &Journal,
-    mut frame: Prepared,
+    mut frame: RegisterFrame,
     row: FolioRow<N>,
     order: &[ReceiptNo],
 ) -> Register

@@ -74,7 +74,7 @@ fn key_room(key: &Key, room: &usize) -> KeyRoom
 }
 
 /// Empty parts at these keys, with their room. Wants memory (NoMemory).
-pub(crate) fn parts_at(alloc: Global, keys: &[KeyRoom]) -> Result<MapParts, NoMemory>
+fn parts_at(alloc: Global, keys: &[KeyRoom]) -> Result<MapParts, NoMemory>
     ensures held { IfOk result (λ parts. (k : Key) → is_held parts k ≡ is_given (map (λ r. r.key) keys.now) k) }
     ensures empty { IfOk result (λ parts. (k : Key) → entries_at parts k ≡ []) }
     ensures room { IfOk result (λ parts. All (λ r. r.room ≤ room_at parts r.key) keys.now) }

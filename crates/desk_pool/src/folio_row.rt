@@ -1,18 +1,18 @@
 //! The folios of a journal, side by side.
-ghost use Rattle.std.specs.Prelude.{◌≡◌, ◌≤◌, [], IfOk, IsTrue, length, vec_capacity};
+ghost use Rattle.std.specs.Prelude.{◌≡◌, ◌≤◌, [], IsTrue, length, vec_capacity};
+ghost use Rattle.desk_pool.specs.Preparing.{HasFrame, HasPlaces};
 ghost use Rattle.desk_pool.specs.inner.AllQueues.{AreAllQueues};
 ghost use Rattle.desk_pool.specs.inner.FoliosBack.{AreAllKeys, StandsSettled};
-ghost use Rattle.desk_pool.specs.inner.KeyRooms.{AreRooms};
-ghost use Rattle.desk_pool.specs.Preparing.{HasFrame, HasPlaces};
 ghost use Rattle.desk_pool.specs.inner.FoliosInRow.{AreInPlaces};
+ghost use Rattle.desk_pool.specs.inner.KeyRooms.{AreRooms};
 
 use crate::folio_parts::{KeyRoom, list_rooms};
 use crate::folio_queues::FolioQueue;
 use crate::marked_folios::MarkedFolio;
-use crate::prepared::Prepared;
 use crate::preparing::mark_folios;
-use crate::taking_back::take_parts;
+use crate::register_frames::RegisterFrame;
 use crate::taking_over::take_all_over;
+use crate::taking_parts::take_parts;
 use act_model::{Journal, JournalName};
 use folio_sections::MapParts;
 use gb_base::{Key, NoMemory};
@@ -26,9 +26,10 @@ pub(crate) struct FolioRow<N: JournalName> {
     pub queues: Vec<FolioQueue>,
     /// The folios; None while one is behind its lock.
     pub places: Vec<Option<MarkedFolio<N>>>,
-    /// All keys that the items touch.
+    /// All keys that the items touch, each once.
     pub keys: Vec<KeyRoom>,
-    /// Room for the parts of all folios.
+    /// Empty, with room for the parts of all folios: so none is wanted where they are taken from their
+    /// places.
     pub back: Vec<MapParts>,
     pub ghost queues_are: { AreAllQueues N.receipts queues.items },
     pub ghost keys_are: { AreAllKeys N.receipts keys.items },
@@ -60,7 +61,7 @@ impl<N: JournalName> FolioRow<N> {
 
     /// Puts what stands in the parts of all folios into the frame, and their room. Whether all items
     /// are settled: what stands in the frame is then what the one registrar leaves.
-    pub fn put_into(self, frame: &mut Prepared) -> bool
+    pub fn put_into(self, frame: &mut RegisterFrame) -> bool
         requires { HasFrame N.receipts frame.old }
         ensures places { HasPlaces N.receipts frame.new }
         ensures settled { IsTrue result → StandsSettled N.receipts frame.new.parts }

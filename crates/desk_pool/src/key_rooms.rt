@@ -5,10 +5,10 @@ ghost use Rattle.gb_base.specs.Keys.{key_cmp, same_key};
 ghost use Rattle.gb_base.specs.declared.keys.Key.{Key};
 ghost use Rattle.std.specs.BTreeMap.{get};
 ghost use Rattle.conflict_queue.specs.Dockets.{docket_of};
-ghost use Rattle.desk_pool.specs.inner.AllQueues.{AreAllQueues};
 ghost use Rattle.desk_pool.specs.FolioQueues.{is_key_of, queue_of};
-ghost use Rattle.desk_pool.specs.inner.KeyRooms.{AreRooms, room_in};
 ghost use Rattle.desk_pool.specs.RoundRooms.{room_for, room_for_item};
+ghost use Rattle.desk_pool.specs.inner.AllQueues.{AreAllQueues};
+ghost use Rattle.desk_pool.specs.inner.KeyRooms.{AreRooms, room_in};
 ghost use Rattle.desk_pool.specs.inner.RoomsCounted.{is_listed, keys_with_room, room_if, room_of_folio, rooms_of_items, sum_at};
 
 use crate::folio_parts::KeyRoom;

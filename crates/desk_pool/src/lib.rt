@@ -22,15 +22,15 @@ mod one_desk;
 mod open_folios;
 mod orders;
 mod pairs;
-mod prepared;
 mod preparing;
 mod ready_desks;
+mod register_frames;
 mod rounds;
 mod sale_scratches;
 mod seats;
 mod shared_rounds;
-mod taking_back;
 mod taking_over;
+mod taking_parts;
 mod together;
 mod touched_folios;
 

@@ -1,4 +1,4 @@
-//! What lies behind the lock of a folio.
+//! A folio, as it lies behind its lock and stands in its row.
 //! Why so: docs/DECISIONS.md, "A folio's items are settled in the order of receipts".
 ghost use Rattle.std.specs.Prelude.{◌≡◌, ◌⊎◌, ◌+◌, ◌<◌, ◌==◌, ◌&&◌, Some, IfSome, IfNone, IsTrue, is_some, length, All};
 ghost use Rattle.gb_base.specs.Keys.{folio_of_key};

@@ -1,8 +1,8 @@
 //! Folios are put behind locks, and come back to their places.
 //! Why so: docs/DECISIONS.md, "Folios carry marks behind their locks".
 ghost use Rattle.std.specs.Prelude.{◌≡◌, ◌+◌, IfErr, IfOk, length, vec_len};
+ghost use Rattle.desk_pool.specs.inner.FolioMarks.{count_here};
 ghost use Rattle.desk_pool.specs.inner.FoliosInRow.{AreInRow, AreSomeInRow};
-ghost use Rattle.desk_pool.specs.inner.FolioRows.{count_here};
 
 use crate::marked_folios::{MarkedFolio, PlacedFolio, RowName};
 use act_model::JournalName;
@@ -31,7 +31,7 @@ pub(crate) fn put_behind_locks<'a, N: JournalName, W: RowName>(
     Ok(locks)
 }
 
-/// Puts the folios of the named row back, each at its place, wherever they come from.
+/// Puts the folios of the named row back, each at its place, in whatever order their locks stand.
 pub(crate) fn put_back<N: JournalName, W: RowName>(
     mut locks: Vec<Mutex<PlacedFolio<N, W>>, &Bump<Global>>,
     places: &mut [Option<MarkedFolio<N>>],

@@ -1,7 +1,7 @@
 //! Folios with their marks, and the places where they stand.
 //! Why so: docs/DECISIONS.md, "Folios carry marks behind their locks".
 ghost use Rattle.std.specs.Prelude.{◌≡◌, Some, slice_get};
-ghost use Rattle.desk_pool.specs.inner.FolioRows.{MarkedAt};
+ghost use Rattle.desk_pool.specs.inner.FolioMarks.{FolioMark};
 
 use crate::locked_folios::LockedFolio;
 use crate::marks::Mark;
@@ -19,10 +19,10 @@ pub(crate) struct MarkedFolio<N: JournalName> {
 /// has the row's name.
 pub(crate) trait RowName {
     ghost use Rattle.std.specs.Prelude.{List};
-    ghost use Rattle.desk_pool.specs.inner.FolioRows.{MarkedAt};
+    ghost use Rattle.desk_pool.specs.inner.FolioMarks.{FolioMark};
 
     /// The folios of the row and the names of their marks.
-    ghost row: { List MarkedAt };
+    ghost row: { List FolioMark };
 }
 
 /// The name that a caller picks for the row that it has at hand.
@@ -33,7 +33,8 @@ impl RowName for Brand {
 }
 
 /// A folio that is known to be that of its place in the named row: so whoever takes it from behind a
-/// lock knows where it belongs, and that it is there once.
+/// lock knows where it belongs, and that it is there once. A `LockedFolio` with its mark is a
+/// `MarkedFolio`; one that knows its place is a `PlacedFolio`, and that lies behind the lock.
 #[derive(Drop)]
 pub(crate) struct PlacedFolio<N: JournalName, W: RowName> {
     pub marked: MarkedFolio<N>,

@@ -5,10 +5,11 @@ ghost use Rattle.std.specs.Prelude.{◌≡◌};
 use std::marker::Brand;
 use std::sync::ledger::{Blank, Ledger};
 
-/// A mark, of which no second one has the same name. It has no bytes, and names are said in contracts
+/// A mark, of which no second one has the same name. It has no bytes, and names stand in contracts
 /// alone.
 #[derive(Drop)]
 pub(crate) struct Mark {
+    /// A whole token of a ledger that is never opened: no other has its name.
     token: Blank,
     pub ghost whole: { token.parts ≡ 1 },
 }
@@ -21,7 +22,7 @@ impl Mark {
         }
     }
 
-    /// Whoever has two marks of one name has proved anything.
+    /// Nobody has two marks of one name: from them anything would follow.
     pub fn never_twice(self, other: Mark)
         requires { self.token.name ≡ other.token.name }
         ensures { ⊥ }

@@ -1,24 +1,18 @@
 //! What a journal is settled in, made beforehand.
-ghost use Rattle.std.specs.Prelude.{◌≡◌, filter_map, length, map, IfOk};
-ghost use Rattle.std.specs.BTreeMap.{IsOrdered};
-ghost use Rattle.gb_base.specs.Keys.{key_cmp};
-ghost use Rattle.gb_base.specs.declared.keys.Key.{Key};
-ghost use Rattle.desk_pool.specs.inner.KeyRooms.{AreRooms};
+ghost use Rattle.std.specs.Prelude.{◌≡◌, filter_map, length, IfOk};
 ghost use Rattle.desk_pool.specs.Preparing.{HasFrame};
 ghost use Rattle.desk_pool.specs.inner.FoliosInRow.{AreInPlaces};
-ghost use Rattle.desk_pool.specs.inner.PartsPrepared.{room_of_entry};
+ghost use Rattle.desk_pool.specs.inner.KeyRooms.{AreRooms};
 ghost use Rattle.desk_pool.specs.inner.TitlesListed.{titled_folio};
-ghost use Rattle.folio_sections.specs.Held.{is_given, is_held};
 
 use crate::folio_parts::{KeyRoom, list_rooms, parts_for_folio, parts_without_room};
 use crate::folio_queues::FolioQueue;
 use crate::locked_folios::LockedFolio;
 use crate::marked_folios::MarkedFolio;
 use crate::marks::Mark;
-use crate::prepared::Prepared;
+use crate::register_frames::RegisterFrame;
 use crate::sale_scratches::{scratch_for_all, scratch_for_folio};
 use act_model::{Journal, JournalName};
-use folio_sections::MapParts;
 use gb_base::{FolioId, Key, NoMemory};
 use registrar::Verdict;
 use std::alloc::Global;
@@ -31,12 +25,12 @@ pub(crate) fn prepare_frame(
     alloc: Global,
     journal: &Journal,
     rooms: &BTreeMap<Key, usize>,
-) -> Result<Prepared, NoMemory>
+) -> Result<RegisterFrame, NoMemory>
     requires { AreRooms journal.now.receipts rooms.now }
     ensures { IfOk result (HasFrame journal.now.receipts) }
 {
     let keys = list_rooms(alloc, rooms)?;
-    Ok(Prepared {
+    Ok(RegisterFrame {
         alloc,
         parts: parts_without_room(alloc, keys.as_slice())?,
         scratch: scratch_for_all(alloc, journal, rooms, keys.as_slice())?,
@@ -60,7 +54,7 @@ pub(crate) fn mark_folios<N: JournalName>(
     let mut places = Vec::with_capacity(alloc, queues.len())?;
     for queue in queues {
         places.push(Some(MarkedFolio {
-            folio: lock_folio(alloc, journal, rooms, queue.folio)?,
+            folio: unsettled_folio(alloc, journal, rooms, queue.folio)?,
             mark: Mark::new(),
         }))?;
     }
@@ -68,7 +62,7 @@ pub(crate) fn mark_folios<N: JournalName>(
 }
 
 /// What lies behind the lock of a folio of which no item is settled.
-fn lock_folio<N: JournalName>(
+fn unsettled_folio<N: JournalName>(
     alloc: Global,
     journal: &Journal,
     rooms: &BTreeMap<Key, usize>,

@@ -2,7 +2,7 @@
 //! Why so: docs/DECISIONS.md, "Folios carry marks behind their locks".
 ghost use Rattle.std.specs.Prelude.{◌≡◌, ◌↔◌, ◌≤◌, false, All, IfOk, IfSome, IsSome, length};
 ghost use Rattle.gb_base.specs.declared.keys.Key.{Key};
-ghost use Rattle.conflict_queue.specs.Schedules.{IsPermitted, in_receipt_order};
+ghost use Rattle.conflict_queue.specs.Schedules.{IsPermitted};
 ghost use Rattle.folio_sections.specs.Entries.{at};
 ghost use Rattle.folio_sections.specs.Held.{entries_at, is_given, is_held};
 ghost use Rattle.kept_registers.specs.Kept.{Kept};
@@ -15,9 +15,9 @@ ghost use Rattle.registrar.specs.Settling.{registrar};
 use crate::counted::{count, list_receipts};
 use crate::finishing::{finish, settle_in_row};
 use crate::orders::is_permitted;
-use crate::prepared::Prepared;
 use crate::preparing::prepare_frame;
 use crate::ready_desks::{ReadyDesks, desks_wanted};
+use crate::register_frames::RegisterFrame;
 use act_model::{Journal, JournalName};
 use conflict_queue::laws::receipts_in_turn;
 use gb_base::{NoMemory, ReceiptNo};
@@ -39,7 +39,7 @@ pub struct Round<'a, N: JournalName> {
     /// 64 desks.
     pub(crate) ready: ReadyDesks<N>,
     /// What the parts of all folios are put together in.
-    pub(crate) frame: Prepared,
+    pub(crate) frame: RegisterFrame,
     /// The items in the order of their receipts.
     pub(crate) receipts: Vec<ReceiptNo>,
     /// For each item, whether it stood in the order that is looked through.
@@ -130,7 +130,7 @@ impl<'a, N: JournalName + Send + Sync> Round<'a, N> {
     /// had; more desks than folios would have nothing to do, so they do not begin. `gate` is called
     /// with each item while its folios are locked. Whatever the desks do, the register is that of
     /// one registrar (GBO § 17): where they leave something undone, the whole journal is settled
-    /// anew.
+    /// anew, and then no gate is called.
     pub fn run<R: Threads + Wait + Sync, G: DeskGate>(
         self,
         rt: &R,

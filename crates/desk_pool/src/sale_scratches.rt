@@ -4,8 +4,8 @@ ghost use Rattle.gb_base.specs.declared.keys.Key.{Key};
 ghost use Rattle.gb_base.specs.declared.keys.Key.TheVariants.{Right};
 ghost use Rattle.act_model.specs.Limits.{most_creations, most_receipts};
 ghost use Rattle.desk_pool.specs.FolioStates.{HasAllScratch, scratch_of};
-ghost use Rattle.desk_pool.specs.inner.KeyRooms.{AreRooms, room_in};
 ghost use Rattle.desk_pool.specs.Preparing.{ServesEachItem};
+ghost use Rattle.desk_pool.specs.inner.KeyRooms.{AreRooms, room_in};
 ghost use Rattle.desk_pool.specs.inner.PartsPrepared.{AreRoomsAt};
 ghost use Rattle.desk_pool.specs.inner.ScratchesPrepared.{IsNoSmaller, ServesAt};
 

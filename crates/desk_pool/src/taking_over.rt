@@ -2,8 +2,8 @@
 ghost use Rattle.std.specs.Prelude.{◌≡◌, ◌<◌, AllPairs, IsTrue, length};
 ghost use Rattle.gb_base.specs.Keys.{folio_of_key};
 ghost use Rattle.gb_base.specs.declared.keys.Key.{Key};
-ghost use Rattle.desk_pool.specs.inner.AllQueues.{AreAllQueues, is_queued};
 ghost use Rattle.desk_pool.specs.FolioStates.{HasAllRoom};
+ghost use Rattle.desk_pool.specs.inner.AllQueues.{AreAllQueues, is_queued};
 ghost use Rattle.desk_pool.specs.inner.FoliosBack.{AllBack, AreAllKeys, AreSettled, StandsSettled};
 ghost use Rattle.desk_pool.specs.inner.TakenOver.{IsHeldInFolio, IsTakenOver};
 ghost use Rattle.folio_sections.specs.Held.{entries_at, is_given, is_held, room_at};

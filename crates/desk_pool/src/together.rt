@@ -1,8 +1,8 @@
 //! Desks that work beside one another.
 ghost use Rattle.std.specs.Prelude.{◌≡◌, ◌<◌, IfSome, length};
 ghost use Rattle.conflict_queue.specs.Dockets.{docket_of};
-ghost use Rattle.desk_pool.specs.inner.Boards.{AreVerdicts};
 ghost use Rattle.desk_pool.specs.FolioQueues.{AreQueues};
+ghost use Rattle.desk_pool.specs.inner.Boards.{AreVerdicts};
 ghost use Rattle.desk_pool.specs.inner.FoliosInRow.{AreInRow};
 
 use crate::boards::Board;

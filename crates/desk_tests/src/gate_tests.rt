@@ -3,7 +3,7 @@ ghost use Rattle.std.specs.Prelude.{◌≤◌};
 
 use crate::crowded_journals::crowded_journal;
 use crate::gates::{Slow, WatchingGate};
-use crate::journals::{assigned_and_charged, of_lapses, sold_beside_a_cure};
+use crate::journals::{assigned_and_charged, of_lapses, of_many_folios, sold_beside_a_cure};
 use crate::registers::{by_a_round_of, in_order, left_by, register_of, say_the_same};
 use act_model::Journal;
 use conflict_queue::Docket;
@@ -94,6 +94,13 @@ fn a_gate_is_called_once_for_each_item(rt: HostRuntime) {
     for seed in 0..4 {
         is_passed(&rt, &crowded_journal(rt.alloc(), seed, 8, 60), &Slow::Never);
     }
+}
+
+/// So a round had room for the locks of all folios: where it has none, no gate is called.
+#[test]
+fn a_gate_is_called_in_each_of_many_folios(rt: HostRuntime) {
+    let journal = of_many_folios(&rt, rt.alloc(), 2_000);
+    is_passed_by(&rt, &journal, 4, &Slow::Never);
 }
 
 /// Each item in turn, so that the others of the folio wait for it.

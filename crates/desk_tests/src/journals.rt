@@ -34,6 +34,15 @@ fn charged(of: u32) -> Item
     filed(10, charge(of, 100_000, 20), &[consent(1, 10)])
 }
 
+/// So many folios, each opened by a filing of its own.
+pub fn of_many_folios(rt: &impl Abort, alloc: Global, count: u32) -> Journal {
+    let mut journal = Journal::new(alloc);
+    for index in 0..count {
+        receive(rt, &mut journal, day(2, 1), &opened(index + 1));
+    }
+    journal
+}
+
 /// Folio 7 with a land charge 2.1 of 20. Receipt 3 assigns it to 23, by consent of its holder, and
 /// receipt 4 creates another charge.
 pub fn assigned_and_charged(rt: &impl Abort, alloc: Global) -> Journal {

@@ -2,9 +2,9 @@
 use Rattle.std.specs.Prelude.{◌≡◌, List}
 use Rattle.act_model.specs.declared.receipts.Receipt.{Receipt}
 use Rattle.conflict_queue.specs.Dockets.{docket_of}
+use Rattle.desk_pool.specs.declared.counted.Counted.{Counted}
 use Rattle.desk_pool.specs.inner.AllQueues.{AreAllQueues}
 use Rattle.desk_pool.specs.inner.KeyRooms.{AreRooms}
-use Rattle.desk_pool.specs.declared.counted.Counted.{Counted}
 
 -- The docket, the queues and the rooms are those of the journal.
 pub record IsCounted (journal : List Receipt) (s : Counted) : Type 0 where

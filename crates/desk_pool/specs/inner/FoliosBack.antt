@@ -1,4 +1,4 @@
--- What comes back from behind the locks of the folios.
+-- The parts of the folios, taken from their places.
 use Rattle.std.specs.Prelude.{◌≡◌, ℕ, false, List, All, AllPairs, IsTrue, length, map, Some, slice_get}
 use Rattle.gb_base.specs.Keys.{same_key}
 use Rattle.gb_base.specs.declared.keys.Key.{Key}

@@ -3,8 +3,8 @@ use Rattle.std.specs.Prelude.{◌≡◌, ℕ, ◌≤◌, Bool, ◌&&◌, List, [
 use Rattle.std.specs.BTreeMap.{BTreeMap, get}
 use Rattle.gb_base.specs.Keys.{key_cmp}
 use Rattle.gb_base.specs.declared.keys.Key.{Key}
-use Rattle.desk_pool.specs.inner.KeyRooms.{room_in}
 use Rattle.desk_pool.specs.declared.folio_parts.KeyRoom.{KeyRoom}
+use Rattle.desk_pool.specs.inner.KeyRooms.{room_in}
 use Rattle.folio_sections.specs.Held.{entries_at, is_given, is_held, room_at}
 use Rattle.folio_sections.specs.PartState.{PartState}
 

@@ -8,10 +8,10 @@ use Rattle.registrar.specs.Brings.{brings}
 use Rattle.registrar.specs.HasSettled.{settled_first}
 use Rattle.registrar.specs.Settling.{settled_in_order}
 use Rattle.desk_pool.specs.Preparing.{HasPlaces}
-use Rattle.desk_pool.specs.declared.prepared.Prepared.{Prepared}
+use Rattle.desk_pool.specs.declared.register_frames.RegisterFrame.{RegisterFrame}
 
 -- the items of these numbers are settled, in this order, and each has the verdict that it has in the order of receipts
-pub record HasTaken (journal : List Receipt) (done : List ℕ) (s : Prepared) : Type 0 where
+pub record HasTaken (journal : List Receipt) (done : List ℕ) (s : RegisterFrame) : Type 0 where
   pub places : HasPlaces journal s
   pub entries : (k : Key) → entries_at s.parts k ≡ at (settled_in_order journal done).entries k
   pub verdicts : (n : ℕ) → Contains done n → slice_get s.verdicts.items (n - 1) ≡ Some (brings journal n (at (settled_first journal (n - 1)).entries)).verdict

@@ -3,8 +3,8 @@ use Rattle.std.specs.Prelude.{◌≡◌, ◌⊎◌, ◌<◌, IsTrue, List, [], A
 use Rattle.gb_base.specs.Keys.{folio_of_key}
 use Rattle.gb_base.specs.declared.keys.Key.{Key}
 use Rattle.desk_pool.specs.FolioQueues.{has_folio}
-use Rattle.desk_pool.specs.declared.touched_folios.TouchedFolios.{TouchedFolios}
 use Rattle.desk_pool.specs.declared.touched_folios.TouchedFolios.TheVariants as touched
+use Rattle.desk_pool.specs.declared.touched_folios.TouchedFolios.{TouchedFolios}
 
 -- where two of these keys are of different folios, any is of the one or the other
 abbrev pub AreOfFewFolios : List Key → Type 0

@@ -1,5 +1,5 @@
 use Rattle.std.proofs.Common.{◌≡◌, length, subst, rules}
-use Rattle.desk_pool.specs.inner.FolioRows.{count_here}
+use Rattle.desk_pool.specs.inner.FolioMarks.{count_here}
 use Rattle.desk_pool.specs.inner.FoliosInRow.{AreSomeInRow}
 use Rattle.desk_pool.proofs.FoliosInRow.{all_in_row}
 use Rattle.desk_pool.proofs.locking.put_back.Goals as goal

@@ -1,6 +1,6 @@
 use Rattle.std.proofs.Common.{◌∙◌, Some, ap, sym, arith}
 use Rattle.std.proofs.lemmas.Option.{slice_get-get_or}
-use Rattle.desk_pool.specs.inner.FolioRows.{count_here}
+use Rattle.desk_pool.specs.inner.FolioMarks.{count_here}
 use Rattle.desk_pool.proofs.FoliosInRow.{found_within, put_in_row, same_mark}
 use Rattle.desk_pool.proofs.locking.put_one_back.Goals as goal
 

@@ -1,5 +1,5 @@
 use Rattle.std.proofs.Common.{filter_map, option_map, subst, sym}
-use Rattle.desk_pool.specs.inner.FoliosInRow.{AreInPlaces, marked_at}
+use Rattle.desk_pool.specs.inner.FoliosInRow.{AreInPlaces, mark_of}
 use Rattle.desk_pool.proofs.FoliosInRow.{places_lent, row_of_places}
 use Rattle.desk_pool.proofs.ready_desks.ReadyDesks.work.Goals as goal
 
@@ -11,7 +11,7 @@ pub invariant_of-result : goal.invariant_of-result
 invariant_of-result g c = record {
   queues_are = c.args.self.row.queues_are;
   keys_are = c.args.self.row.keys_are;
-  in_places = places_lent (filter_map (option_map marked_at) c.as_mut_slice.result.now) c.args.self.row.queues.items c.args.self.row.places.items c.settle_together-verdicts.new.places c.as_mut_slice.result.now c.args.self.row.places.len
+  in_places = places_lent (filter_map (option_map mark_of) c.as_mut_slice.result.now) c.args.self.row.queues.items c.args.self.row.places.items c.settle_together-verdicts.new.places c.as_mut_slice.result.now c.args.self.row.places.len
       c.as_mut_slice.ensures.value
       (row_of_places c.args.self.row.queues.items c.as_mut_slice.result.now (subst (AreInPlaces c.args.self.row.queues.items) (sym c.as_mut_slice.ensures.value) c.args.self.row.in_places))
       c.settle_together-verdicts.ensures.row c.args.self.row.places.ok.0 c.args.self.row.in_places;

@@ -1,6 +1,6 @@
 use Rattle.std.proofs.Common.{◌≤◌, length, vec_capacity}
-use Rattle.desk_pool.proofs.TakingBack.{AreParts}
-use Rattle.desk_pool.proofs.taking_back.take_parts.Given as goal
+use Rattle.desk_pool.proofs.TakingParts.{AreParts}
+use Rattle.desk_pool.proofs.taking_parts.take_parts.Given as goal
 
 abbrev pub invariant-loop-place : goal.invariant-loop-place
 invariant-loop-place g l = record {

@@ -1,6 +1,6 @@
 use Rattle.std.proofs.Common.{◌∙◌}
 use Rattle.desk_pool.proofs.PreparedRegisters.{register_left}
-use Rattle.desk_pool.proofs.prepared.Prepared.into_register.Goals as goal
+use Rattle.desk_pool.proofs.register_frames.RegisterFrame.into_register.Goals as goal
 
 pub returns : goal.returns
 returns c =

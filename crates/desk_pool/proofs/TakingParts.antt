@@ -5,9 +5,9 @@ use Rattle.std.proofs.lemmas.Option.{slice_get-get_or}
 use Rattle.act_model.specs.declared.receipts.Receipt.{Receipt}
 use Rattle.folio_sections.specs.PartState.{PartState}
 use Rattle.desk_pool.specs.FolioQueues.{AreQueues, queue_of}
-use Rattle.desk_pool.specs.inner.FoliosBack.{AreFolioParts, AreSettled, StandsSettled}
 use Rattle.desk_pool.specs.declared.folio_queues.FolioQueue.{FolioQueue}
 use Rattle.desk_pool.specs.declared.marked_folios.MarkedFolio.{MarkedFolio}
+use Rattle.desk_pool.specs.inner.FoliosBack.{AreFolioParts, AreSettled, StandsSettled}
 use Rattle.desk_pool.specs.inner.FoliosInRow.{AreInPlaces}
 use Rattle.desk_pool.proofs.FoliosInRow.{AreLeaving, found_within, none_is_some, none_leaves, one_leaves, tail}
 use Rattle.desk_pool.proofs.Saying.{same_inside}

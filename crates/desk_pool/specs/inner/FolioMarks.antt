@@ -2,7 +2,7 @@
 use Rattle.std.specs.Prelude.{ℕ, ◌+◌, List, [], ◌∷◌, Option, Some, None}
 
 -- a folio, and the name of its mark
-pub record MarkedAt : Type 0 where
+pub record FolioMark : Type 0 where
   pub folio : ℕ
   pub mark : ℕ
 

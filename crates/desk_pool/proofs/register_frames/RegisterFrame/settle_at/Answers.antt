@@ -3,10 +3,10 @@ use Rattle.std.proofs.Common.{◌+◌, ◌-◌, drop, refl, sym, ap, set, subst,
 use Rattle.folio_sections.specs.Entries.{at}
 use Rattle.registrar.specs.Settling.{settled_in_order}
 use Rattle.std.specs.Vec.{with_item}
-use Rattle.desk_pool.specs.declared.prepared.Prepared.{Prepared}
+use Rattle.desk_pool.specs.declared.register_frames.RegisterFrame.{RegisterFrame}
 use Rattle.desk_pool.specs.inner.PreparedRuns.{HasTaken}
 use Rattle.desk_pool.proofs.PreparedRuns.{can_take, cut_at_place, kept_ahead, one_more, taken_next}
-use Rattle.desk_pool.proofs.prepared.Prepared.settle_at.Goals as goal
+use Rattle.desk_pool.proofs.register_frames.RegisterFrame.settle_at.Goals as goal
 
 pub step-verdict-requires-clause-received : goal.step-verdict-requires-clause-received
 step-verdict-requires-clause-received c =
@@ -58,7 +58,7 @@ returns c =
     let stands = c.requires.ahead.entries in
     let kept = kept_ahead journal done (drop (c.args.place + 1) c.args.order.now) i c.requires.numbered empty permitted in
     let s = c.args.self.now in
-    let after : Prepared = record { alloc = s.alloc; parts = c.step-verdict.new.parts; scratch = c.step-verdict.new.scratch; verdicts = with_item s.verdicts (c.get.result - 1) c.step-verdict.result; folios = s.folios } in
+    let after : RegisterFrame = record { alloc = s.alloc; parts = c.step-verdict.new.parts; scratch = c.step-verdict.new.scratch; verdicts = with_item s.verdicts (c.get.result - 1) c.step-verdict.result; folios = s.folios } in
     record {
       taken = subst (λ ns. HasTaken journal ns after) (sym (one_more c.args.order.now c.args.place i c.requires.place c.index-order-place.is))
           (taken_next journal done (drop (c.args.place + 1) c.args.order.now) i c.requires.numbered empty permitted s after c.step-verdict.result c.requires.ahead

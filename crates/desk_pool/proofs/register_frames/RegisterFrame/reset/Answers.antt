@@ -1,6 +1,6 @@
 use Rattle.std.proofs.Common.{refl}
 use Rattle.desk_pool.proofs.PreparedRegisters.{cleared}
-use Rattle.desk_pool.proofs.prepared.Prepared.reset.Goals as goal
+use Rattle.desk_pool.proofs.register_frames.RegisterFrame.reset.Goals as goal
 
 pub returns : goal.returns
 returns c = record {

@@ -1,5 +1,5 @@
-//! A journal settled in any permitted order, where all that it wants is there beforehand.
-ghost use Rattle.std.specs.Prelude.{◌≡◌, ◌<◌, ◌+◌, List, length, take};
+//! What a register is made in, and a journal settled in it in any permitted order.
+ghost use Rattle.std.specs.Prelude.{◌<◌, ◌+◌, List, length, take};
 ghost use Rattle.act_model.specs.Receiving.{IsJournal};
 ghost use Rattle.act_model.specs.declared.receipts.Receipt.{Receipt};
 ghost use Rattle.conflict_queue.specs.Schedules.{IsPermitted};
@@ -16,11 +16,11 @@ use registrar::{Register, Scratch, Verdict, step};
 use std::alloc::Global;
 
 /// What a register is made in: parts at its keys, a scratch, a verdict for each item, which says
-/// nothing yet, and the folios that may be open in the end. The parts have no room of their own
-/// (`HasFrame`): those of the folios bring theirs along, and then settling wants no memory
-/// (`IsPrepared`).
+/// nothing yet, and the folios that may be open in the end (`HasFrame`). The parts have no room of
+/// their own: those of the folios bring theirs (`HasPlaces`), and once nothing stands there
+/// (`IsPrepared`) each item finds its room. That no memory is taken then is read in the code.
 #[derive(Drop)]
-pub(crate) struct Prepared {
+pub(crate) struct RegisterFrame {
     pub alloc: Global,
     pub parts: MapParts,
     pub scratch: Scratch,
@@ -28,7 +28,7 @@ pub(crate) struct Prepared {
     pub folios: Vec<FolioId>,
 }
 
-impl Prepared {
+impl RegisterFrame {
     /// Settles all items, in this order, and leaves the register of the one registrar (GBO § 17).
     pub fn settle_in(mut self, journal: &Journal, order: &[ReceiptNo]) -> Register
         requires prepared { IsPrepared journal.now.receipts self }

@@ -1,9 +1,9 @@
 use Rattle.std.proofs.Common.{◌∙◌, Some, ap, sym, arith, rules}
 use Rattle.std.proofs.lemmas.Bool.{false≢true}
 use Rattle.std.proofs.lemmas.Option.{slice_get-get_or}
-use Rattle.desk_pool.proofs.TakingBack.{one_more_parts, places_length, still_in_place}
-use Rattle.desk_pool.proofs.taking_back.take_parts.Goals as goal
-use Rattle.desk_pool.proofs.taking_back.take_parts.Goals.{in-Some, then-is_done, else-is_done, in_default}
+use Rattle.desk_pool.proofs.TakingParts.{one_more_parts, places_length, still_in_place}
+use Rattle.desk_pool.proofs.taking_parts.take_parts.Goals as goal
+use Rattle.desk_pool.proofs.taking_parts.take_parts.Goals.{in-Some, then-is_done, else-is_done, in_default}
 
 pub loop-place-preserved : goal.loop-place-preserved
 loop-place-preserved g c =

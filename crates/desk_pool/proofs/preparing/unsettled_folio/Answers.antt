@@ -1,6 +1,6 @@
 use Rattle.desk_pool.proofs.AllPrepared.{behind_lock}
 use Rattle.desk_pool.specs.FolioStates.{scratch_of}
-use Rattle.desk_pool.proofs.preparing.lock_folio.Goals as goal
+use Rattle.desk_pool.proofs.preparing.unsettled_folio.Goals as goal
 
 pub new-requires : goal.new-requires
 new-requires g c =

@@ -1,4 +1,4 @@
-//! The parts of the folios, once their desks are done.
+//! The parts of the folios are taken from their places.
 ghost use Rattle.std.specs.Prelude.{◌≡◌, ◌≤◌, IsTrue, [], length, vec_capacity};
 ghost use Rattle.desk_pool.specs.FolioQueues.{AreQueues};
 ghost use Rattle.desk_pool.specs.inner.FoliosBack.{AllBack, AreSettled};
