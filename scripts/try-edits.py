@@ -1,0 +1,151 @@
+#!/usr/bin/env python3
+"""Tries must-fail edits: the prover must refuse each.
+
+    scripts/try-edits.py [--more] [CRATE..]
+
+tries the edits of these crates, or of all: those in must-fail/, which the gate tries too, and those in
+must-fail/more/, or with --more the latter alone. Each edit has a line: refused, not refused, bad (it cannot be
+applied, compiled or read) or not tried. The last line counts them, and the status is 1 where one was not refused.
+
+The crates are tried one after the other in a copy, which takes over what a check kept of them and of those below;
+where nothing is kept, `rt` proves those first. So nothing here changes, and other commands of `rt` need not wait.
+"""
+
+import argparse
+import collections
+import os
+import pathlib
+import re
+import shutil
+import signal
+import subprocess
+import sys
+import tempfile
+
+import checks
+import crates
+
+# What `rt must-fail` says of an edit, and what that is called here.
+SAID = re.compile(r"^rt: must-fail \w+/(\S+)\.edit: (refused|NOT REFUSED|BAD EDIT|NOT TRIED)(?:, as it must be)?(.*)$", re.M)
+OUTCOMES = {"refused": "refused", "NOT REFUSED": "not refused", "BAD EDIT": "bad", "NOT TRIED": "not tried"}
+
+# How long `rt` may take to end once it is told to, in seconds.
+PATIENCE = 10
+
+
+def link_or_copy(old, new):
+    """A second name of a file of what is kept: `rt` replaces such a file, and never writes into it."""
+    try:
+        os.link(old, new)
+    except OSError:
+        shutil.copy2(old, new)
+
+
+def take_over(old, new):
+    """Copies what is kept of a proof; nothing where another command is just replacing it, so that `rt` proves it here."""
+    try:
+        shutil.copytree(old, new, copy_function=link_or_copy)
+    except OSError:
+        shutil.rmtree(new, ignore_errors=True)
+
+
+def copy_crate(crate, room, kept):
+    """Copies the files of a crate, and what is kept of its proof."""
+    old, new = crates.CRATES / crate, room / "crates" / crate
+    for part in ("src", "specs", "proofs"):
+        if (old / part).exists():
+            shutil.copytree(old / part, new / part)
+    for part in kept:
+        take_over(old / "out" / part, new / "out" / part)
+
+
+def make_room(room, wanted):
+    """Copies the wanted crates and those that they stand on."""
+    lower = crates.below(wanted)
+    for crate in {*wanted, *lower}:
+        copy_crate(crate, room, ["rlib", "incremental"] if crate in wanted else ["rlib"])
+    lines = crates.listed()
+    (room / "crates.txt").write_text("".join(line + "\n" for crate, line in lines.items() if crate in {*wanted, *lower}))
+    shutil.copy2(checks.ROOT / "HANDLES", room)
+
+
+def place(room, crate, edits):
+    """Puts the edits where `rt` finds them."""
+    folder = room / "crates" / crate / "must-fail"
+    folder.mkdir()
+    for edit in edits:
+        shutil.copy2(edit, folder / f"{edit.stem}.edit")
+
+
+def what_rt_says(crate, room, spare):
+    """All that a run of `rt must-fail` says. It ends with this program, and so do its checks."""
+    how = {"stdin": subprocess.DEVNULL, "stdout": subprocess.PIPE, "stderr": subprocess.STDOUT, "text": True, "errors": "replace"}
+    # What it leaves for its checks goes with the room, however it ends.
+    ran = subprocess.Popen(["rt", "must-fail", crate], cwd=room, env={**os.environ, "TMPDIR": str(spare)}, **how)
+    try:
+        return ran.communicate()[0]
+    finally:
+        ran.terminate()
+        try:
+            ran.wait(PATIENCE)
+        except subprocess.TimeoutExpired:
+            ran.kill()
+            ran.wait()
+
+
+def try_crate(crate, edits, room, spare):
+    """Tries the edits of a crate, says what came of each, and counts that."""
+    place(room, crate, edits)
+    said = what_rt_says(crate, room, spare)
+    found = {edit: (OUTCOMES[word], why) for edit, word, why in SAID.findall(said)}
+    if any(edit.stem not in found for edit in edits):
+        print(said, end="")
+    counts = collections.Counter()
+    for edit in edits:
+        outcome, why = found.get(edit.stem, ("not tried", ": rt says nothing of it"))
+        print(f"{outcome} {crate}/{edit.stem}{why}", flush=True)
+        counts[outcome] += 1
+    return counts
+
+
+def wanted_edits(words):
+    """The edits to try of each crate, in the order of crates.txt."""
+    places = [crates.MORE] if words.more else [crates.OF_GATE, crates.MORE]
+    unknown = [name for name in words.crates if name not in crates.uses()]
+    strays = [f"{crate}/{name}" for crate in crates.uses() for name in crates.strays(crate)]
+    if unknown or strays:
+        sys.exit(f"no crate {unknown[0]}" if unknown else f"{strays[0]} is no edit: one of must-fail/ ends in .edit, one of more/ in .md")
+    found = {crate: crates.edits(crate, *places) for crate in crates.uses() if crate in words.crates or not words.crates}
+    return {crate: edits for crate, edits in found.items() if edits}
+
+
+def main():
+    words = argparse.ArgumentParser(description=__doc__, formatter_class=argparse.RawDescriptionHelpFormatter)
+    words.add_argument("--more", action="store_true", help="the edits in must-fail/more/ alone")
+    words.add_argument("crates", nargs="*", metavar="CRATE")
+    wanted = wanted_edits(words.parse_args())
+    if not shutil.which("rt"):
+        sys.exit("the kit's rt has to be on the path")
+    # So that the folder goes also where this program is told to end.
+    signal.signal(signal.SIGTERM, lambda *_: sys.exit(143))
+    folder = pathlib.Path(tempfile.mkdtemp(prefix="edits-"))
+    counts = collections.Counter()
+    try:
+        room, spare = folder / "room", folder / "spare"
+        room.mkdir()
+        spare.mkdir()
+        make_room(room, wanted)
+        for crate, edits in wanted.items():
+            print(f"== {crate}, {len(edits)} edits", flush=True)
+            counts += try_crate(crate, edits, room, spare)
+    finally:
+        shutil.rmtree(folder, ignore_errors=True)
+    print(", ".join(f"{counts[outcome]} {outcome}" for outcome in OUTCOMES.values()))
+    sys.exit(0 if counts["refused"] == sum(counts.values()) else 1)
+
+
+if __name__ == "__main__":
+    try:
+        main()
+    except KeyboardInterrupt:
+        sys.exit(130)
