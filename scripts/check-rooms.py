@@ -1,23 +1,27 @@
 #!/usr/bin/env python3
 """Checks what documents say of the code's rooms: that the words of docs/glossary.md stand in the code,
-that each must-fail edit stands in a row of promises and each row's edits are there, that there are not
-too many, and that crates.txt has the crates in order, with a user for each library but those of tests.
+that each must-fail edit can be applied and stands in a row of its crate, that docs/promises.md names those
+that the gate tries, that there are not too many, and that crates.txt has the crates in order, with a user
+for each library but those of tests.
 
 Needs no built program.
 """
 
-import pathlib
 import re
 
 import checks
+from crates import CRATES, MORE, OF_GATE, edits, misfit, strays, uses
 
-CRATES = checks.ROOT / "crates"
 GLOSSARY = checks.ROOT / "docs" / "glossary.md"
 PROMISES = checks.ROOT / "docs" / "promises.md"
 
 # No crate has more edits, nor have all of them together.
 MOST_OF_A_CRATE = 12
 MOST_OF_ALL = 252
+
+# The gate tries no more, nor edits of more crates.
+MOST_OF_GATE = 90
+MOST_CRATES_OF_GATE = 18
 
 # Libraries that stand ahead of those which will use them.
 NOT_USED_YET = []
@@ -81,39 +85,45 @@ def check_glossary(look, crates):
         look.same(f"names in code of {term} that are not there", missing, [])
 
 
-def edits_of(crate):
-    """The edits that the gate tries, and those that are tried by hand."""
-    folder = CRATES / crate / "must-fail"
-    return {file.stem for ending in ("*.edit", "*.md") for file in folder.glob(ending)}
+def names_of_edits(crate, *places):
+    return sorted(file.stem for file in edits(crate, *places))
+
+
+def named(page, crate=""):
+    """The edits that the rows of a page name, each with the crate that it is said to be of."""
+    return {(of or crate, edit) for _, cell in rows(page, "edits") for edit, of in NAME.findall(cell)}
 
 
 def check_rows(look, crates):
-    """That the rows name the edits that are there, and each of them."""
-    there = {(crate, edit) for crate in crates for edit in edits_of(crate)}
-    named = set()
-    for crate, page in [*((crate, CRATES / crate / "README.md") for crate in crates), ("", PROMISES)]:
-        if not page.exists():
-            continue
-        said = {(of or crate, edit) for _, cell in rows(page, "edits") for edit, of in NAME.findall(cell)}
-        look.same(f"edits that {page.relative_to(checks.ROOT)} names and no crate has", sorted(said - there), [])
-        named |= said
+    """That the rows of a crate name its edits, and those of docs/promises.md the ones that the gate tries."""
+    there = {(crate, edit) for crate in crates for edit in names_of_edits(crate, OF_GATE, MORE)}
     for crate in crates:
-        nameless = sorted(edit for edit in edits_of(crate) if (crate, edit) not in named)
-        look.same(f"edits of {crate} that no row names", nameless, [])
+        page, own = CRATES / crate / "README.md", {(crate, edit) for edit in names_of_edits(crate, OF_GATE, MORE)}
+        said = named(page, crate) if page.exists() else set()
+        look.same(f"edits that the rows of {crate} name and no crate has", sorted(said - there), [])
+        look.same(f"edits of {crate} that its rows do not name", sorted(own - said), [])
+    tried = {(crate, edit) for crate in crates for edit in names_of_edits(crate, OF_GATE)}
+    look.same("edits that docs/promises.md names and the gate does not try", sorted(named(PROMISES) - tried), [])
+    look.same("edits that the gate tries and docs/promises.md does not name", sorted(tried - named(PROMISES)), [])
+
+
+def check_edits(look, crates):
+    """That each edit can be applied, so that one which a change made stale is found without a proof."""
+    for crate in crates:
+        found = [(file.stem, misfit(crate, file)) for file in edits(crate, OF_GATE, MORE)]
+        look.same(f"edits of {crate} that cannot be applied", [(name, why) for name, why in found if why], [])
+        look.same(f"files of {crate} beside its edits", strays(crate), [])
 
 
 def check_counts(look, crates):
-    counts = {crate: len(edits_of(crate)) for crate in crates}
-    for crate, count in counts.items():
-        look.at_most(f"edits of {crate}", count, MOST_OF_A_CRATE)
-    look.at_most("edits of all crates", sum(counts.values()), MOST_OF_ALL)
-
-
-def uses_of_crates():
-    """Each crate of crates.txt in its order, with those that it uses."""
-    lines = (checks.ROOT / "crates.txt").read_text().splitlines()
-    lines = [line.partition(":") for line in lines if line.strip() and not line.startswith("#")]
-    return {crate.strip(): uses.split() for crate, _, uses in lines}
+    of_gate = {crate: names_of_edits(crate, OF_GATE) for crate in crates}
+    both = {crate: names_of_edits(crate, OF_GATE, MORE) for crate in crates}
+    for crate, names in both.items():
+        look.at_most(f"edits of {crate}", len(names), MOST_OF_A_CRATE)
+        look.same(f"edits of {crate} that stand twice", len(names) - len(set(names)), 0)
+    look.at_most("edits of all crates", sum(map(len, both.values())), MOST_OF_ALL)
+    look.at_most("edits that the gate tries", sum(map(len, of_gate.values())), MOST_OF_GATE)
+    look.at_most("crates whose edits the gate tries", sum(map(bool, of_gate.values())), MOST_CRATES_OF_GATE)
 
 
 def is_program(crate):
@@ -130,18 +140,18 @@ def is_of_tests(crate):
 
 
 def check_crates(look, crates):
-    uses = uses_of_crates()
-    look.same("the crates of crates.txt", sorted(uses), crates)
+    listed = uses()
+    look.same("the crates of crates.txt", sorted(listed), crates)
     above = set()
-    for crate, used in uses.items():
-        look.same(f"crates below {crate} that it uses", sorted(set(used) & set(uses) - above), [])
+    for crate, used in listed.items():
+        look.same(f"crates below {crate} that it uses", sorted(set(used) & set(listed) - above), [])
         above.add(crate)
     of_tests = [crate for crate in crates if is_of_tests(crate)]
-    used_elsewhere = {crate for user, used in uses.items() if user not in of_tests for crate in used}
+    used_elsewhere = {crate for user, used in listed.items() if user not in of_tests for crate in used}
     wanted = [crate for crate in crates if not is_program(crate) and crate not in [*MADE_FOR_TESTS, *of_tests]]
     look.same("libraries that tests alone use", [crate for crate in wanted if crate not in used_elsewhere], NOT_USED_YET)
     for made in MADE_FOR_TESTS:
-        users = [crate for crate, used in uses.items() if made in used and crate not in [*MADE_FOR_TESTS, *of_tests]]
+        users = [crate for crate, used in listed.items() if made in used and crate not in [*MADE_FOR_TESTS, *of_tests]]
         look.same(f"crates that use {made} and have other code than tests", users, [])
 
 
@@ -150,6 +160,7 @@ def main():
     crates = names_of_crates()
     check_glossary(look, crates)
     check_rows(look, crates)
+    check_edits(look, crates)
     check_counts(look, crates)
     check_crates(look, crates)
     look.end()
