@@ -136,7 +136,7 @@ def main():
         spare.mkdir()
         make_room(room, wanted)
         for crate, edits in wanted.items():
-            print(f"== {crate}, {len(edits)} edits", flush=True)
+            print(f"== {crate}, edits: {len(edits)}", flush=True)
             counts += try_crate(crate, edits, room, spare)
     finally:
         shutil.rmtree(folder, ignore_errors=True)
