@@ -61,11 +61,11 @@ def copy_crate(crate, room, kept):
 
 def make_room(room, wanted):
     """Copies the wanted crates and those that they stand on."""
-    lower = crates.below(wanted)
-    for crate in {*wanted, *lower}:
+    needed = {*wanted, *crates.below(wanted)}
+    for crate in needed:
         copy_crate(crate, room, ["rlib", "incremental"] if crate in wanted else ["rlib"])
-    lines = crates.listed()
-    (room / "crates.txt").write_text("".join(line + "\n" for crate, line in lines.items() if crate in {*wanted, *lower}))
+    lines = [line + "\n" for crate, line in crates.listed().items() if crate in needed]
+    (room / "crates.txt").write_text("".join(lines))
     shutil.copy2(checks.ROOT / "HANDLES", room)
 
 
@@ -98,14 +98,12 @@ def try_crate(crate, edits, room, spare):
     place(room, crate, edits)
     said = what_rt_says(crate, room, spare)
     found = {edit: (OUTCOMES[word], why) for edit, word, why in SAID.findall(said)}
-    if any(edit.stem not in found for edit in edits):
+    outcomes = [(edit.stem, *found.get(edit.stem, ("not tried", ": rt says nothing of it"))) for edit in edits]
+    if any(outcome != "refused" for _, outcome, _ in outcomes):
         print(said, end="")
-    counts = collections.Counter()
-    for edit in edits:
-        outcome, why = found.get(edit.stem, ("not tried", ": rt says nothing of it"))
-        print(f"{outcome} {crate}/{edit.stem}{why}", flush=True)
-        counts[outcome] += 1
-    return counts
+    for edit, outcome, why in outcomes:
+        print(f"{outcome} {crate}/{edit}{why}", flush=True)
+    return collections.Counter(outcome for _, outcome, _ in outcomes)
 
 
 def wanted_edits(words):
