@@ -260,6 +260,58 @@ def check_story(look):
         look.same("example over-http", told, story.with_suffix(".txt").read_bytes())
 
 
+def without_stamp(line):
+    """A stamped line without its stamp, as a body that is posted."""
+    return re.sub(rb'"day":"[^"]*","minute":\d+,', b"", line)
+
+
+def check_growing(look):
+    """The lines of each example and case are posted one by one, and the verdict is asked for behind each, so
+    that the register goes on with its journal. Its report is that of the whole journal."""
+    grown = []
+    for lines in sorted([*checks.ROOT.glob("examples/*.jsonl"), *checks.ROOT.glob("cases/*.jsonl")]):
+        sent = b""
+        for number, line in enumerate(lines.read_bytes().splitlines(), 1):
+            sent += head("POST", "/receipts", without_stamp(line)) + head("GET", f"/receipts/{number}")
+        with tempfile.TemporaryDirectory() as folder:
+            with serving(folder):
+                told = said(sent + head("GET", "/report"))
+            _, report, _ = checks.run(["settle", "--desks", "1"], folder)
+        if not told.endswith(reply(200, "OK", report)):
+            grown.append(lines.name)
+    look.same("journals that grow, whose report is not that of the whole", grown, [])
+
+
+def texts_of(report):
+    """Each text of a report, with the path that it is asked for by."""
+    path, texts = "", {}
+    for line in report.splitlines(keepends=True):
+        words = line.split()
+        if words[0] in ("receipt", "folio", "ranks", "plan"):
+            path = {
+                "receipt": f"/receipts/{words[1]}", "folio": f"/folios/{words[1]}",
+                "ranks": f"/folios/{words[1]}/ranks", "plan": f"/plans/{words[-1]}",
+            }[words[0]]
+        if words[0] != "end" or words[1] == "plan":
+            texts[path] = texts.get(path, "") + line
+    return texts
+
+
+def check_texts(look):
+    """Each text of a case that has its plan as CSV beside it: a verdict, an extract, ranks, the plan and its CSV."""
+    for csv in sorted(checks.ROOT.glob("cases/*.csv")):
+        report = csv.with_suffix(".txt").read_text().partition("receipt 1 ")
+        texts = texts_of(report[1] + report[2])
+        plan = next(path for path in texts if path.startswith("/plans/"))
+        texts[f"{plan}/csv"] = csv.read_text()
+        with tempfile.TemporaryDirectory() as folder:
+            with open(os.path.join(folder, checks.JOURNAL), "wb") as file:
+                file.write(checks.journal_of_lines(csv.with_suffix(".jsonl").read_text()))
+            with serving(folder):
+                for path, text in texts.items():
+                    look.same(f"GET {path} of {csv.stem}", said(head("GET", path)), reply(200, "OK", text.encode()))
+
+
 def acknowledged(child, after):
     """How many filings were acknowledged, in order, until the program was killed, which it is after so
     many seconds, whatever it has in hand then."""
@@ -312,6 +364,8 @@ def main():
     with tempfile.TemporaryDirectory() as folder:
         check_clients(look, folder)
     check_story(look)
+    check_growing(look)
+    check_texts(look)
     check_kills(look)
     look.end()
 

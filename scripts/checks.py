@@ -5,6 +5,7 @@ A check prints a line for each thing that it looked at, `ok`, `differs` or `skip
 """
 
 import functools
+import json
 import os
 import pathlib
 import re
@@ -133,6 +134,11 @@ def journal(bodies):
     """The bytes of a journal's file with these records."""
     frames = b"".join(b"\x01" + spelling.u32(len(body)) + body for body in bodies)
     return b"GGBJOURN1" + frames + b"\x00"
+
+
+def journal_of_lines(lines):
+    """The bytes of a journal whose receipts are those of these stamped lines."""
+    return journal([spelling.receipt(json.loads(line)) for line in lines.splitlines()])
 
 
 def journal_of_openings(count):
