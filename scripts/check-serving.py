@@ -266,10 +266,10 @@ def without_stamp(line):
 
 
 def check_growing(look):
-    """The lines of each example and case are posted one by one, and the verdict is asked for behind each, so
-    that the register goes on with its journal. Its report is that of the whole journal."""
+    """The lines of examples are posted one by one, and the verdict is asked for behind each, so that the
+    register goes on with its journal. Its report is that of the whole journal."""
     grown = []
-    for lines in sorted([*checks.ROOT.glob("examples/*.jsonl"), *checks.ROOT.glob("cases/*.jsonl")]):
+    for lines in sorted([*checks.ROOT.glob("examples/*.jsonl"), *checks.ROOT.glob("cases/text-*.jsonl")]):
         sent = b""
         for number, line in enumerate(lines.read_bytes().splitlines(), 1):
             sent += head("POST", "/receipts", without_stamp(line)) + head("GET", f"/receipts/{number}")
