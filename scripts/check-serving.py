@@ -266,7 +266,7 @@ def without_stamp(line):
 
 
 def check_growing(look):
-    """The lines of examples are posted one by one, and the verdict is asked for behind each, so that the
+    """The lines of examples are posted one by one, and the verdict is asked for after each, so that the
     register goes on with its journal. Its report is that of the whole journal."""
     grown = []
     for lines in sorted([*checks.ROOT.glob("examples/*.jsonl"), *checks.ROOT.glob("cases/text-*.jsonl")]):
