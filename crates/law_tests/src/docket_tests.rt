@@ -99,7 +99,8 @@ fn what_the_items_of_a_sale_touch(rt: HostRuntime) -> Result<(), Fail> {
 
 #[test]
 fn what_was_at_their_keys_before(rt: HostRuntime) -> Result<(), Fail> {
-    let docket = Docket::build(rt.alloc(), &sale(&rt, rt.alloc()))?;
+    let journal = sale(&rt, rt.alloc());
+    let docket = Docket::build(rt.alloc(), &journal)?;
     assert_eq!(rt; previous(&rt, &docket, 1, title_key(7)), 0);
     assert_eq!(rt; previous(&rt, &docket, 6, title_key(7)), 5);
     assert_eq!(rt; previous(&rt, &docket, 6, right_of(2)), 3);
