@@ -269,7 +269,8 @@ def check_growing(look):
     """The lines of examples are posted one by one, and the verdict is asked for after each, so that the
     register goes on with its journal. Its report is that of the whole journal."""
     grown = []
-    for lines in sorted([*checks.ROOT.glob("examples/*.jsonl"), *checks.ROOT.glob("cases/text-*.jsonl")]):
+    inputs = sorted([*checks.ROOT.glob("examples/*.jsonl"), *checks.ROOT.glob("cases/text-*.jsonl")])
+    for lines in inputs:
         sent = b""
         for number, line in enumerate(lines.read_bytes().splitlines(), 1):
             sent += head("POST", "/receipts", without_stamp(line)) + head("GET", f"/receipts/{number}")
@@ -279,7 +280,7 @@ def check_growing(look):
             _, report, _ = checks.run(["settle", "--desks", "1"], folder)
         if not told.endswith(reply(200, "OK", report)):
             grown.append(lines.name)
-    look.same("journals that grow, whose report is not that of the whole", grown, [])
+    look.same(f"{len(inputs)} journals that grow: those whose report is not that of the whole", grown, [])
 
 
 def texts_of(report):
@@ -299,7 +300,9 @@ def texts_of(report):
 
 def check_texts(look):
     """Each text of a case that has its plan as CSV beside it: a verdict, an extract, ranks, the plan and its CSV."""
-    for csv in sorted(checks.ROOT.glob("cases/*.csv")):
+    plans = sorted(checks.ROOT.glob("cases/*.csv"))
+    look.same("cases/ has a plan as CSV", bool(plans), True)
+    for csv in plans:
         report = csv.with_suffix(".txt").read_text().partition("receipt 1 ")
         texts = texts_of(report[1] + report[2])
         plan = next(path for path in texts if path.startswith("/plans/"))
