@@ -86,12 +86,14 @@ fn what_the_items_of_a_sale_touch(rt: HostRuntime) -> Result<(), Fail> {
     let alloc = rt.alloc();
     let journal = sale(&rt, alloc);
     let docket = Docket::build(alloc, &journal)?;
-    let (title, first, second, case) = (title_key(7), right_of(2), right_of(5), case_key(7));
-    assert!(rt; has_keys(&rt, alloc, &journal, &docket, 3, &[title, first, case]));
-    assert!(rt; has_keys(&rt, alloc, &journal, &docket, 4, &[case]));
-    assert!(rt; has_keys(&rt, alloc, &journal, &docket, 6, &[title, first, second, case]));
-    assert!(rt; has_keys(&rt, alloc, &journal, &docket, 7, &[second]));
-    assert!(rt; has_keys(&rt, alloc, &journal, &docket, 8, &[title, second]));
+    let seized = [title_key(7), right_of(2), case_key(7)];
+    let called = [title_key(7), right_of(2), right_of(5), case_key(7)];
+    let cured = [title_key(7), right_of(5)];
+    assert!(rt; has_keys(&rt, alloc, &journal, &docket, 3, &seized));
+    assert!(rt; has_keys(&rt, alloc, &journal, &docket, 4, &[case_key(7)]));
+    assert!(rt; has_keys(&rt, alloc, &journal, &docket, 6, &called));
+    assert!(rt; has_keys(&rt, alloc, &journal, &docket, 7, &[right_of(5)]));
+    assert!(rt; has_keys(&rt, alloc, &journal, &docket, 8, &cured));
     assert!(rt; has_keys(&rt, alloc, &journal, &docket, 9, &[]));
     assert!(rt; has_keys(&rt, alloc, &journal, &docket, 10, &[]));
     Ok(())
