@@ -1,27 +1,11 @@
-//! Tests of folio_sections, by what it exports.
+//! Tests of folio_sections and rank_slots, by what they export.
 #![tactic(auto)]
 
 #[cfg(test)]
-mod case_front_tests;
+mod fitting;
 #[cfg(test)]
-mod case_tests;
+mod line_tests;
 #[cfg(test)]
-mod drawn_entries;
-#[cfg(test)]
-mod drawn_part_tests;
-#[cfg(test)]
-mod front_tests;
+mod lines;
 #[cfg(test)]
 mod map_tests;
-#[cfg(test)]
-mod plain_readers;
-#[cfg(test)]
-mod right_tests;
-#[cfg(test)]
-mod rising;
-#[cfg(test)]
-mod title_tests;
-#[cfg(test)]
-mod waiting_tests;
-#[cfg(test)]
-mod written_entries;
