@@ -16,6 +16,7 @@ from sample_lines import euro
 
 LINES = ["settle", "--desks", "2", "--lines"]
 FOLIOS = 300
+GROWING = 60
 OWNER = 10
 COSTS = 1_000
 AHEAD = 100
@@ -34,8 +35,6 @@ class Drawn:
         self.items = []
         self.rights = {}
         self.exchanges = {}
-        for folio in range(1, FOLIOS + 1):
-            self.draw_folio(folio)
 
     def file(self, folio, acts, persons, docs=()):
         consents = [{"doc": "consent", "act": act, "person": person, "form": "certified"}
@@ -45,11 +44,15 @@ class Drawn:
         self.items.append(item)
         return len(self.items)
 
-    def draw_folio(self, folio):
-        """Its opening with a right ahead of all, up to six further rights, and what is done with them."""
+    def open(self, folio, rights):
+        """A filing opens the folio and creates these rights."""
         self.rights[folio], self.exchanges[folio] = [], []
         opening = {name: value for name, value in checks.opening(folio).items() if name != "folio"}
-        self.create(folio, [(AHEAD, "land-charge", 1, 0)], [opening])
+        self.create(folio, rights, [opening])
+
+    def draw_folio(self, folio):
+        """Its opening with a right ahead of all, up to six further rights, and what is done with them."""
+        self.open(folio, [(AHEAD, "land-charge", 1, 0)])
         count = max(self.draws.randint(1, 6), self.draws.randint(1, 6))
         while len(self.rights[folio]) <= count:
             self.create(folio, self.draw_rights(self.draws.randint(1, count + 1 - len(self.rights[folio]))))
@@ -153,16 +156,15 @@ def part(report, first, folio):
 
 
 def count_same(look, what, pairs):
-    """Counts the folios of which the program writes what is wanted; names the first of which it does not."""
+    """Whether the program writes of folios what is wanted; names the first of which it does not."""
     wrong = [(folio, got, wanted) for folio, got, wanted in pairs if got != wanted]
-    look.same(f"{len(pairs)} drawn folios: {what}", wrong[:1], [])
+    look.same(f"drawn folios, {len(pairs)} texts: {what}", wrong[:1], [])
 
 
 def check_ranks(look, drawn, lines):
     report = settled(drawn.items)
-    verdicts = [line for line in report if line.startswith("receipt ")]
-    wanted = [f"receipt {number} entered" for number in range(1, len(drawn.items) + 1)]
-    look.same(f"{len(wanted)} drawn receipts: each is entered", verdicts == wanted, True)
+    verdicts = list(verdicts_in(report).values())
+    look.same(f"{len(drawn.items)} drawn receipts: each is entered", verdicts == ["entered"] * len(drawn.items), True)
     count_same(look, "their rank tables", [(folio, part(report, "ranks ", folio), line.text(folio)) for folio, line in lines.items()])
 
 
@@ -192,11 +194,40 @@ def check_lowest(look, drawn, lines):
     for folio, line in lines.items():
         right = drawn.draws.choice([right for right in line.live if right.kind == "land-charge"])
         items += [seizure(folio, right), call(folio)]
-        cover = line.threshold(right)
-        cash = COSTS + cover - sum(line.remains(one, cover) for one in line.live)
-        wanted.append((folio, len(items), f"lowest {euro(COSTS + cover)} cash {euro(cash)}"))
-    said = dict(line.split(" ", 2)[1:] for line in settled(items) if line.startswith("receipt "))
-    count_same(look, "their lowest bids", [(folio, said.get(str(number)), text) for folio, number, text in wanted])
+        wanted.append((folio, len(items), lowest(line, right)))
+    said = verdicts_in(settled(items))
+    count_same(look, "their lowest bids", [(folio, said.get(number), text) for folio, number, text in wanted])
+
+
+def lowest(line, right):
+    """What a call to bid says where the folio is seized from this right."""
+    cover = line.threshold(right)
+    cash = COSTS + cover - sum(line.remains(one, cover) for one in line.live)
+    return f"lowest {euro(COSTS + cover)} cash {euro(cash)}"
+
+
+def verdicts_in(report):
+    """The verdict of each receipt."""
+    lines = (line.split(" ", 2) for line in report if line.startswith("receipt "))
+    return {int(number): text for _, number, text in lines}
+
+
+def check_growing(look):
+    """Folios in which rights are exchanged again and again, with a call to bid after each exchange."""
+    drawn, seized, wanted = Drawn(880), {}, []
+    folios = range(1, GROWING + 1)
+    for folio in [*(folio for folio in folios for _ in range(6)), *folios, *folios, *folios]:
+        if folio not in seized:
+            count = drawn.draws.randint(3, 6)
+            drawn.open(folio, [(drawn.draws.randint(1, 9), "land-charge", group, 0) for group in range(1, count + 1)])
+            seized[folio] = drawn.draws.choice(drawn.rights[folio])
+            drawn.items.append(seizure(folio, seized[folio]))
+        drawn.draw_exchange(folio, drawn.rights[folio])
+        drawn.items.append(call(folio))
+        line = cent_lines.Line(drawn.rights[folio], drawn.exchanges[folio])
+        wanted.append((folio, len(drawn.items), lowest(line, seized[folio])))
+    said = verdicts_in(settled(drawn.items))
+    count_same(look, "their lowest bids after each exchange", [(folio, said.get(number), text) for folio, number, text in wanted])
 
 
 def check_sample(look, seed, size):
@@ -212,11 +243,14 @@ def main():
     checks.build()
     look = checks.Checks()
     drawn = Drawn(881)
+    for folio in range(1, FOLIOS + 1):
+        drawn.draw_folio(folio)
     lines = {folio: cent_lines.Line(rights, drawn.exchanges[folio]) for folio, rights in drawn.rights.items()}
     check_ranks(look, drawn, lines)
     for share in range(5):
         check_paid(look, drawn, lines, share)
     check_lowest(look, drawn, lines)
+    check_growing(look)
     for seed, size in SAMPLES:
         check_sample(look, seed, size)
     look.end()
