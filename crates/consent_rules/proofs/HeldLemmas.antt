@@ -94,17 +94,6 @@ parts_of_filing holds at journal m f is held known =
     (subst (λ o. AreHeld holds (option_map_or (λ g. keys_of_acts journal m 1 g.acts) o [])) is held)
     (subst (λ o. All (IsKnownExchange journal m at) (option_map_or (λ g. g.acts) o [])) is known)
 
--- where a list has just a filing's keys, these are held if and only if all of the list are
-pub keys_held : (holds : Key → Bool) (keys own : List Key) → ((k : Key) → (Contains keys k → Contains own k) × (Contains own k → Contains keys k))
-    → list_all holds keys ≡ true → AreHeld holds own
-keys_held holds keys own members all k there =
-    All-contains (λ j. holds j ≡ true) keys k (AllPass-from_list_all holds keys all) ((members k).1 there)
-
-pub all_held : (holds : Key → Bool) (keys own : List Key) → ((k : Key) → (Contains keys k → Contains own k) × (Contains own k → Contains keys k))
-    → AreHeld holds own → list_all holds keys ≡ true
-all_held holds keys own members held =
-    list_all-from_AllPass holds keys (λ i d within. held (get_or keys i d) ((members (get_or keys i d)).0 (Contains-get_or keys i d within)))
-
 -- the documents of a matter are those of its filing up to its item
 pub docs_are : (matter : Matter) → docs_of matter ≡ documents matter.journal.now.receipts matter.number matter.filing.now matter.item
 unfolding docs_of

@@ -17,17 +17,14 @@ use gb_base::ReceiptNo;
 
 /// Filing `filing`, judged on the register as it stands, with its documents and those of its cures
 /// up to receipt `upto` (GBO § 18). It wants the parts of the filing's keys, and of each right that
-/// recedes that it is as an earlier filing creates it; `can_be_judged` tests both, and that there is
-/// such a filing. It takes no memory and cannot fail.
+/// recedes that it is as an earlier filing creates it. It takes no memory and cannot fail.
 ///
 /// ```
-/// if can_be_judged(&parts, &journal, filing) {
-///     // As it was filed, without a cure.
-///     match judge(&parts, &journal, filing, filing) {
-///         Judgement::Enter => {}
-///         Judgement::Reject(section) => assert!(section != Section::Gbo29),
-///         Judgement::Interim(defects) => assert!(!defects.list().is_empty()),
-///     }
+/// // As it was filed, without a cure.
+/// match judge(&parts, &journal, filing, filing) {
+///     Judgement::Enter => {}
+///     Judgement::Reject(section) => assert!(section != Section::Gbo29),
+///     Judgement::Interim(defects) => assert!(!defects.list().is_empty()),
 /// }
 /// ```
 pub fn judge<P: Parts>(

@@ -14,10 +14,8 @@ mod needed;
 mod obstacles;
 mod parts_read;
 mod persons;
-mod premises;
 mod waiting;
 mod walk_starts;
 
 pub use judgements::{Defect, Defects, Judgement};
 pub use judging::judge;
-pub use premises::can_be_judged;

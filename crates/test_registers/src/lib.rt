@@ -2,9 +2,7 @@
 #![tactic(auto)]
 
 mod entries;
-mod held;
 mod rights;
 
 pub use entries::agree_at;
-pub use held::are_held;
 pub use rights::full_right;
