@@ -4,6 +4,7 @@ No two machines are alike, so the minutes only say how much longer one proof tak
 is scaled by what the proofs so far took.
 """
 
+import functools
 import pathlib
 import re
 
@@ -35,6 +36,7 @@ def by_urgency(uses, minutes):
     """The crates, those first on which the longest row of proofs waits. `uses` has each with those that it uses."""
     users = {crate: [user for user in uses if crate in uses[user]] for crate in uses}
 
+    @functools.lru_cache(maxsize=None)
     def chain(crate):
         return minutes[crate] + max(map(chain, users[crate]), default=0)
 
@@ -71,9 +73,7 @@ class Progress:
     def __init__(self, uses, at_once, processors):
         self.uses, self.at_once, self.processors = uses, at_once, processors
         self.minutes, self.proved = minutes_of(uses), set()
-
-    def order(self):
-        return by_urgency(self.uses, self.minutes)
+        self.order = by_urgency(uses, self.minutes)
 
     def note(self, crate, took):
         """That a crate is proved, which took so many minutes of the clock."""
