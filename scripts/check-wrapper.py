@@ -347,9 +347,15 @@ def check_here(look):
 
 
 def copied(folder):
-    """This repository with nothing built."""
+    """A copy of this repository with nothing built."""
     skips = shutil.ignore_patterns("out", ".git", "__pycache__")
     return shutil.copytree(checks.ROOT, folder / "copy", ignore=skips)
+
+
+def check_copy(look, copy):
+    """What a clean clone says of a journal, with the kit at hand."""
+    look.same("take where nothing is built", call(copy / "grundbuch", ["take"], b"", copy), (1, b"", choice("take")))
+    look.same("it touches nothing", ((copy / checks.JOURNAL).exists(), (copy / "crates" / "grundbuch" / "out").exists()), (False, False))
 
 
 def check_real(look, copy):
@@ -361,8 +367,6 @@ def check_real(look, copy):
     begun = time.monotonic()
     look.same("the same again", call(copy / "grundbuch", LINES, lines, copy), (0, report, AGAIN))
     look.at_most("its seconds", round(time.monotonic() - begun, 1), 2)
-    look.same("take", call(copy / "grundbuch", ["take"], b"", copy), (1, b"", choice("take")))
-    look.same("it touches no journal", (copy / checks.JOURNAL).exists(), False)
     plain = checks.plain(1).encode() + b"\n"
     look.same("take unproved", call(copy / "grundbuch", ["--unproved", "take"], plain, copy), (0, b"accepted 1\n", AGAIN))
     _, report = checks.journal_of_openings(1)
@@ -373,8 +377,10 @@ def main():
     look = checks.Checks()
     with tempfile.TemporaryDirectory() as name:
         folder = pathlib.Path(name).resolve()
+        copy = copied(folder)
+        check_copy(look, copy)
         if sys.argv[1:] == ["--real"]:
-            check_real(look, copied(folder))
+            check_real(look, copy)
             look.end()
         room = Room(folder)
         # Each begins with nothing built, or goes on where the one ahead of it ended.
