@@ -76,8 +76,9 @@ class Drawn:
         if self.story and self.chance.randrange(2) == 0:
             return self.story.pop(0)()
         draw = self.chance.choice([
-            self.overtaken, self.created, self.created, self.created, self.in_two_folios, self.in_two_folios, self.of_a_right, self.of_a_right,
-            self.exchanged, self.exercised, self.transferred, self.cured, self.cured, self.lapsed, self.of_a_sale, self.of_a_sale,
+            self.overtaken, self.created, self.created, self.created, self.in_two_folios, self.in_two_folios, self.of_a_right,
+            self.of_a_right, self.exchanged, self.exercised,
+            self.transferred, self.cured, self.cured, self.lapsed, self.of_a_sale, self.of_a_sale,
         ])
         return draw()
 
