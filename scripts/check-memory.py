@@ -11,15 +11,12 @@ import itertools
 import json
 import os
 import pathlib
-import shutil
-import subprocess
 import tempfile
 
 import checks
 import spelling
 
 SOURCE = pathlib.Path(__file__).resolve().parent / "refuse_memory.c"
-COMPILERS = ("cc", "gcc", "clang")
 SALE = checks.ROOT / "examples" / "forced-sale.jsonl"
 OUT_OF_MEMORY = (6, b"out of memory\n")
 
@@ -30,22 +27,12 @@ OTHERS = 5
 TAKEN = 6
 
 
-def library(folder):
-    """The library that refuses memory; None where no compiler is found."""
-    compiler = next((name for name in COMPILERS if shutil.which(name)), None)
-    if compiler is None:
-        return None
-    built = os.path.join(folder, "refuse_memory.so")
-    subprocess.run([compiler, "-shared", "-fPIC", "-O1", "-o", built, SOURCE], check=True)
-    return built
-
-
 class Refused:
     """Runs of the program that are refused memory."""
 
     def __init__(self, folder):
         self.told = pathlib.Path(folder) / "refused"
-        self.environment = {**os.environ, "LD_PRELOAD": library(folder) or "", "REFUSED": str(self.told)}
+        self.environment = {**os.environ, "LD_PRELOAD": checks.library_of(SOURCE, folder) or "", "REFUSED": str(self.told)}
 
     def run(self, words, folder, how, number, text):
         """A run of which this allocation is refused; None where it asked for fewer."""

@@ -8,6 +8,7 @@ import functools
 import os
 import pathlib
 import re
+import shutil
 import subprocess
 import sys
 
@@ -105,6 +106,16 @@ def has_strace():
         return subprocess.run(["strace", "-o", os.devnull, "true"], capture_output=True).returncode == 0
     except OSError:
         return False
+
+
+def library_of(source, folder):
+    """The library of a C source, to be loaded ahead of the program; None where no compiler is found."""
+    compiler = next((name for name in ("cc", "gcc", "clang") if shutil.which(name)), None)
+    if compiler is None:
+        return None
+    built = os.path.join(folder, f"{source.stem}.so")
+    subprocess.run([compiler, "-shared", "-fPIC", "-O1", "-o", built, source], check=True)
+    return built
 
 
 def opening(folio):
