@@ -85,7 +85,7 @@ def check(look, what, text, answers):
     """A list is received into a new folder: its replies, and the file that it leaves."""
     rows = [answer for answer in answers if isinstance(answer, tuple)]
     replies = [answer if isinstance(answer, str) else f"accepted {rows.index(answer) + 1}" for answer in answers]
-    with tempfile.TemporaryDirectory() as folder:
+    with tempfile.TemporaryDirectory(dir=checks.QUICK) as folder:
         ran = checks.run(["opening", "--sender", str(SENDER)], folder, input=text)
         with open(f"{folder}/{checks.JOURNAL}", "rb") as journal:
             file = journal.read()
@@ -100,7 +100,7 @@ def check_as_lines(look):
     text = wrong_lines.compact(line).encode() + b"\n"
     opening, take = ["opening", "--sender", str(SENDER)], ["take"]
     for first, then in (((opening, row), (take, text)), ((take, text), (opening, row))):
-        with tempfile.TemporaryDirectory() as folder:
+        with tempfile.TemporaryDirectory(dir=checks.QUICK) as folder:
             said = [checks.run(words, folder, input=sent)[:2] for words, sent in (first, then)]
         look.same(f"{first[0][0]}, and then {then[0][0]} of the same", said, [(0, b"accepted 1\n"), (0, b"repeated 1\n")])
 
@@ -108,7 +108,7 @@ def check_as_lines(look):
 def check_senders(look):
     """Another sender has numbers of its own, up to the last one."""
     row = HEADER + b"7,12,345,6,800,10\n"
-    with tempfile.TemporaryDirectory() as folder:
+    with tempfile.TemporaryDirectory(dir=checks.QUICK) as folder:
         for number, sender in enumerate(("9", "0", "4294967295"), 1):
             ran = checks.run(["opening", "--sender", sender], folder, input=row)
             look.same(f"a list of sender {sender}", ran, (0, f"accepted {number}\n".encode(), b""))

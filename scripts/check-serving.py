@@ -21,8 +21,8 @@ import time
 
 import checks
 from asking import (
-    BAD_REQUEST, HOST, NOT_FOUND, NOT_JSON, NO_SENDER, PORT, TOO_LONG, WRONG_METHOD, all_of, connected, head, is_free, posted, reply,
-    said, send, serving, so_many_of,
+    BAD_REQUEST, HOST, NOT_FOUND, NOT_JSON, NO_SENDER, PORT, TOO_LONG, UNAVAILABLE, WRONG_METHOD, all_of, connected, head, is_free,
+    posted, reply, said, send, serving, so_many_of,
 )
 import wrong_lines
 
@@ -138,6 +138,35 @@ def check_full(look, folder):
         full = reply(403, "Forbidden", b"full\n")
         look.same("a filing where the journal is full", said(posted(MOST_RECEIPTS + 1) * 2), full * 2)
         look.same("a filing that stands in it", said(posted(7)), reply(200, "OK", b"repeated 7\n"))
+
+
+def check_disk(look):
+    """A filing during which the disk fails is answered 503. After a failed write it is received when it comes
+    again; after a failed sync no later one is made, and each request that wants the disk is answered 503."""
+    if not checks.has_strace():
+        look.skip("a disk that fails", "there is no strace that works here")
+        return
+    for call, error, number, wanted in (
+        ("pwrite64", "ENOSPC", 1, [UNAVAILABLE, ACCEPTED, reply(200, "OK", extract(1)), NOT_FOUND]),
+        ("pwrite64", "ENOSPC", 2, [UNAVAILABLE, ACCEPTED, reply(200, "OK", extract(1)), NOT_FOUND]),
+        ("fsync", "EIO", 2, [UNAVAILABLE, UNAVAILABLE, UNAVAILABLE, NOT_FOUND]),
+        ("fsync", "EIO", 3, [UNAVAILABLE, UNAVAILABLE, UNAVAILABLE, NOT_FOUND]),
+    ):
+        what = f"serving where {call} {number} answers {error}"
+        with tempfile.TemporaryDirectory() as folder:
+            path = os.path.join(os.path.realpath(folder), checks.JOURNAL)
+            with open(path, "wb") as file:
+                file.write(checks.journal([]))
+            log = os.path.join(folder, "calls")
+            tracer = ["strace", "-o", log, "-P", path, "-e", f"trace={call}", "-e", f"inject={call}:error={error}:when={number}"]
+            with serving(folder, len(wanted), before=tracer) as child:
+                told = said(posted(1) + posted(1) + head("GET", "/folios/1") + head("GET", "/x"))
+                look.same(what, told, b"".join(wanted))
+                child.wait(checks.LIMIT)
+            with open(log) as file:
+                calls = file.read().count(f"{call}(")
+            if call == "fsync":
+                look.same(f"{what}: syncs up to the last", calls, number)
 
 
 def status_of(reply):
@@ -295,6 +324,7 @@ def main():
         check_open_connection(look, folder)
     with tempfile.TemporaryDirectory() as folder:
         check_full(look, folder)
+    check_disk(look)
     check_ends(look)
     with tempfile.TemporaryDirectory() as folder:
         check_clients(look, folder)

@@ -24,6 +24,9 @@ HTTP_PAGE = ROOT / "docs" / "formats" / "http.md"
 # No run of a check takes longer, in seconds.
 LIMIT = 60
 
+# A folder in which a sync costs nothing, for checks that make many files; the system's own where there is none.
+QUICK = "/dev/shm" if os.access("/dev/shm", os.W_OK) else None
+
 
 class Checks:
     """Counts what was looked at, and prints a line of each."""
