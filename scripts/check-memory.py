@@ -116,7 +116,7 @@ class Office:
     """The program as it serves in a folder. Where it ended for want of memory it is started again, and refused none."""
 
     def __init__(self, folder, environment):
-        self.folder, self.ends = folder, []
+        self.folder, self.ends, self.refusals = folder, [], 0
         self.program = contextlib.ExitStack()
         self.start(environment)
 
@@ -149,6 +149,7 @@ class Office:
         """The body of a reply 200 or 201. What found no memory is asked again."""
         for _ in range(8):
             told = self.said(sent)
+            self.refusals += told.startswith(NO_MEMORY)
             if told and not told.startswith(NO_MEMORY):
                 break
         # Behind the reply a 507 may stand, where the end of the connection was not read for want of memory.
@@ -157,11 +158,11 @@ class Office:
 
 
 def served(folder, environment):
-    """The numbers that the items get, the report of them, and how the program ended, if it did."""
+    """The numbers that the items get, the report of them, how the program ended, if it did, and the replies 507."""
     office = Office(folder, environment)
     with office.program:
         numbers = [office.asked(sent).split()[-1:] for sent in asked()]
-        return numbers, office.asked(asking.head("GET", "/report")), office.ends
+        return numbers, office.asked(asking.head("GET", "/report")), office.ends, office.refusals
 
 
 def check_serving(look, refused):
@@ -169,7 +170,7 @@ def check_serving(look, refused):
     if not asking.is_free():
         look.skip("memory that is refused while it serves", "another program has the port")
         return
-    wanted, ends, differ = None, [], []
+    wanted, ends, refusals, differ = None, [], 0, []
     for number in itertools.count(0):
         refused.told.unlink(missing_ok=True)
         with tempfile.TemporaryDirectory(dir=checks.QUICK) as folder:
@@ -181,9 +182,11 @@ def check_serving(look, refused):
         elif told[:2] != wanted[:2] or told[2] not in ([], [6]):
             differ.append((number, told))
         ends.append(told[2])
+        refusals += told[3]
     look.same("serve: the numbers of the items", wanted[0], [[b"%d" % number] for number in range(1, 6)])
     look.same("serve: the report of them", (wanted[1].count(b"receipt "), wanted[1].split()[-3:]), (5, [b"5", b"folios", b"1"]))
     look.same(f"serve: of {len(ends)} runs some go on, and some end", ([] in ends[1:], [6] in ends), (True, True))
+    look.same("serve: some requests are answered 507", refusals > 0, True)
     look.same(f"serve: {len(ends)} runs, those whose journal or report differs", differ, [])
 
 

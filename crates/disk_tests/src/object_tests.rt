@@ -4,7 +4,7 @@ ghost use Rattle.gb_outside.specs.Bytes.{read_failed};
 ghost use Rattle.gb_outside.specs.Faults.{Counts};
 
 use gb_base::NoMemory;
-use gb_outside::{Disk, DiskFailed, Got, MemDisk, MemSource, Source, SureSource};
+use gb_outside::{Disk, DiskFailed, Got, MemDisk, MemSource, Source, SureDisk, SureSource};
 use std::alloc::Global;
 use std::test::Fail;
 
@@ -54,4 +54,15 @@ fn sources_without_faults_give_what_fits(rt: HostRuntime) {
     assert_eq!(rt; read_unplanned(b"c", &mut into), Got::Bytes(1));
     assert_eq!(rt; into[0], b'c');
     assert_eq!(rt; read_surely(b"", &mut into), Got::End);
+}
+
+#[test]
+fn a_sure_disk_is_empty_and_reads_zeros(rt: HostRuntime) {
+    let mut disk = SureDisk::new();
+    let mut into = [7; 3];
+    assert_eq!(rt; disk.write_at(0, b"abc"), Ok(()));
+    assert_eq!(rt; disk.sync(), Ok(()));
+    assert_eq!(rt; disk.len(), Ok(0));
+    assert_eq!(rt; disk.read_at(0, &mut into), Ok(()));
+    assert_eq!(rt; into, [0; 3]);
 }
