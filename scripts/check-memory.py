@@ -139,7 +139,7 @@ class Office:
             self.ends.append(self.child.returncode)
             self.start()
             return b""
-        with link, contextlib.suppress(ConnectionError):
+        with link, contextlib.suppress(OSError):
             link.sendall(sent)
             link.shutdown(socket.SHUT_WR)
             return asking.all_of(link)
