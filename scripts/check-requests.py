@@ -12,8 +12,8 @@ import tempfile
 import checks
 from asking import BAD_REQUEST, NOT_FOUND, NOT_JSON, NO_SENDER, TOO_LONG, WRONG_METHOD, head, is_free, reply, said, serving
 
-# Connections that are drawn, with up to six requests each.
-DRAWN = 16_000
+# Connections that are drawn, with up to eight requests each.
+DRAWN = 10_000
 
 REPORT = reply(200, "OK", b"end receipts 0 folios 0\n")
 
@@ -32,8 +32,8 @@ TARGETS = 8, [
     ("*", NOTHING), ("http://a/b?c=d#e", NOTHING), ("/\u00e4\U0001f600", NOTHING),
     ("", REFUSED), ("/a\t", REFUSED), ("/\x7f", REFUSED),
 ]
-VERSIONS = 2, [
-    (b"HTTP/1.1", NOTHING), (b"HTTP/1.0", LAST),
+VERSIONS = 6, [
+    *[(b"HTTP/1.1", NOTHING)] * 5, (b"HTTP/1.0", LAST),
     (b"HTTP/1.2", REFUSED), (b"HTTP/2.0", REFUSED), (b"http/1.1", REFUSED), (b"HTTP/1.1 ", REFUSED),
 ]
 ENDS = [b"\r\n", b"\n"]
@@ -93,7 +93,7 @@ class Request:
         method, target = (self.part(chance, parts) for parts in (METHODS, TARGETS))
         front = self.part(chance, BLANKS) + f"{method} {target} ".encode() + self.part(chance, VERSIONS)
         end = chance.choice(ENDS)
-        headers = [self.part(chance, HEADERS) + chance.choice(ENDS) for _ in range(chance.randrange(5))]
+        headers = [self.part(chance, HEADERS) + chance.choice(ENDS) for _ in range(chance.randrange(4))]
         lengths = [what for what in self.brings if isinstance(what, int)]
         self.bytes = front + end + b"".join(headers) + end
         self.is_refused = REFUSED in self.brings or len(lengths) > 1 or max(lengths, default=0) > 65_536
@@ -117,7 +117,7 @@ def drawn(chance):
     """The bytes of a connection, the size of the pieces in which they are sent, 0 where they are sent
     whole, and what is written to it. One connection in four ends inside its last request."""
     size = chance.choice([0, 0, 7, 1])
-    requests = [Request(chance) for _ in range(chance.randint(1, 6))]
+    requests = [Request(chance) for _ in range(chance.randint(1, 8))]
     sent, wanted = b"", b""
     for number, request in enumerate(requests, 1):
         sent, wanted = sent + request.bytes, wanted + request.reply

@@ -1,8 +1,6 @@
 //! One connection that is served with a disk and a clock of its own, whose book is opened by its
 //! first request that wants it.
-use crate::links::{
-    ACCEPTED, MADE, NOT_A_JOURNAL, POST, POST_TWICE, READ_TWICE, UNAVAILABLE,
-};
+use crate::links::{ACCEPTED, MADE, NOT_A_JOURNAL, POST, POST_TWICE, READ_TWICE, UNAVAILABLE};
 use crate::runs::disk_of;
 use gb_base::{Day, Stamp};
 use gb_outside::{ListClock, MemDisk, MemLink, OpenGate};
@@ -41,7 +39,8 @@ fn has_first_stamp(rt: &impl Abort, disk: &MemDisk) {
 fn a_connection_reads_what_it_posted(rt: HostRuntime) -> Result<(), Fail> {
     let mut asks = Vec::from_slice(rt.alloc(), POST)?;
     asks.extend_from_slice(b"GET /receipts/1 HTTP/1.1\r\n\r\n")?;
-    let verdict = b"HTTP/1.1 200 OK\r\nContent-Type: text/plain\r\nContent-Length: 18\r\n\r\nreceipt 1 entered\n";
+    let verdict =
+        b"HTTP/1.1 200 OK\r\nContent-Type: text/plain\r\nContent-Length: 18\r\n\r\nreceipt 1 entered\n";
     let mut disk = disk_of(&rt, MADE, &[])?;
     answers(&rt, &mut disk, asks.as_slice(), [ACCEPTED, verdict])?;
     has_first_stamp(&rt, &disk);

@@ -47,12 +47,7 @@ impl<'a> Asked<'a> {
         let alloc = rt.alloc();
         let [first, second] = self.sent;
         let mut links = Vec::new(alloc);
-        links.push(MemLink::new(
-            alloc,
-            first,
-            self.room_of_first,
-            self.failing_of_first,
-        )?)?;
+        links.push(MemLink::new(alloc, first, self.room_of_first, self.failing_of_first)?)?;
         links.push(MemLink::new(alloc, second, 4_096, &[])?)?;
         MemListener::new(alloc, links, self.failing_accepts)
     }
