@@ -9,6 +9,7 @@ use std::thread::Threads;
 
 /// What is received twice: as it was received first, and what is written then; what is written
 /// where the second receipt fails; and the report of both.
+#[derive(Clone, Copy)]
 struct Received<'a> {
     run: Run<'a>,
     taken: &'a [u8],
