@@ -206,14 +206,14 @@ def main():
             look.skip("memory that is refused", "there is no C compiler")
             look.end()
         lines = SALE.read_bytes()
-        with tempfile.TemporaryDirectory() as settled:
+        with tempfile.TemporaryDirectory(dir=checks.QUICK) as settled:
             file = pathlib.Path(settled) / checks.JOURNAL
             file.write_bytes(checks.journal([spelling.receipt(line) for line in of_several_folios(lines)]))
             for desks in ("1", "2", "4"):
                 check_runs(look, refused, ["settle", "--desks", desks], settled)
             check_runs(look, refused, ["settle", "--desks", "1", "--lines"], settled, lines)
             check_runs(look, refused, ["sample", "--seed", "7", "--size", "40", "--desks", "2"], settled)
-        with tempfile.TemporaryDirectory() as taken:
+        with tempfile.TemporaryDirectory(dir=checks.QUICK) as taken:
             check_take(look, refused, taken)
         check_serving(look, refused)
     look.end()
