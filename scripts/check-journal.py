@@ -74,6 +74,7 @@ def check_refusals(look):
         ("pread64", "EIO", checks.JOURNAL, REFUSED),
         ("pread64", "EINTR", checks.JOURNAL, (0, report, b"")),
         ("flock", "ENOLCK", checks.JOURNAL, REFUSED),
+        ("fcntl", "EMFILE", checks.JOURNAL, REFUSED),
     ]:
         what = f"settle where {call} of {'the folder' if on == '.' else 'the file'} answers {error}"
         tracer = ["strace", "-o", os.devnull, "-P", os.path.normpath(f"FOLDER/{on}")]
@@ -81,6 +82,39 @@ def check_refusals(look):
         ran, files = over(three, tracer)
         look.same(what, ran, ends)
         look.same(f"{what}: the folder", files, {checks.JOURNAL: three})
+
+
+    tracer = ["strace", "-o", os.devnull, "-P", f"FOLDER/{checks.JOURNAL}", "-e", "trace=pread64", "-e", "inject=pread64:retval=0:when=1"]
+    look.same("settle where a read gives no byte", over(three, tracer), (REFUSED, {checks.JOURNAL: three}))
+    if os.path.exists("/dev/full"):
+        with tempfile.TemporaryDirectory() as folder:
+            os.symlink("/dev/full", os.path.join(folder, checks.JOURNAL))
+            look.same("settle over a device that takes no byte", checks.run(SETTLE, folder), REFUSED)
+
+
+def check_receiving(look):
+    """Each write and each sync of a receipt fails in turn; what was acknowledged stands, and the lines come again."""
+    if not checks.has_strace():
+        look.skip("take where the system fails", "there is no strace that works here")
+        return
+    lines = "".join(checks.plain(number) + "\n" for number in (1, 2)).encode()
+    # Behind an opening each receipt is two writes, with a sync behind each. The opening has a sync of the file too.
+    for call, error, before in (("pwrite64", "ENOSPC", 0), ("fsync", "EIO", 1)):
+        for number in (1, 2, 3, 4):
+            with tempfile.TemporaryDirectory() as folder:
+                path = os.path.join(os.path.realpath(folder), checks.JOURNAL)
+                with open(path, "wb") as file:
+                    file.write(checks.journal([]))
+                tracer = ["strace", "-o", os.devnull, "-P", path, "-e", f"trace={call}"]
+                tracer += ["-e", f"inject={call}:error={error}:when={before + number}"]
+                told = b"accepted 1\n" if number > 2 else b""
+                ran = checks.run(["take"], folder, before=tracer, input=lines)
+                what = f"take where {call} {number} of its receipts answers {error}"
+                look.same(what, ran, (5, told, b"disk fault\n"))
+                status, said, _ = checks.run(["take"], folder, input=lines)
+                replies = [reply.split() for reply in said.decode().splitlines()]
+                look.same(f"{what}: the numbers of both, taken again", (status, [number for _, number in replies]), (0, ["1", "2"]))
+                look.same(f"{what}: what was acknowledged", all(reply == "repeated" for reply, _ in replies[: len(told) // 11]), True)
 
 
 def check_held(look):
@@ -105,13 +139,13 @@ def check_held(look):
         look.same("one file for two: the folder", files_of(folder), {checks.JOURNAL: many})
 
 
-def calls_of(content):
+def calls_of(content, *injected):
     """The calls on files of a run over this journal, as strace prints them, from the journal's opening on."""
     with tempfile.TemporaryDirectory() as folder:
         log = os.path.join(folder, "calls")
         with open(os.path.join(folder, checks.JOURNAL), "wb") as file:
             file.write(content)
-        tracer = ["strace", "-o", log, "-y", "-e", "trace=openat,open,fcntl,flock,fsync,pread64,pwrite64,write,close"]
+        tracer = ["strace", "-o", log, "-y", "-e", "trace=openat,open,fcntl,flock,fsync,pread64,pwrite64,write,close", *injected]
         checks.run(SETTLE, folder, before=tracer)
         with open(log, encoding="utf-8", errors="replace") as file:
             text = file.read().replace(os.path.realpath(folder), "FOLDER")
@@ -134,6 +168,11 @@ def check_calls(look):
         look.same(what, bool(re.search(pattern, calls)), True)
     used = re.findall(rf"(?:flock|fsync|pread64|pwrite64)\((\d+)<FOLDER", calls)
     look.same("no file has a stream's descriptor", [number for number in used if int(number) < 3], [])
+    for call, error in (("fcntl", "EMFILE"), ("flock", "EAGAIN")):
+        refused = calls_of(three, "-e", f"inject={call}:error={error}:when=1")
+        used = re.findall(r"^(\w+)\(\d+<FOLDER/[^\n]*$", refused, re.M)
+        look.same(f"the file is let go where {call} answers {error}", used[-1], "close")
+        look.same(f"the file is not used where {call} answers {error}", sorted({"fsync", "pread64", "pwrite64"} & set(used)), [])
     made = calls_of(b"")
     order = re.findall(rf"(fsync|pwrite64)\(\d+<([^>]*)>", made)
     wanted = ["fsync file", "fsync folder"] + ["pwrite64 file", "fsync file"] * 3
@@ -146,6 +185,7 @@ def main():
     look = checks.Checks()
     check_standings(look)
     check_refusals(look)
+    check_receiving(look)
     check_held(look)
     check_calls(look)
     look.end()

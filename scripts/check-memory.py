@@ -1,27 +1,33 @@
 #!/usr/bin/env python3
-"""Refuses the built program each call of malloc and realloc of a run in turn, alone and with all behind it.
+"""Refuses the built program each call of malloc and realloc of a run in turn, alone and with all behind it,
+and of a `serve` each alone.
 
 A run that was refused memory either needed none of it and writes what any run writes, or it writes
 the front of that and ends with the status and the line of want of memory. What `take` acknowledged
 stands in the file, and the same lines once more end with each of them received once. At several desks
-the calls have no one order, so that one of them may be refused twice and another never.
+the calls have no one order, so that one of them may be refused twice and another never. A request that
+found no memory is answered 507 or by no reply; asked again it is answered as if nothing had been, and so
+are all that follow.
 """
 
+import contextlib
 import itertools
 import json
 import os
 import pathlib
-import shutil
-import subprocess
+import socket
 import tempfile
+import time
 
+import asking
 import checks
 import spelling
+import wrong_lines
 
 SOURCE = pathlib.Path(__file__).resolve().parent / "refuse_memory.c"
-COMPILERS = ("cc", "gcc", "clang")
 SALE = checks.ROOT / "examples" / "forced-sale.jsonl"
 OUT_OF_MEMORY = (6, b"out of memory\n")
+NO_MEMORY = b"HTTP/1.1 507 Insufficient Storage\r\n"
 
 # Folios beside that of the sale.
 OTHERS = 5
@@ -30,22 +36,12 @@ OTHERS = 5
 TAKEN = 6
 
 
-def library(folder):
-    """The library that refuses memory; None where no compiler is found."""
-    compiler = next((name for name in COMPILERS if shutil.which(name)), None)
-    if compiler is None:
-        return None
-    built = os.path.join(folder, "refuse_memory.so")
-    subprocess.run([compiler, "-shared", "-fPIC", "-O1", "-o", built, SOURCE], check=True)
-    return built
-
-
 class Refused:
     """Runs of the program that are refused memory."""
 
     def __init__(self, folder):
         self.told = pathlib.Path(folder) / "refused"
-        self.environment = {**os.environ, "LD_PRELOAD": library(folder) or "", "REFUSED": str(self.told)}
+        self.environment = {**os.environ, "LD_PRELOAD": checks.library_of(SOURCE, folder) or "", "REFUSED": str(self.told)}
 
     def run(self, words, folder, how, number, text):
         """A run of which this allocation is refused; None where it asked for fewer."""
@@ -103,6 +99,97 @@ def check_take(look, refused, folder):
     look.same(f"take: {runs} runs, receipts that were acknowledged and are lost", lost, 0)
 
 
+def asked():
+    """Items that the journal's lists have to do with: filings that create rights, one of which waits, and its cures."""
+    charge = {"act": "create", "folio": 1, "kind": "land-charge", "rate": 500, "capital": 10000, "holder": 20, "group": 1}
+    plain, consent = ({"doc": "consent", "act": 1, "person": 10, "form": form} for form in ("plain", "certified"))
+    waits = {"kind": "filing", "applicant": 10, "conditional": False, "acts": [charge], "docs": [plain]}
+    items = [
+        checks.filing(1, checks.opening(1))["item"], waits, {**waits, "docs": [consent]}, {"kind": "cure", "filing": 2, "docs": [plain]},
+        {"kind": "cure", "filing": 2, "docs": [consent]},
+    ]
+    lines = [wrong_lines.compact({"sender": 1, "reference": number, "item": item}) for number, item in enumerate(items, 1)]
+    return [asking.head("POST", "/receipts", line.encode()) for line in lines]
+
+
+class Office:
+    """The program as it serves in a folder. Where it ended for want of memory it is started again, and refused none."""
+
+    def __init__(self, folder, environment):
+        self.folder, self.ends, self.refusals = folder, [], 0
+        self.program = contextlib.ExitStack()
+        self.start(environment)
+
+    def start(self, environment=None):
+        self.program.close()
+        self.child = self.program.enter_context(asking.serving(self.folder, env=environment))
+
+    def connected(self):
+        """A connection, where the program has not ended."""
+        while self.child.poll() is None:
+            with contextlib.suppress(ConnectionRefusedError):
+                return asking.connected(0)
+            time.sleep(0.001)
+        return None
+
+    def said(self, sent):
+        """What is written to a connection that sends this; nothing where the program ends."""
+        link = self.connected()
+        if link is None:
+            self.ends.append(self.child.returncode)
+            self.start()
+            return b""
+        with link, contextlib.suppress(OSError):
+            link.sendall(sent)
+            link.shutdown(socket.SHUT_WR)
+            return asking.all_of(link)
+        return b""
+
+    def asked(self, sent):
+        """The body of a reply 200 or 201. What found no memory is asked again."""
+        for _ in range(8):
+            told = self.said(sent)
+            self.refusals += told.startswith(NO_MEMORY)
+            if told and not told.startswith(NO_MEMORY):
+                break
+        # Behind the reply a 507 may stand, where the end of the connection was not read for want of memory.
+        head, _, body = told.partition(b"\r\n\r\n")
+        return body[: int(head.split()[-1])] if told[9:12] in (b"200", b"201") else told
+
+
+def served(folder, environment):
+    """The numbers that the items get, the report of them, how the program ended, if it did, and the replies 507."""
+    office = Office(folder, environment)
+    with office.program:
+        numbers = [office.asked(sent).split()[-1:] for sent in asked()]
+        return numbers, office.asked(asking.head("GET", "/report")), office.ends, office.refusals
+
+
+def check_serving(look, refused):
+    """Whatever was refused, each item is received once, and the report is that of all."""
+    if not asking.is_free():
+        look.skip("memory that is refused while it serves", "another program has the port")
+        return
+    wanted, ends, refusals, differ = None, [], 0, []
+    for number in itertools.count(0):
+        refused.told.unlink(missing_ok=True)
+        with tempfile.TemporaryDirectory(dir=checks.QUICK) as folder:
+            told = served(folder, {**refused.environment, "REFUSED_AT": str(number)})
+        if number == 0:
+            wanted = told
+        elif not refused.told.exists():
+            break
+        elif told[:2] != wanted[:2] or told[2] not in ([], [6]):
+            differ.append((number, told))
+        ends.append(told[2])
+        refusals += told[3]
+    look.same("serve: the numbers of the items", wanted[0], [[b"%d" % number] for number in range(1, 6)])
+    look.same("serve: the report of them", (wanted[1].count(b"receipt "), wanted[1].split()[-3:]), (5, [b"5", b"folios", b"1"]))
+    look.same(f"serve: of {len(ends)} runs some go on, and some end", ([] in ends[1:], [6] in ends), (True, True))
+    look.same("serve: some requests are answered 507", refusals > 0, True)
+    look.same(f"serve: {len(ends)} runs, those whose journal or report differs", differ, [])
+
+
 def of_several_folios(lines):
     """These lines, and behind them openings of folios of their own, so that there is work for several desks."""
     sale = [json.loads(line) for line in lines.splitlines()]
@@ -119,15 +206,16 @@ def main():
             look.skip("memory that is refused", "there is no C compiler")
             look.end()
         lines = SALE.read_bytes()
-        with tempfile.TemporaryDirectory() as settled:
+        with tempfile.TemporaryDirectory(dir=checks.QUICK) as settled:
             file = pathlib.Path(settled) / checks.JOURNAL
             file.write_bytes(checks.journal([spelling.receipt(line) for line in of_several_folios(lines)]))
             for desks in ("1", "2", "4"):
                 check_runs(look, refused, ["settle", "--desks", desks], settled)
             check_runs(look, refused, ["settle", "--desks", "1", "--lines"], settled, lines)
             check_runs(look, refused, ["sample", "--seed", "7", "--size", "40", "--desks", "2"], settled)
-        with tempfile.TemporaryDirectory() as taken:
+        with tempfile.TemporaryDirectory(dir=checks.QUICK) as taken:
             check_take(look, refused, taken)
+        check_serving(look, refused)
     look.end()
 
 

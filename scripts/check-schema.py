@@ -18,7 +18,7 @@ def beyond_schemas():
     """Lines that are no items, which a schema cannot tell."""
     broken_rules = {wrong_lines.compact(value) for _, value in wrong_lines.wrong_filings()}
     for _, text in wrong_lines.wrong_lines():
-        no_such_day = "2023-02-29" in text
+        no_such_day = any(day in text for day in wrong_lines.NO_DAYS)
         number = text.rsplit(":", 1)[-1].rstrip("}")
         if text in broken_rules or no_such_day or number in WHOLE_BY_VALUE:
             yield text

@@ -2,8 +2,7 @@
 """Asks the built program over TCP, as `serve` answers: requests whole and byte by byte, what ends a
 connection and what ends the program, a second program at its port, and kills under load.
 
-Nothing is sent to another machine. Where another program has the port, nothing is checked, and the
-script says so.
+Where another program has the port, nothing is checked, and the script says so.
 """
 
 import contextlib
@@ -21,88 +20,24 @@ import threading
 import time
 
 import checks
+from asking import (
+    BAD_REQUEST, HOST, NOT_FOUND, NOT_JSON, NO_SENDER, PORT, TOO_LONG, UNAVAILABLE, WRONG_METHOD, all_of, connected, head, is_free,
+    posted, reply, said, send, serving, so_many_of,
+)
+import wrong_lines
 
-HOST, PORT = "127.0.0.1", 7117
 KILLS = 100
 CONNECTIONS = 1000
 REQUESTS = 10_000
 BESIDE = 50
-
-
-def is_free():
-    """Whether no other program has the port."""
-    with socket.socket() as door:
-        door.setsockopt(socket.SOL_SOCKET, socket.SO_REUSEADDR, 1)
-        try:
-            door.bind((HOST, PORT))
-        except OSError:
-            return False
-    return True
-
-
-def connected(seconds=checks.LIMIT):
-    """A connection to the program, once it has opened its port."""
-    last = time.monotonic() + seconds
-    while True:
-        try:
-            return socket.create_connection((HOST, PORT), timeout=checks.LIMIT)
-        except ConnectionRefusedError:
-            if time.monotonic() > last:
-                raise
-            time.sleep(0.01)
-
-
-@contextlib.contextmanager
-def serving(folder, requests=1_000_000):
-    """The program, which serves in a folder; it is killed in the end where it still runs."""
-    words = [checks.PROGRAM, "serve", "--desks", "1", "--requests", str(requests)]
-    child = subprocess.Popen(words, cwd=folder, stdin=subprocess.DEVNULL, stdout=subprocess.PIPE, stderr=subprocess.PIPE)
-    try:
-        yield child
-    finally:
-        child.kill()
-        child.communicate()
-
-
-def head(method, path, body=b"", version="1.1", more=""):
-    length = f"Content-Length: {len(body)}\r\n" if body else ""
-    return f"{method} {path} HTTP/{version}\r\n{length}{more}\r\n".encode() + body
-
-
-def reply(status, phrase, body):
-    return f"HTTP/1.1 {status} {phrase}\r\nContent-Type: text/plain\r\nContent-Length: {len(body)}\r\n\r\n".encode() + body
-
-
-def posted(number):
-    return head("POST", "/receipts", checks.plain(number).encode())
-
-
-def all_of(link):
-    """All bytes that come until the program ends the connection."""
-    pieces = []
-    while piece := link.recv(65536):
-        pieces.append(piece)
-    return b"".join(pieces)
-
-
-def said(sent, pieces=0):
-    """What the program writes to a connection that sends this, whole or in so many pieces, and no more."""
-    with connected() as link:
-        link.setsockopt(socket.IPPROTO_TCP, socket.TCP_NODELAY, 1)
-        for at in range(0, len(sent), pieces or len(sent) or 1):
-            link.sendall(sent[at : at + (pieces or len(sent))])
-        link.shutdown(socket.SHUT_WR)
-        return all_of(link)
+MOST_RECEIPTS = 200_000
 
 
 def sends_on(sent, wanted):
     """Whether a connection may send on behind the reply that ends it."""
     with connected() as link:
-        link.setsockopt(socket.IPPROTO_TCP, socket.TCP_NODELAY, 1)
         link.sendall(sent)
-        told = b""
-        while len(told) < len(wanted):
-            told += link.recv(len(wanted) - len(told)) or b"?"
+        told = so_many_of(link, len(wanted))
         try:
             for _ in range(10):
                 link.sendall(b"x" * 1000)
@@ -123,6 +58,14 @@ def beside(sent):
         return [all_of(link) for link in links]
 
 
+def is_let_go(link):
+    """Whether a connection ends without a byte."""
+    try:
+        return all_of(link) == b""
+    except ConnectionResetError:
+        return True
+
+
 def extract(folio):
     return f"folio {folio}\ninventory district 1 parcel {folio}/0 area 500\nowners 10\n".encode()
 
@@ -141,22 +84,89 @@ def check_requests(look, folder):
         look.same("the same byte by byte", said(story, 1), told)
         report = b"receipt 1 entered\n" + extract(1) + b"ranks 1\nend receipts 1 folios 1\n"
         look.same("the report", said(head("GET", "/report")), reply(200, "OK", report))
-        none = reply(404, "Not Found", b"not found\n")
         for path in ("/folios/8", "/receipts/01", "/receipts/2", "/plans/1", "/plans/1/csv", "/", "/folios/1?x=1"):
-            look.same(f"GET {path}", said(head("GET", path)), none)
-        wrong = reply(405, "Method Not Allowed", b"method not allowed\n")
-        look.same("DELETE /report", said(head("DELETE", "/report")), wrong)
-        look.same("POST /receipts/1", said(head("POST", "/receipts/1")), wrong)
-        look.same("POST /receipts/01", said(head("POST", "/receipts/01")), none)
-        bad = reply(400, "Bad Request", b"malformed json\n")
-        look.same("an empty body", said(head("POST", "/receipts")), bad)
-        body = reply(422, "Unprocessable Entity", b"malformed sender\n")
-        look.same("a body that is no item", said(head("POST", "/receipts", b'{"reference":1}')), body)
+            look.same(f"GET {path}", said(head("GET", path)), NOT_FOUND)
+        look.same("DELETE /report", said(head("DELETE", "/report")), WRONG_METHOD)
+        look.same("POST /receipts/1", said(head("POST", "/receipts/1")), WRONG_METHOD)
+        look.same("POST /receipts/01", said(head("POST", "/receipts/01")), NOT_FOUND)
+        look.same("an empty body", said(head("POST", "/receipts")), NOT_JSON)
+        look.same("a body that is no item", said(head("POST", "/receipts", b'{"reference":1}')), NO_SENDER)
         other = checks.plain(1).replace('"area":500', '"area":501').encode()
         look.same("another item under the number", said(head("POST", "/receipts", other)), reply(409, "Conflict", b"differs 1\n"))
         check_routes(look)
         check_endings(look)
         look.same("the program still serves", child.poll(), None)
+
+
+def check_open_connection(look, folder):
+    """A filing is answered while its own connection stays open, however its bytes come, and the texts that
+    are then read over it go on with the journal."""
+    consent = {"doc": "consent", "act": 1, "person": 10, "form": "certified"}
+    charge = {"act": "create", "folio": 1, "kind": "land-charge", "rate": 500, "capital": 10000, "holder": 20, "group": 1}
+    item = {"kind": "filing", "applicant": 10, "conditional": False, "acts": [charge], "docs": [consent]}
+    charged = head("POST", "/receipts", wrong_lines.compact({"sender": 1, "reference": 2, "item": item}).encode())
+    today = time.strftime("%Y-%m-%d", time.gmtime())
+    right = f"right 2.1 III right land-charge 100.00 rate 500 holder 20 placed {today}\n".encode()
+    ranks = b"ranks 1\nrank 1 2.1\ncents 1-10000 2.1\n"
+    report = b"receipt 1 entered\nreceipt 2 entered\n" + extract(1) + right + ranks + b"end receipts 2 folios 1\n"
+    with serving(folder), connected() as link:
+        for what, sent, status, text in (
+            ("the report of an empty journal", head("GET", "/report"), 200, b"end receipts 0 folios 0\n"),
+            ("a filing", posted(1), 201, b"accepted 1\n"),
+            ("the ranks of the folio that it opens", head("GET", "/folios/1/ranks"), 200, b"ranks 1\n"),
+            ("a charge", charged, 201, b"accepted 2\n"),
+            ("its verdict", head("GET", "/receipts/2"), 200, b"receipt 2 entered\n"),
+            ("its folio", head("GET", "/folios/1"), 200, extract(1) + right),
+            ("its ranks", head("GET", "/folios/1/ranks"), 200, ranks),
+            ("the report behind it", head("GET", "/report"), 200, report),
+            ("the plan of a filing", head("GET", "/plans/2"), 404, b"not found\n"),
+            ("a receipt that is not there", head("GET", "/receipts/3"), 404, b"not found\n"),
+            ("the ranks of a folio that is not there", head("GET", "/folios/2/ranks"), 404, b"not found\n"),
+        ):
+            for size in (1, 0) if status == 200 else (7,):
+                send(link, sent, size)
+                wanted = reply(status, {200: "OK", 201: "Created", 404: "Not Found"}[status], text)
+                look.same(f"{what}, over a connection that stays open", so_many_of(link, len(wanted)), wanted)
+
+
+def check_full(look, folder):
+    """A journal of 200,000 receipts takes no other, and still knows their numbers."""
+    file, _ = checks.journal_of_openings(MOST_RECEIPTS)
+    with open(os.path.join(folder, checks.JOURNAL), "wb") as journal:
+        journal.write(file)
+    with serving(folder):
+        full = reply(403, "Forbidden", b"full\n")
+        look.same("a filing where the journal is full", said(posted(MOST_RECEIPTS + 1) * 2), full * 2)
+        look.same("a filing that stands in it", said(posted(7)), reply(200, "OK", b"repeated 7\n"))
+
+
+def check_disk(look):
+    """A filing during which the disk fails is answered 503. After a failed write it is received when it comes
+    again; after a failed sync no later one is made, and each request that wants the disk is answered 503."""
+    if not checks.has_strace():
+        look.skip("a disk that fails", "there is no strace that works here")
+        return
+    for call, error, number, wanted in (
+        ("pwrite64", "ENOSPC", 1, [UNAVAILABLE, ACCEPTED, reply(200, "OK", extract(1)), NOT_FOUND]),
+        ("pwrite64", "ENOSPC", 2, [UNAVAILABLE, ACCEPTED, reply(200, "OK", extract(1)), NOT_FOUND]),
+        ("fsync", "EIO", 2, [UNAVAILABLE, UNAVAILABLE, UNAVAILABLE, NOT_FOUND]),
+        ("fsync", "EIO", 3, [UNAVAILABLE, UNAVAILABLE, UNAVAILABLE, NOT_FOUND]),
+    ):
+        what = f"serving where {call} {number} answers {error}"
+        with tempfile.TemporaryDirectory() as folder:
+            path = os.path.join(os.path.realpath(folder), checks.JOURNAL)
+            with open(path, "wb") as file:
+                file.write(checks.journal([]))
+            log = os.path.join(folder, "calls")
+            tracer = ["strace", "-o", log, "-P", path, "-e", f"trace={call}", "-e", f"inject={call}:error={error}:when={number}"]
+            with serving(folder, len(wanted), before=tracer) as child:
+                told = said(posted(1) + posted(1) + head("GET", "/folios/1") + head("GET", "/x"))
+                look.same(what, told, b"".join(wanted))
+                child.wait(checks.LIMIT)
+            with open(log) as file:
+                calls = file.read().count(f"{call}(")
+            if call == "fsync":
+                look.same(f"{what}: syncs up to the last", calls, number)
 
 
 def status_of(reply):
@@ -176,7 +186,6 @@ def check_routes(look):
 
 def check_endings(look):
     """What ends a connection: a refused head, too long a body, its last request, and its own end."""
-    refused = reply(400, "Bad Request", b"bad request\n")
     for what, sent in (
         ("a body of unknown length", head("POST", "/receipts", more="Transfer-Encoding: chunked\r\n")),
         ("two lengths", head("POST", "/receipts", more="Content-Length: 1\r\nContent-Length: 1\r\n")),
@@ -184,27 +193,25 @@ def check_endings(look):
         ("65 header lines", head("GET", "/report", more="a: b\r\n" * 65)),
         ("a head without an end", b"GET / HTTP/1.1\r\n" + b"a" * 8193),
     ):
-        look.same(what, said(sent + head("GET", "/folios/8")), refused)
-    long = reply(413, "Payload Too Large", b"payload too large\n")
-    look.same("a body of 65,537 bytes", said(head("POST", "/receipts", more="Content-Length: 65537\r\n")), long)
-    none = reply(404, "Not Found", b"not found\n")
-    look.same("version 1.0", said(head("GET", "/x", version="1.0") * 2), none)
-    look.same("a connection that is to be closed", said(head("GET", "/x", more="Connection: Close\r\n") * 2), none)
+        look.same(what, said(sent + head("GET", "/folios/8")), BAD_REQUEST)
+    look.same("a body of 65,537 bytes", said(head("POST", "/receipts", more="Content-Length: 65537\r\n")), TOO_LONG)
+    look.same("version 1.0", said(head("GET", "/x", version="1.0") * 2), NOT_FOUND)
+    look.same("a connection that is to be closed", said(head("GET", "/x", more="Connection: Close\r\n") * 2), NOT_FOUND)
     look.same("half a request", said(head("POST", "/receipts", b"x" * 100)[:-1]), b"")
     look.same("no byte", said(b""), b"")
     browser = "Host: 127.0.0.1:7117\r\nUser-Agent: Mozilla/5.0\r\nAccept: text/html,*/*;q=0.8\r\nConnection: keep-alive\r\n"
-    look.same("a browser's request", said(head("GET", "/x", more=browser)), none)
+    look.same("a browser's request", said(head("GET", "/x", more=browser)), NOT_FOUND)
     sent = head("POST", "/receipts", more="Content-Length: 65537\r\n")
-    look.same("a refusal while the peer still sends", said(sent + b"x" * 400_000), long)
-    look.same("a peer that sends on behind its refusal", sends_on(sent, long), True)
+    look.same("a refusal while the peer still sends", said(sent + b"x" * 400_000), TOO_LONG)
+    look.same("a peer that sends on behind its refusal", sends_on(sent, TOO_LONG), True)
     with connected() as gone:
         gone.sendall(head("GET", "/x") * 100)
         gone.setsockopt(socket.SOL_SOCKET, socket.SO_LINGER, struct.pack("ii", 1, 0))
-    look.same("a request behind a peer that went away", said(head("GET", "/x")), none)
-    look.same("connections that wait beside one another", beside(head("GET", "/x")), [none] * BESIDE)
+    look.same("a request behind a peer that went away", said(head("GET", "/x")), NOT_FOUND)
+    look.same("connections that wait beside one another", beside(head("GET", "/x")), [NOT_FOUND] * BESIDE)
     with connected() as silent:
         start = time.monotonic()
-        look.same("a request behind a connection that says nothing", said(head("GET", "/x")), none)
+        look.same("a request behind a connection that says nothing", said(head("GET", "/x")), NOT_FOUND)
         look.at_most("seconds that it waited", round(time.monotonic() - start), 30)
         silent.close()
 
@@ -212,8 +219,13 @@ def check_endings(look):
 def check_ends(look):
     """What ends the program: so many replies, so many connections, a port that is taken, a file that is no journal."""
     with tempfile.TemporaryDirectory() as folder, serving(folder, 2) as child:
-        look.same("three requests where two are left", said(head("GET", "/x") * 3), reply(404, "Not Found", b"not found\n") * 2)
+        look.same("three requests where two are left", said(head("GET", "/x") * 3), NOT_FOUND * 2)
         look.same("the end behind two replies", (child.wait(checks.LIMIT), child.stderr.read()), (0, b""))
+    with tempfile.TemporaryDirectory() as folder, serving(folder, 1) as child, connected() as first, connected() as second:
+        first.sendall(head("GET", "/x"))
+        look.same("a reply where one is left", all_of(first), NOT_FOUND)
+        look.same("the end behind one reply", (child.wait(checks.LIMIT), child.stderr.read()), (0, b""))
+        look.same("a connection that waits then", is_let_go(second), True)
     with tempfile.TemporaryDirectory() as folder, serving(folder, 2) as child:
         look.same("two connections that ask nothing", [said(b""), said(b"")], [b"", b""])
         look.same("the end behind two connections", (child.wait(checks.LIMIT), child.stderr.read()), (0, b""))
@@ -363,6 +375,11 @@ def main():
         look.end()
     with tempfile.TemporaryDirectory() as folder:
         check_requests(look, folder)
+    with tempfile.TemporaryDirectory() as folder:
+        check_open_connection(look, folder)
+    with tempfile.TemporaryDirectory() as folder:
+        check_full(look, folder)
+    check_disk(look)
     check_ends(look)
     with tempfile.TemporaryDirectory() as folder:
         check_clients(look, folder)

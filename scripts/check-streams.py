@@ -75,6 +75,9 @@ def check_broken(look):
     if os.path.exists("/dev/full"):
         with open("/dev/full", "wb") as full, EXAMPLE.open("rb") as source:
             look.same("lines into a full device", checks.run(LINES, stdin=source, stdout=full)[::2], (4, b"write fault\n"))
+        with open("/dev/full", "wb") as full:
+            sample = ["sample", "--seed", "7", "--size", "1", "--desks", "1"]
+            look.same("a summary into a full device", checks.run(sample, stdout=full)[::2], (4, b"write fault\n"))
     else:
         look.skip("lines into a full device", "there is no /dev/full here")
     for what, words in (("settle", SETTLE), ("lines", LINES)):

@@ -9,6 +9,7 @@ import json
 import os
 import pathlib
 import re
+import shutil
 import subprocess
 import sys
 
@@ -23,6 +24,9 @@ HTTP_PAGE = ROOT / "docs" / "formats" / "http.md"
 
 # No run of a check takes longer, in seconds.
 LIMIT = 60
+
+# A folder in which a sync costs nothing, for checks that make many files; the system's own where there is none.
+QUICK = "/dev/shm" if os.access("/dev/shm", os.W_OK) else None
 
 
 class Checks:
@@ -106,6 +110,16 @@ def has_strace():
         return subprocess.run(["strace", "-o", os.devnull, "true"], capture_output=True).returncode == 0
     except OSError:
         return False
+
+
+def library_of(source, folder):
+    """The library of a C source, to be loaded ahead of the program; None where no compiler is found."""
+    compiler = next((name for name in ("cc", "gcc", "clang") if shutil.which(name)), None)
+    if compiler is None:
+        return None
+    built = os.path.join(folder, f"{source.stem}.so")
+    subprocess.run([compiler, "-shared", "-fPIC", "-O1", "-o", built, source], check=True)
+    return built
 
 
 def opening(folio):

@@ -22,7 +22,12 @@ ABSENT = object()
 
 SERIAL = ["7", 0, 4294967296, 7.5]
 AMOUNT = [False, 0, 10000000000001]
-DATE = [20240301, "1969-12-31", "2200-01-01", "2023-02-29", "2024-3-01", "2024-03-01 ", "2024/03/01", "2O24-03-01"]
+# Days that February has in other years.
+NO_DAYS = ["2023-02-29", "2100-02-29"]
+DATE = [
+    20240301, "", "1969-12-31", "2200-01-01", "2024-3-01", "2024-03-01 ", "2024/03/01", "2O24-03-01", "+024-03-01", "2024-00-01",
+    "2024-13-01", "2024-03-00", "2024-02-30", "2024-04-31", *NO_DAYS,
+]
 OBJECT = ["right", [], None]
 ARRAY = [{}, None, 1]
 
@@ -154,6 +159,10 @@ def stamped(item):
     return {"day": "2024-03-01", "minute": 540, **line(item)}
 
 
+def compact(value):
+    return json.dumps(value, separators=(",", ":"))
+
+
 def at(value, path):
     for part in path:
         value = value[part]
@@ -276,7 +285,66 @@ def wrong_texts():
         yield "line", text
 
 
-NO_JSON = ["", " ", "{", "[1,]", "{'a':1}", "nul", "01", "1 2", '{"sender":1,}']
+def nested(depth):
+    """Arrays that nest so deep, with nothing inside."""
+    return "[" * depth + "]" * depth
+
+
+def with_array(number):
+    """A line with one member more, which has this number in an array."""
+    return compact(line(AN_ITEM["distribute"])).replace('"folio":7', f'"folio":7,"x":[{number}]')
+
+
+def wrong_readings():
+    """Lines that a reader of JSON may take for others: how deep they nest, numbers beyond what a double
+    holds, and a name that comes twice, of which the last value counts."""
+    yield "line", nested(127)
+    for number in ("1e308", "-1e308", "18446744073709551616"):
+        yield "item.*", with_array(number)
+    good = compact(stamped(AN_ITEM["lapse"]))
+    yield "minute", good.replace('"sender":1', '"sender":0,"minute":"x","sender":1')
+    yield "item.filing", good.replace('"filing":1', '"filing":1,"filing":0')
+
+
+def right_readings():
+    """Lines that are items, though they are not written as Python writes them, each with its value."""
+    filed = stamped(AN_ITEM["filing"])
+    escaped = compact(filed).replace('"kind":"filing","applicant"', '"k\\u0069nd":"fil\\u0069ng","\\u0061pplicant"')
+    yield escaped, filed
+    yield compact(filed).replace('"minute":540', '"minute":"x","minute":540'), filed
+    yield compact(filed).replace('"area":800', '"area":0,"area":800'), filed
+    spaced = json.dumps(dict(reversed(filed.items())), separators=(" ,\t", " : "))
+    yield f" {spaced}\t", filed
+
+
+def lines_at_the_ends():
+    """Stamped lines whose values are the least and the greatest, and dates around the ends of months."""
+    most = 4294967295
+    last_right = {"receipt": most, "act": 8}
+    land = {"district": 65535, "parcel": most, "sub": 65535, "area": 1000000000, "owners": [most, 1, 2, 3]}
+    charge = {"kind": "mortgage", "rate": 2000, "capital": 10000000000000, "holder": most, "group": 8}
+    acts = [
+        {"act": "open", "folio": most, **land},
+        {"act": "create", "folio": most, **charge, "reserve": 10000000000000},
+        {"act": "assign", "folio": 1, "right": last_right, "holder": most},
+    ]
+    docs = [{"doc": "consent", "act": 8, "person": most, "form": "plain"}, {"doc": "expiry", "act": 8}]
+    yield {**line({**filing(acts, docs), "applicant": most, "conditional": True}), "day": "2149-12-31", "minute": 1439, "sender": most}
+    least = {"act": "open", "folio": 1, "district": 1, "parcel": 1, "sub": 0, "area": 1, "owners": [1]}
+    yield {**line({**filing([least], []), "applicant": 1}), "day": "2000-01-01", "minute": 0, "sender": 0, "reference": 0}
+    yield {**stamped({"kind": "lapse", "filing": most}), "reference": 18446744073709551615}
+    yield stamped({"kind": "award", "folio": most, "buyer": most, "bid": 10000000000000})
+    yield stamped({**AN_ITEM["seize"], "basis": {"type": "right", "right": last_right}})
+    for date in (
+        "1970-01-01", "1999-12-31", "2000-01-01", "2000-02-29", "2024-01-01", "2024-02-29", "2024-12-31", "2025-02-28", "2100-02-28",
+        "2100-03-01", "2149-12-31", "2199-12-31",
+    ):
+        yield stamped({**AN_ITEM["register"], "what": {**A_REGISTRATION["charge"], "due": date}})
+
+
+NO_JSON = [
+    "", " ", "{", "[1,]", "{'a':1}", "nul", "01", "1 2", '{"sender":1,}', nested(128), with_array("1e309"), with_array("-1e309"),
+]
 
 
 def wrong_lines():
@@ -288,15 +356,12 @@ def wrong_lines():
         for wrong, value in cases:
             yield wrong, compact(value)
     yield from wrong_texts()
+    yield from wrong_readings()
 
 
 def right_lines():
     for good, _, _ in good_lines():
         yield compact(good)
-
-
-def compact(value):
-    return json.dumps(value, separators=(",", ":"))
 
 
 def is_stamped(text):
@@ -308,6 +373,7 @@ def stamped_lines():
     """A stamped line of each kind of item, with other numbers in each."""
     for number, (good, _, _) in enumerate(good_lines()):
         yield {**stamped(good["item"]), "minute": number, "sender": number << 24, "reference": number << 56}
+    yield from lines_at_the_ends()
 
 
 def answers():
@@ -315,8 +381,9 @@ def answers():
     for text in right_lines():
         if not is_stamped(text):
             yield text, "item", "malformed day"
-    for value in stamped_lines():
-        yield compact(value), "malformed *", "item " + spelling.receipt(value).hex()
+    written = [(compact(value), value) for value in stamped_lines()]
+    for text, value in [*written, *right_readings()]:
+        yield text, "malformed *", "item " + spelling.receipt(value).hex()
     for path, text in wrong_lines():
         wrong = "malformed " + path
         if not is_stamped(text):

@@ -103,40 +103,22 @@ fn a_gate_is_called_in_each_of_many_folios(rt: HostRuntime) {
     is_passed_by(&rt, &journal, 4, &Slow::Never);
 }
 
-/// Each item in turn, so that the others of the folio wait for it.
+/// At each item in turn, so that the others of the folio wait for it; at all of a folio; at drawn ones;
+/// and where all items are of one folio, so that only one desk has something to do at a time.
 #[test]
-fn a_gate_that_stays_long_at_one_item(rt: HostRuntime) {
+fn a_gate_that_stays_long_changes_nothing(rt: HostRuntime) {
     let journal = sold_beside_a_cure(&rt, rt.alloc());
     for number in 1..11 {
         is_passed(&rt, &journal, &Slow::At(receipt(number)));
     }
-}
-
-#[test]
-fn a_gate_that_stays_long_in_one_folio(rt: HostRuntime) {
-    let journal = sold_beside_a_cure(&rt, rt.alloc());
     is_passed(&rt, &journal, &Slow::In(folio(7)));
     is_passed(&rt, &journal, &Slow::In(folio(8)));
     for seed in 10..14 {
-        let crowded = crowded_journal(rt.alloc(), seed, 4, 60);
+        let crowded = crowded_journal(rt.alloc(), seed, 5, 60);
         is_passed(&rt, &crowded, &Slow::In(folio(1)));
         is_passed(&rt, &crowded, &Slow::In(folio(3)));
-    }
-}
-
-#[test]
-fn a_gate_that_stays_long_at_drawn_items(rt: HostRuntime) {
-    for seed in 20..26 {
-        let crowded = crowded_journal(rt.alloc(), seed, 6, 60);
         is_passed(&rt, &crowded, &Slow::Drawn(seed));
-    }
-}
-
-/// All items of one folio, so that only one desk has something to do at a time.
-#[test]
-fn a_gate_that_stays_long_where_there_is_one_folio(rt: HostRuntime) {
-    for seed in 30..33 {
-        let journal = crowded_journal(rt.alloc(), seed, 1, 40);
-        is_passed(&rt, &journal, &Slow::In(folio(1)));
+        let of_one_folio = crowded_journal(rt.alloc(), seed, 1, 40);
+        is_passed(&rt, &of_one_folio, &Slow::In(folio(1)));
     }
 }

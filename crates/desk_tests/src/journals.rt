@@ -2,8 +2,7 @@
 ghost use Rattle.std.specs.Prelude.{◌≤◌};
 ghost use Rattle.gb_base.specs.DayMinute.{IsStampDay};
 
-use act_model::{Acts, Item, Journal};
-use arrayvec::ArrayVec;
+use act_model::{Item, Journal};
 use gb_base::Day;
 use std::alloc::Global;
 use std::process::Abort;
@@ -52,52 +51,6 @@ pub fn assigned_and_charged(rt: &impl Abort, alloc: Global) -> Journal {
     let assigned = filed(20, assignment(7, right(2, 1), 23), &[consent(1, 20)]);
     receive(rt, &mut journal, day(4, 1), &assigned);
     receive(rt, &mut journal, day(5, 1), &charged(7));
-    journal
-}
-
-/// Folio 7, in which filing 2 of a charge waits for the certified consent that receipt 4 brings, and
-/// receipt 3 creates another charge meanwhile.
-pub fn cured_behind_a_charge(rt: &impl Abort, alloc: Global) -> Journal {
-    let mut journal = Journal::new(alloc);
-    receive(rt, &mut journal, day(2, 1), &opened(7));
-    let plain = filed(10, charge(7, 100_000, 20), &[plain_consent(1, 10)]);
-    receive(rt, &mut journal, day(3, 1), &plain);
-    let other = filed(10, charge(7, 200_000, 21), &[consent(1, 10)]);
-    receive(rt, &mut journal, day(3, 4), &other);
-    receive(rt, &mut journal, day(3, 5), &cure(2, &[consent(1, 10)]));
-    journal
-}
-
-/// A folio is opened for owner 10, and charged five times.
-fn opened_and_charged(of: u32) -> Item
-    requires { 1 ≤ of }
-{
-    let mut acts = ArrayVec::new();
-    acts.push(opening(of, 10));
-    acts.push(charge(of, 100_000, 20));
-    acts.push(charge(of, 200_000, 20));
-    acts.push(charge(of, 300_000, 20));
-    acts.push(charge(of, 400_000, 20));
-    acts.push(charge(of, 500_000, 20));
-    let docs = [
-        consent(1, 10),
-        consent(2, 10),
-        consent(3, 10),
-        consent(4, 10),
-        consent(5, 10),
-        consent(6, 10),
-    ];
-    Item::Filing(filing(10, Acts::new(acts), &docs))
-}
-
-/// Receipts 1 to 4 open a folio each and charge it, by six acts. Receipt 5 charges the first anew.
-pub fn of_many_acts(rt: &impl Abort, alloc: Global) -> Journal {
-    let mut journal = Journal::new(alloc);
-    receive(rt, &mut journal, day(2, 1), &opened_and_charged(7));
-    receive(rt, &mut journal, day(2, 1), &opened_and_charged(9));
-    receive(rt, &mut journal, day(2, 1), &opened_and_charged(8));
-    receive(rt, &mut journal, day(2, 4), &opened_and_charged(6));
-    receive(rt, &mut journal, day(3, 1), &charged(7));
     journal
 }
 

@@ -1,10 +1,10 @@
-//! Tests of settling a journal at desks and in given orders, by what `desk_pool` exports.
+//! Tests of gates at desks and of given orders, by what `desk_pool` exports.
 #![tactic(auto)]
 
 #[cfg(test)]
 mod crowded_journals;
 #[cfg(test)]
-mod crowded_tests;
+mod entries;
 #[cfg(test)]
 mod gate_tests;
 #[cfg(test)]
@@ -15,5 +15,3 @@ mod journals;
 mod order_tests;
 #[cfg(test)]
 mod registers;
-#[cfg(test)]
-mod settling_tests;

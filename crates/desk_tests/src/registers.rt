@@ -2,6 +2,7 @@
 //! them say the same.
 ghost use Rattle.std.specs.Prelude.{◌≡◌, ◌≤◌, length};
 
+use crate::entries::agree_at;
 use act_model::{Journal, JournalName};
 use conflict_queue::Docket;
 use desk_pool::{Round, settle_at_desks};
@@ -13,7 +14,6 @@ use std::marker::Brand;
 use std::process::Abort;
 use std::sync::Wait;
 use std::thread::Threads;
-use test_registers::agree_at;
 
 /// The register that the one registrar leaves.
 pub fn register_of(rt: &impl Abort, alloc: Global, journal: &Journal) -> Register {

@@ -1,15 +1,7 @@
-//! Tests of gb_outside, journal_disk and receipt_journal, by what these crates export.
+//! Tests of gb_outside and journal_disk, by what these crates export.
 #![tactic(auto)]
 
 #[cfg(test)]
-mod book_tests;
-#[cfg(test)]
-mod log_tests;
-#[cfg(test)]
-mod memory_disk_tests;
-#[cfg(test)]
-mod memory_link_tests;
+mod full_file_tests;
 #[cfg(test)]
 mod object_tests;
-#[cfg(test)]
-mod worked_record;

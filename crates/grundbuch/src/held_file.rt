@@ -47,11 +47,12 @@ impl<R: Files> HeldFile<'_, R>
 where
     R::File: FileExt + Lock,
 {
-    ghost use Rattle.std.specs.Prelude.{◌≡◌, None, IsErr};
+    ghost use Rattle.std.specs.Prelude.{◌≡◌, None, IsOk, IsErr, IsSome};
 
     /// Opens the file where it is shut. Where that fails it stays shut.
     pub fn open(&mut self) -> io::Result<()>
         ensures shut { IsErr result → self.new.opened ≡ None }
+        ensures now_open { IsOk result → IsSome self.new.opened }
     {
         if self.opened.is_none() {
             let file = self.open_and_lock()?;
@@ -61,7 +62,9 @@ where
     }
 
     /// The open file.
-    pub fn get(&mut self) -> io::Result<&R::File> {
+    pub fn get(&mut self) -> io::Result<&R::File>
+        ensures stays_open { IsSome self.old.opened → IsSome self.new.opened }
+    {
         let file = match self.opened.take() {
             Some(file) => file,
             None => self.open_and_lock()?,

@@ -1,7 +1,7 @@
 //! The journal's file as the office's disk.
 //! Why so: docs/DECISIONS.md, "After a failed sync every later one fails".
 //! Why so: docs/DECISIONS.md, "Only a failed sync gives the file up".
-ghost use Rattle.std.specs.Prelude.{◌≡◌, ◌⊎◌, None, is_err, IsOk, IsErr, IsTrue};
+ghost use Rattle.std.specs.Prelude.{◌≡◌, ◌⊎◌, None, is_err, IsOk, IsErr, IsSome, IsTrue};
 ghost use Rattle.gb_outside.specs.Faults.{Counts, faults_after};
 
 use crate::faults::counted;
@@ -19,7 +19,6 @@ use std::rt::Files;
 pub struct JournalFile<'a, R: Files> {
     file: HeldFile<'a, R>,
     files: &'a R,
-    folder: &'a str,
 
     /// Whether the folder was synced, so that a stop leaves the file's entry there.
     has_entry: bool,
@@ -34,17 +33,9 @@ impl<'a, R: Files> JournalFile<'a, R> {
     pub fn new(files: &'a R) -> JournalFile<'a, R>
         ensures { result.faults ≡ 0 }
     {
-        JournalFile::at(files, ".", "grundbuch.journal")
-    }
-
-    /// The file of this path, in this folder.
-    fn at(files: &'a R, folder: &'a str, path: &'a str) -> JournalFile<'a, R>
-        ensures { result.faults ≡ 0 }
-    {
         JournalFile {
-            file: HeldFile::new(files, path),
+            file: HeldFile::new(files, "grundbuch.journal"),
             files,
-            folder,
             has_entry: false,
             lost: false,
             faults: 0,
@@ -63,6 +54,7 @@ where
         ensures entry { IsOk result → IsTrue self.new.has_entry }
         ensures lost { IsErr result → (self.new.file.opened ≡ None) ⊎ IsTrue self.new.lost }
         ensures stays_lost { IsTrue self.old.lost → IsErr result × IsTrue self.new.lost }
+        ensures unopened { self.new.file.opened ≡ None → self.new.lost ≡ self.old.lost }
         ensures uncounted { self.new.faults ≡ self.old.faults }
     {
         if self.lost {
@@ -78,13 +70,14 @@ where
     /// have made and not synced.
     fn sync_with_entry(&mut self) -> io::Result<()>
         ensures entry { IsOk result → IsTrue self.new.has_entry }
+        ensures stays_open { IsSome self.old.file.opened → IsSome self.new.file.opened }
         ensures uncounted { self.new.faults ≡ self.old.faults }
     {
         self.file.get()?.sync_all()?;
         if !self.has_entry {
             let mut how = OpenOptions::new();
             how.read(true);
-            let folder = open_beside_streams(self.files, &how, self.folder)?;
+            let folder = open_beside_streams(self.files, &how, ".")?;
             folder.sync_all()?;
             self.has_entry = true;
         }
@@ -136,6 +129,7 @@ where
         ensures entry { IsOk result → IsTrue self.new.has_entry }
         ensures lost { IsErr result → (self.new.file.opened ≡ None) ⊎ IsTrue self.new.lost }
         ensures stays_lost { IsTrue self.old.lost → IsErr result × IsTrue self.new.lost }
+        ensures unopened { self.new.file.opened ≡ None → self.new.lost ≡ self.old.lost }
         ensures cause { Counts self.old.faults self.new.faults (is_err result) }
         ensures once { self.new.faults ≡ faults_after self.old.faults (is_err result) }
     {
@@ -161,126 +155,5 @@ fn told<T: Drop>(faults: &mut u64, answer: io::Result<T>) -> Result<T, DiskFaile
     match counted(faults, answer) {
         Ok(value) => Ok(value),
         Err(_) => Err(DiskFailed),
-    }
-}
-
-#[cfg(test)]
-mod tests {
-    use super::JournalFile;
-    use crate::fake_files::{FakeFiles, Notes};
-    use gb_outside::Disk;
-    use std::fs;
-    use std::test::Fail;
-
-    /// A folder of the current one, made for the test.
-    const FOLDER: &str = "grundbuch_journal_file_test";
-
-    const PATH: &str = "grundbuch_journal_file_test/grundbuch.journal";
-
-    #[test]
-    fn what_is_written_stands_in_the_file(rt: HostRuntime) -> Result<(), Fail> {
-        let _ = fs::remove_dir_all(&rt, FOLDER);
-        let mut disk = JournalFile::at(&rt, FOLDER, PATH);
-        assert!(rt; disk.len().is_err(), "a file in a folder that is not there");
-        fs::create_dir(&rt, FOLDER)?;
-        assert_eq!(rt; disk.len(), Ok(0), "the file that the next call makes");
-        assert_eq!(rt; disk.write_at(0, b"the land register"), Ok(()));
-        assert_eq!(rt; disk.write_at(4, b"sand"), Ok(()));
-        assert_eq!(rt; (disk.sync(), disk.sync()), (Ok(()), Ok(())));
-        drop(disk);
-        let text = fs::read_to_string(&rt, PATH)?;
-        assert_eq!(rt; text.as_str(), "the sand register");
-        let mut disk = JournalFile::at(&rt, FOLDER, PATH);
-        let mut bytes = [0; 8];
-        assert_eq!(rt; disk.read_at(4, &mut bytes), Ok(()));
-        assert_eq!(rt; bytes, *b"sand reg");
-        assert_eq!(rt; (disk.sync(), disk.len()), (Ok(()), Ok(17)));
-        assert!(rt; disk.read_at(10, &mut bytes).is_err(), "bytes past the end");
-        assert_eq!(rt; disk.faults, 1);
-        drop(disk);
-        fs::remove_dir_all(&rt, FOLDER)?;
-        Ok(())
-    }
-
-    #[test]
-    fn refusals_are_faults(rt: HostRuntime) {
-        // The device refuses each byte, and syncs nothing.
-        let mut disk = JournalFile::at(&rt, "/dev", "/dev/full");
-        let mut bytes = [0; 8];
-        assert!(rt; disk.write_at(0, b"byte").is_err());
-        assert!(rt; disk.sync().is_err());
-        assert!(rt; disk.sync().is_err());
-        assert_eq!(rt; disk.faults, 3);
-        let mut disk = JournalFile::at(&rt, "/dev", "/dev/no/such/file");
-        assert!(rt; disk.len().is_err());
-        assert!(rt; disk.read_at(0, &mut bytes).is_err());
-        assert_eq!(rt; disk.faults, 2);
-    }
-
-    #[test]
-    fn the_file_is_copied_and_locked_and_synced_with_its_folder(rt: HostRuntime) {
-        let notes = Notes::new(String::new(rt.alloc()), None);
-        let files = FakeFiles::new(&notes);
-        let mut disk = JournalFile::new(&files);
-        assert_eq!(rt;
-            (disk.len(), disk.sync(), disk.sync()),
-            (Ok(17), Ok(()), Ok(()))
-        );
-        let asked = "open grundbuch.journal read write create\ncopy\nclose\nlock\nlength\nsync\n\
-            open . read\ncopy folder\nclose folder\nsync folder\nclose folder\nsync\n";
-        assert!(rt; notes.are(asked));
-    }
-
-    #[test]
-    fn a_file_that_another_has_is_let_go(rt: HostRuntime) {
-        let notes = Notes::new(String::new(rt.alloc()), Some("lock"));
-        let files = FakeFiles::new(&notes);
-        let mut disk = JournalFile::new(&files);
-        assert!(rt; disk.len().is_err());
-        assert_eq!(rt; disk.faults, 1);
-        assert!(rt;
-            notes.are("open grundbuch.journal read write create\ncopy\nclose\nlock\nclose\n")
-        );
-    }
-
-    #[test]
-    fn a_descriptor_that_is_not_copied_is_not_used(rt: HostRuntime) {
-        let notes = Notes::new(String::new(rt.alloc()), Some("copy"));
-        let files = FakeFiles::new(&notes);
-        let mut disk = JournalFile::new(&files);
-        assert!(rt; disk.len().is_err());
-        assert_eq!(rt; disk.faults, 1);
-        assert!(rt; notes.are("open grundbuch.journal read write create\ncopy\nclose\n"));
-    }
-
-    #[test]
-    fn no_sync_follows_one_that_failed(rt: HostRuntime) {
-        let file = "open grundbuch.journal read write create\ncopy\nclose\nlock\nsync\n";
-        let copied = "open . read\ncopy folder\nclose folder\n";
-        let synced = "open . read\ncopy folder\nclose folder\nsync folder\nclose folder\n";
-        for (refused, asked_of_folder) in [
-            ("sync", ""),
-            ("copy folder", copied),
-            ("sync folder", synced),
-        ] {
-            let notes = Notes::new(String::new(rt.alloc()), Some(refused));
-            let files = FakeFiles::new(&notes);
-            let mut disk = JournalFile::new(&files);
-            assert!(rt; disk.sync().is_err());
-            assert!(rt; disk.sync().is_err());
-            assert_eq!(rt; disk.faults, 2);
-            assert!(rt; notes.are_both(file, asked_of_folder), "{refused}");
-        }
-    }
-
-    #[test]
-    fn a_sync_follows_an_opening_that_failed(rt: HostRuntime) {
-        let notes = Notes::new(String::new(rt.alloc()), Some("lock"));
-        let files = FakeFiles::new(&notes);
-        let mut disk = JournalFile::new(&files);
-        assert!(rt; disk.sync().is_err());
-        assert!(rt; disk.sync().is_err());
-        let asked = "open grundbuch.journal read write create\ncopy\nclose\nlock\nclose\n";
-        assert!(rt; notes.are_both(asked, asked));
     }
 }

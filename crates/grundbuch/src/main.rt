@@ -4,8 +4,6 @@
 
 mod connection;
 mod endings;
-#[cfg(test)]
-mod fake_files;
 mod faults;
 mod held_file;
 mod input;

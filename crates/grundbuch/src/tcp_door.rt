@@ -16,7 +16,6 @@ const ADDRESS: &str = "127.0.0.1:7117";
 #[derive(Drop)]
 pub struct TcpDoor<'a, N: Net> {
     net: &'a N,
-    address: &'a str,
     listener: Option<N::Listener>,
     faults: u64,
 }
@@ -26,16 +25,8 @@ impl<'a, N: Net> TcpDoor<'a, N> {
     pub fn new(net: &'a N) -> TcpDoor<'a, N>
         ensures { result.faults ≡ 0 }
     {
-        TcpDoor::at(net, ADDRESS)
-    }
-
-    /// The port at this address.
-    fn at(net: &'a N, address: &'a str) -> TcpDoor<'a, N>
-        ensures { result.faults ≡ 0 }
-    {
         TcpDoor {
             net,
-            address,
             listener: None,
             faults: 0,
         }
@@ -43,7 +34,7 @@ impl<'a, N: Net> TcpDoor<'a, N> {
 
     /// Opens the port.
     fn open(&self) -> io::Result<N::Listener> {
-        TcpListener::bind(self.net, self.address)
+        TcpListener::bind(self.net, ADDRESS)
     }
 
     /// The next connection that comes to the port, which stays open.
@@ -100,53 +91,5 @@ impl<'a, N: Net> Listener for TcpDoor<'a, N> {
 
     fn done(&mut self, link: Connection<N::Stream>) {
         link.let_go();
-    }
-}
-
-#[cfg(test)]
-mod tests {
-    use super::TcpDoor;
-    use gb_outside::{Door, Got, Link, Listener, Wrote};
-    use std::io::{Read, Write};
-    use std::net::{OpenListener, Shutdown, TcpStream};
-    use std::test::Fail;
-
-    /// Any port that is free.
-    const FREE: &str = "127.0.0.1:0";
-
-    #[test]
-    fn bytes_are_carried_both_ways(rt: HostRuntime) -> Result<(), Fail> {
-        let mut door = TcpDoor::at(&rt, FREE);
-        let listener = door.open()?;
-        let address = listener.local_addr()?;
-        door.listener = Some(listener);
-        let mut peer = TcpStream::connect(&rt, address)?;
-        peer.write_all(b"who owns it?")?;
-        peer.shutdown(Shutdown::Write)?;
-        match door.accept() {
-            Door::Open(mut link) => {
-                let mut into = [b'.'; 16];
-                assert_eq!(rt; link.read(&mut into), Got::Bytes(12));
-                assert_eq!(rt; into, *b"who owns it?....");
-                assert_eq!(rt; link.read(&mut into), Got::End);
-                assert_eq!(rt; link.write(b"person 10"), Wrote::Took(9));
-                door.done(link);
-            }
-            _ => assert!(rt; false, "a connection"),
-        }
-        let mut answer = [b'.'; 16];
-        assert_eq!(rt; peer.read(&mut answer)?, 9);
-        assert_eq!(rt; answer, *b"person 10.......");
-        assert_eq!(rt; peer.read(&mut answer)?, 0);
-        assert_eq!(rt; door.faults, 0);
-        Ok(())
-    }
-
-    #[test]
-    fn a_port_that_cannot_be_opened_is_a_fault(rt: HostRuntime) {
-        let mut door = TcpDoor::at(&rt, "127.0.0.1:no port");
-        assert!(rt; matches!(door.accept(), Door::Failed));
-        assert!(rt; matches!(door.accept(), Door::Failed));
-        assert_eq!(rt; door.faults, 2);
     }
 }

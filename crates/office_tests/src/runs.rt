@@ -1,6 +1,6 @@
 //! Runs over objects in memory, for the tests.
 use gb_base::{Day, NoMemory, Stamp};
-use gb_outside::{Disk, ListClock, MemDisk, MemSink, MemSource, OpenGate, SureListener};
+use gb_outside::{ListClock, MemDisk, MemSink, MemSource, OpenGate, SureListener};
 use registry_office::{Status, run};
 use std::process::Abort;
 use std::rc::RcStr;
@@ -19,10 +19,10 @@ pub struct Run<'a> {
 
 impl Run<'_> {
     /// How the run over the disk ended, and what was written.
-    pub fn done<R: AllocGlobal + Threads + Wait + Sync, D: Disk>(
+    fn done<R: AllocGlobal + Threads + Wait + Sync>(
         &self,
         rt: &R,
-        disk: &mut D,
+        disk: &mut MemDisk,
     ) -> Result<(Status, Vec<u8>), NoMemory> {
         let alloc = rt.alloc();
         let mut words = Vec::new(alloc);
@@ -57,10 +57,10 @@ impl Run<'_> {
     }
 
     /// The run over the disk ends with this status, and writes this text.
-    pub fn writes<R: AllocGlobal + Threads + Wait + Sync + Abort, D: Disk>(
+    pub fn writes<R: AllocGlobal + Threads + Wait + Sync + Abort>(
         &self,
         rt: &R,
-        disk: &mut D,
+        disk: &mut MemDisk,
         status: Status,
         text: &[u8],
     ) -> Result<(), Fail> {
@@ -79,15 +79,6 @@ pub fn run_of<'a>(command: &'a [&'a str], input: &'a [u8]) -> Run<'a> {
         failing_reads: &[],
         failing_writes: &[],
     }
-}
-
-/// The journal of a disk is settled at two desks.
-pub fn settles<R: AllocGlobal + Threads + Wait + Sync + Abort>(
-    rt: &R,
-    disk: &mut MemDisk,
-    report: &[u8],
-) -> Result<(), Fail> {
-    run_of(&["settle", "--desks", "2"], &[]).writes(rt, disk, Status::Ok, report)
 }
 
 /// A disk with this file, of which the numbered calls fail.

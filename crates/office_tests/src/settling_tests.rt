@@ -1,16 +1,6 @@
-//! The journal of a disk that is settled, and disks that have none.
-ghost use Rattle.std.specs.Prelude.{IfOk, IsTrue};
-ghost use Rattle.act_model.specs.WellFormed.{well_formed};
-
-use crate::runs::{Run, disk_of};
-use crate::worked_lines::{CHARGE, OPENING, REPORT};
-use act_json::read_stamped;
-use act_model::Item;
-use gb_base::Stamp;
-use gb_outside::MemDisk;
-use receipt_journal::{Book, Received};
+//! Settling while a call of the disk, the source or the sink fails, and what is not called.
+use crate::runs::{Run, disk_of, run_of};
 use registry_office::Status;
-use std::alloc::Global;
 use std::process::Abort;
 use std::sync::Wait;
 use std::test::Fail;
@@ -20,97 +10,74 @@ use std::thread::Threads;
 const LAPSE: &[u8] =
     b"\x47GBJOURN1\x01\x00\x00\x00\x17\x00\x00\x4d\x46\x02\x1c\x00\x00\x00\x01\x00\x00\x00\x00\x00\x00\x00\x05\x03\x00\x00\x00\x02\x00";
 
-/// The file of a journal with one distribution, of folio 2.
-const DISTRIBUTION: &[u8] =
-    b"\x47GBJOURN1\x01\x00\x00\x00\x17\x00\x00\x4d\x46\x02\x1c\x00\x00\x00\x01\x00\x00\x00\x00\x00\x00\x00\x05\x08\x00\x00\x00\x02\x00";
+const REPORT: &[u8] = b"receipt 1 not pending\nend receipts 1 folios 0\n";
 
-/// The same with a kind of item that there is not.
-const OF_KIND_9: &[u8] =
-    b"\x47GBJOURN1\x01\x00\x00\x00\x17\x00\x00\x4d\x46\x02\x1c\x00\x00\x00\x01\x00\x00\x00\x00\x00\x00\x00\x05\x09\x00\x00\x00\x02\x00";
+/// Two lines of lapses.
+const LINES: &[u8] =
+    b"{\"day\":\"2024-03-01\",\"minute\":540,\"sender\":1,\"reference\":1,\"item\":{\"kind\":\"lapse\",\"filing\":9}}\n{\"day\":\"2024-03-01\",\"minute\":540,\"sender\":1,\"reference\":2,\"item\":{\"kind\":\"lapse\",\"filing\":9}}\n";
 
-/// What a stamped line says.
-fn item_of(alloc: Global, line: &[u8]) -> Result<(Stamp, u32, u64, Item), &'static str>
-    ensures { IfOk result (λ found. IsTrue (well_formed found.3)) }
-{
-    if line.len() > 65_536 {
-        return Err("a line that is too long");
+const REPLIES: &[u8] = b"accepted 1\naccepted 2\n";
+
+/// The summary of each journal of one receipt.
+const SUMMARY: &[u8] =
+    b"receipts 1\nentered 1\nrejected 0\ninterim 0\ncured 0\nother 0\nfolios 1\nrights 0\ncapital 0.00\npaid 0.00\n";
+
+/// The words and the input of a run of which the first read would fail.
+fn reading_nothing<'a>(command: &'a [&'a str]) -> Run<'a> {
+    Run {
+        failing_reads: &[1],
+        ..run_of(command, b"not read")
     }
-    read_stamped(alloc, line).map_err(|_| "a line that is no item")
 }
 
-/// What the journal of the disk answers to the item of a line.
-fn received(alloc: Global, disk: &mut MemDisk, line: &[u8]) -> Result<Received, Fail> {
-    let mut book = Book::open(alloc, disk)?;
-    let (stamp, sender, reference, item) = item_of(alloc, line)?;
-    Ok(book.receive(alloc, disk, stamp, sender, reference, &item))
+/// The journal is opened once, by four calls of the disk, and no other call is made. The file stays.
+#[test]
+fn each_call_of_the_disk_may_fail(rt: HostRuntime) -> Result<(), Fail> {
+    let run = reading_nothing(&["settle", "--desks", "4"]);
+    for call in [1, 2, 3, 4] {
+        let mut disk = disk_of(&rt, LAPSE, &[call])?;
+        run.writes(&rt, &mut disk, Status::DiskFault, b"")?;
+        assert_eq!(rt; disk.bytes(), LAPSE);
+    }
+    let mut disk = disk_of(&rt, LAPSE, &[5])?;
+    run.writes(&rt, &mut disk, Status::Ok, REPORT)
 }
 
-/// `settle` over the disk ends with this status and writes this text; it reads no input.
-fn settles<R: AllocGlobal + Threads + Wait + Sync + Abort>(
+/// A run over the lines of which these reads and writes fail ends so. The first call of the disk
+/// would fail too.
+fn fails<R: AllocGlobal + Threads + Wait + Sync + Abort>(
     rt: &R,
-    disk: &mut MemDisk,
+    failing_reads: &[u32],
+    failing_writes: &[u32],
     status: Status,
     text: &[u8],
 ) -> Result<(), Fail> {
     let run = Run {
-        command: &["settle", "--desks", "4"],
-        input: b"not read",
-        failing_reads: &[1],
-        failing_writes: &[],
+        command: &["settle", "--desks", "2", "--lines"],
+        input: LINES,
+        failing_reads,
+        failing_writes,
     };
-    run.writes(rt, disk, status, text)
-}
-
-/// `settle` over a disk with this file, of which the numbered calls fail, ends with this status,
-/// writes this text, and leaves this file.
-fn leaves<R: AllocGlobal + Threads + Wait + Sync + Abort>(
-    rt: &R,
-    file: &[u8],
-    fail: &[u32],
-    status: Status,
-    text: &[u8],
-    left: &[u8],
-) -> Result<(), Fail> {
-    let mut disk = disk_of(rt, file, fail)?;
-    settles(rt, &mut disk, status, text)?;
-    assert_eq!(rt; disk.bytes(), left);
-    Ok(())
+    run.writes(rt, &mut disk_of(rt, b"no journal", &[1])?, status, text)
 }
 
 #[test]
-fn the_journal_of_the_disk_is_settled(rt: HostRuntime) -> Result<(), Fail> {
-    let mut disk = disk_of(&rt, &[], &[])?;
-    for line in [OPENING, CHARGE] {
-        let received = received(rt.alloc(), &mut disk, line)?;
-        assert!(rt; matches!(received, Received::Accepted(_)));
-    }
-    settles(&rt, &mut disk, Status::Ok, REPORT)
+fn each_read_and_write_over_lines_may_fail(rt: HostRuntime) -> Result<(), Fail> {
+    fails(&rt, &[1], &[], Status::ReadFault, b"")?;
+    fails(&rt, &[2], &[], Status::ReadFault, REPLIES)?;
+    fails(&rt, &[], &[1], Status::WriteFault, b"")?;
+    fails(&rt, &[], &[2], Status::WriteFault, b"accepted 1\n")?;
+    fails(&rt, &[], &[3], Status::WriteFault, REPLIES)
 }
 
 #[test]
-fn an_unmade_file_is_made_and_holds_nothing(rt: HostRuntime) -> Result<(), Fail> {
-    let text = b"end receipts 0 folios 0\n";
-    leaves(&rt, &[], &[], Status::Ok, text, b"\x47GBJOURN1\x00")
-}
-
-#[test]
-fn a_distribution_without_a_case_is_refused(rt: HostRuntime) -> Result<(), Fail> {
-    let text = b"receipt 1 rejected ZVG 15\nend receipts 1 folios 0\n";
-    leaves(&rt, DISTRIBUTION, &[], Status::Ok, text, DISTRIBUTION)
-}
-
-#[test]
-fn a_lapse_that_names_nothing_is_settled(rt: HostRuntime) -> Result<(), Fail> {
-    let text = b"receipt 1 not pending\nend receipts 1 folios 0\n";
-    leaves(&rt, LAPSE, &[], Status::Ok, text, LAPSE)
-}
-
-#[test]
-fn a_disk_without_a_journal_is_refused(rt: HostRuntime) -> Result<(), Fail> {
-    let other = b"hello world";
-    leaves(&rt, other, &[], Status::NotJournal, b"", other)?;
-    let bad = Status::BadRecord { at: 9 };
-    leaves(&rt, OF_KIND_9, &[], bad, b"", OF_KIND_9)?;
-    leaves(&rt, LAPSE, &[1], Status::DiskFault, b"", LAPSE)?;
-    leaves(&rt, LAPSE, &[3], Status::DiskFault, b"", LAPSE)
+fn a_sample_reads_nothing_and_its_write_may_fail(rt: HostRuntime) -> Result<(), Fail> {
+    let run = reading_nothing(&["sample", "--seed", "7", "--size", "1", "--desks", "1"]);
+    let mut disk = disk_of(&rt, b"no journal", &[1])?;
+    run.writes(&rt, &mut disk, Status::Ok, SUMMARY)?;
+    let cut = Run {
+        failing_writes: &[1],
+        ..run
+    };
+    cut.writes(&rt, &mut disk, Status::WriteFault, b"")
 }
