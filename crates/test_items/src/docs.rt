@@ -28,21 +28,6 @@ pub fn plain_consent(act: u8, by: u32) -> Doc
     }
 }
 
-/// The agreement on an act.
-pub fn agreement(act: u8) -> Doc {
-    Doc::Agreement { act }
-}
-
-/// The tax office's clearance of an act.
-pub fn clearance(act: u8) -> Doc {
-    Doc::TaxClearance { act }
-}
-
-/// The proof that the right that an act cancels has expired.
-pub fn expiry_proof(act: u8) -> Doc {
-    Doc::ExpiryProof { act }
-}
-
 /// These documents.
 pub fn documents(list: &[Doc]) -> Docs
     requires { length list.now ≤ most_docs }

@@ -102,33 +102,6 @@ pub fn advance(of: u32, by: u32, amount: u64) -> Item
     }
 }
 
-/// The registration of a public charge of so many cents.
-pub fn public_charge(of: u32, by: u32, amount: u64, due: Day) -> Item
-    requires folio { 1 ≤ of }
-    requires person { 1 ≤ by }
-    requires amount { amount ≤ most_cents }
-{
-    let what = Registration::PublicCharge {
-        person: person(by),
-        amount: cents(amount),
-        due,
-    };
-    Item::Register {
-        folio: folio(of),
-        what,
-    }
-}
-
-/// The registration of a right's interest in arrears.
-pub fn arrears(of: u32, right: RightId, from: Day, until: Day) -> Item
-    requires { 1 ≤ of }
-{
-    Item::Register {
-        folio: folio(of),
-        what: Registration::Arrears { right, from, until },
-    }
-}
-
 /// The call to bid.
 pub fn call(of: u32, costs: u64) -> Item
     requires folio { 1 ≤ of }

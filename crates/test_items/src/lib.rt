@@ -12,15 +12,14 @@ mod journals;
 mod numbers;
 
 pub use acts::{
-    assignment, cancellation, charge, conversion, creation, creation_reserving, exchange, exercise,
-    land_charge, mortgage, notice, one, opening, opening_for, owner, parcel, spec, three, transfer,
-    transfer_to, two, two_owners, usufruct,
+    assignment, charge, creation, exchange, land_charge, one, opening, opening_for, owner, parcel,
+    spec, three, two,
 };
-pub use docs::{agreement, clearance, consent, documents, expiry_proof, plain_consent};
+pub use docs::{consent, documents, plain_consent};
 pub use draws::Draws;
 pub use items::{
-    advance, arrears, award, call, cure, distribution, filed, filing, filing_of, lapse,
-    public_charge, seizure_by, seizure_from,
+    advance, award, call, cure, distribution, filed, filing, filing_of, lapse, seizure_by,
+    seizure_from,
 };
 pub use journals::received;
 pub use numbers::{
