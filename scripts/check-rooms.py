@@ -1,8 +1,8 @@
 #!/usr/bin/env python3
 """Checks what documents say of the code's rooms: that the words of docs/glossary.md stand in the code,
 that each must-fail edit can be applied and stands in a row of its crate, that docs/promises.md names those
-that the gate tries, that there are not too many, and that crates.txt has the crates in order, with a user
-for each library but those of tests.
+that the gate tries, that there are not too many, that docs/TESTING.md names each journal of cases/, and
+that crates.txt has the crates in order, with a user for each library but those of tests.
 
 Needs no built program.
 """
@@ -14,6 +14,8 @@ from crates import CRATES, MORE, OF_GATE, edits, misfit, strays, uses
 
 GLOSSARY = checks.ROOT / "docs" / "glossary.md"
 PROMISES = checks.ROOT / "docs" / "promises.md"
+TESTING = checks.ROOT / "docs" / "TESTING.md"
+CASES = checks.ROOT / "cases"
 
 # No crate has more edits, nor have all of them together.
 MOST_OF_A_CRATE = 12
@@ -126,6 +128,12 @@ def check_counts(look, crates):
     look.at_most("crates whose edits the gate tries", sum(map(bool, of_gate.values())), MOST_CRATES_OF_GATE)
 
 
+def check_cases(look):
+    """That docs/TESTING.md says of each journal of cases/ what it shows."""
+    said = {name for line in TESTING.read_text().splitlines() if line.startswith("|") for name, _ in NAME.findall(line)}
+    look.same("cases that docs/TESTING.md does not name", sorted(case.stem for case in CASES.glob("*.jsonl") if case.stem not in said), [])
+
+
 def is_program(crate):
     files = (CRATES / crate / "src").glob("*.rt")
     return any(re.search(r"^\s*(pub )?fn main\b", file.read_text(), re.M) for file in files)
@@ -162,6 +170,7 @@ def main():
     check_rows(look, crates)
     check_edits(look, crates)
     check_counts(look, crates)
+    check_cases(look)
     check_crates(look, crates)
     look.end()
 
