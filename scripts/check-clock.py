@@ -42,7 +42,8 @@ def taken(library, words, text, moments):
     with tempfile.TemporaryDirectory() as folder:
         env = {**os.environ, "LD_PRELOAD": library, "MOMENTS": moments}
         ran = checks.run(words, folder, input=text, env=env)
-        return ran, (pathlib.Path(folder) / checks.JOURNAL).read_bytes()
+        file = pathlib.Path(folder) / checks.JOURNAL
+        return ran, file.read_bytes() if file.exists() else None
 
 
 def main():
