@@ -62,14 +62,20 @@ where
     }
 
     /// The open file.
-    pub fn get(&mut self) -> io::Result<&R::File>
-        ensures stays_open { IsSome self.old.opened → IsSome self.new.opened }
-    {
+    pub fn get(&mut self) -> io::Result<&R::File> {
         let file = match self.opened.take() {
             Some(file) => file,
             None => self.open_and_lock()?,
         };
         Ok(self.opened.insert(file))
+    }
+
+    /// Brings the file onto the disk. One that is shut is an error.
+    pub fn sync(&self) -> io::Result<()> {
+        match &self.opened {
+            Some(file) => file.sync_all(),
+            None => Err(io::Error::from(io::ErrorKind::Other)),
+        }
     }
 
     fn open_and_lock(&self) -> io::Result<R::File> {

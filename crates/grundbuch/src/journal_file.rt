@@ -1,7 +1,7 @@
 //! The journal's file as the office's disk.
 //! Why so: docs/DECISIONS.md, "After a failed sync every later one fails".
 //! Why so: docs/DECISIONS.md, "Only a failed sync gives the file up".
-ghost use Rattle.std.specs.Prelude.{◌≡◌, ◌⊎◌, None, is_err, IsOk, IsErr, IsSome, IsTrue};
+ghost use Rattle.std.specs.Prelude.{◌≡◌, ◌⊎◌, None, is_err, IsOk, IsErr, IsTrue};
 ghost use Rattle.gb_outside.specs.Faults.{Counts, faults_after};
 
 use crate::faults::counted;
@@ -70,10 +70,10 @@ where
     /// have made and not synced.
     fn sync_with_entry(&mut self) -> io::Result<()>
         ensures entry { IsOk result → IsTrue self.new.has_entry }
-        ensures stays_open { IsSome self.old.file.opened → IsSome self.new.file.opened }
+        ensures file { self.new.file ≡ self.old.file }
         ensures uncounted { self.new.faults ≡ self.old.faults }
     {
-        self.file.get()?.sync_all()?;
+        self.file.sync()?;
         if !self.has_entry {
             let mut how = OpenOptions::new();
             how.read(true);
