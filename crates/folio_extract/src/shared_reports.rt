@@ -1,6 +1,6 @@
 //! The report, where several desks write the texts of its folios at once.
 //! Why so: docs/DECISIONS.md, "Desks write the report too".
-ghost use Rattle.std.specs.Prelude.{◌≡◌, ◌++◌, ◌≤◌, IfOk, OnOk};
+ghost use Rattle.std.specs.Prelude.{◌≡◌, ◌*◌, ◌++◌, ◌≤◌, ℕ, IfOk, OnOk};
 ghost use Rattle.std.specs.String.{string_bytes};
 ghost use Rattle.folio_sections.specs.Held.{entries_at};
 ghost use Rattle.folio_extract.specs.Reports.{Tells, folio_texts, report, report_text};
@@ -68,7 +68,7 @@ fn add_folios_at_desks<R: AllocGlobal + Threads + Sync>(
 {
     let alloc = rt.alloc();
     let folios = register.folios();
-    let each = folios.len() / desks + 1;
+    let each = folios_each(folios.len(), desks);
     let texts = thread::map_chunks(
         rt,
         alloc,
@@ -77,6 +77,16 @@ fn add_folios_at_desks<R: AllocGlobal + Threads + Sync>(
         &|_, some| { texts_of(alloc, register, journal, some) },
     )?;
     add_texts(text, texts.as_slice(), register, journal, each)
+}
+
+/// Of how many folios each desk writes the texts: as few as serve for all, and at least one.
+fn folios_each(folios: usize, desks: usize) -> usize
+    requires desks { 1 ≤ desks }
+    ensures some { 1 ≤ result }
+    ensures enough { folios ≤ result * desks }
+    ensures fewest { (fewer : ℕ) → 1 ≤ fewer → folios ≤ fewer * desks → result ≤ fewer }
+{
+    folios.div_ceil(desks).max(1)
 }
 
 /// The texts of these open folios.
