@@ -1,5 +1,7 @@
 //! What a sale is reckoned in.
 ghost use Rattle.std.specs.Prelude.{◌≡◌, ◌*◌, ◌≤◌, IfOk, OnErr, OnOk, max};
+ghost use Rattle.std.specs.Thread.{IsSend, IsSync};
+ghost use Rattle.sale_rules.specs.contracts.scratch.Scratch.{the_row};
 
 use auction_classes::Claims;
 use gb_base::NoMemory;
@@ -89,9 +91,14 @@ fn room_for(wanted: usize, room: usize) -> usize
 }
 
 /// Takes any type whose values threads may hand on and share.
-fn is_shared<T: Send + Sync>() {}
+fn is_shared<T: Send + Sync>()
+    ensures { IsSend T.row × IsSync T.row }
+{}
 
 /// Threads may hand a scratch on and share it.
-fn scratches_are_shared() {
+fn scratches_are_shared()
+    ensures { IsSend the_row × IsSync the_row }
+{
+    // Called for its clause.
     is_shared::<Scratch>();
 }
