@@ -1,5 +1,5 @@
 -- The sums of what is claimed do not overflow.
-use Rattle.std.proofs.Common.{◌≡◌, ℕ, zero, suc, ◌+◌, ◌-◌, ◌*◌, ◌<◌, ◌≤◌, eqb, Bool, true, false, cond, ◌||◌, nat_lt, List, [], ◌∷◌, ◌++◌, All, IfSome, IsTrue, filter_map, flat_map, length, map, slice_get, sum_by, Option, Some, None, option_and_then, option_map, sym, subst, arith}
+use Rattle.std.proofs.Common.{◌≡◌, ℕ, zero, suc, ◌+◌, ◌-◌, ◌*◌, ◌<◌, ◌≤◌, eqb, Bool, true, false, cond, ◌||◌, nat_lt, List, [], ◌∷◌, ◌++◌, All, IfSome, IsTrue, filter_map, flat_map, length, map, slice_get, sum_by, Option, Some, None, option_and_then, option_map, sym, subst, ◌∙◌, arith}
 use Rattle.std.specs.List.{AllByRecursion, cons_option, range_with_len}
 use Rattle.std.proofs.lemmas.Bool.Decides.{nat_tests}
 use Rattle.std.proofs.lemmas.List.Elements.{All-from_recursion, All-head, All-tail}
@@ -28,6 +28,8 @@ use Rattle.auction_classes.specs.declared.claim_items.Claim.{Claim}
 use Rattle.auction_classes.specs.declared.claim_items.ClaimItem.{ClaimItem}
 use Rattle.auction_classes.specs.declared.claim_items.SeizedFor.{SeizedFor}
 use Rattle.auction_classes.specs.declared.findings.Finding.{Finding}
+use Rattle.auction_classes.specs.inner.ClaimRows.{row_behind}
+use Rattle.auction_classes.proofs.ClaimsInRow.{row_is}
 
 -- ---- what the items of a journal say
 
@@ -139,14 +141,14 @@ all_ahead : (late : Bool) (cs : List Claim) (ks : List ℕ) → AllByRecursion I
 all_ahead late cs [] all = tt
 all_ahead late cs (k ∷ ks) all = all_both IsAmountAhead (of_class late cs k) (flat_map (of_class late cs) ks) (all_filtered IsAmountAhead _ cs all) (all_ahead late cs ks all)
 
-row_ahead : (before : Option Claim) (cs : List Claim) → AllByRecursion IsAmountAhead cs → AllByRecursion (λ (c : ClaimItem). cents_ahead c ≤ most_cents) (in_row before cs)
+row_ahead : (before : Option Claim) (cs : List Claim) → AllByRecursion IsAmountAhead cs → AllByRecursion (λ (c : ClaimItem). cents_ahead c ≤ most_cents) (row_behind before cs)
 row_ahead before [] all = tt
 row_ahead before (c ∷ cs) all = (all.0, row_ahead (Some c) cs all.1)
 
 -- the timely claims of classes 1 and 3, of so many claims
 pub ahead_within : (year : ℕ) (rs : List Registered) (zs : List Seizure) (f : Finding) (read : RightNo → List Entry) (live : List CreatedRight) (items : List ClaimItem)
     → AllByRecursion (λ (r : Registered). amount_of r.what ≤ most_cents) rs
-    → items ≡ in_row None (in_order (claims_by year rs zs (map (λ x. right_with f rs x (read x.id)) live)))
+    → items ≡ in_row (in_order (claims_by year rs zs (map (λ x. right_with f rs x (read x.id)) live)))
     → length items ≤ 4 * length live + 40 → length live ≤ 256 → sum_by cents_ahead items < most_sum
 ahead_within year rs zs f read live items amounts are few lives =
     let own = all_filtered IsAmountAhead is_claim _ (registered_ahead year rs amounts) in
@@ -154,7 +156,7 @@ ahead_within year rs zs f read live items amounts are few lives =
     let rights = all_filtered IsAmountAhead is_claim _ (rights_ahead f rs read live) in
     let all = all_both IsAmountAhead _ _ own (all_both IsAmountAhead _ _ persons rights) in
     let order = all_both IsAmountAhead _ _ (all_ahead false _ (range_with_len 1 8) all) (all_ahead true _ (range_with_len 1 8) all) in
-    let each = subst (AllByRecursion (λ (c : ClaimItem). cents_ahead c ≤ most_cents)) (sym are) (row_ahead None _ order) in
+    let each = subst (AllByRecursion (λ (c : ClaimItem). cents_ahead c ≤ most_cents)) (sym (are ∙ row_is (in_order (claims_by year rs zs (map (λ x. right_with f rs x (read x.id)) live))))) (row_ahead None _ order) in
     let sum = sum_by-le cents_ahead most_cents items (All-from_recursion (λ (c : ClaimItem). cents_ahead c ≤ most_cents) items each) in
     omega (arith, sum, few, lives)
 

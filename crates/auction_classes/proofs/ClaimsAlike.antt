@@ -1,5 +1,5 @@
 -- Two registers that agree at the case and at the title, and read the rights of the folio alike, have the same claims in its sale.
-use Rattle.std.proofs.Common.{◌≡◌, ℕ, inl, List, None, map, refl, sym, ◌∙◌}
+use Rattle.std.proofs.Common.{◌≡◌, ℕ, inl, List, map, refl, sym, ◌∙◌}
 use Rattle.gb_base.specs.declared.keys.Key.{Key}
 use Rattle.gb_base.specs.declared.keys.Key.TheVariants.{Case, Title}
 use Rattle.act_model.specs.declared.receipts.Receipt.{Receipt}
@@ -51,7 +51,7 @@ claimed_alike journal at0 at1 folio i case title alike =
     ∙ (λ j. line_read (record { seized = (finding j).seized; number = class }) (read s1) folio (map (right_found s1) (rights_found s1)) (the_line (read s1) folio))
     ∙ line_as_read s0 (read s1) class (the_line (read s1) folio) (map (right_found s1) (rights_found s1)) alike (record { rights = refl; live = refl; exchanges = refl; exercises = refl }) found in
     λ j. record {
-      items = in_row None (in_order (claims_by (finding j).year (registrations j) (seizures j) (found j)));
+      items = in_row (in_order (claims_by (finding j).year (registrations j) (seizures j) (found j)));
       costs = (finding j).costs;
       owners = owners_named (below (finding j).before (title j));
       seizures = seized j;

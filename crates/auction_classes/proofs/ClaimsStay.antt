@@ -71,7 +71,7 @@ claimed_by s f rs zs =
     filled_by (λ id. option_map_or (λ x. (right_with f rs x (at_right s x.id)).interest) (find (λ x. same_right x.id id) (rights_of_class s class)) 0 + capital_at (read s) s.folio id)
     (is_gone (read s) s.folio) (groups_of_class s class) (exchanges_of_class s class) (exercises_of_class s class) in
     record {
-      items = in_row None (in_order (claims_by f.year rs zs (map (λ x. right_with f rs x (at_right s x.id)) (rights_found s))));
+      items = in_row (in_order (claims_by f.year rs zs (map (λ x. right_with f rs x (at_right s x.id)) (rights_found s))));
       costs = f.costs;
       owners = former_owners s;
       seizures = map (seized_with f.sale (at_right s)) zs;

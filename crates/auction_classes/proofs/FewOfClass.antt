@@ -1,5 +1,5 @@
 -- No class has more claims than may share: those of rights are of other classes than the others, and of each a right has one at most.
-use Rattle.std.proofs.Common.{◌≡◌, ℕ, ◌+◌, ◌≤◌, Bool, true, false, cond, ◌&&◌, ◌||◌, ◌==◌, List, [], ◌∷◌, ◌++◌, count_by, filter, filter_map, flat_map, length, sum_by, None, refl, sym, subst, arith}
+use Rattle.std.proofs.Common.{◌≡◌, ℕ, ◌+◌, ◌≤◌, Bool, true, false, cond, ◌&&◌, ◌||◌, ◌==◌, List, [], ◌∷◌, ◌++◌, count_by, filter, filter_map, flat_map, length, sum_by, refl, sym, subst, arith}
 use Rattle.std.specs.List.{AllByRecursion, cons_option}
 use Rattle.std.proofs.lemmas.Bool.Decides.{nat_tests}
 use Rattle.std.proofs.lemmas.List.Elements.{All-from_recursion}
@@ -119,13 +119,13 @@ claims_count late k year rs zs found own few fewer many =
     omega (arith, first, second, a, b, c, sum)
 
 pub few_of_class : (late : Bool) (k year : ℕ) (rs : List Registered) (zs : List Seizure) (found : List RightFound) → AllByRecursion IsOfRights found → length rs ≤ 32 → length zs ≤ 8 → length found ≤ 256
-    → length (claims_in late k (in_row None (in_order (claims_by year rs zs found)))) ≤ 256
+    → length (claims_in late k (in_row (in_order (claims_by year rs zs found)))) ≤ 256
 few_of_class late k year rs zs found own few fewer many =
     let cs = claims_by year rs zs found in
-    let row : List ClaimItem = in_row None (in_order cs) in
+    let row : List ClaimItem = in_row (in_order cs) in
     let filtered = length-filter (is_in_class late k) row in
     let counted : count_by (is_in_class late k) row ≡ sum_by (λ (c : ClaimItem). cond (is_in_class late k c) 1 0) row = refl in
-    let weighs = row_weighs (λ (c : ClaimItem). cond (is_in_class late k c) 1 0) (counts late k) (λ before c. refl) None (in_order cs) in
+    let weighs = row_weighs (λ (c : ClaimItem). cond (is_in_class late k c) 1 0) (counts late k) (λ before c. refl) (in_order cs) in
     let order = order_weighs (counts late k) cs in
     let most = claims_count late k year rs zs found own few fewer many in
     omega (arith, filtered, counted, weighs, order, most)

@@ -37,6 +37,8 @@ use Rattle.auction_classes.specs.declared.claim_items.SeizedFor.{SeizedFor}
 use Rattle.auction_classes.specs.declared.findings.Finding.{Finding}
 use Rattle.auction_classes.specs.declared.lowest_bids.Lowest.{Lowest}
 use Rattle.auction_classes.specs.declared.rights_found.RightFound.{RightFound}
+use Rattle.auction_classes.specs.inner.ClaimRows.{row_behind}
+use Rattle.auction_classes.proofs.ClaimsInRow.{row_is}
 
 -- each of these registrations is late
 abbrev pub AllLate : List Registered → Type 0
@@ -49,10 +51,10 @@ abbrev counts : Claim → Bool
 counts c = not c.late && (c.class == 1 || c.class == 3)
 
 -- what the claims of a row add there is what those add that count
-added_up : (before : Option Claim) (cs : List Claim) → sum_by cents_ahead (in_row before cs) ≡ sum_by (λ (c : Claim). c.capital) (filter counts cs)
+added_up : (before : Option Claim) (cs : List Claim) → sum_by cents_ahead (row_behind before cs) ≡ sum_by (λ (c : Claim). c.capital) (filter counts cs)
 added_up before [] = refl
 added_up before (c ∷ cs) =
-    let rest = in_row (Some c) cs in
+    let rest = row_behind (Some c) cs in
     sum_by-cons cents_ahead (behind_claim before c) rest
     ∙ elim (counts c) as (λ b. cond b c.capital 0 + sum_by cents_ahead rest ≡ sum_by (λ (d : Claim). d.capital) (cond b (c ∷ filter counts cs) (filter counts cs))) [
       | true ↦ ap (λ n. c.capital + n) (added_up (Some c) cs) ∙ sym (sum_by-cons (λ (d : Claim). d.capital) c (filter counts cs))
@@ -134,15 +136,15 @@ counted f rs named zs reads live =
     ∙ append-nil (filter is_claim (filter counts own))
 
 ahead_same : (f : Finding) (rs more : List Registered) (zs : List Seizure) (reads : RightNo → List Entry) (live : List CreatedRight) → AllLate more
-    → sum_by cents_ahead (in_row None (in_order (claims_by f.year (rs ++ more) zs (map (λ x. right_with f (rs ++ more) x (reads x.id)) live))))
-    ≡ sum_by cents_ahead (in_row None (in_order (claims_by f.year rs zs (map (λ x. right_with f rs x (reads x.id)) live))))
+    → sum_by cents_ahead (in_row (in_order (claims_by f.year (rs ++ more) zs (map (λ x. right_with f (rs ++ more) x (reads x.id)) live))))
+    ≡ sum_by cents_ahead (in_row (in_order (claims_by f.year rs zs (map (λ x. right_with f rs x (reads x.id)) live))))
 ahead_same f rs more zs reads live late =
     let claim : Registered → Option Claim = λ r. claim_registered f.year r.late r.what in
     let registered : filter counts (filter_map claim (rs ++ more)) ≡ filter counts (filter_map claim rs) =
     ap (filter counts) (filter_map-append claim rs more) ∙ filter-append counts (filter_map claim rs) (filter_map claim more)
     ∙ ap (λ cs. filter counts (filter_map claim rs) ++ cs) (late_none f.year more late) ∙ append-nil (filter counts (filter_map claim rs)) in
-    let sums : (cs : List Claim) → sum_by cents_ahead (in_row None (in_order cs)) ≡ sum_by (λ (c : Claim). c.capital) (in_order (filter counts cs)) = λ cs.
-    added_up None (in_order cs) ∙ ap (sum_by (λ (c : Claim). c.capital)) (ordered cs) in
+    let sums : (cs : List Claim) → sum_by cents_ahead (in_row (in_order cs)) ≡ sum_by (λ (c : Claim). c.capital) (in_order (filter counts cs)) = λ cs.
+    ap (sum_by cents_ahead) (row_is (in_order cs)) ∙ added_up None (in_order cs) ∙ ap (sum_by (λ (c : Claim). c.capital)) (ordered cs) in
     sums (claims_by f.year (rs ++ more) zs (map (λ x. right_with f (rs ++ more) x (reads x.id)) live))
     ∙ ap (λ cs. sum_by (λ (c : Claim). c.capital) (in_order cs))
     (counted f (rs ++ more) (rs ++ more) zs reads live ∙ ap (filter is_claim) registered ∙ sym (counted f rs rs zs reads live))
@@ -211,7 +213,7 @@ four_from folio reads seized interest =
 abbrev lowest_from : ℕ → (Key → List Entry) → Finding → List Registered → List Seizure → Option Lowest
 lowest_from folio reads f rs zs =
     let rights = map (λ (x : CreatedRight). right_with f rs x (reads (Right folio x.id))) (live_rights reads folio) in
-    bid_of f.costs (sum_by cents_ahead (in_row None (in_order (claims_by f.year rs zs rights))))
+    bid_of f.costs (sum_by cents_ahead (in_row (in_order (claims_by f.year rs zs rights))))
     (four_from folio reads f.seized (λ x. (right_with f rs x (reads (Right folio x.id))).interest)) (of_class_four rights)
     (map (seized_with f.sale (λ id. reads (Right folio id))) zs)
 

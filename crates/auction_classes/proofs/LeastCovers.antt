@@ -7,13 +7,13 @@ use Rattle.std.proofs.lemmas.Bool.Decides.{nat_tests}
 use Rattle.gb_base.specs.Limits.{most_sum}
 use Rattle.gb_base.proofs.Members.{In, find_complete}
 use Rattle.rank_slots.specs.Filled.{Filled}
-use Rattle.auction_classes.specs.LowestBid.{covers_served, least, personal_amount}
-use Rattle.auction_classes.specs.inner.Covers.{least_from}
+use Rattle.auction_classes.specs.LowestBid.{least, personal_amount}
+use Rattle.auction_classes.specs.inner.Covers.{covers_from, least_from}
 use Rattle.auction_classes.specs.declared.claim_items.SeizedFor.{SeizedFor}
 
 -- what is least so far, with the covers of those that are left, is least of all; and what was seized for personally so far
 pub record CoversLeft (four : Filled) (seizures : List SeizedFor) (index : ℕ) (least : Option ℕ) (before : ℕ) : Type 0 where
-  pub covered : least_from least (covers_served four before (drop index seizures)) ≡ least_from None (covers_served four 0 seizures)
+  pub covered : least_from least (covers_from four before (drop index seizures)) ≡ least_from None (covers_from four 0 seizures)
   pub amounts : before ≡ sum_by (λ z. personal_amount z.basis) (take index seizures)
   pub bound : IfSome least (λ n. n < 2 * most_sum)
 

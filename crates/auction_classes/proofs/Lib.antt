@@ -13,6 +13,7 @@ pub mod ClaimsStay
 pub mod ClassFills
 pub mod CommercialDays
 pub mod EarlierRights
+pub mod EarlierSeizures
 pub mod ExchangesAlike
 pub mod FewOfClass
 pub mod FoundSoFar

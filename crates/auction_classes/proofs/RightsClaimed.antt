@@ -18,6 +18,8 @@ use Rattle.auction_classes.specs.declared.case_items.Seizure.{Seizure}
 use Rattle.auction_classes.specs.declared.claim_items.Claim.{Claim}
 use Rattle.auction_classes.specs.declared.claim_items.ClaimItem.{ClaimItem}
 use Rattle.auction_classes.specs.declared.rights_found.RightFound.{RightFound}
+use Rattle.auction_classes.specs.inner.ClaimRows.{row_behind}
+use Rattle.auction_classes.proofs.ClaimsInRow.{row_is}
 use Rattle.auction_classes.proofs.OrderedClaims.{in_classes}
 
 -- the claim is of the class, and late or timely as asked
@@ -26,11 +28,11 @@ is_of late k c = are_both late c.late && c.class == k
 
 -- ---- in a row
 
-row_rights : (late : Bool) (k : ℕ) (before : Option Claim) (cs : List Claim) → map (λ (x : ClaimItem). x.right) (claims_in late k (in_row before cs)) ≡ map (λ (c : Claim). c.right) (of_class late cs k)
+row_rights : (late : Bool) (k : ℕ) (before : Option Claim) (cs : List Claim) → map (λ (x : ClaimItem). x.right) (claims_in late k (row_behind before cs)) ≡ map (λ (c : Claim). c.right) (of_class late cs k)
 row_rights late k before [] = refl
 row_rights late k before (c ∷ cs) =
     let rest = row_rights late k (Some c) cs in
-    let items = claims_in late k (in_row (Some c) cs) in
+    let items = claims_in late k (row_behind (Some c) cs) in
     let claims = of_class late cs k in
     elim (is_of late k c) as (λ b. map (λ (x : ClaimItem). x.right) (cond b (behind_claim before c ∷ items) items) ≡ map (λ (d : Claim). d.right) (cond b (c ∷ claims) claims)) [
       | true ↦ ap (λ xs. c.right ∷ xs) rest
@@ -182,7 +184,7 @@ all_of_rights four (x ∷ xs) all =
 
 -- the timely claims of a class of rights are those of its rights
 pub class_is_of_rights : (four : Bool) (year : ℕ) (rs : List Registered) (zs : List Seizure) (found : List RightFound) → AllByRecursion (λ (x : RightFound). 1 ≤ x.capital) found
-    → map (λ (x : ClaimItem). x.right) (claims_in false (class_no four) (in_row None (in_order (claims_by year rs zs found)))) ≡ map (λ (y : RightFound). Some y.right.id) (filter (λ (y : RightFound). y.class == class_no four) found)
+    → map (λ (x : ClaimItem). x.right) (claims_in false (class_no four) (in_row (in_order (claims_by year rs zs found)))) ≡ map (λ (y : RightFound). Some y.right.id) (filter (λ (y : RightFound). y.class == class_no four) found)
 class_is_of_rights four year rs zs found all =
     let k : ℕ = class_no four in
     let right_of : Claim → Option RightNo = λ c. c.right in
@@ -193,7 +195,8 @@ class_is_of_rights four year rs zs found all =
     let second = filter_none (is_of false k) personal (all_filtered (λ c. is_of false k c ≡ false) is_claim _ (no_personal four zs)) in
     let low : 1 ≤ k = elim four as (λ b. 1 ≤ cond b 4 6) [ true ↦ omega arith | false ↦ omega arith ] in
     let high : k ≤ 8 = elim four as (λ b. cond b 4 6 ≤ 8) [ true ↦ omega arith | false ↦ omega arith ] in
-    row_rights false k None (in_order (claims_by year rs zs found))
+    ap (λ items. map (λ (x : ClaimItem). x.right) (claims_in false k items)) (row_is (in_order (claims_by year rs zs found)))
+    ∙ row_rights false k None (in_order (claims_by year rs zs found))
     ∙ ap (map right_of) (order_class (claims_by year rs zs found) k low high
     ∙ filter-append (is_of false k) registered (personal ++ rights)
     ∙ ap (λ ys. of_class false registered k ++ ys) (filter-append (is_of false k) personal rights)

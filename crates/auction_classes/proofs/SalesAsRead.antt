@@ -1,5 +1,5 @@
 -- What is claimed in a sale as it is read is what is claimed in the sale.
-use Rattle.std.proofs.Common.{◌≡◌, ℕ, ◌+◌, ◌&&◌, nat_le, All, List, None, map, sym, ap, subst, ◌∙◌}
+use Rattle.std.proofs.Common.{◌≡◌, ℕ, ◌+◌, ◌&&◌, nat_le, All, List, map, sym, ap, subst, ◌∙◌}
 use Rattle.std.proofs.lemmas.List.Elements.{All-from_recursion, recursion_from_All}
 use Rattle.gb_base.proofs.Members.{In}
 use Rattle.gb_base.specs.RightNo.{RightNo}
@@ -75,7 +75,7 @@ claimed_as_read journal at folio a entries reads title live lists from are =
     let found = (λ i. rights_with (sale_of_case journal (case i) a) read_right (from.living i)) ∙ same_rights s reads from.rights in
     record {
       items = are.items ∙ (λ i. items_with (sale_of_case journal (case i) a) read_right (from.living i))
-          ∙ ap (λ xs. in_row None (in_order (claims_by (year_seized s) (registrations_found s) (seizures_found s) xs))) (same_rights s reads from.rights);
+          ∙ ap (λ xs. in_row (in_order (claims_by (year_seized s) (registrations_found s) (seizures_found s) xs))) (same_rights s reads from.rights);
       owned = are.owners ∙ ap owners_named (sym from.owned);
       seizures = are.seizures ∙ (λ i. map (seized_with (sale_day (sale_of_case journal (case i) a)) read_right) (seizures_found (sale_of_case journal (case i) a)))
           ∙ same_seizures s reads from.rights;

@@ -226,7 +226,7 @@ module _ (s0 s1 : Sale) (finding : finding_of s1 ≡ finding_of s0) (registratio
   -- all that is claimed
   claimed_same : claimed_in s1 ≡ claimed_in s0
   claimed_same = λ j. record {
-    items = in_row None (in_order (claims_by (finding j).year (registrations j) (seizures j) (rights_same j)));
+    items = in_row (in_order (claims_by (finding j).year (registrations j) (seizures j) (rights_same j)));
     costs = (finding j).costs;
     owners = owners_named (title j);
     seizures = seized_same j;

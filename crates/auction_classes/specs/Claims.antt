@@ -1,6 +1,6 @@
 -- The claims in a forced sale, class by class (ZVG §§ 10 to 13, 37, 45, 110).
-use Rattle.std.specs.Prelude.{ℕ, ◌+◌, ◌-◌, Bool, true, false, not, ◌==◌, ◌&&◌, ◌||◌, nat_le, nat_lt, if◌then◌else◌, List, [], ◌∷◌, ◌++◌, filter, filter_map, flat_map, map, sum_by, Option, Some, None}
-use Rattle.std.specs.List.{range_with_len}
+use Rattle.std.specs.Prelude.{ℕ, ◌+◌, ◌-◌, Bool, true, false, not, ◌==◌, ◌&&◌, ◌||◌, nat_le, nat_lt, if◌then◌else◌, List, [], ◌∷◌, ◌++◌, filter, filter_map, flat_map, map, sum_by, take, Option, Some, None}
+use Rattle.std.specs.List.{enumerate_from, last_or, range_with_len}
 use Rattle.std.specs.Option.{option_map_or}
 use Rattle.gb_base.specs.Calendar.{date_of}
 use Rattle.gb_base.specs.RightNo.{RightNo, same_right}
@@ -183,10 +183,9 @@ behind_claim before c = record {
   with_previous = ranks_with before c;
 }
 
--- each claim with what it has to do with the one before it
-abbrev pub in_row : Option Claim → List Claim → List ClaimItem
-in_row before [] = []
-in_row before (c ∷ cs) = behind_claim before c ∷ in_row (Some c) cs
+-- these claims, each with what it has to do with the last of those before it
+abbrev pub in_row : List Claim → List ClaimItem
+in_row cs = map (λ numbered. behind_claim (last_or None (take numbered.0 cs)) numbered.1) (enumerate_from 0 cs)
 
 -- all claims of a sale
 abbrev pub claims_found : Sale → List Claim
@@ -194,7 +193,7 @@ claims_found s = claims_by (year_seized s) (registrations_found s) (seizures_fou
 
 -- the claims of at least one cent, in the order in which a plan has them
 abbrev pub claims : Sale → List ClaimItem
-claims s = in_row None (in_order (claims_found s))
+claims s = in_row (in_order (claims_found s))
 
 -- the owners whom a title with these entries names, in the order in which they were named
 abbrev pub owners_named : List Entry → List ℕ

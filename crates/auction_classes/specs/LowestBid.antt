@@ -1,6 +1,6 @@
 -- The lowest bid, and what remains of each right (ZVG §§ 43, 44, 49, 52).
-use Rattle.std.specs.Prelude.{ℕ, ◌+◌, ◌-◌, Bool, true, not, ◌==◌, ◌&&◌, ◌||◌, nat_le, if◌then◌else◌, List, [], ◌∷◌, find, length, min, sum_by, Option, option_map}
-use Rattle.std.specs.List.{list_all}
+use Rattle.std.specs.Prelude.{ℕ, ◌+◌, ◌-◌, Bool, true, not, ◌==◌, ◌&&◌, ◌||◌, nat_le, if◌then◌else◌, List, filter, find, length, map, min, sum_by, take, Option, option_map}
+use Rattle.std.specs.List.{enumerate_from, list_all}
 use Rattle.std.specs.Option.{option_map_or}
 use Rattle.gb_base.specs.RightNo.{RightNo, same_right}
 use Rattle.act_model.specs.declared.sales.Basis.{Basis}
@@ -21,19 +21,16 @@ abbrev pub personal_amount : Basis → ℕ
 personal_amount (basis.Personal creditor claim) = claim
 personal_amount (basis.FromRight right) = 0
 
--- What stands ahead of a seizure from class 4 on (ZVG § 44), with so much seized for personally before it: of one from a right the
--- right's threshold on the line of class 4, of a personal creditor's one that whole line and the personal seizures before it.
-abbrev pub cover_by : Filled → ℕ → Basis → ℕ
-cover_by four before (basis.Personal creditor claim) = length (line four) + before
-cover_by four before (basis.FromRight right) = threshold four right
+-- What stands ahead of a seizure from class 4 on (ZVG § 44), where these are earlier: of one from a right the right's threshold on the
+-- line of class 4; of a personal creditor's that whole line, and what the earlier ones of personal creditors are for.
+abbrev pub cover_of : Filled → List SeizedFor → Basis → ℕ
+cover_of four earlier (basis.Personal creditor claim) = length (line four) + sum_by (λ z. personal_amount z.basis) earlier
+cover_of four earlier (basis.FromRight right) = threshold four right
 
--- the covers of those of these seizures that are served, in order, with so much seized for personally before them
-abbrev pub covers_served : Filled → ℕ → List SeizedFor → List ℕ
-covers_served four before [] = []
-covers_served four before (z ∷ zs) =
-    if z.served
-    then cover_by four before z.basis ∷ covers_served four (before + personal_amount z.basis) zs
-    else covers_served four (before + personal_amount z.basis) zs
+-- the covers of those of these seizures that are served, each with all that are before it
+abbrev pub covers_served : Filled → List SeizedFor → List ℕ
+covers_served four seizures =
+    map (λ numbered. cover_of four (take numbered.0 seizures) numbered.1.basis) (filter (λ numbered. numbered.1.served) (enumerate_from 0 seizures))
 
 -- the least of some numbers: one that is above none of them; none where there are none
 abbrev pub least : List ℕ → Option ℕ
@@ -41,7 +38,7 @@ least numbers = find (λ n. list_all (λ m. nat_le n m) numbers) numbers
 
 -- the cover of the base, which is a served seizure of least cover (ZVG § 44(2)); none where no seizure is served
 abbrev pub cover_of_base : Filled → List SeizedFor → Option ℕ
-cover_of_base four seizures = least (covers_served four 0 seizures)
+cover_of_base four seizures = least (covers_served four seizures)
 
 -- The part of that cover that lies on the line of class 4. ZVG § 44 covers what stands ahead: that this is counted along the line,
 -- cent by cent, is the office's own rule.

@@ -1,6 +1,7 @@
 -- What private clauses and proofs alone cite.
 pub mod CaseSales
 pub mod ClaimLists
+pub mod ClaimRows
 pub mod ClaimsRoom
 pub mod Covers
 pub mod Findings

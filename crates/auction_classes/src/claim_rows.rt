@@ -66,7 +66,7 @@ fn add_of_class(ordered: &mut Vec<Claim>, claim: &Claim, late: bool, class: u8)
 /// memory.
 pub(crate) fn write_row(items: &mut Vec<ClaimItem>, claims: &[Claim])
     requires room { length claims.now ≤ vec_capacity items.old }
-    ensures items { items.new.items ≡ in_row None claims.now }
+    ensures items { items.new.items ≡ in_row claims.now }
     ensures len { length items.new.items ≡ length claims.now }
     ensures capacity { vec_capacity items.new ≡ vec_capacity items.old }
 {

@@ -1,5 +1,5 @@
 -- The lists of what is claimed, and what is claimed in a sale as its case and the folio's rights are read.
-use Rattle.std.specs.Prelude.{◌≡◌, ℕ, ◌+◌, ◌*◌, ◌≤◌, List, map, None, vec_capacity}
+use Rattle.std.specs.Prelude.{◌≡◌, ℕ, ◌+◌, ◌*◌, ◌≤◌, List, map, vec_capacity}
 use Rattle.gb_base.specs.RightNo.{RightNo}
 use Rattle.folio_sections.specs.declared.entries.Entry.{Entry}
 use Rattle.folio_line.specs.declared.folio_rights.CreatedRight.{CreatedRight}
@@ -44,7 +44,7 @@ rights_with s read live = map (λ x. right_with (finding_of s) (registrations_fo
 -- the claims in their row
 abbrev pub items_with : Sale → (RightNo → List Entry) → List CreatedRight → List ClaimItem
 items_with s read live =
-    in_row None (in_order (claims_by (year_seized s) (registrations_found s) (seizures_found s) (rights_with s read live)))
+    in_row (in_order (claims_by (year_seized s) (registrations_found s) (seizures_found s) (rights_with s read live)))
 
 -- The lists have what is claimed in a sale, where these are its live rights, and this is read at each right and at the title.
 pub record AreClaimedIn (s : Sale) (read : RightNo → List Entry) (title : List Entry) (live : List CreatedRight) (lists : ClaimLists) : Type 0 where

@@ -1,5 +1,24 @@
--- The least of some numbers, as it is found in one walk.
-use Rattle.std.specs.Prelude.{ℕ, List, fold, min, Option, Some, None}
+-- The covers of seizures, and the least of some numbers, as they are found in one walk.
+use Rattle.std.specs.Prelude.{ℕ, ◌+◌, if◌then◌else◌, List, [], ◌∷◌, fold, length, min, Option, Some, None}
+use Rattle.act_model.specs.declared.sales.Basis.{Basis}
+use Rattle.act_model.specs.declared.sales.Basis.TheVariants as basis
+use Rattle.rank_slots.specs.Filled.{Filled, line}
+use Rattle.rank_slots.specs.Payments.{threshold}
+use Rattle.auction_classes.specs.LowestBid.{personal_amount}
+use Rattle.auction_classes.specs.declared.claim_items.SeizedFor.{SeizedFor}
+
+-- what stands ahead of a seizure from class 4 on, with so much seized for personally before it
+abbrev pub cover_by : Filled → ℕ → Basis → ℕ
+cover_by four before (basis.Personal creditor claim) = length (line four) + before
+cover_by four before (basis.FromRight right) = threshold four right
+
+-- the covers of those of these seizures that are served, with so much seized for personally before them
+abbrev pub covers_from : Filled → ℕ → List SeizedFor → List ℕ
+covers_from four before [] = []
+covers_from four before (z ∷ zs) =
+    if z.served
+    then cover_by four before z.basis ∷ covers_from four (before + personal_amount z.basis) zs
+    else covers_from four (before + personal_amount z.basis) zs
 
 -- the lesser of two numbers, where the first is there
 abbrev pub lesser : Option ℕ → ℕ → Option ℕ

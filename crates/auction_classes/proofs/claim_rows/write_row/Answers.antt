@@ -16,7 +16,7 @@ loop-i-preserved c =
       row =
           c.push_copy.ensures.items ∙ ap (λ y. c.loop-i.items.items ++ y ∷ []) c.behind_claims.ensures
           ∙ ap (λ ys. ys ++ behind_claim (last_or None (take i xs)) x ∷ []) c.loop-i.invariant.row
-          ∙ sym (row_push None (take i xs) x) ∙ ap (in_row None) (sym more);
+          ∙ sym (row_push (take i xs) x) ∙ ap in_row (sym more);
       few = omega (arith, c.push_copy.ensures.len, c.loop-i.invariant.few);
       capacity = c.push_copy.ensures.capacity ∙ c.loop-i.invariant.capacity;
     }

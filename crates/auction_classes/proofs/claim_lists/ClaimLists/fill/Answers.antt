@@ -1,5 +1,5 @@
 -- Each list is written from those before it, and the first of them from what is found of the sale.
-use Rattle.std.proofs.Common.{None, map, ap, ◌∙◌}
+use Rattle.std.proofs.Common.{map, ap, ◌∙◌}
 use Rattle.auction_classes.specs.Claims.{claims_by, in_order, in_row}
 use Rattle.auction_classes.specs.SaleClaims.{of_class_four}
 use Rattle.auction_classes.specs.inner.Findings.{right_with, seized_with}
@@ -19,7 +19,7 @@ returns-clause-claimed g c =
     let rights = c.deref-4.ensures.value ∙ found in
     let claims = c.deref-5.ensures.value ∙ c.write_claims.ensures.claims ∙ (λ i. claims_by (ap (λ (f : Finding). f.year) finding i) (again i) (seizures i) (rights i)) in
     record {
-      items = c.write_row.ensures.items ∙ ap (in_row None) (c.deref-6.ensures.value ∙ c.write_in_order.ensures.claims ∙ ap in_order claims);
+      items = c.write_row.ensures.items ∙ ap in_row (c.deref-6.ensures.value ∙ c.write_in_order.ensures.claims ∙ ap in_order claims);
       owners = c.write_owners.ensures.items;
       seizures = c.write_seizures.ensures.items ∙ (λ i. map (seized_with (ap (λ (f : Finding). f.sale) finding i) read) (served i));
       rights = c.write_right_claims.ensures.items ∙ ap of_class_four (c.deref-7.ensures.value ∙ found);
