@@ -1,4 +1,5 @@
 -- Lemmas.
+pub mod EqualRank
 pub mod LineEnds
 pub mod LinePaid
 pub mod LineRemains

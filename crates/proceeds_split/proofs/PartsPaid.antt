@@ -10,7 +10,7 @@ use Rattle.gb_base.specs.Shares.{share}
 use Rattle.gb_base.proofs.Sharing.{sum_of_shares}
 use Rattle.auction_classes.specs.PayableClaims.{amount_claimed}
 use Rattle.auction_classes.specs.declared.claim_items.ClaimItem.{ClaimItem}
-use Rattle.proceeds_split.specs.Plan.{costs_lines, first_come, in_proportion, in_rank, in_turn, line_of, owner_line, owner_share, paid, runs, to_owners}
+use Rattle.proceeds_split.specs.Plan.{costs_lines, first_come, groups, in_proportion, in_rank, in_turn, line_of, owner_line, owner_share, paid, to_owners}
 use Rattle.proceeds_split.specs.declared.plan_lines.PlanLine.{PlanLine}
 use Rattle.proceeds_split.specs.declared.plan_lines.PlanPart.{PlanPart}
 
@@ -95,12 +95,12 @@ first_each part (c ∷ cs) = ((λ money. omega arith), first_each part cs)
 pub first_within : (part : PlanPart) (claims : List ClaimItem) → IsWithin (first_come part claims)
 first_within part claims = turns_within (map (λ (claim : ClaimItem) (left : ℕ). line_of part claim (min left (amount_claimed claim)) 0 ∷ []) claims) (first_each part claims)
 
-rank_each : (part : PlanPart) (groups : List (List ClaimItem)) → AllByRecursion IsWithin (map (in_proportion part) groups)
+rank_each : (part : PlanPart) (gs : List (List ClaimItem)) → AllByRecursion IsWithin (map (in_proportion part) gs)
 rank_each part [] = tt
 rank_each part (g ∷ gs) = (proportion_within part g, rank_each part gs)
 
 pub rank_within : (part : PlanPart) (claims : List ClaimItem) → IsWithin (in_rank part claims)
-rank_within part claims = turns_within (map (in_proportion part) (runs claims)) (rank_each part (runs claims))
+rank_within part claims = turns_within (map (in_proportion part) (groups claims)) (rank_each part (groups claims))
 
 -- ---- the owners
 

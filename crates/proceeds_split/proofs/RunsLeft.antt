@@ -5,11 +5,13 @@ use Rattle.std.proofs.lemmas.List.{drop_all, drop_more, get_or-drop, length-drop
 use Rattle.std.proofs.lemmas.List.Elements.{All-from_recursion, recursion_from_All}
 use Rattle.auction_classes.specs.PayableClaims.{IsAmountClaimed, amount_claimed}
 use Rattle.auction_classes.specs.declared.claim_items.ClaimItem.{ClaimItem}
-use Rattle.proceeds_split.specs.Plan.{in_proportion, in_rank, in_turn, runs_behind}
+use Rattle.proceeds_split.specs.Plan.{in_proportion, in_rank, in_turn}
 use Rattle.proceeds_split.specs.declared.payments.Payments.{Payments}
 use Rattle.proceeds_split.specs.declared.plan_lines.PlanLine.{PlanLine}
 use Rattle.proceeds_split.specs.declared.plan_lines.PlanPart.{PlanPart}
-use Rattle.proceeds_split.specs.inner.Payments.{Pays}
+use Rattle.proceeds_split.specs.inner.Payments.{AddsLines, Pays}
+use Rattle.proceeds_split.specs.inner.Runs.{runs_behind, runs_in_turn}
+use Rattle.proceeds_split.proofs.EqualRank.{runs_are}
 use Rattle.proceeds_split.proofs.LinesAdded.{AreToAdd, all_added, all_to_add, next_added}
 
 -- each amount is at least a cent
@@ -32,13 +34,13 @@ lines_left part run behind money = in_turn (map (in_proportion part) (runs_behin
 pub record AreRunsLeft (part : PlanPart) (claims : List ClaimItem) (start i : ℕ) (before now : Payments) : Type 0 where
   pub begun : start < i
   pub within : i ≤ length claims
-  pub to_pay : AreToAdd (in_rank part claims before.left) (in_turn (map (in_proportion part) (runs_behind (between claims start i) (drop i claims))) now.left) (length claims) (length claims - start) before now
+  pub to_pay : AreToAdd (runs_in_turn part claims before.left) (in_turn (map (in_proportion part) (runs_behind (between claims start i) (drop i claims))) now.left) (length claims) (length claims - start) before now
 
 -- the first run begins with the first claim
 pub run_begins : (part : PlanPart) (claims : List ClaimItem) (p : Payments) → 1 ≤ length claims → AreRunsLeft part claims 0 1 p p
 run_begins part [] p some = absurd (omega (arith, some))
 run_begins part (c ∷ cs) p some =
-    let all = in_rank part (c ∷ cs) p.left in
+    let all = runs_in_turn part (c ∷ cs) p.left in
     let none : length (c ∷ cs) ≡ length (c ∷ cs) - 0 = omega arith in
     record { begun = omega arith; within = some; to_pay = subst (λ n. AreToAdd all all (length (c ∷ cs)) n p p) none (all_to_add all (length (c ∷ cs)) p) }
 
@@ -72,7 +74,7 @@ run_paid part claims start i x before now after runs within is first pays =
     record {
       begun = omega arith;
       within = omega (arith, within);
-      to_pay = next_added (in_rank part claims before.left) here (lines_left part (between claims i (i + 1)) rest after.left) (lines_left part run (drop i claims) now.left) (length claims) (length claims - start) (length run) (length claims - i) before now after
+      to_pay = next_added (runs_in_turn part claims before.left) here (lines_left part (between claims i (i + 1)) rest after.left) (lines_left part run (drop i claims) now.left) (length claims) (length claims - start) (length run) (length claims - i) before now after
           parts (omega (arith, size, begun, within)) runs.to_pay pays;
     }
 
@@ -97,7 +99,7 @@ run_goes_on part claims start i x before now runs within is joins =
     record {
       begun = omega (arith, begun);
       within = omega (arith, within);
-      to_pay = subst (λ ls. AreToAdd (in_rank part claims before.left) ls (length claims) (length claims - start) before now) lines runs.to_pay;
+      to_pay = subst (λ ls. AreToAdd (runs_in_turn part claims before.left) ls (length claims) (length claims - start) before now) lines runs.to_pay;
     }
 
 -- the last run
@@ -110,6 +112,6 @@ run_ends part claims start i before now after runs over pays =
     let parts : lines_left part (between claims start i) (drop i claims) now.left ≡ in_proportion part run now.left ++ [] = (λ k. lines_left part (between claims start (all k)) (none k) now.left) in
     let begun = runs.begun in
     let size = between_length claims start (length claims) (omega arith) in
-    let later = next_added (in_rank part claims before.left) (in_proportion part run now.left) [] (lines_left part (between claims start i) (drop i claims) now.left) (length claims) (length claims - start) (length run) 0 before now after
+    let later = next_added (runs_in_turn part claims before.left) (in_proportion part run now.left) [] (lines_left part (between claims start i) (drop i claims) now.left) (length claims) (length claims - start) (length run) 0 before now after
     parts (omega (arith, size)) runs.to_pay pays in
-    all_added (in_rank part claims before.left) [] (length claims) 0 before after refl refl later
+    subst (λ groups. AddsLines (length claims) (in_turn (map (in_proportion part) groups) before.left) before after) (runs_are claims) (all_added (runs_in_turn part claims before.left) [] (length claims) 0 before after refl refl later)

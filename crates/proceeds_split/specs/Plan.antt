@@ -1,5 +1,5 @@
 -- The plan by which the money of an award is distributed (ZVG §§ 10 to 12, 109 to 114).
-use Rattle.std.specs.Prelude.{ℕ, ◌+◌, ◌-◌, ◌*◌, ◌/◌, false, true, nat_lt, if◌then◌else◌, List, [], ◌∷◌, ◌++◌, length, map, min, sum_by, Some, None}
+use Rattle.std.specs.Prelude.{ℕ, ◌+◌, ◌-◌, ◌*◌, ◌/◌, Bool, false, true, not, ◌==◌, ◌||◌, nat_lt, if◌then◌else◌, List, [], ◌∷◌, ◌++◌, drop, filter, length, map, min, sum_by, take_while, Some, None}
 use Rattle.std.specs.List.{enumerate_from}
 use Rattle.std.specs.Option.{option_map_or}
 use Rattle.gb_base.specs.RightNo.{RightNo}
@@ -59,20 +59,21 @@ in_proportion part claims money =
 abbrev pub first_come : PlanPart → List ClaimItem → ℕ → List PlanLine
 first_come part claims money = in_turn (map (λ claim left. line_of part claim (min left (amount_claimed claim)) 0 ∷ []) claims) money
 
--- claims behind the run of those of equal rank that they may join, in such runs
-abbrev pub runs_behind : List ClaimItem → List ClaimItem → List (List ClaimItem)
-runs_behind run [] = run ∷ []
-runs_behind run (claim ∷ claims) =
-    if claim.with_previous then runs_behind (run ++ claim ∷ []) claims else run ∷ runs_behind (claim ∷ []) claims
+-- A claim, with its number among these, begins a group of equal rank: it is the first, or does not rank equally with the one before it.
+abbrev pub begins_group : ℕ × ClaimItem → Bool
+begins_group numbered = numbered.0 == 0 || not numbered.1.with_previous
 
--- these claims in runs of equal rank: a claim, and those behind it that rank equally with the one before (GBO § 45(1), (3))
-abbrev pub runs : List ClaimItem → List (List ClaimItem)
-runs [] = []
-runs (claim ∷ claims) = runs_behind (claim ∷ []) claims
+-- the group that it begins: that claim, and those behind it while each ranks equally with the one before it (GBO § 45(1), (3))
+abbrev pub group_from : List ClaimItem → ℕ × ClaimItem → List ClaimItem
+group_from claims numbered = numbered.1 ∷ take_while (λ claim. claim.with_previous) (drop (numbered.0 + 1) claims)
 
--- claims of rights by rank, those of equal rank in proportion (ZVG § 11(1))
+-- these claims in groups of equal rank
+abbrev pub groups : List ClaimItem → List (List ClaimItem)
+groups claims = map (group_from claims) (filter begins_group (enumerate_from 0 claims))
+
+-- claims of rights by rank, group by group, those of a group in proportion (ZVG § 11(1))
 abbrev pub in_rank : PlanPart → List ClaimItem → ℕ → List PlanLine
-in_rank part claims money = in_turn (map (in_proportion part) (runs claims)) money
+in_rank part claims money = in_turn (map (in_proportion part) (groups claims)) money
 
 -- ---- the rights of classes 4 and 6
 

@@ -2,3 +2,4 @@
 pub mod Parts
 pub mod Payments
 pub mod RightsPaid
+pub mod Runs

@@ -2,7 +2,7 @@
 use Rattle.std.proofs.Common.{◌+◌, ◌-◌, drop, length, sym, subst, arith}
 use Rattle.std.proofs.lemmas.List.Sums.{sum_by-take-drop, sum_by-take-le}
 use Rattle.auction_classes.specs.PayableClaims.{amount_claimed}
-use Rattle.proceeds_split.proofs.RunsLeft.{AreRunsLeft, run_goes_on, run_paid}
+use Rattle.proceeds_split.proofs.RunsLeft.{AreRunsLeft, run_ends, run_goes_on, run_paid}
 use Rattle.proceeds_split.proofs.payments.Payments.pay_in_rank.Goals.{else-not-claims-i, then-not-claims-i}
 use Rattle.proceeds_split.proofs.payments.Payments.pay_in_rank.Goals as goal
 
@@ -33,3 +33,6 @@ pay_in_proportion-requires-2-clause-sum c =
     let front = sum_by-take-le amount_claimed (drop c.loop-i.start c.args.claims.now) (length c.args.claims.now - c.loop-i.start) in
     let both = sum_by-take-drop amount_claimed c.args.claims.now c.loop-i.start in
     omega (arith, front, both, c.requires.sum)
+
+pub returns : goal.returns
+returns c = run_ends c.args.part c.args.claims.now c.loop-i.start c.loop-i.i c.args.self.now c.loop-i.self c.pay_in_proportion-2.new.self c.loop-i.invariant c.loop-i-test.false c.pay_in_proportion-2.ensures
