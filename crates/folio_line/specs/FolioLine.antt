@@ -1,5 +1,5 @@
 -- The line of a folio in lists that have room.
-use Rattle.std.specs.Prelude.{◌≡◌, ℕ, List, filter_map, flat_map, sum_by}
+use Rattle.std.specs.Prelude.{◌≡◌, ℕ, List, [], filter_map, flat_map, sum_by}
 use Rattle.gb_base.specs.RightNo.{RightNo}
 use Rattle.gb_base.specs.declared.keys.Key.{Key}
 use Rattle.gb_base.specs.declared.keys.Key.TheVariants.{Right}
@@ -21,6 +21,13 @@ pub record LineState : Type 0 where
   pub right_room : ℕ
   pub exchange_room : ℕ
   pub capacity : ℕ
+
+-- nothing stands on the line
+pub record IsEmpty (line : LineState) : Type 0 where
+  pub rights : line.rights ≡ []
+  pub live : line.live ≡ []
+  pub exchanges : line.exchanges ≡ []
+  pub exercises : line.exercises ≡ []
 
 -- The lists are the line of the folio: the rights that stand on it and those of them that are live, by filing, group and act, the
 -- exchanges that count, by item and act, and the exercised reservations that count.

@@ -3,7 +3,7 @@
 ghost use Rattle.std.specs.Prelude.{◌≡◌, ◌≤◌, IfOk, [], length};
 ghost use Rattle.folio_line.specs.AllRights.{AreAllRights};
 ghost use Rattle.folio_line.specs.Exchanges.{counted_exercises, counted_exchanges};
-ghost use Rattle.folio_line.specs.FolioLine.{IsLineOf, all_rises};
+ghost use Rattle.folio_line.specs.FolioLine.{IsEmpty, IsLineOf, all_rises};
 ghost use Rattle.folio_line.specs.FolioReading.{CanBeRead, reads};
 ghost use Rattle.folio_line.specs.FolioRights.{live_rights, rights_where};
 ghost use Rattle.folio_line.specs.FolioSlots.{stands_on_line};
@@ -63,6 +63,7 @@ impl FolioLine {
     pub fn with_room(alloc: Global, rights: usize, exchanges: usize) -> Result<FolioLine, NoMemory>
         ensures rights { IfOk result (λ line. rights ≤ line.right_room) }
         ensures exchanges { IfOk result (λ line. exchanges ≤ line.exchange_room) }
+        ensures empty { IfOk result IsEmpty }
     {
         Ok(FolioLine {
             right_room: rights,
