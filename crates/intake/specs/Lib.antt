@@ -8,4 +8,5 @@ pub mod Lines
 pub mod Receivers
 pub mod Requests
 pub mod Sessions
+pub mod Writing
 pub mod inner

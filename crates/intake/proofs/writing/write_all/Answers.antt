@@ -13,3 +13,12 @@ loop-done-preserved g c = (
 pub returns-in-Failed-clause-part : goal.returns-in-Failed-clause-part
 returns-in-Failed-clause-part g c =
     AppendsFront-take _ _ _ _ c.loop-done.done c.loop-done.invariant.1 c.in-Failed.ensures.content
+
+pub returns-in-Failed-clause-stops : goal.returns-in-Failed-clause-stops
+returns-in-Failed-clause-stops g c = record {
+  mid = c.loop-done.sink;
+  front = AppendsFront-take _ _ _ _ c.loop-done.done c.loop-done.invariant.1 refl;
+  unfailed = c.loop-done.invariant.2;
+  failed = c.in-Failed.ensures.cause.failed_rose refl;
+  none_taken = c.in-Failed.ensures.content;
+}
