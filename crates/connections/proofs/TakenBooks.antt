@@ -1,5 +1,6 @@
 -- What taking the book finds, whether it is at hand or has to be opened.
-use Rattle.std.proofs.Common.{◌+◌, ◌≡◌, inl, inr, ⊎_elim, ℕ, Bool, true, false, cond, List, Option, Some, None, Result, Ok, Err, IfOk, IfSome, OnOk, refl, subst}
+use Rattle.std.proofs.Common.{◌+◌, ◌≡◌, inl, inr, ⊎_elim, ℕ, Bool, true, false, cond, List, Option, Some, None, Result, Ok, Err, IfOk, IfSome, IsTrue, OnOk, refl, subst}
+use Rattle.gb_outside.specs.Faults.{Counts}
 use Rattle.gb_outside.specs.Images.{Torn}
 use Rattle.gb_outside.proofs.Moments.{weakened}
 use Rattle.act_model.specs.declared.receipts.Receipt.{Receipt}
@@ -12,6 +13,7 @@ use Rattle.receipt_journal.specs.Standing.{AreRecordsTo, StandsForJournal}
 use Rattle.receipt_journal.specs.declared.faults.BookFault.{BookFault}
 use Rattle.receipt_journal.proofs.Standings.{journal_once, kept_frames, stands_by_frames}
 use Rattle.settled_book.specs.SettledBookState.{SettledBookState}
+use Rattle.connections.specs.Answering.{OpensBook}
 use Rattle.connections.specs.Holding.{IsOpenOn, working}
 use Rattle.connections.specs.inner.Taking.{Finds}
 use Rattle.connections.proofs.EndsBy.{LeavesHeld, leaves_now}
@@ -70,6 +72,13 @@ pub opened_journal : (file reads : List ℕ) (images : List ℕ → Type 0) (ope
     → OnOk opened ((journal : List Receipt) × StandsForJournal file journal)
 opened_journal file reads images (Ok settled) opens = (settled.book.journal, opens.found)
 opened_journal file reads images (Err fault) opens = tt
+
+-- what was opened stood open on the disk, which had not failed
+pub opens_book : {D : Type 0} (tells : Bool) (reads : D → List ℕ) (images : D → List ℕ → Type 0) (faults : D → ℕ) (old new : D) (opened : Result SettledBookState BookFault) → IfOk opened (λ settled. settled.book.log.failed ≡ false)
+    → (IsTrue tells → IfOk opened (λ settled. BookOpens (reads old) settled.book (reads new) (images new))) → Counts (faults old) (faults new) (book_opening_disk_failed opened)
+    → OnOk opened (OpensBook tells reads images faults old)
+opens_book tells reads images faults old new (Ok settled) works opens counts = record { opened = new; book = settled.book; works = works; quiet = counts.else_same refl; opens = opens }
+opens_book tells reads images faults old new (Err fault) works opens counts = tt
 
 -- ---- the book that works
 

@@ -1,11 +1,13 @@
 -- What answering a request does.
-use Rattle.std.specs.Prelude.{◌≡◌, ◌⊎◌, ℕ, ◌+◌, ◌==◌, ◌||◌, Bool, true, false, List, Option, None, IsSome, is_ok}
+use Rattle.std.specs.Prelude.{◌≡◌, ◌⊎◌, ℕ, ◌+◌, ◌==◌, ◌||◌, Bool, true, false, List, Option, None, IsSome, IsTrue, is_ok}
 use Rattle.gb_outside.specs.Images.{LeavesOnly, Torn}
 use Rattle.act_json.specs.Lines.{item_of}
 use Rattle.act_model.specs.declared.receipts.Receipt.{Receipt}
 use Rattle.intake.specs.Grown.{GrownFrom, WritesFrames}
 use Rattle.intake.specs.Requests.{Held}
 use Rattle.journal_disk.specs.Layout.{IsUnmade}
+use Rattle.receipt_journal.specs.BookState.{BookState}
+use Rattle.receipt_journal.specs.Opening.{BookOpens}
 use Rattle.receipt_journal.specs.Standing.{gate_behind}
 use Rattle.registry_http.specs.RequestParts.{RequestParts}
 use Rattle.registry_http.specs.declared.routes.Route.TheVariants.{Post}
@@ -82,6 +84,14 @@ pub record LeavesOpen (request : RequestParts) (reply : ReplyParts) (at_hand : O
   pub asked : Asked
   pub asks : Asks request asked
   pub works : may_call_disk asked request.body ≡ true → is_failed reply ≡ false → IsSome (working at_hand)
+
+-- A book was opened of a disk, and no call of the disk failed ahead of that: the state in which it stood open, and the book.
+pub record OpensBook {D : Type 0} (tells : Bool) (reads : D → List ℕ) (images : D → List ℕ → Type 0) (faults : D → ℕ) (old : D) : Type 0 where
+  pub opened : D
+  pub book : BookState
+  pub works : book.log.failed ≡ false
+  pub quiet : faults opened ≡ faults old
+  pub opens : IsTrue tells → BookOpens (reads old) book (reads opened) (images opened)
 
 -- ---- where no book is open and the file stands for no journal
 

@@ -1,4 +1,4 @@
-use Rattle.std.proofs.Common.{◌≡◌, ◌∙◌, false, List, ℕ, ap, refl, sym, subst}
+use Rattle.std.proofs.Common.{◌≡◌, ◌∙◌, false, List, ℕ, ap, inl, refl, sym, subst}
 use Rattle.registry_http.specs.Routes.{method_of}
 use Rattle.connections.specs.Answering.{SaysAsked, may_call_disk}
 use Rattle.connections.specs.Answers.{answer}
@@ -116,3 +116,17 @@ returns-in-Err-clause-made g c = λ tells was. was
 
 pub returns-clause-made : goal.returns-clause-made
 returns-clause-made g c = c.answer_route.ensures.serves.made
+
+-- ---- when the clock is asked
+
+pub returns-in-Err-clause-unopened : goal.returns-in-Err-clause-unopened
+returns-in-Err-clause-unopened g c = λ none sound. refl
+
+pub returns-clause-unopened : goal.returns-clause-unopened
+returns-clause-unopened g c = λ none sound. c.answer_route.ensures.unopened none sound
+
+pub returns-in-Err-clause-opening : goal.returns-in-Err-clause-opening
+returns-in-Err-clause-opening g c = λ was. inl refl
+
+pub returns-clause-opening : goal.returns-clause-opening
+returns-clause-opening g c = λ was. c.answer_route.ensures.opening was

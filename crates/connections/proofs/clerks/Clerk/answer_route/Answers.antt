@@ -1,4 +1,4 @@
-use Rattle.std.proofs.Common.{◌≡◌, ◌∙◌, true, false, ap, sym, subst}
+use Rattle.std.proofs.Common.{◌≡◌, ◌∙◌, true, false, ap, inl, refl, sym, subst}
 use Rattle.registry_http.specs.declared.routes.Route.{Route}
 use Rattle.connections.specs.Answering.{SaysAsked, may_call_disk}
 use Rattle.connections.specs.Answers.{Answer, answer}
@@ -49,3 +49,17 @@ returns-in-Post-clause-unreceived g c = λ works other sound. c.post.ensures.unr
 
 pub returns-in_default-clause-unreceived : goal.returns-in_default-clause-unreceived
 returns-in_default-clause-unreceived g c = λ works other sound. c.read.ensures.untouched works
+
+-- ---- when the clock is asked
+
+pub returns-in-Post-clause-unopened : goal.returns-in-Post-clause-unopened
+returns-in-Post-clause-unopened g c = λ none sound. c.post.ensures.unopened none sound
+
+pub returns-in_default-clause-unopened : goal.returns-in_default-clause-unopened
+returns-in_default-clause-unopened g c = λ none sound. refl
+
+pub returns-in-Post-clause-opening : goal.returns-in-Post-clause-opening
+returns-in-Post-clause-opening g c = λ was. c.post.ensures.opening was
+
+pub returns-in_default-clause-opening : goal.returns-in_default-clause-opening
+returns-in_default-clause-opening g c = λ was. inl refl

@@ -1,4 +1,4 @@
-use Rattle.std.proofs.Common.{◌≡◌, ◌∙◌, true, false, ap, is_ok, refl, sym, subst}
+use Rattle.std.proofs.Common.{◌≡◌, ◌∙◌, true, false, ap, inl, is_ok, refl, sym, subst}
 use Rattle.act_json.specs.Lines.{item_of}
 use Rattle.connections.specs.Answers.{body_answer}
 use Rattle.connections.specs.inner.Ends.{EndsBy}
@@ -46,3 +46,17 @@ returns-in-Err-clause-unreceived g c = λ works other sound. refl
 
 pub returns-clause-unreceived : goal.returns-clause-unreceived
 returns-clause-unreceived g c = λ works other sound. c.post_item.ensures.unreceived works other sound
+
+-- ---- when the clock is asked
+
+pub returns-in-Err-clause-unopened : goal.returns-in-Err-clause-unopened
+returns-in-Err-clause-unopened g c = λ none sound. refl
+
+pub returns-clause-unopened : goal.returns-clause-unopened
+returns-clause-unopened g c = λ none sound. c.post_item.ensures.unopened none sound
+
+pub returns-in-Err-clause-opening : goal.returns-in-Err-clause-opening
+returns-in-Err-clause-opening g c = λ was. inl refl
+
+pub returns-clause-opening : goal.returns-clause-opening
+returns-clause-opening g c = λ was. c.post_item.ensures.opening was
