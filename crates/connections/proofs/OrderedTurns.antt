@@ -1,5 +1,5 @@
 -- In which order a link is read and written, turn by turn.
-use Rattle.std.proofs.Common.{◌≡◌, ⊎_elim, inl, inr, ℕ, ◌+◌, ◌≤◌, List, [], ◌∷◌, ◌++◌, length, Option, Some, None, refl, subst, arith, length-append}
+use Rattle.std.proofs.Common.{◌≡◌, ⊎_elim, inl, inr, ℕ, ◌+◌, ◌<◌, ◌≤◌, List, [], ◌∷◌, ◌++◌, length, Option, Some, None, refl, subst, arith, length-append}
 use Rattle.std.proofs.KnownBytes.{Appends-nil}
 use Rattle.gb_outside.specs.Bytes.{AppendsFront}
 use Rattle.intake.proofs.Replies.{whole_front}
@@ -33,10 +33,10 @@ module _ {L : Type 0} (left written : L → Option (List ℕ)) where
   -- ---- one turn
 
   pub next_of_request : (link read now : L) (kept behind : List ℕ) (request : RequestParts) (result : Option Served) → ReadsNext (left link) (left read) kept behind (next.Request request) → written read ≡ written link → left now ≡ left read
-      → WritesReply (written read) (written now) result → TurnsNext left written link kept now behind result
+      → WritesReply request (written read) (written now) result → TurnsNext left written link kept now behind result
   next_of_request link read now kept behind request None asked unwritten unread writes = (
     writes.reply,
-    record { read = read; request = request; asked = asked; unwritten = unwritten; unread = unread; replied = writes.whole refl },
+    record { read = read; request = request; asked = asked; more = writes.more refl; unwritten = unwritten; unread = unread; replied = writes.whole refl },
   )
   next_of_request link read now kept behind request (Some served) asked unwritten unread writes =
       record { read = read; behind = behind; answer = next.Request request; asked = asked; unwritten = unwritten; unread = unread; reply = writes.reply; replied = writes.part }
@@ -76,19 +76,19 @@ module _ {L : Type 0} (left written : L → Option (List ℕ)) where
     counted = omega (arith, went.counted, length-append went.replies (turn.0 ∷ []));
   }
 
-  pub order_end : (old mid new : L) (kept : List ℕ) (count : ℕ) (last all : Served) → WentInOrder old mid kept count → TurnsLast left written mid kept new → last.replies ≤ 1 → all.replies ≡ count + last.replies
-      → ServesInOrder left written old new all
-  order_end old mid new kept count last all went turn few adds = record {
+  pub order_end : (most : ℕ) (old mid new : L) (kept : List ℕ) (count : ℕ) (last all : Served) → WentInOrder old mid kept count → TurnsLast left written mid kept new → count < most → last.replies ≤ 1 → all.replies ≡ count + last.replies
+      → ServesInOrder left written most old new all
+  order_end most old mid new kept count last all went turn less few adds = record {
     replies = went.replies;
     mid = mid;
     kept = kept;
     turns = went.turns;
-    ends = inr turn;
+    ends = inr (omega (arith, went.counted, less), turn);
     counted = (omega (arith, went.counted, adds), omega (arith, went.counted, adds, few));
   }
 
-  pub order_out : (old now : L) (kept : List ℕ) (count : ℕ) (all : Served) → WentInOrder old now kept count → all.replies ≡ count → ServesInOrder left written old now all
-  order_out old now kept count all went is = record {
+  pub order_out : (most : ℕ) (old now : L) (kept : List ℕ) (count : ℕ) (all : Served) → WentInOrder old now kept count → all.replies ≡ count → ServesInOrder left written most old now all
+  order_out most old now kept count all went is = record {
     replies = went.replies;
     mid = now;
     kept = kept;

@@ -111,7 +111,7 @@ impl Clerk {
         ensures no_book { IsTrue D.tells → working self.old ≡ None → StandsForNone (D.reads disk.old) → OpensNone D.reads D.images D.moment D.since disk.old disk.new self.new }
         ensures same_clock { IsTrue D.tells → working self.old ≡ None → StandsForNone (D.reads disk.old) → clock.new ≡ clock.old }
         ensures told { IsSome (L.written link.old) → IsSome (L.written link.new) }
-        ensures replied { WritesReply (L.written link.old) (L.written link.new) result }
+        ensures replied { WritesReply request.now (L.written link.old) (L.written link.new) result }
         ensures left { L.left link.new ≡ L.left link.old }
         ensures cause { Counts (L.faults link.old) (L.faults link.new) (is_cut_off result) }
     {
@@ -197,7 +197,7 @@ impl Clerk {
         ensures no_book { IsTrue D.tells → working self.old ≡ None → StandsForNone (D.reads disk.old) → OpensNone D.reads D.images D.moment D.since disk.old disk.new self.new }
         ensures same_clock { IsTrue D.tells → working self.old ≡ None → StandsForNone (D.reads disk.old) → clock.new ≡ clock.old }
         ensures few { result.replies ≤ left }
-        ensures order { ServesInOrder L.left L.written link.old link.new result }
+        ensures order { ServesInOrder L.left L.written left link.old link.new result }
         ensures told { IsSome (L.written link.old) → IsSome (L.written link.new) }
         ensures cause { Counts (L.faults link.old) (L.faults link.new) (is_link_fault result.ended) }
     {

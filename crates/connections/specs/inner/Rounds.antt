@@ -69,9 +69,10 @@ IsTurn Takes old new held written_old written_new requests end HoldsNow MeetsNow
 
 -- ---- in which order the link was read and written
 
--- a reply was written, whole where more may follow
-pub record WritesReply (written_old written_new : Option (List ℕ)) (result : Option Served) : Type 0 where
+-- a reply to a request was written, whole where more may follow, and then it was not the last
+pub record WritesReply (request : RequestParts) (written_old written_new : Option (List ℕ)) (result : Option Served) : Type 0 where
   pub reply : ReplyParts
+  pub more : result ≡ None → request.last ≡ false
   pub whole : result ≡ None → Appends written_old written_new (bytes_of (reply ∷ []))
   pub part : AppendsFront written_old written_new (bytes_of (reply ∷ []))
 

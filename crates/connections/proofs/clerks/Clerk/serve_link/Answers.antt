@@ -124,7 +124,7 @@ returns-clause-serves_none g c = λ tells was none held input requests end left 
 
 pub returns-in-Some-clause-order : goal.returns-in-Some-clause-order
 returns-in-Some-clause-order g c =
-    order_end g.L.Link.left g.L.Link.written c.args.link.now c.loop-replies.link c.serve_next.new.link c.loop-replies.rest.items c.loop-replies.replies c.in-Some.last _ c.loop-replies.invariant.order c.in-Some.ensures.order c.in-Some.ensures.few refl
+    order_end g.L.Link.left g.L.Link.written c.args.left c.args.link.now c.loop-replies.link c.serve_next.new.link c.loop-replies.rest.items c.loop-replies.replies c.in-Some.last _ c.loop-replies.invariant.order c.in-Some.ensures.order c.loop-replies-test.true c.in-Some.ensures.few refl
 
 pub returns-clause-order : goal.returns-clause-order
-returns-clause-order g c = order_out g.L.Link.left g.L.Link.written c.args.link.now c.loop-replies.link c.loop-replies.rest.items c.loop-replies.replies _ c.loop-replies.invariant.order refl
+returns-clause-order g c = order_out g.L.Link.left g.L.Link.written c.args.left c.args.link.now c.loop-replies.link c.loop-replies.rest.items c.loop-replies.replies _ c.loop-replies.invariant.order refl
