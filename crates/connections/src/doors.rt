@@ -55,6 +55,7 @@ impl Clerk {
         ensures stands_open { IsTrue D.tells → StandsOpen self.new (D.reads disk.new) (D.images disk.new) }
         ensures made { IsTrue D.tells → IsMade the_heading (D.reads disk.old) → IsMade the_heading (D.reads disk.new) }
         ensures no_book { IsTrue D.tells → working self.old ≡ None → StandsForNone (D.reads disk.old) → OpensNone D.reads D.images D.moment D.since disk.old disk.new self.new }
+        ensures same_clock { IsTrue D.tells → working self.old ≡ None → StandsForNone (D.reads disk.old) → clock.new ≡ clock.old }
         ensures handed_back { IsSome (L.served door.old) → IsSome (L.served door.new) × (L.out door.new ≡ L.out door.old) }
         ensures cause { Counts (L.faults door.old) (L.faults door.new) (has_door_failed result) }
     {
@@ -87,6 +88,7 @@ impl Clerk {
         ensures stands_open { IsTrue D.tells → StandsOpen self.new (D.reads disk.new) (D.images disk.new) }
         ensures made { IsTrue D.tells → IsMade the_heading (D.reads disk.old) → IsMade the_heading (D.reads disk.new) }
         ensures no_book { IsTrue D.tells → working self.old ≡ None → StandsForNone (D.reads disk.old) → OpensNone D.reads D.images D.moment D.since disk.old disk.new self.new }
+        ensures same_clock { IsTrue D.tells → working self.old ≡ None → StandsForNone (D.reads disk.old) → clock.new ≡ clock.old }
         ensures handed_back { IsSome (L.served door.old) → IsSome (L.served door.new) × (L.out door.new ≡ L.out door.old) }
         ensures cause { Counts (L.faults door.old) (L.faults door.new) (is_door_fault result) }
     {

@@ -1,6 +1,6 @@
-use Rattle.std.proofs.Common.{◌∙◌, drop, inl, inr, length, arith, refl}
+use Rattle.std.proofs.Common.{◌∙◌, drop, inl, inr, length, arith, refl, subst, sym}
 use Rattle.connections.specs.Doors.{turns_taken}
-use Rattle.connections.specs.Holding.{Holds}
+use Rattle.connections.specs.Holding.{Holds, StandsForNone}
 use Rattle.connections.specs.Turns.{held_behind}
 use Rattle.connections.proofs.NoBook.{none_still, none_then}
 use Rattle.connections.proofs.DoorRounds.{links_begun, links_end, links_on, links_out}
@@ -14,6 +14,7 @@ loop-left-init g c = record {
   made = λ tells was. was;
   no_book = λ tells was none.
       none_still g.D.Disk.reads g.D.Disk.images g.D.Disk.moment g.D.Disk.since c.args.disk.now c.args.self.now (λ file since. g.met.D.Disk.only_now c.args.disk.now file tells since) was;
+  same_clock = λ tells was none. refl;
   handed_back = λ told. (told, refl);
   quiet = refl;
   went = λ tells held waiting asked holds waits ask.
@@ -30,6 +31,9 @@ loop-left-preserved g c = record {
   no_book = λ tells was none.
       none_then g.D.Disk.reads g.D.Disk.images g.D.Disk.moment g.D.Disk.since c.args.disk.now c.loop-left.disk c.serve_first.new.disk c.loop-left.self c.serve_first.new.self
       (λ t file le image. g.met.D.Disk.counts_now c.loop-left.disk t file tells le image) none (c.loop-left.invariant.no_book tells was none) (c.serve_first.ensures.no_book tells);
+  same_clock = λ tells was none.
+      let at = c.loop-left.invariant.no_book tells was none in
+      c.serve_first.ensures.same_clock tells at.none (subst StandsForNone (sym at.same) none) ∙ c.loop-left.invariant.same_clock tells was none;
   handed_back = λ told. let before = c.loop-left.invariant.handed_back told in let now = c.serve_first.ensures.handed_back before.0 in (now.0, now.1 ∙ before.1);
   quiet = c.in-Ok.ensures.cause.else_same refl ∙ c.loop-left.invariant.quiet;
   went = λ tells held waiting asked holds waits ask.
@@ -70,3 +74,14 @@ pub returns-in-Err-clause-no_book : goal.returns-in-Err-clause-no_book
 returns-in-Err-clause-no_book g c = λ tells was none.
     none_then g.D.Disk.reads g.D.Disk.images g.D.Disk.moment g.D.Disk.since c.args.disk.now c.loop-left.disk c.serve_first.new.disk c.loop-left.self c.serve_first.new.self
     (λ t file le image. g.met.D.Disk.counts_now c.loop-left.disk t file tells le image) none (c.loop-left.invariant.no_book tells was none) (c.serve_first.ensures.no_book tells)
+
+pub returns-in-Err-clause-same_clock : goal.returns-in-Err-clause-same_clock
+returns-in-Err-clause-same_clock g c = λ tells was none.
+    let at = c.loop-left.invariant.no_book tells was none in
+    c.serve_first.ensures.same_clock tells at.none (subst StandsForNone (sym at.same) none) ∙ c.loop-left.invariant.same_clock tells was none
+
+pub returns-else-links-most-clause-same_clock : goal.returns-else-links-most-clause-same_clock
+returns-else-links-most-clause-same_clock g c = λ tells was none. c.loop-left.invariant.same_clock tells was none
+
+pub returns-after-loop-left-clause-same_clock : goal.returns-after-loop-left-clause-same_clock
+returns-after-loop-left-clause-same_clock g c = λ tells was none. c.loop-left.invariant.same_clock tells was none

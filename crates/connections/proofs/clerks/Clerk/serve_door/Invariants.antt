@@ -17,6 +17,7 @@ invariant-loop-left g l = record {
   stands_open : IsTrue g.D.Disk.tells → StandsOpen l.self (g.D.Disk.reads l.disk) (g.D.Disk.images l.disk);
   made : IsTrue g.D.Disk.tells → IsMade the_heading (g.D.Disk.reads l.fn.disk) → IsMade the_heading (g.D.Disk.reads l.disk);
   no_book : IsTrue g.D.Disk.tells → working l.fn.self ≡ None → StandsForNone (g.D.Disk.reads l.fn.disk) → OpensNone g.D.Disk.reads g.D.Disk.images g.D.Disk.moment g.D.Disk.since l.fn.disk l.disk l.self;
+  same_clock : IsTrue g.D.Disk.tells → working l.fn.self ≡ None → StandsForNone (g.D.Disk.reads l.fn.disk) → l.clock ≡ l.fn.clock;
   handed_back : IsSome (g.L.Listener.served l.fn.door) → IsSome (g.L.Listener.served l.door) × (g.L.Listener.out l.door ≡ g.L.Listener.out l.fn.door);
   quiet : g.L.Listener.faults l.door ≡ g.L.Listener.faults l.fn.door;
   went : IsTrue g.D.Disk.tells → (held : Held) (waiting : List (List ℕ)) (asked : List LinkRequests)

@@ -1,4 +1,4 @@
-use Rattle.std.proofs.Common.{◌≡◌, ◌∙◌, [], subst}
+use Rattle.std.proofs.Common.{◌≡◌, ◌∙◌, [], refl, subst}
 use Rattle.gb_outside.specs.Doors.{NoneWaits}
 use Rattle.connections.specs.Holding.{Holds}
 use Rattle.connections.specs.declared.doors.DoorEnd.TheVariants.{Done, DoorFault}
@@ -42,3 +42,12 @@ returns-in-Closed-clause-no_book g c = λ tells was none.
 pub returns-in-Failed-clause-no_book : goal.returns-in-Failed-clause-no_book
 returns-in-Failed-clause-no_book g c = λ tells was none.
     none_still g.D.Disk.reads g.D.Disk.images g.D.Disk.moment g.D.Disk.since c.args.disk.now c.args.self.now (λ file since. g.met.D.Disk.only_now c.args.disk.now file tells since) was
+
+pub returns-in-Closed-clause-same_clock : goal.returns-in-Closed-clause-same_clock
+returns-in-Closed-clause-same_clock g c = λ tells was none. refl
+
+pub returns-in-Failed-clause-same_clock : goal.returns-in-Failed-clause-same_clock
+returns-in-Failed-clause-same_clock g c = λ tells was none. refl
+
+pub returns-clause-same_clock : goal.returns-clause-same_clock
+returns-clause-same_clock g c = λ tells was none. c.serve_link-served.ensures.same_clock tells was none
