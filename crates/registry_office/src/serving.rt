@@ -53,6 +53,7 @@ pub fn serve_connection<R: AllocGlobal, L: Link, D: Disk, C: Clock, G: DeskGate>
         → (Rose (D.faults disk.old) (D.faults disk.new) → ⊥) → (Rose (L.faults link.old) (L.faults link.new) → ⊥)
         → Completes held (L.written link.old) (L.written link.new) (turns left requests end) result }
     ensures kept { IsTrue D.tells → StandsForNone (D.reads disk.old) → (D.reads disk.new ≡ D.reads disk.old) × LeavesOnly D.moment D.since disk.old disk.new (D.images disk.old) × (clock.new ≡ clock.old) }
+    ensures made { IsTrue D.tells → IsMade the_heading (D.reads disk.old) → IsMade the_heading (D.reads disk.new) }
     ensures few { result.replies ≤ left }
     ensures order { ServesInOrder L.left L.written left link.old link.new result }
     ensures cause { Counts (L.faults link.old) (L.faults link.new) (is_link_fault result.ended) }

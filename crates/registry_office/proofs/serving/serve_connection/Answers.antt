@@ -26,3 +26,6 @@ returns-clause-kept g c = λ tells stands_for_none.
 
 pub returns-clause-serves_none : goal.returns-clause-serves_none
 returns-clause-serves_none g c = λ tells stands_for_none. c.serve_link.ensures.serves_none tells (ap working c.new-clerk.ensures) stands_for_none
+
+pub returns-clause-made : goal.returns-clause-made
+returns-clause-made g c = λ tells was. c.serve_link.ensures.made tells was
