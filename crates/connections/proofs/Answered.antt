@@ -14,7 +14,7 @@ use Rattle.settled_book.specs.SettledBookState.{SettledBookState}
 use Rattle.connections.specs.Answering.{AllBegin, AnswersRequest, SaysAsked, may_call_disk}
 use Rattle.connections.specs.Answers.{Answer, answer}
 use Rattle.connections.specs.Asking.{Asked, Asks}
-use Rattle.connections.specs.Fates.{Fate, Answered, Failed, OutOfMemory, NotBegun, Stamped, Received, answer_by, is_apart}
+use Rattle.connections.specs.Fates.{Fate, Answered, Failed, OutOfMemory, NotBegun, Stamped, Received, answer_by, is_apart, may_lack_memory}
 use Rattle.connections.specs.Holding.{Begins, Holds, IsOpenOn, working}
 use Rattle.connections.specs.Replies.{ReplyParts}
 use Rattle.connections.specs.inner.Ends as ends
@@ -42,17 +42,18 @@ record Became (held : Held) (body : List ℕ) (asked : Asked) (reply : ReplyPart
   pub reply_is : reply ≡ (answer_by fate held (answer held body asked)).reply
   pub holds : HoldsNow (answer_by fate held (answer held body asked)).held
   pub apart : may_call_disk asked body ≡ false → is_apart fate ≡ true
+  pub memory : may_lack_memory fate (answer held body asked).reply ≡ true
 
 -- where the disk is not called, its reply says what became of it
-became : (held : Held) (body : List ℕ) (asked : Asked) (reply : ReplyParts) (HoldsNow : Held → Type 0) (fate : Fate) → (may_call_disk asked body ≡ false → SaysAsked body asked reply)
+became : (held : Held) (body : List ℕ) (asked : Asked) (reply : ReplyParts) (HoldsNow : Held → Type 0) (fate : Fate) → may_lack_memory fate (answer held body asked).reply ≡ true → (may_call_disk asked body ≡ false → SaysAsked body asked reply)
     → reply ≡ (answer_by fate held (answer held body asked)).reply → HoldsNow (answer_by fate held (answer held body asked)).held → Became held body asked reply HoldsNow
-became held body asked reply HoldsNow fate says is holds = ⊎_elim
-    (λ (calls : may_call_disk asked body ≡ true). record { fate = fate; reply_is = is; holds = holds; apart = λ uncalled. never_true (may_call_disk asked body) _ uncalled calls })
+became held body asked reply HoldsNow fate lacks_it says is holds = ⊎_elim
+    (λ (calls : may_call_disk asked body ≡ true). record { fate = fate; reply_is = is; holds = holds; apart = λ uncalled. never_true (may_call_disk asked body) _ uncalled calls; memory = lacks_it })
     (λ (uncalled : may_call_disk asked body ≡ false).
     let same = uncalled_held held body asked uncalled in
     let left = left_held fate held (answer held body asked) same in ⊎_elim
-    (λ as_asked. record { fate = Answered; reply_is = as_asked held; holds = subst HoldsNow (left ∙ sym same) holds; apart = λ again. refl })
-    (λ lacks. record { fate = Failed OutOfMemory NotBegun; reply_is = lacks; holds = subst HoldsNow left holds; apart = λ again. refl })
+    (λ as_asked. record { fate = Answered; reply_is = as_asked held; holds = subst HoldsNow (left ∙ sym same) holds; apart = λ again. refl; memory = refl })
+    (λ lacks. record { fate = Failed OutOfMemory NotBegun; reply_is = lacks; holds = subst HoldsNow left holds; apart = λ again. refl; memory = refl })
     (says uncalled))
     (cases_Bool (may_call_disk asked body))
 
@@ -70,7 +71,7 @@ module _ {D : Type 0} (reads : D → List ℕ) (images : D → List ℕ → Type
       → StandsForJournal (reads old) held.journal → ends.EndsBy reads images moment since old new held (answer held request.body asked) reply at_hand known
       → AnswersRequest reads images moment since old new request held reply (λ h. Holds at_hand (reads new) (images new) known h)
   answers request held reply at_hand known asked asks uncalled stands end =
-      let is = became held request.body asked reply (λ h. Holds at_hand (reads new) (images new) known h) end.fate (λ none. (uncalled none).1) end.reply_is end.holds in
+      let is = became held request.body asked reply (λ h. Holds at_hand (reads new) (images new) known h) end.fate end.memory (λ none. (uncalled none).1) end.reply_is end.holds in
       record {
         asked = asked;
         fate = is.fate;
@@ -79,6 +80,7 @@ module _ {D : Type 0} (reads : D → List ℕ) (images : D → List ℕ → Type
         holds = is.holds;
         uncalled = λ none. (uncalled none).0;
         apart = is.apart;
+        memory = is.memory;
         left = end.left;
         written = end.written;
         kept = λ front all file now.

@@ -9,7 +9,7 @@ use Rattle.receipt_journal.specs.Standing.{StandsForJournal}
 use Rattle.settled_book.specs.SettledBookState.{SettledBookState}
 use Rattle.connections.specs.Answering.{LeavesOldThen, WritesGrown, is_from_disk}
 use Rattle.connections.specs.Answers.{Answer, only}
-use Rattle.connections.specs.Fates.{Failure, DiskFailed, NoJournal, OutOfMemory, Answered, Failed, NotBegun, failure_reply}
+use Rattle.connections.specs.Fates.{Failure, DiskFailed, NoJournal, OutOfMemory, Answered, Failed, NotBegun, failure_reply, may_lack_memory}
 use Rattle.connections.specs.Holding.{Holds, working}
 use Rattle.connections.specs.Replies.{ReplyParts}
 use Rattle.connections.specs.inner.Ends as ends
@@ -25,6 +25,12 @@ failed_tells_none : (failure : Failure) → is_from_disk (failure_reply failure)
 failed_tells_none DiskFailed = refl
 failed_tells_none NoJournal = refl
 failed_tells_none OutOfMemory = refl
+
+-- memory may be wanting ahead of each receipt
+unbegun_lacks : (failure : Failure) (wanted : ReplyParts) → may_lack_memory (Failed failure NotBegun) wanted ≡ true
+unbegun_lacks DiskFailed wanted = refl
+unbegun_lacks NoJournal wanted = refl
+unbegun_lacks OutOfMemory wanted = refl
 
 pub not_from_disk : (reply : ReplyParts) (P : Type 0) → is_from_disk reply ≡ false → is_from_disk reply ≡ true → P
 not_from_disk reply P silent tells = let never : true ≡ false = sym tells ∙ silent in absurd cc
@@ -48,6 +54,7 @@ module _ {D : Type 0} (reads : D → List ℕ) (images : D → List ℕ → Type
   ends_only old new held reply at_hand known holds left written works = record {
     fate = Answered;
     reply_is = refl;
+    memory = refl;
     holds = holds;
     left = leaves_grown old new held.journal held.journal (front_refl held.journal) left;
     written = written;
@@ -61,6 +68,7 @@ module _ {D : Type 0} (reads : D → List ℕ) (images : D → List ℕ → Type
   ends_failed old new held wanted failure reply at_hand known is holds left written front = record {
     fate = Failed failure NotBegun;
     reply_is = is;
+    memory = unbegun_lacks failure wanted.reply;
     holds = holds;
     left = leaves_grown old new held.journal wanted.held.journal front left;
     written = writes_wider held.journal wanted.held.journal (reads old) (reads new) front written;

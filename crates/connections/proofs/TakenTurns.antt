@@ -24,7 +24,7 @@ use Rattle.connections.proofs.EndsBy.{not_from_disk}
 use Rattle.connections.proofs.GrownWrites.{writes_more, writes_nothing}
 use Rattle.connections.proofs.LeftThen.{then_more, then_still, then_weakened}
 use Rattle.connections.proofs.LinkEnds.{TurnTaken}
-use Rattle.connections.proofs.TurnLists.{left_first, left_later, left_one, told_more, told_still}
+use Rattle.connections.proofs.TurnLists.{lack_more, left_first, left_later, left_one, told_more, told_still}
 
 -- ---- counts
 
@@ -104,6 +104,7 @@ module _ {D : Type 0} (reads : D → List ℕ) (images : D → List ℕ → Type
     stays = λ none. refl;
     disk = refl;
     journal = refl;
+    memory = tt;
     answered = λ quiet memory. refl;
   }
 
@@ -116,6 +117,7 @@ module _ {D : Type 0} (reads : D → List ℕ) (images : D → List ℕ → Type
     stays = λ none. refl;
     disk = (faults disk, counts_still (faults disk), refl);
     journal = refl;
+    memory = (refl, tt);
     answered = λ quiet memory. refl;
   }
 
@@ -136,6 +138,7 @@ module _ {D : Type 0} (reads : D → List ℕ) (images : D → List ℕ → Type
         stays = stays_one old new (Answering request is.asked is.fate) is.uncalled;
         disk = rose;
         journal = found;
+        memory = (is.memory, tt);
         answered = λ quiet memory. answered_by _ _ (Answering request is.asked is.fate ∷ []) rose found quiet memory;
       }
     where
@@ -158,6 +161,7 @@ module _ {D : Type 0} (reads : D → List ℕ) (images : D → List ℕ → Type
         stays = stays_more old mid new xs ys first.stays second.stays;
         disk = rose;
         journal = found;
+        memory = lack_more held xs ys first.memory second.memory;
         answered = λ quiet memory. answered_by _ _ (xs ++ ys) rose found quiet memory;
       }
 

@@ -14,7 +14,7 @@ use Rattle.registry_http.specs.declared.routes.Route.TheVariants.{Post}
 use Rattle.settled_book.specs.SettledBookState.{SettledBookState}
 use Rattle.connections.specs.Answers.{answer}
 use Rattle.connections.specs.Asking.{Asked, AskedFor, NoRoute, WrongMethod, Asks}
-use Rattle.connections.specs.Fates.{Fate, Failure, answer_by, failure_reply, is_apart}
+use Rattle.connections.specs.Fates.{Fate, Failure, answer_by, failure_reply, is_apart, may_lack_memory}
 use Rattle.connections.specs.Holding.{Begins, working}
 use Rattle.connections.specs.Replies.{ReplyParts, out_of_memory}
 
@@ -65,7 +65,7 @@ pub record WritesGrown (from to : List Receipt) (file new : List ℕ) : Type 0 w
   pub same : (IsUnmade file → ⊥) → to ≡ from → new ≡ file
   pub unmade : IsUnmade file → Torn 0 (gate_behind to + 1) file new
 
--- A request was answered by what it asks for and by what became of it; that is what is held behind it. The disk is called only where it may be; where it is not, the request was answered as it asks, or no memory was found. A stop leaves what it might have left before, or, from some moment on, nothing but the journal that was held, with the receipt of this request or without it. Of the file no other bytes are written than the frame of its receipt. What every image began with each begins with still, and with all that a text was read of or an item was received into.
+-- A request was answered by what it asks for and by what became of it; that is what is held behind it. The disk is called only where it may be; where it is not, the request was answered as it asks, or no memory was found. Behind the clock's stamp memory may be wanting for the receipt of an item that is accepted, or for words with a number, and for nothing else. A stop leaves what it might have left before, or, from some moment on, nothing but the journal that was held, with the receipt of this request or without it. Of the file no other bytes are written than the frame of its receipt. What every image began with each begins with still, and with all that a text was read of or an item was received into.
 pub record AnswersRequest {D : Type 0} (reads : D → List ℕ) (images : D → List ℕ → Type 0) (moment : D → ℕ) (since : D → ℕ → List ℕ → Type 0) (old new : D) (request : RequestParts) (held : Held) (reply : ReplyParts) (HoldsNow : Held → Type 0) : Type 0 where
   pub asked : Asked
   pub fate : Fate
@@ -74,6 +74,7 @@ pub record AnswersRequest {D : Type 0} (reads : D → List ℕ) (images : D → 
   pub holds : HoldsNow (answer_by fate held (answer held request.body asked)).held
   pub uncalled : may_call_disk asked request.body ≡ false → new ≡ old
   pub apart : may_call_disk asked request.body ≡ false → is_apart fate ≡ true
+  pub memory : may_lack_memory fate (answer held request.body asked).reply ≡ true
   pub left : LeavesOldThen images moment since old new (GrownFrom held.journal (answer held request.body asked).held.journal)
   pub written : WritesGrown held.journal (answer held request.body asked).held.journal (reads old) (reads new)
   pub kept : (front : List Receipt) → AllBegin front (images old) → AllBegin front (images new)

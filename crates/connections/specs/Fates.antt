@@ -1,5 +1,5 @@
 -- What becomes of a request: it is answered as it asks, or something failed in it.
-use Rattle.std.specs.Prelude.{Bool, true, false}
+use Rattle.std.specs.Prelude.{ℕ, ◌==◌, Bool, true, false, ◌||◌}
 use Rattle.intake.specs.Requests.{Held, holding}
 use Rattle.connections.specs.Answers.{Answer}
 use Rattle.connections.specs.Replies.{ReplyParts, disk_failed, not_a_journal, out_of_memory}
@@ -52,3 +52,16 @@ is_apart (Failed NoJournal progress) = false
 is_apart (Failed OutOfMemory NotBegun) = true
 is_apart (Failed OutOfMemory Stamped) = false
 is_apart (Failed OutOfMemory Received) = false
+
+-- the status of an answer to an item whose words have a number
+abbrev pub is_numbered : ℕ → Bool
+is_numbered status = status == 200 || status == 201 || status == 409
+
+-- Memory may be wanting in it where this would be its reply: ahead of the clock's stamp it may for each; behind it only for the receipt of an item that is accepted, or for words that have a number.
+abbrev pub may_lack_memory : Fate → ReplyParts → Bool
+may_lack_memory Answered wanted = true
+may_lack_memory (Failed DiskFailed progress) wanted = true
+may_lack_memory (Failed NoJournal progress) wanted = true
+may_lack_memory (Failed OutOfMemory NotBegun) wanted = true
+may_lack_memory (Failed OutOfMemory Stamped) wanted = wanted.status == 201
+may_lack_memory (Failed OutOfMemory Received) wanted = is_numbered wanted.status

@@ -6,7 +6,7 @@ use Rattle.gb_outside.specs.Faults.{Counts, Rose}
 use Rattle.act_model.specs.declared.receipts.Receipt.{Receipt}
 use Rattle.intake.specs.Requests.{Held}
 use Rattle.connections.specs.Answering.{AllBegin, LeavesOldThen, WritesGrown, is_from_disk, may_call_disk}
-use Rattle.connections.specs.Fates.{Failure, Fate, Answered, Failed, DiskFailed, NoJournal, NotBegun, OutOfMemory, has_disk_failed}
+use Rattle.connections.specs.Fates.{Failure, Fate, Answered, Failed, DiskFailed, NoJournal, NotBegun, OutOfMemory, has_disk_failed, may_lack_memory}
 use Rattle.connections.specs.Served.{Connection, IsCutOff, IsLeftIn, IsOfTurns, IsUnwritten, IsWhole, held_by, replies_of, taken_of, unfailed, written_by}
 use Rattle.connections.specs.Turns.{Turn, Taken, Answering, Refusing, answer_in, calls_disk}
 use Rattle.connections.specs.declared.serving.Ended.{Ended}
@@ -60,7 +60,12 @@ AllTold images held [] = Unit {0}
 AllTold images held (turn ∷ turns) =
     (is_from_disk (answer_in held turn).reply ≡ true → AllBegin (answer_in held turn).held.journal images) × AllTold images (answer_in held turn).held turns
 
--- What these turns did to the disk: what a stop leaves, that is what it might have left before or, from some moment on, only files that it leaves in these turns, what is written and what kept of the file and told of it, and that its count of faults rose for each turn in which a call of it failed. The disk stays where it is called in none of them. None finds that the file is no journal. Where no count rose and no memory was wanting, each was answered as it asks.
+-- Memory was wanting in these turns only where it may be.
+abbrev pub AllMayLack : Held → List Taken → Type 0
+AllMayLack held [] = Unit {0}
+AllMayLack held (turn ∷ turns) = (may_lack_memory (fate_of turn) (answer_in held (unfailed turn)).reply ≡ true) × AllMayLack (answer_in held turn).held turns
+
+-- What these turns did to the disk: what a stop leaves, that is what it might have left before or, from some moment on, only files that it leaves in these turns, what is written and what kept of the file and told of it, and that its count of faults rose for each turn in which a call of it failed. The disk stays where it is called in none of them. None finds that the file is no journal, and memory is wanting only where it may be. Where no count rose and no memory was wanting, each was answered as it asks.
 pub record TakesTurns {D : Type 0} (reads : D → List ℕ) (images : D → List ℕ → Type 0) (moment : D → ℕ) (since : D → ℕ → List ℕ → Type 0) (faults : D → ℕ) (old new : D) (held : Held) (taken : List Taken) : Type 0 where
   pub left : LeavesOldThen images moment since old new (IsLeftIn held taken)
   pub written : WritesTurns held taken (reads old) (reads new)
@@ -69,6 +74,7 @@ pub record TakesTurns {D : Type 0} (reads : D → List ℕ) (images : D → List
   pub stays : list_any calls_disk taken ≡ false → new ≡ old
   pub disk : CountsTurns (faults old) taken (faults new)
   pub journal : list_any (λ turn. lacks_journal (fate_of turn)) taken ≡ false
+  pub memory : AllMayLack held taken
   pub answered : (Rose (faults old) (faults new) → ⊥) → list_any (λ turn. lacks_memory (fate_of turn)) taken ≡ false → list_all (λ turn. is_answered (fate_of turn)) taken ≡ true
 
 -- Where the disk may be called for it, something failed in it, and nothing was begun.

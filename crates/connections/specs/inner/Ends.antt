@@ -8,7 +8,7 @@ use Rattle.intake.specs.Requests.{Held}
 use Rattle.settled_book.specs.SettledBookState.{SettledBookState}
 use Rattle.connections.specs.Answering.{LeavesOldThen, OpensNone, WritesGrown, is_from_disk, tells_of_journal}
 use Rattle.connections.specs.Answers.{Answer}
-use Rattle.connections.specs.Fates.{Fate, answer_by}
+use Rattle.connections.specs.Fates.{Fate, answer_by, may_lack_memory}
 use Rattle.connections.specs.Holding.{Holds, IsNoJournal, StandsForNone, StandsOpen, working}
 use Rattle.connections.specs.Replies.{ReplyParts, is_reply_status}
 
@@ -17,6 +17,7 @@ pub record EndsBy {D : Type 0} (reads : D → List ℕ) (images : D → List ℕ
     (reply : ReplyParts) (at_hand : Option SettledBookState) (known : Option (List DayMinute)) : Type 0 where
   pub fate : Fate
   pub reply_is : reply ≡ (answer_by fate held wanted).reply
+  pub memory : may_lack_memory fate wanted.reply ≡ true
   pub holds : Holds at_hand (reads new) (images new) known (answer_by fate held wanted).held
   pub left : LeavesOldThen images moment since old new (GrownFrom held.journal wanted.held.journal)
   pub written : WritesGrown held.journal wanted.held.journal (reads old) (reads new)
