@@ -19,11 +19,9 @@ use Rattle.connections.specs.Holding.{StandsForNone, StandsOpen, working}
 use Rattle.connections.specs.Replies.{ReplyParts, is_reply_status, out_of_memory}
 use Rattle.connections.specs.inner.Ends.{Serves}
 use Rattle.connections.specs.inner.Taking.{IsReplyTo, has_number, opening_reply, received_reply}
+use Rattle.connections.proofs.EndsBy.{never_true}
 use Rattle.connections.proofs.NoBook.{none_still}
 use Rattle.connections.proofs.TakenBooks.{failed_is, to_working}
-
-pub never_true : (b : Bool) (P : Type 0) → b ≡ false → b ≡ true → P
-never_true b P fails passes = let never : true ≡ false = sym passes ∙ fails in absurd cc
 
 -- a count that one call left and another goes on with
 pub counts_then : (before mid now : ℕ) (failed : Bool) → Counts before mid false → Counts mid now failed → Counts before now failed

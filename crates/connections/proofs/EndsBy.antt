@@ -1,5 +1,5 @@
 -- How answering a request ends, by what it found of the book.
-use Rattle.std.proofs.Common.{◌≡◌, ℕ, true, false, List, Option, IsSome, refl, sym, ◌∙◌, ap}
+use Rattle.std.proofs.Common.{◌≡◌, ℕ, Bool, true, false, List, Option, IsSome, refl, sym, ◌∙◌, ap}
 use Rattle.gb_base.specs.DayMinute.{DayMinute}
 use Rattle.act_model.specs.declared.receipts.Receipt.{Receipt}
 use Rattle.intake.specs.Grown.{GrownFrom, IsFront}
@@ -7,7 +7,7 @@ use Rattle.intake.specs.Requests.{Held}
 use Rattle.intake.proofs.Durable.{front_refl}
 use Rattle.receipt_journal.specs.Standing.{StandsForJournal}
 use Rattle.settled_book.specs.SettledBookState.{SettledBookState}
-use Rattle.connections.specs.Answering.{LeavesOldThen, WritesGrown, is_from_disk}
+use Rattle.connections.specs.Answering.{LeavesOldThen, WritesGrown, is_from_disk, tells_of_file}
 use Rattle.connections.specs.Answers.{Answer, only}
 use Rattle.connections.specs.Fates.{Failure, DiskFailed, NoJournal, OutOfMemory, Answered, Failed, NotBegun, failure_reply, may_lack_memory}
 use Rattle.connections.specs.Holding.{Holds, working}
@@ -20,8 +20,8 @@ use Rattle.connections.proofs.LeftThen.{then_still, then_weakened}
 pub grown_none : (from to : List Receipt) (file : List ℕ) → IsFront from to → StandsForJournal file from → GrownFrom from to file
 grown_none from to file front stands = record { journal = from; stands = stands; begins = front_refl from; ends = front }
 
--- no reply to what failed tells of the disk
-failed_tells_none : (failure : Failure) → is_from_disk (failure_reply failure) ≡ false
+-- no reply to what failed ahead of a receipt tells of the file
+failed_tells_none : (failure : Failure) → tells_of_file (Failed failure NotBegun) (failure_reply failure) ≡ false
 failed_tells_none DiskFailed = refl
 failed_tells_none NoJournal = refl
 failed_tells_none OutOfMemory = refl
@@ -32,8 +32,11 @@ unbegun_lacks DiskFailed wanted = refl
 unbegun_lacks NoJournal wanted = refl
 unbegun_lacks OutOfMemory wanted = refl
 
+pub never_true : (b : Bool) (P : Type 0) → b ≡ false → b ≡ true → P
+never_true b P fails passes = let never : true ≡ false = sym passes ∙ fails in absurd cc
+
 pub not_from_disk : (reply : ReplyParts) (P : Type 0) → is_from_disk reply ≡ false → is_from_disk reply ≡ true → P
-not_from_disk reply P silent tells = let never : true ≡ false = sym tells ∙ silent in absurd cc
+not_from_disk reply P silent tells = never_true (is_from_disk reply) P silent tells
 
 module _ {D : Type 0} (reads : D → List ℕ) (images : D → List ℕ → Type 0) (moment : D → ℕ) (since : D → ℕ → List ℕ → Type 0) where
   -- what a stop leaves where no item was received
@@ -72,5 +75,5 @@ module _ {D : Type 0} (reads : D → List ℕ) (images : D → List ℕ → Type
     holds = holds;
     left = leaves_grown old new held.journal wanted.held.journal front left;
     written = writes_wider held.journal wanted.held.journal (reads old) (reads new) front written;
-    works = λ tells. not_from_disk reply _ (ap is_from_disk is ∙ failed_tells_none failure) tells;
+    works = λ tells. never_true (tells_of_file (Failed failure NotBegun) reply) _ (ap (λ (r : ReplyParts). tells_of_file (Failed failure NotBegun) r) is ∙ failed_tells_none failure) tells;
   }

@@ -98,7 +98,7 @@ module _ {D : Type 0} (reads : D → List ℕ) (images : D → List ℕ → Type
     holds = holds_open settled (reads new) (images new) known (item_answer held from item).held image takes.clock (takes.answered sound);
     left = left_by answer takes;
     written = written_by answer takes;
-    works = λ tells. not_from_disk reply _ (ap is_from_disk is) tells;
+    works = λ tells. some_works settled (failed ∙ no_disk_failed answer sound);
   }
 
   wants_memory : IsTaken answers.Memory → IsReplyTo answers.Memory reply → IsEnd

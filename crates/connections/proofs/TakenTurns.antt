@@ -9,7 +9,7 @@ use Rattle.intake.specs.Grown.{GrownFrom}
 use Rattle.intake.specs.Requests.{Held}
 use Rattle.receipt_journal.specs.Standing.{StandsForJournal}
 use Rattle.registry_http.specs.RequestParts.{RequestParts}
-use Rattle.connections.specs.Answering.{AnswersRequest, is_from_disk}
+use Rattle.connections.specs.Answering.{AnswersRequest, is_from_disk, tells_of_file}
 use Rattle.connections.specs.Answers.{answer}
 use Rattle.connections.specs.Fates.{Fate, Answered, Failed, DiskFailed, NoJournal, OutOfMemory, answer_by, has_disk_failed}
 use Rattle.connections.specs.Holding.{IsNoJournal}
@@ -134,7 +134,7 @@ module _ {D : Type 0} (reads : D → List ℕ) (images : D → List ℕ → Type
             (λ file grown. left_one held request is.asked is.fate file grown) is.left;
         written = (reads new, is.written, refl);
         kept = is.kept;
-        told = (λ from_disk. is.told (ap is_from_disk is.reply_is ∙ from_disk), tt);
+        told = (λ from_disk. is.told (ap (λ (r : ReplyParts). tells_of_file is.fate r) is.reply_is ∙ from_disk), tt);
         stays = stays_one old new (Answering request is.asked is.fate) is.uncalled;
         disk = rose;
         journal = found;

@@ -14,13 +14,17 @@ use Rattle.registry_http.specs.declared.routes.Route.TheVariants.{Post}
 use Rattle.settled_book.specs.SettledBookState.{SettledBookState}
 use Rattle.connections.specs.Answers.{answer}
 use Rattle.connections.specs.Asking.{Asked, AskedFor, NoRoute, WrongMethod, Asks}
-use Rattle.connections.specs.Fates.{Fate, Failure, answer_by, failure_reply, is_apart, may_lack_memory}
+use Rattle.connections.specs.Fates.{Fate, Failure, answer_by, failure_reply, is_apart, lacks_words, may_lack_memory}
 use Rattle.connections.specs.Holding.{Begins, working}
 use Rattle.connections.specs.Replies.{ReplyParts, out_of_memory}
 
 -- the status says that a text was read, or that an item was received
 abbrev pub is_from_disk : ReplyParts → Bool
 is_from_disk reply = reply.status == 200 || reply.status == 201
+
+-- a text was read or an item received: the status says so, or no memory was found to say it
+abbrev pub tells_of_file : Fate → ReplyParts → Bool
+tells_of_file fate reply = lacks_words fate || is_from_disk reply
 
 -- the status refuses a request by its method or by its body
 abbrev pub is_refusal : ReplyParts → Bool
@@ -65,7 +69,7 @@ pub record WritesGrown (from to : List Receipt) (file new : List ℕ) : Type 0 w
   pub same : (IsUnmade file → ⊥) → to ≡ from → new ≡ file
   pub unmade : IsUnmade file → Torn 0 (gate_behind to + 1) file new
 
--- A request was answered by what it asks for and by what became of it; that is what is held behind it. The disk is called only where it may be; where it is not, the request was answered as it asks, or no memory was found. Behind the clock's stamp memory may be wanting for the receipt of an item that is accepted, or for words with a number, and for nothing else. A stop leaves what it might have left before, or, from some moment on, nothing but the journal that was held, with the receipt of this request or without it. Of the file no other bytes are written than the frame of its receipt. What every image began with each begins with still, and with all that a text was read of or an item was received into.
+-- A request was answered by what it asks for and by what became of it; that is what is held behind it. The disk is called only where it may be; where it is not, the request was answered as it asks, or no memory was found. Behind the clock's stamp memory may be wanting for the receipt of an item that is accepted, or for words with a number, and for nothing else. A stop leaves what it might have left before, or, from some moment on, nothing but the journal that was held, with the receipt of this request or without it. Of the file no other bytes are written than the frame of its receipt. What every image began with each begins with still, and with all that a text was read of or an item was received into, also where no memory was found for the words of the reply.
 pub record AnswersRequest {D : Type 0} (reads : D → List ℕ) (images : D → List ℕ → Type 0) (moment : D → ℕ) (since : D → ℕ → List ℕ → Type 0) (old new : D) (request : RequestParts) (held : Held) (reply : ReplyParts) (HoldsNow : Held → Type 0) : Type 0 where
   pub asked : Asked
   pub fate : Fate
@@ -78,7 +82,7 @@ pub record AnswersRequest {D : Type 0} (reads : D → List ℕ) (images : D → 
   pub left : LeavesOldThen images moment since old new (GrownFrom held.journal (answer held request.body asked).held.journal)
   pub written : WritesGrown held.journal (answer held request.body asked).held.journal (reads old) (reads new)
   pub kept : (front : List Receipt) → AllBegin front (images old) → AllBegin front (images new)
-  pub told : is_from_disk reply ≡ true → AllBegin (answer_by fate held (answer held request.body asked)).held.journal (images new)
+  pub told : tells_of_file fate reply ≡ true → AllBegin (answer_by fate held (answer held request.body asked)).held.journal (images new)
 
 -- Behind a request for which the disk may be called a book is open that works, unless something failed in it.
 pub record LeavesOpen (request : RequestParts) (reply : ReplyParts) (at_hand : Option SettledBookState) : Type 0 where

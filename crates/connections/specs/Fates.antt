@@ -44,6 +44,15 @@ has_disk_failed (Failed DiskFailed progress) = true
 has_disk_failed (Failed NoJournal progress) = false
 has_disk_failed (Failed OutOfMemory progress) = false
 
+-- its receipt came to the file whole, and no memory was found for the words of its reply
+abbrev pub lacks_words : Fate → Bool
+lacks_words Answered = false
+lacks_words (Failed DiskFailed progress) = false
+lacks_words (Failed NoJournal progress) = false
+lacks_words (Failed OutOfMemory NotBegun) = false
+lacks_words (Failed OutOfMemory Stamped) = false
+lacks_words (Failed OutOfMemory Received) = true
+
 -- it was answered as it asks, or no memory was found and nothing was begun
 abbrev pub is_apart : Fate → Bool
 is_apart Answered = true

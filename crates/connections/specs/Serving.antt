@@ -5,7 +5,7 @@ use Rattle.std.specs.List.{list_all, list_any}
 use Rattle.gb_outside.specs.Faults.{Counts, Rose}
 use Rattle.act_model.specs.declared.receipts.Receipt.{Receipt}
 use Rattle.intake.specs.Requests.{Held}
-use Rattle.connections.specs.Answering.{AllBegin, LeavesOldThen, WritesGrown, is_from_disk, may_call_disk}
+use Rattle.connections.specs.Answering.{AllBegin, LeavesOldThen, WritesGrown, may_call_disk, tells_of_file}
 use Rattle.connections.specs.Fates.{Failure, Fate, Answered, Failed, DiskFailed, NoJournal, NotBegun, OutOfMemory, has_disk_failed, may_lack_memory}
 use Rattle.connections.specs.Served.{Connection, IsCutOff, IsLeftIn, IsOfTurns, IsUnwritten, IsWhole, held_by, replies_of, taken_of, unfailed, written_by}
 use Rattle.connections.specs.Turns.{Turn, Taken, Answering, Refusing, answer_in, calls_disk}
@@ -54,11 +54,11 @@ WritesTurns held [] file new = new ≡ file
 WritesTurns held (turn ∷ turns) file new =
     (mid : List ℕ) × WritesGrown held.journal (answer_in held (unfailed turn)).held.journal file mid × WritesTurns (answer_in held turn).held turns mid new
 
--- Each image begins with each journal that a text of these turns was read of, or an item received into.
+-- Each image begins with each journal that a text of these turns was read of, or an item received into, also where no memory was found for the words of the reply.
 abbrev pub AllTold : (List ℕ → Type 0) → Held → List Taken → Type 0
 AllTold images held [] = Unit {0}
 AllTold images held (turn ∷ turns) =
-    (is_from_disk (answer_in held turn).reply ≡ true → AllBegin (answer_in held turn).held.journal images) × AllTold images (answer_in held turn).held turns
+    (tells_of_file (fate_of turn) (answer_in held turn).reply ≡ true → AllBegin (answer_in held turn).held.journal images) × AllTold images (answer_in held turn).held turns
 
 -- Memory was wanting in these turns only where it may be.
 abbrev pub AllMayLack : Held → List Taken → Type 0
