@@ -2,6 +2,7 @@
 use Rattle.std.specs.Prelude.{◌≡◌, ℕ, ◌-◌, ◌≤◌, Bool, false, List, [], drop, length, Option, Result, Ok, Err}
 use Rattle.intake.specs.Requests.{Held}
 use Rattle.connections.specs.Doors.{LacksMemory, LinkRequests, LinkServed, ServesLinks, is_door_fault, left_behind}
+use Rattle.connections.specs.Turns.{Taken}
 use Rattle.connections.specs.declared.doors.DoorEnd.{DoorEnd}
 use Rattle.connections.specs.declared.doors.DoorEnd.TheVariants as door
 use Rattle.connections.specs.declared.serving.Ended.{Ended}
@@ -24,10 +25,10 @@ has_door_failed (Ok replies) = false
 has_door_failed (Err end) = is_door_fault end
 
 -- The link that comes next was served, with so many replies left; or none came. It goes on by the replies that the link had, or ends as no link waits or no memory was found for a reply.
-pub record IsRound {D : Type 0} (reads : D → List ℕ) (images : D → List ℕ → Type 0) (moment : D → ℕ) (since : D → ℕ → List ℕ → Type 0) (faults : D → ℕ) (old new : D) (held : Held) (left : ℕ)
+pub record IsRound {D : Type 0} (Takes : D → D → Held → List Taken → Type 0) (old new : D) (held : Held) (left : ℕ)
     (waiting : List (List ℕ)) (asked : List LinkRequests) (waiting_new : Option (List (List ℕ))) (served_old served_new : Option (List (List ℕ × ℕ))) (HoldsNow : Held → Type 0) (result : Result ℕ DoorEnd) : Type 0 where
   pub links : List LinkServed
-  pub serves : ServesLinks reads images moment since faults old new held left waiting asked waiting_new served_old served_new HoldsNow links
+  pub serves : ServesLinks Takes old new held left waiting asked waiting_new served_old served_new HoldsNow links
   pub few : length links ≤ 1
   pub goes_on : (replies : ℕ) → result ≡ Ok replies → (length links ≡ 1) × (left_behind left links ≡ left - replies)
   pub done : result ≡ Err door.Done → drop (length links) waiting ≡ []
