@@ -28,7 +28,7 @@ use Rattle.connections.proofs.TurnLists.{lack_more, left_first, left_later, left
 
 -- ---- counts
 
-counts_both : (a b c : ℕ) (x y : Bool) → Counts a b x → Counts b c y → Counts a c (x || y)
+pub counts_both : (a b c : ℕ) (x y : Bool) → Counts a b x → Counts b c y → Counts a c (x || y)
 counts_both a b c false y first second = subst (λ n. Counts n c y) (first.else_same refl) second
 counts_both a b c true y first second = record {
   never_falls = le_trans first.never_falls second.never_falls;

@@ -1,5 +1,6 @@
 -- What answering a request does.
-use Rattle.std.specs.Prelude.{◌≡◌, ◌⊎◌, ℕ, ◌+◌, ◌==◌, ◌||◌, Bool, true, false, List, Option, None, IsSome, IsTrue, is_ok}
+use Rattle.std.specs.Prelude.{◌≡◌, ◌≢◌, ◌⊎◌, ℕ, ◌+◌, ◌==◌, ◌||◌, Bool, true, false, List, Option, None, IsSome, IsTrue, is_ok}
+use Rattle.gb_outside.specs.Faults.{Counts}
 use Rattle.gb_outside.specs.Images.{LeavesOnly, Torn}
 use Rattle.act_json.specs.Lines.{item_of}
 use Rattle.act_model.specs.declared.receipts.Receipt.{Receipt}
@@ -10,6 +11,7 @@ use Rattle.receipt_journal.specs.BookState.{BookState}
 use Rattle.receipt_journal.specs.Opening.{BookOpens}
 use Rattle.receipt_journal.specs.Standing.{gate_behind}
 use Rattle.registry_http.specs.RequestParts.{RequestParts}
+use Rattle.registry_http.specs.Routes.{method_of}
 use Rattle.registry_http.specs.declared.routes.Route.TheVariants.{Post}
 use Rattle.settled_book.specs.SettledBookState.{SettledBookState}
 use Rattle.connections.specs.Answers.{answer}
@@ -89,6 +91,20 @@ pub record LeavesOpen (request : RequestParts) (reply : ReplyParts) (at_hand : O
   pub asked : Asked
   pub asks : Asks request asked
   pub works : may_call_disk asked request.body ≡ true → is_failed reply ≡ false → IsSome (working at_hand)
+
+-- What a request did to the disk and the book, with this reply. The disk's count rose just where a call of it failed. A book that worked works still unless one did, and behind a request for which the disk may be called a book works unless something failed. While a book works, the disk is called for a POST alone, and only a 201 or what failed leaves it changed.
+pub record KeepsBook {D : Type 0} (faults : D → ℕ) (request : RequestParts) (reply : ReplyParts) (book_old book_new : Option SettledBookState) (old new : D) : Type 0 where
+  pub disk : Counts (faults old) (faults new) (reply.status == 503)
+  pub kept : IsSome (working book_old) → (reply.status == 503) ≡ false → IsSome (working book_new)
+  pub left : LeavesOpen request reply book_new
+  pub untouched : IsSome (working book_old) → request.method ≢ method_of Post → new ≡ old
+  pub unreceived : IsSome (working book_old) → (reply.status == 201) ≡ false → is_failed reply ≡ false → new ≡ old
+
+-- What was done to the disk and the book in some turns: the disk's count rose just where a call of it failed, and where none did, a book that worked works still.
+pub record KeepsOpen {D : Type 0} (faults : D → ℕ) (book_old book_new : Option SettledBookState) (old new : D) : Type 0 where
+  pub failed : Bool
+  pub disk : Counts (faults old) (faults new) failed
+  pub kept : failed ≡ false → IsSome (working book_old) → IsSome (working book_new)
 
 -- A book was opened of a disk, and no call of the disk failed ahead of that: the state in which it stood open, and the book.
 pub record OpensBook {D : Type 0} (tells : Bool) (reads : D → List ℕ) (images : D → List ℕ → Type 0) (faults : D → ℕ) (old : D) : Type 0 where
