@@ -26,7 +26,7 @@ or_done (Err end) = end
 
 -- ---- how a link ends
 
-goes_by : (e : Ended) (n replies : ℕ) → behind_end e n ≡ Ok replies → n ≡ replies
+pub goes_by : (e : Ended) (n replies : ℕ) → behind_end e n ≡ Ok replies → n ≡ replies
 goes_by ended.Finished n replies is = ap or_zero is
 goes_by ended.LinkFault n replies is = ap or_zero is
 goes_by ended.Memory n replies is = absurd cc

@@ -1,7 +1,9 @@
 -- What taking up the link that comes next through a door comes to.
-use Rattle.std.specs.Prelude.{◌≡◌, ℕ, ◌-◌, ◌≤◌, Bool, false, List, [], drop, length, Option, Result, Ok, Err}
+use Rattle.std.specs.Prelude.{◌≡◌, ◌⊎◌, ℕ, ◌-◌, ◌≤◌, Bool, false, List, [], drop, length, Option, Result, Ok, Err}
 use Rattle.intake.specs.Requests.{Held}
 use Rattle.connections.specs.Doors.{LacksMemory, LinkRequests, LinkServed, ServesLinks, is_door_fault, left_behind}
+use Rattle.connections.specs.DoorOrder.{ComesNone, ServesOne}
+use Rattle.connections.specs.LinkOrder.{Stage}
 use Rattle.connections.specs.Turns.{Taken}
 use Rattle.connections.specs.declared.doors.DoorEnd.{DoorEnd}
 use Rattle.connections.specs.declared.doors.DoorEnd.TheVariants as door
@@ -34,3 +36,8 @@ pub record IsRound {D : Type 0} (Takes : D → D → Held → List Taken → Typ
   pub done : result ≡ Err door.Done → drop (length links) waiting ≡ []
   pub memory : LacksMemory links → result ≡ Err door.Memory
   pub wanting : result ≡ Err door.Memory → LacksMemory links
+
+-- The link that comes next was served in order, and it goes on by that; or none came, and it ends.
+abbrev pub ServesFirst : {P L D : Type 0} → (P → Option (List (List ℕ))) → (P → Option (List (List ℕ × ℕ))) → (L → Option (List ℕ)) → (L → Option (List ℕ)) → (L → ℕ) → (D → ℕ) → ℕ → Stage P D → Stage P D → Result ℕ DoorEnd → Type 0
+ServesFirst waiting served left written link_faults faults most old new result =
+    ((one : Served) × (result ≡ behind_link one) × ServesOne waiting served left written link_faults faults most old new one) ⊎ ((end : DoorEnd) × (result ≡ Err end) × ComesNone waiting served old new)

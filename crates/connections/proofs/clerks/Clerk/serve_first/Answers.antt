@@ -1,4 +1,4 @@
-use Rattle.std.proofs.Common.{◌≡◌, ◌∙◌, [], refl, subst}
+use Rattle.std.proofs.Common.{◌≡◌, ◌∙◌, [], inl, inr, refl, subst}
 use Rattle.gb_outside.specs.Doors.{NoneWaits}
 use Rattle.intake.specs.Requests.{Held}
 use Rattle.connections.specs.Holding.{Holds}
@@ -83,3 +83,27 @@ returns-clause-none_round g c = λ tells was none held all waiting asked same wa
     subst (λ (a : Held). ServesLink (TakesNone g.D.Disk.faults) c.args.disk.now c.serve_link-served.new.disk held (g.L.Link.Link.written c.in-Open.link) (g.L.Link.Link.written c.serve_link-served.new.link) (turns c.args.left requests end) c.serve_link-served.result (λ h. h ≡ a)) same
     (c.serve_link-served.ensures.serves_none tells was none held input requests end left are)))
     c.behind.ensures
+
+-- ---- in which order the link was served
+
+pub returns-in-Closed-clause-order : goal.returns-in-Closed-clause-order
+returns-in-Closed-clause-order g c = inr (Done, refl, record { still = c.in-Closed.ensures.links.1; unserved = c.accept.ensures.served; same = refl; same_book = refl })
+
+pub returns-in-Failed-clause-order : goal.returns-in-Failed-clause-order
+returns-in-Failed-clause-order g c = inr (DoorFault, refl, record { still = c.in-Failed.ensures.links; unserved = c.accept.ensures.served; same = refl; same_book = refl })
+
+pub returns-clause-order : goal.returns-clause-order
+returns-clause-order g c = inl (
+  c.serve_link-served.result,
+  c.behind.ensures,
+  record {
+    came = c.accept.new.self;
+    link = c.in-Open.link;
+    accepted = c.in-Open.ensures.links;
+    unserved = c.accept.ensures.served;
+    back = c.serve_link-served.new.link;
+    in_order = c.serve_link-served.ensures.order;
+    returned = c.done.ensures.served;
+    still = c.done.ensures.waiting;
+  },
+)
