@@ -1,5 +1,5 @@
 -- A request is answered: what it asks for, and how answering it ends.
-use Rattle.std.proofs.Common.{◌≡◌, ◌≤◌, Bool, true, false, ◌||◌, ⊎_elim, ℕ, List, Option, Some, None, IsSome, IfSome, refl, sym, ◌∙◌, ap, subst}
+use Rattle.std.proofs.Common.{◌≡◌, ◌≤◌, Bool, true, false, ◌&&◌, ◌||◌, ⊎_elim, ℕ, List, Option, Some, None, IsSome, IfSome, refl, sym, ◌∙◌, ap, subst}
 use Rattle.std.proofs.lemmas.Bool.{cases_Bool}
 use Rattle.gb_base.specs.DayMinute.{DayMinute}
 use Rattle.act_model.specs.declared.receipts.Receipt.{Receipt}
@@ -11,10 +11,10 @@ use Rattle.receipt_journal.specs.Standing.{StandsForJournal}
 use Rattle.receipt_journal.proofs.Standings.{journal_once}
 use Rattle.registry_http.specs.RequestParts.{RequestParts}
 use Rattle.settled_book.specs.SettledBookState.{SettledBookState}
-use Rattle.connections.specs.Answering.{AllBegin, AnswersRequest, SaysAsked, is_from_disk, may_call_disk, tells_of_file}
+use Rattle.connections.specs.Answering.{AllBegin, AnswersRequest, SaysAsked, WritesGrown, is_from_disk, may_call_disk, tells_of_file}
 use Rattle.connections.specs.Answers.{Answer, answer}
 use Rattle.connections.specs.Asking.{Asked, Asks}
-use Rattle.connections.specs.Fates.{Fate, Answered, Failed, OutOfMemory, NotBegun, Stamped, Received, answer_by, is_apart, lacks_words, may_lack_memory}
+use Rattle.connections.specs.Fates.{Fate, Answered, Failed, OutOfMemory, NotBegun, Stamped, Received, answer_by, has_opened, is_apart, lacks_words, may_lack_memory}
 use Rattle.connections.specs.Holding.{Begins, Holds, IsOpenOn, working}
 use Rattle.connections.specs.Replies.{ReplyParts}
 use Rattle.connections.specs.inner.Ends as ends
@@ -36,6 +36,12 @@ left_held (Failed failure NotBegun) held wanted same = refl
 left_held (Failed failure Stamped) held wanted same = ap (λ (h : Held). holding held.journal h.ticks) same
 left_held (Failed failure Received) held wanted same = same
 
+and_none : (a b called : Bool) → called ≡ false → (a && called) ≡ (b && called)
+and_none true true called is = refl
+and_none true false called is = is
+and_none false true called is = sym is
+and_none false false called is = refl
+
 or_told : (b told : Bool) → told ≡ true → (b || told) ≡ true
 or_told true told is = refl
 or_told false told is = is
@@ -48,17 +54,18 @@ record Became (held : Held) (body : List ℕ) (asked : Asked) (reply : ReplyPart
   pub apart : may_call_disk asked body ≡ false → is_apart fate ≡ true
   pub memory : may_lack_memory fate (answer held body asked).reply ≡ true
   pub tells : tells_of_file fate reply ≡ true → tells_of_file came reply ≡ true
+  pub opened : (has_opened fate && may_call_disk asked body) ≡ (has_opened came && may_call_disk asked body)
 
 -- where the disk is not called, its reply says what became of it
 became : (held : Held) (body : List ℕ) (asked : Asked) (reply : ReplyParts) (HoldsNow : Held → Type 0) (fate : Fate) → may_lack_memory fate (answer held body asked).reply ≡ true → (may_call_disk asked body ≡ false → SaysAsked body asked reply)
     → reply ≡ (answer_by fate held (answer held body asked)).reply → HoldsNow (answer_by fate held (answer held body asked)).held → Became held body asked reply HoldsNow fate
 became held body asked reply HoldsNow fate lacks_it says is holds = ⊎_elim
-    (λ (calls : may_call_disk asked body ≡ true). record { fate = fate; reply_is = is; holds = holds; apart = λ uncalled. never_true (may_call_disk asked body) _ uncalled calls; memory = lacks_it; tells = λ told. told })
+    (λ (calls : may_call_disk asked body ≡ true). record { fate = fate; reply_is = is; holds = holds; apart = λ uncalled. never_true (may_call_disk asked body) _ uncalled calls; memory = lacks_it; tells = λ told. told; opened = refl })
     (λ (uncalled : may_call_disk asked body ≡ false).
     let same = uncalled_held held body asked uncalled in
     let left = left_held fate held (answer held body asked) same in ⊎_elim
-    (λ as_asked. record { fate = Answered; reply_is = as_asked held; holds = subst HoldsNow (left ∙ sym same) holds; apart = λ again. refl; memory = refl; tells = λ told. or_told (lacks_words fate) (is_from_disk reply) told })
-    (λ lacks. record { fate = Failed OutOfMemory NotBegun; reply_is = lacks; holds = subst HoldsNow left holds; apart = λ again. refl; memory = refl; tells = λ told. or_told (lacks_words fate) (is_from_disk reply) told })
+    (λ as_asked. record { fate = Answered; reply_is = as_asked held; holds = subst HoldsNow (left ∙ sym same) holds; apart = λ again. refl; memory = refl; tells = λ told. or_told (lacks_words fate) (is_from_disk reply) told; opened = and_none true (has_opened fate) (may_call_disk asked body) uncalled })
+    (λ lacks. record { fate = Failed OutOfMemory NotBegun; reply_is = lacks; holds = subst HoldsNow left holds; apart = λ again. refl; memory = refl; tells = λ told. or_told (lacks_words fate) (is_from_disk reply) told; opened = and_none false (has_opened fate) (may_call_disk asked body) uncalled })
     (says uncalled))
     (cases_Bool (may_call_disk asked body))
 
@@ -73,7 +80,7 @@ module _ {D : Type 0} (reads : D → List ℕ) (images : D → List ℕ → Type
   begins_by front from to file is grown = record { journal = grown.journal; stands = grown.stands; begins = front_trans front from grown.journal is grown.begins }
 
   pub answers : (request : RequestParts) (held : Held) (reply : ReplyParts) (at_hand : Option SettledBookState) (known : Option (List DayMinute)) (asked : Asked) → Asks request asked → (may_call_disk asked request.body ≡ false → (new ≡ old) × SaysAsked request.body asked reply)
-      → StandsForJournal (reads old) held.journal → ends.EndsBy reads images moment since old new held (answer held request.body asked) reply at_hand known
+      → StandsForJournal (reads old) held.journal → ends.EndsBy reads images moment since old new (may_call_disk asked request.body) held (answer held request.body asked) reply at_hand known
       → AnswersRequest reads images moment since old new request held reply (λ h. Holds at_hand (reads new) (images new) known h)
   answers request held reply at_hand known asked asks uncalled stands end =
       let is = became held request.body asked reply (λ h. Holds at_hand (reads new) (images new) known h) end.fate end.memory (λ none. (uncalled none).1) end.reply_is end.holds in
@@ -87,7 +94,7 @@ module _ {D : Type 0} (reads : D → List ℕ) (images : D → List ℕ → Type
         apart = is.apart;
         memory = is.memory;
         left = end.left;
-        written = end.written;
+        written = subst (λ b. WritesGrown b held.journal (answer held request.body asked).held.journal (reads old) (reads new)) (sym is.opened) end.written;
         kept = λ front all file now.
             ⊎_elim (λ before. all file before)
             (λ grown. begins_by front held.journal (answer held request.body asked).held.journal file (front_held front held.journal stands all) grown)

@@ -51,10 +51,10 @@ module _ {D : Type 0} (reads : D → List ℕ) (images : D → List ℕ → Type
   leaves_now disk journal only_now = then_still images moment since disk (λ file. StandsForJournal file journal) only_now
 
   -- it is answered by this, which leaves what is held
-  pub ends_only : (old new : D) (held : Held) (reply : ReplyParts) (at_hand : Option SettledBookState) (known : Option (List DayMinute))
-      → Holds at_hand (reads new) (images new) known held → LeavesHeld old new held.journal → WritesGrown held.journal held.journal (reads old) (reads new) → (is_from_disk reply ≡ true → IsSome (working at_hand))
-      → ends.EndsBy reads images moment since old new held (only held reply) reply at_hand known
-  ends_only old new held reply at_hand known holds left written works = record {
+  pub ends_only : (old new : D) (calls : Bool) (held : Held) (reply : ReplyParts) (at_hand : Option SettledBookState) (known : Option (List DayMinute))
+      → Holds at_hand (reads new) (images new) known held → LeavesHeld old new held.journal → WritesGrown calls held.journal held.journal (reads old) (reads new) → (is_from_disk reply ≡ true → IsSome (working at_hand))
+      → ends.EndsBy reads images moment since old new calls held (only held reply) reply at_hand known
+  ends_only old new calls held reply at_hand known holds left written works = record {
     fate = Answered;
     reply_is = refl;
     memory = refl;
@@ -65,15 +65,15 @@ module _ {D : Type 0} (reads : D → List ℕ) (images : D → List ℕ → Type
   }
 
   -- something failed in it ahead of its receipt
-  pub ends_failed : (old new : D) (held : Held) (wanted : Answer) (failure : Failure) (reply : ReplyParts) (at_hand : Option SettledBookState) (known : Option (List DayMinute))
-      → reply ≡ failure_reply failure → Holds at_hand (reads new) (images new) known held → LeavesHeld old new held.journal → WritesGrown held.journal held.journal (reads old) (reads new) → IsFront held.journal wanted.held.journal
-      → ends.EndsBy reads images moment since old new held wanted reply at_hand known
-  ends_failed old new held wanted failure reply at_hand known is holds left written front = record {
+  pub ends_failed : (old new : D) (calls opened : Bool) (held : Held) (wanted : Answer) (failure : Failure) (reply : ReplyParts) (at_hand : Option SettledBookState) (known : Option (List DayMinute))
+      → reply ≡ failure_reply failure → Holds at_hand (reads new) (images new) known held → LeavesHeld old new held.journal → WritesGrown opened held.journal held.journal (reads old) (reads new) → IsFront held.journal wanted.held.journal
+      → ends.EndsBy reads images moment since old new calls held wanted reply at_hand known
+  ends_failed old new calls opened held wanted failure reply at_hand known is holds left written front = record {
     fate = Failed failure NotBegun;
     reply_is = is;
     memory = unbegun_lacks failure wanted.reply;
     holds = holds;
     left = leaves_grown old new held.journal wanted.held.journal front left;
-    written = writes_wider held.journal wanted.held.journal (reads old) (reads new) front written;
+    written = writes_wider opened held.journal wanted.held.journal (reads old) (reads new) written;
     works = λ tells. never_true (tells_of_file (Failed failure NotBegun) reply) _ (ap (λ (r : ReplyParts). tells_of_file (Failed failure NotBegun) r) is ∙ failed_tells_none failure) tells;
   }

@@ -66,9 +66,9 @@ accepted_said answers.Memory accepted = absurd cc
 
 module _ {D : Type 0} (reads : D → List ℕ) (images : D → List ℕ → Type 0) (moment : D → ℕ) (since : D → ℕ → List ℕ → Type 0) (old mid new : D) (image : images new (reads new))
     (held : Held) (from : SenderReference) (item : Item) (reply : ReplyParts) (settled : SettledBookState) (known : Option (List DayMinute)) (first : LeavesHeld reads images moment since old mid held.journal)
-    (opened : WritesGrown held.journal held.journal (reads old) (reads mid)) where
+    (opened : WritesGrown true held.journal held.journal (reads old) (reads mid)) where
   abbrev IsEnd : Type 0
-  IsEnd = ends.EndsBy reads images moment since old new held (item_answer held from item) reply (Some settled) known
+  IsEnd = ends.EndsBy reads images moment since old new true held (item_answer held from item) reply (Some settled) known
 
   abbrev IsTaken : Received → Type 0
   IsTaken answer = Receives reads images moment since mid new held from item answer settled known
@@ -77,8 +77,8 @@ module _ {D : Type 0} (reads : D → List ℕ) (images : D → List ℕ → Type
   left_by answer takes = then_only images moment since old mid new (GrownFrom held.journal (item_answer held from item).held.journal)
       (leaves_grown reads images moment since old mid held.journal (item_answer held from item).held.journal (item_grows held from item) first) takes.left
 
-  written_by : (answer : Received) → IsTaken answer → WritesGrown held.journal (item_answer held from item).held.journal (reads old) (reads new)
-  written_by answer takes = writes_then held.journal (item_answer held from item).held.journal (reads old) (reads mid) (reads new) (item_grows held from item) opened takes.written takes.same
+  written_by : (answer : Received) → IsTaken answer → WritesGrown true held.journal (item_answer held from item).held.journal (reads old) (reads new)
+  written_by answer takes = writes_then held.journal (item_answer held from item).held.journal (reads old) (reads mid) (reads new) opened takes.written takes.same
 
   -- an answer that is no fault
   answered : (answer : Received) → IsTaken answer → is_fault answer ≡ false → received_reply answer ≡ item_reply answer → settled.book.log.failed ≡ receiving_disk_failed answer → IsReplyTo answer reply → IsEnd

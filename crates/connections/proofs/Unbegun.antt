@@ -1,5 +1,5 @@
 -- How a request ends that calls no disk: it has no route, its body is no item, or no memory was found ahead of the book.
-use Rattle.std.proofs.Common.{◌≡◌, ◌≢◌, ◌⊎◌, inl, inr, ℕ, true, false, List, Option, Result, Err, is_ok, refl, sym, ◌∙◌, ap, subst}
+use Rattle.std.proofs.Common.{◌≡◌, ◌≢◌, ◌⊎◌, inl, inr, ℕ, Bool, true, false, List, Option, Result, Err, is_ok, refl, sym, ◌∙◌, ap, subst}
 use Rattle.gb_base.specs.DayMinute.{DayMinute}
 use Rattle.act_json.specs.Lines.{ReadsAs}
 use Rattle.act_json.specs.declared.lines.LineFault.{LineFault}
@@ -95,33 +95,33 @@ unrouted_none disk request routing.Memory reply is none other =
 module _ {D : Type 0} (reads : D → List ℕ) (images : D → List ℕ → Type 0) (moment : D → ℕ) (since : D → ℕ → List ℕ → Type 0) (disk : D)
     (only_now : (file : List ℕ) → since disk (moment disk) file → images disk file) (at_hand : Option SettledBookState) (known : Option (List DayMinute)) (held : Held)
     (holds : Holds at_hand (reads disk) (images disk) known held) where
-  abbrev IsEnd : Answer → ReplyParts → Type 0
-  IsEnd wanted reply = ends.EndsBy reads images moment since disk disk held wanted reply at_hand known
+  abbrev IsEnd : Bool → Answer → ReplyParts → Type 0
+  IsEnd calls wanted reply = ends.EndsBy reads images moment since disk disk calls held wanted reply at_hand known
 
-  pub silent_end : (reply : ReplyParts) → is_from_disk reply ≡ false → IsEnd (only held reply) reply
-  silent_end reply silent = ends_only reads images moment since disk disk held reply at_hand known holds (leaves_now reads images moment since disk held.journal only_now) (writes_nothing held.journal held.journal (reads disk)) (λ tells. not_from_disk reply _ silent tells)
+  pub silent_end : (reply : ReplyParts) → is_from_disk reply ≡ false → IsEnd false (only held reply) reply
+  silent_end reply silent = ends_only reads images moment since disk disk false held reply at_hand known holds (leaves_now reads images moment since disk held.journal only_now) (writes_nothing held.journal held.journal (reads disk)) (λ tells. not_from_disk reply _ silent tells)
 
-  pub memory_end : (wanted : Answer) (reply : ReplyParts) → reply ≡ out_of_memory → IsFront held.journal wanted.held.journal → IsEnd wanted reply
-  memory_end wanted reply is front = ends_failed reads images moment since disk disk held wanted OutOfMemory reply at_hand known is holds (leaves_now reads images moment since disk held.journal only_now) (writes_nothing held.journal held.journal (reads disk)) front
+  pub memory_end : (calls : Bool) (wanted : Answer) (reply : ReplyParts) → reply ≡ out_of_memory → IsFront held.journal wanted.held.journal → IsEnd calls wanted reply
+  memory_end calls wanted reply is front = ends_failed reads images moment since disk disk calls false held wanted OutOfMemory reply at_hand known is holds (leaves_now reads images moment since disk held.journal only_now) (writes_nothing held.journal held.journal (reads disk)) front
 
-  malformed_by : (meant : Result (ℕ × ℕ × Item) LineFault) (fault : LineFault) (reply : ReplyParts) → meant ≡ Err fault → reply ≡ malformed fault → IsEnd (body_answer held meant) reply
+  malformed_by : (meant : Result (ℕ × ℕ × Item) LineFault) (fault : LineFault) (reply : ReplyParts) → meant ≡ Err fault → reply ≡ malformed fault → IsEnd (is_ok meant) (body_answer held meant) reply
   malformed_by meant fault reply same is =
-      subst (λ m. IsEnd (body_answer held m) reply) (sym same)
-      (subst (λ r. IsEnd (only held r) reply) is (silent_end reply (ap is_from_disk is ∙ malformed_tells_none fault)))
+      subst (λ (m : Result (ℕ × ℕ × Item) LineFault). IsEnd (is_ok m) (body_answer held m) reply) (sym same)
+      (subst (λ r. IsEnd false (only held r) reply) is (silent_end reply (ap is_from_disk is ∙ malformed_tells_none fault)))
 
   pub body_end : (meant : Result (ℕ × ℕ × Item) LineFault) (fault : LineFault) (reply : ReplyParts) → ReadsAs {A = ℕ × ℕ × Item} (Err fault) meant → IsReplyToFault fault reply
-      → IsEnd (body_answer held meant) reply
+      → IsEnd (is_ok meant) (body_answer held meant) reply
   body_end meant line.NotJson reply same (inl is) = malformed_by meant line.NotJson reply same is
   body_end meant (line.NotItem path) reply same (inl is) = malformed_by meant (line.NotItem path) reply same is
-  body_end meant line.Memory reply same (inl is) = memory_end (body_answer held meant) reply is (body_grows held meant)
-  body_end meant fault reply same (inr (path, is)) = memory_end (body_answer held meant) reply is (body_grows held meant)
+  body_end meant line.Memory reply same (inl is) = memory_end (is_ok meant) (body_answer held meant) reply is (body_grows held meant)
+  body_end meant fault reply same (inr (path, is)) = memory_end (is_ok meant) (body_answer held meant) reply is (body_grows held meant)
 
   -- a request that has no route: what it asks for, and how it ends
   pub record EndsUnrouted (request : RequestParts) (reply : ReplyParts) : Type 0 where
     pub asked : Asked
     pub asks : Asks request asked
     pub says : may_call_disk asked request.body ≡ false → SaysAsked request.body asked reply
-    pub end : IsEnd (answer held request.body asked) reply
+    pub end : IsEnd (may_call_disk asked request.body) (answer held request.body asked) reply
 
   unrouted_by : (request : RequestParts) (fault : RouteFault) → (unfound fault ≡ unfound routing.NotFound → Asks request NoRoute) → (unfound fault ≡ unfound routing.WrongMethod → Asks request WrongMethod)
       → EndsUnrouted request (unrouted_reply fault)
@@ -132,7 +132,7 @@ module _ {D : Type 0} (reads : D → List ℕ) (images : D → List ℕ → Type
         asked = always.asked;
         asks = always.asks;
         says = λ uncalled. inr refl;
-        end = memory_end (answer held request.body always.asked) out_of_memory refl (answer_grows held request.body always.asked);
+        end = memory_end (may_call_disk always.asked request.body) (answer held request.body always.asked) out_of_memory refl (answer_grows held request.body always.asked);
       }
 
   pub ends_unrouted : (request : RequestParts) (fault : RouteFault) (reply : ReplyParts) → reply ≡ unrouted_reply fault

@@ -140,7 +140,7 @@ impl Clerk {
     fn read<D: Disk>(&mut self, alloc: Global, disk: &mut D, route: Route) -> Reply
         requires { IsTrue D.tells → StandsOpen self.old (D.reads disk.old) (D.images disk.old) }
         ensures ends { IsTrue D.tells → (known : Option (List DayMinute)) (held : Held) → Holds self.old (D.reads disk.old) (D.images disk.old) known held
-            → EndsBy D.reads D.images D.moment D.since disk.old disk.new held (only held (read_reply held.journal route)) result self.new known }
+            → EndsBy D.reads D.images D.moment D.since disk.old disk.new true held (only held (read_reply held.journal route)) result self.new known }
         ensures serves { Serves D.tells D.reads D.images D.moment D.since D.faults disk.old disk.new self.old self.new result }
         ensures late { is_refusal result ≡ false }
         ensures unfound { IsTrue D.tells → working self.old ≡ None → StandsForNone (D.reads disk.old) → IsFailure result }
@@ -168,7 +168,7 @@ impl Clerk {
         requires item { IsTrue (well_formed item.now) }
         requires stands_open { IsTrue D.tells → StandsOpen self.old (D.reads disk.old) (D.images disk.old) }
         ensures ends { IsTrue D.tells → (held : Held) → Holds self.old (D.reads disk.old) (D.images disk.old) (C.ticks clock.old) held
-            → EndsBy D.reads D.images D.moment D.since disk.old disk.new held (item_answer held from item.now) result self.new (C.ticks clock.new) }
+            → EndsBy D.reads D.images D.moment D.since disk.old disk.new true held (item_answer held from item.now) result self.new (C.ticks clock.new) }
         ensures serves { Serves D.tells D.reads D.images D.moment D.since D.faults disk.old disk.new self.old self.new result }
         ensures late { is_refusal result ≡ false }
         ensures unfound { IsTrue D.tells → working self.old ≡ None → StandsForNone (D.reads disk.old) → IsFailure result }
@@ -199,7 +199,7 @@ impl Clerk {
         requires short { length body.now ≤ longest_line }
         requires stands_open { IsTrue D.tells → StandsOpen self.old (D.reads disk.old) (D.images disk.old) }
         ensures ends { IsTrue D.tells → (held : Held) → Holds self.old (D.reads disk.old) (D.images disk.old) (C.ticks clock.old) held
-            → EndsBy D.reads D.images D.moment D.since disk.old disk.new held (body_answer held (item_of body.now)) result self.new (C.ticks clock.new) }
+            → EndsBy D.reads D.images D.moment D.since disk.old disk.new (is_ok (item_of body.now)) held (body_answer held (item_of body.now)) result self.new (C.ticks clock.new) }
         ensures serves { Serves D.tells D.reads D.images D.moment D.since D.faults disk.old disk.new self.old self.new result }
         ensures apart { is_refusal result ≡ true → (self.new ≡ self.old) × (disk.new ≡ disk.old) × (clock.new ≡ clock.old) }
         ensures uncalled { is_ok (item_of body.now) ≡ false → (disk.new ≡ disk.old) × SaysAsked body.now (AskedFor Post) result }
@@ -231,7 +231,7 @@ impl Clerk {
         requires short { length body.now ≤ longest_line }
         requires stands_open { IsTrue D.tells → StandsOpen self.old (D.reads disk.old) (D.images disk.old) }
         ensures ends { IsTrue D.tells → (held : Held) → Holds self.old (D.reads disk.old) (D.images disk.old) (C.ticks clock.old) held
-            → EndsBy D.reads D.images D.moment D.since disk.old disk.new held (answer held body.now (AskedFor route)) result self.new (C.ticks clock.new) }
+            → EndsBy D.reads D.images D.moment D.since disk.old disk.new (may_call_disk (AskedFor route) body.now) held (answer held body.now (AskedFor route)) result self.new (C.ticks clock.new) }
         ensures serves { Serves D.tells D.reads D.images D.moment D.since D.faults disk.old disk.new self.old self.new result }
         ensures apart { is_refusal result ≡ true → (self.new ≡ self.old) × (disk.new ≡ disk.old) × (clock.new ≡ clock.old) }
         ensures uncalled { may_call_disk (AskedFor route) body.now ≡ false → (disk.new ≡ disk.old) × SaysAsked body.now (AskedFor route) result }

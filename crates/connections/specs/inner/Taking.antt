@@ -1,5 +1,5 @@
 -- What is done for a reply: a route is found, a book is taken, and an item is received.
-use Rattle.std.specs.Prelude.{◌≡◌, ◌⊎◌, ℕ, Bool, true, false, List, Option, Some, Result, IfOk}
+use Rattle.std.specs.Prelude.{◌≡◌, ◌⊎◌, ℕ, Bool, true, false, List, Option, Some, Result, IfOk, is_ok}
 use Rattle.gb_base.specs.DayMinute.{DayMinute}
 use Rattle.gb_outside.specs.Images.{LeavesOnly}
 use Rattle.act_json.specs.declared.lines.LineFault.{LineFault}
@@ -49,7 +49,7 @@ opening_reply f = failure_reply (failure_of f)
 pub record Finds {D : Type 0} (reads : D → List ℕ) (images : D → List ℕ → Type 0) (moment : D → ℕ) (since : D → ℕ → List ℕ → Type 0) (old new : D) (journal : List Receipt) (taken : Result SettledBookState BookFault) : Type 0 where
   pub file : StandsForJournal (reads new) journal
   pub left : LeavesOldThen images moment since old new (λ file. StandsForJournal file journal)
-  pub written : WritesGrown journal journal (reads old) (reads new)
+  pub written : WritesGrown (is_ok taken) journal journal (reads old) (reads new)
   pub there : IfOk taken (λ settled. IsOpenOn settled (reads new) (images new) journal)
 
 -- ---- an item is received

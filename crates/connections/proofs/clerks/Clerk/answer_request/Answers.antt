@@ -60,7 +60,7 @@ uncalled g c = subst (λ (body : List ℕ). may_call_disk (AskedFor c.in-Ok.rout
 
 pub returns-clause-answers : goal.returns-clause-answers
 returns-clause-answers g c = λ tells held holds.
-    let end = subst (λ (body : List ℕ). EndsBy g.D.Disk.reads g.D.Disk.images g.D.Disk.moment g.D.Disk.since c.args.disk.now c.answer_route.new.disk held (answer held body (AskedFor c.in-Ok.route))
+    let end = subst (λ (body : List ℕ). EndsBy g.D.Disk.reads g.D.Disk.images g.D.Disk.moment g.D.Disk.since c.args.disk.now c.answer_route.new.disk (may_call_disk (AskedFor c.in-Ok.route) body) held (answer held body (AskedFor c.in-Ok.route))
     c.answer_route.result c.answer_route.new.self (g.C.Clock.ticks c.answer_route.new.clock)) c.body.ensures (c.answer_route.ensures.ends tells held holds) in
     answers g.D.Disk.reads g.D.Disk.images g.D.Disk.moment g.D.Disk.since c.args.disk.now c.answer_route.new.disk (g.met.D.Disk.reads_is_image c.args.disk.now tells)
     (λ t file le image. g.met.D.Disk.counts_now c.answer_route.new.disk t file tells le image)

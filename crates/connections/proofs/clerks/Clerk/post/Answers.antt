@@ -19,7 +19,7 @@ returns-in-Err-clause-serves g c =
 
 pub returns-clause-ends : goal.returns-clause-ends
 returns-clause-ends g c = λ tells held holds.
-    subst (λ read. EndsBy g.D.Disk.reads g.D.Disk.images g.D.Disk.moment g.D.Disk.since c.args.disk.now c.post_item.new.disk held (body_answer held read) c.post_item.result c.post_item.new.self (g.C.Clock.ticks c.post_item.new.clock))
+    subst (λ read. EndsBy g.D.Disk.reads g.D.Disk.images g.D.Disk.moment g.D.Disk.since c.args.disk.now c.post_item.new.disk (is_ok read) held (body_answer held read) c.post_item.result c.post_item.new.self (g.C.Clock.ticks c.post_item.new.clock))
     (sym c.in-Ok.ensures.exact) (c.post_item.ensures.ends tells held holds)
 
 pub returns-in-Err-clause-uncalled : goal.returns-in-Err-clause-uncalled

@@ -16,7 +16,7 @@ returns-in-Some-clause-finds g c = λ tells journal stands on.
 pub returns-clause-finds : goal.returns-clause-finds
 returns-clause-finds g c = λ tells journal stands on.
     finds_by_opening g.D.Disk.reads g.D.Disk.images g.D.Disk.moment g.D.Disk.since c.args.disk.now c.open.new.disk journal c.open.result stands (c.open.ensures.opened tells)
-    c.open.ensures.records (c.open.ensures.kept tells) (c.open.ensures.torn tells) (c.open.ensures.any_moment tells)
+    c.open.ensures.records (c.open.ensures.made tells) (c.open.ensures.kept tells) (c.open.ensures.torn tells) (c.open.ensures.any_moment tells)
 
 pub returns-clause-journal : goal.returns-clause-journal
 returns-clause-journal g c = λ tells none. opened_journal _ _ _ c.open.result (c.open.ensures.opened tells)
