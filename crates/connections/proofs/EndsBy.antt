@@ -20,13 +20,13 @@ use Rattle.connections.proofs.LeftThen.{then_still, then_weakened}
 pub grown_none : (from to : List Receipt) (file : List ℕ) → IsFront from to → StandsForJournal file from → GrownFrom from to file
 grown_none from to file front stands = record { journal = from; stands = stands; begins = front_refl from; ends = front }
 
--- no reply to what failed ahead of a receipt tells of the file
+-- no reply to what failed before a receipt tells of the file
 failed_tells_none : (failure : Failure) → tells_of_file (Failed failure NotBegun) (failure_reply failure) ≡ false
 failed_tells_none DiskFailed = refl
 failed_tells_none NoJournal = refl
 failed_tells_none OutOfMemory = refl
 
--- memory may be wanting ahead of each receipt
+-- memory may be wanting before each receipt
 unbegun_lacks : (failure : Failure) (wanted : ReplyParts) → may_lack_memory (Failed failure NotBegun) wanted ≡ true
 unbegun_lacks DiskFailed wanted = refl
 unbegun_lacks NoJournal wanted = refl

@@ -81,7 +81,7 @@ pub record WritesGrown (opened : Bool) (from to : List Receipt) (file new : List
   pub made : IsUnmade file → opened ≡ true → IsMadeThen from to file new
   pub unmade : IsUnmade file → IsLeftUnmade file new ⊎ IsMadeThen from to file new
 
--- A request was answered by what it asks for and by what became of it; that is what is held behind it. The disk is called only where it may be; where it is not, the request was answered as it asks, or no memory was found. Behind the clock's stamp memory may be wanting for the receipt of an item that is accepted, or for words with a number, and for nothing else. A stop leaves what it might have left before, or, from some moment on, nothing but the journal that was held, with the receipt of this request or without it. Of the file no other bytes are written than the frame of its receipt. What every image began with each begins with still, and with all that a text was read of or an item was received into, also where no memory was found for the words of the reply.
+-- A request was answered by what it asks for and by what became of it; that is what is held behind it. The disk is called only where it may be; where it is not, the request was answered as it asks, or no memory was found. Once the clock was asked, memory may be wanting for the receipt of an item that is accepted, or for words with a number, and for nothing else. A stop leaves what it might have left before, or, from some moment on, nothing but the journal that was held, with the receipt of this request or without it. Of the file no other bytes are written than the frame of its receipt. What every image began with each begins with still, and with all that a text was read of or an item was received into, also where no memory was found for the words of the reply.
 pub record AnswersRequest {D : Type 0} (reads : D → List ℕ) (images : D → List ℕ → Type 0) (moment : D → ℕ) (since : D → ℕ → List ℕ → Type 0) (old new : D) (request : RequestParts) (held : Held) (reply : ReplyParts) (HoldsNow : Held → Type 0) : Type 0 where
   pub asked : Asked
   pub fate : Fate
@@ -102,7 +102,7 @@ pub record LeavesOpen (request : RequestParts) (reply : ReplyParts) (at_hand : O
   pub asks : Asks request asked
   pub works : may_call_disk asked request.body ≡ true → is_failed reply ≡ false → IsSome (working at_hand)
 
--- What a request did to the disk and the book, with this reply. The disk's count rose just where a call of it failed. A book that worked works still unless one did, and behind a request for which the disk may be called a book works unless something failed. While a book works, the disk is called for a POST alone, and only a 201 or what failed leaves it changed.
+-- What a request did to the disk and the book, with this reply. The disk's count rose just where a call of it failed. A book that worked works still unless one did, and after a request for which the disk may be called a book works unless something failed. While a book works, the disk is called for a POST alone, and only a 201 or what failed leaves it changed.
 pub record KeepsBook {D : Type 0} (faults : D → ℕ) (request : RequestParts) (reply : ReplyParts) (book_old book_new : Option SettledBookState) (old new : D) : Type 0 where
   pub disk : Counts (faults old) (faults new) (reply.status == 503)
   pub kept : IsSome (working book_old) → (reply.status == 503) ≡ false → IsSome (working book_new)
@@ -116,7 +116,7 @@ pub record KeepsOpen {D : Type 0} (faults : D → ℕ) (book_old book_new : Opti
   pub disk : Counts (faults old) (faults new) failed
   pub kept : failed ≡ false → IsSome (working book_old) → IsSome (working book_new)
 
--- A book was opened of a disk, and no call of the disk failed ahead of that: the state in which it stood open, and the book.
+-- A book was opened, and no call of the disk failed before that: the state of the disk in which it stood open, and the book.
 pub record OpensBook {D : Type 0} (tells : Bool) (reads : D → List ℕ) (images : D → List ℕ → Type 0) (faults : D → ℕ) (old : D) : Type 0 where
   pub opened : D
   pub book : BookState

@@ -73,7 +73,7 @@ is_apart (Failed OutOfMemory Received) = false
 abbrev pub is_numbered : ℕ → Bool
 is_numbered status = status == 200 || status == 201 || status == 409
 
--- Memory may be wanting in it where this would be its reply: ahead of the clock's stamp it may for each; behind it only for the receipt of an item that is accepted, or for words that have a number.
+-- Memory may be wanting in it where this would be its reply: before the clock was asked, whatever the reply; after that only for the receipt of an item that is accepted, or for words that have a number.
 abbrev pub may_lack_memory : Fate → ReplyParts → Bool
 may_lack_memory Answered wanted = true
 may_lack_memory (Failed DiskFailed progress) wanted = true

@@ -55,7 +55,7 @@ pub record TurnsLast {L D : Type 0} (left written : L → Option (List ℕ)) (fa
   pub replied : AppendsFront (written read) (written to.outer) (bytes_of (reply ∷ []))
   pub book : EndsTurn faults answer reply from.at_hand to.at_hand from.disk to.disk
 
--- A connection with so many replies left was served in order: each reply was written before the link was read for the next request, and nothing was read behind a request that is the last, nor once as many replies were written.
+-- A connection with so many replies left was served in order: each reply was written before the link was read for the next request, and nothing was read after a request that is the last, nor once as many replies were written.
 pub record ServesInOrder {L D : Type 0} (left written : L → Option (List ℕ)) (faults : D → ℕ) (most : ℕ) (old new : Stage L D) (served : Served) : Type 0 where
   pub replies : List ReplyParts
   pub mid : Stage L D

@@ -12,7 +12,7 @@ use Rattle.connections.specs.Fates.{Fate, answer_by, has_opened, may_lack_memory
 use Rattle.connections.specs.Holding.{Holds, IsNoJournal, StandsForNone, StandsOpen, working}
 use Rattle.connections.specs.Replies.{ReplyParts, is_reply_status}
 
--- What a request came to that would be answered so where all works, and for which the disk may be called or not; behind a text that was read or an item that was received a book works.
+-- What a request came to that would be answered so where all works, and for which the disk may be called or not; after a text was read or an item received, a book works.
 pub record EndsBy {D : Type 0} (reads : D → List ℕ) (images : D → List ℕ → Type 0) (moment : D → ℕ) (since : D → ℕ → List ℕ → Type 0) (old new : D) (calls : Bool) (held : Held) (wanted : Answer)
     (reply : ReplyParts) (at_hand : Option SettledBookState) (known : Option (List DayMinute)) : Type 0 where
   pub fate : Fate
