@@ -1,5 +1,5 @@
 -- How a request ends that takes the book: it was not opened, or a text was read of it.
-use Rattle.std.proofs.Common.{◌≡◌, ℕ, ◌==◌, false, List, Option, Some, None, Result, Ok, Err, IfOk, OnErr, option_map, sym, ◌∙◌, ap, subst}
+use Rattle.std.proofs.Common.{◌≡◌, ℕ, ◌==◌, true, false, List, Option, Some, None, Result, Ok, Err, IfOk, OnErr, option_map, sym, ◌∙◌, ap, subst}
 use Rattle.gb_base.specs.DayMinute.{DayMinute}
 use Rattle.act_model.specs.declared.receipts.Receipt.{Receipt}
 use Rattle.intake.specs.Grown.{IsDurable, IsFront}
@@ -39,23 +39,23 @@ read_status items (Err e) reply found fault = record { disk = ap (λ (r : ReplyP
 module _ {D : Type 0} (reads : D → List ℕ) (images : D → List ℕ → Type 0) (moment : D → ℕ) (since : D → ℕ → List ℕ → Type 0) (old new : D) (held : Held) (known : Option (List DayMinute)) (clock : known ≡ Some held.ticks) where
   pub ends_unopened : (wanted : Answer) (f : BookFault) (reply : ReplyParts) (at_hand : Option SettledBookState) → reply ≡ opening_reply f → at_hand ≡ None
       → Finds reads images moment since old new held.journal (Err f) → IsFront held.journal wanted.held.journal
-      → ends.EndsBy reads images moment since old new held wanted reply at_hand known
+      → ends.EndsBy reads images moment since old new true held wanted reply at_hand known
   ends_unopened wanted f reply at_hand is empty finds front =
-      subst (λ (o : Option SettledBookState). ends.EndsBy reads images moment since old new held wanted reply o known) (sym empty)
-      (ends_failed reads images moment since old new held wanted (failure_of f) reply None known is (record { file = finds.file; clock = clock; book = tt }) finds.left finds.written front)
+      subst (λ (o : Option SettledBookState). ends.EndsBy reads images moment since old new true held wanted reply o known) (sym empty)
+      (ends_failed reads images moment since old new true false held wanted (failure_of f) reply None known is (record { file = finds.file; clock = clock; book = tt }) finds.left finds.written front)
 
   pub ends_read : {V E : Type 0} (items : V → List ℕ) (route : Route) (before settled : SettledBookState) (text : Result (Option V) E) (reply : ReplyParts) → images new (reads new)
       → Finds reads images moment since old new held.journal (Ok before) → before.book.log.failed ≡ false → settled.book ≡ before.book
       → IfOk text (λ found. option_map items found ≡ text_of before.book.journal route)
       → IfOk text (λ found. reply ≡ text_reply (option_map items found)) → OnErr text (reply ≡ out_of_memory)
-      → ends.EndsBy reads images moment since old new held (only held (read_reply held.journal route)) reply (Some settled) known
+      → ends.EndsBy reads images moment since old new true held (only held (read_reply held.journal route)) reply (Some settled) known
   ends_read items route before settled (Ok found) reply image finds works same read replied fault =
       let on = same_book settled before (reads new) (images new) held.journal same finds.there in
       let is : reply ≡ read_reply held.journal route = replied ∙ ap text_reply read ∙ ap (λ (j : List Receipt). read_reply j route) finds.there.journal_is in
-      subst (λ r. ends.EndsBy reads images moment since old new held (only held r) reply (Some settled) known) is
-      (ends_only reads images moment since old new held reply (Some settled) known (holds_open settled (reads new) (images new) known held image clock on) finds.left finds.written
+      subst (λ r. ends.EndsBy reads images moment since old new true held (only held r) reply (Some settled) known) is
+      (ends_only reads images moment since old new true held reply (Some settled) known (holds_open settled (reads new) (images new) known held image clock on) finds.left finds.written
       (λ tells. some_works settled (ap (λ (b : BookState). b.log.failed) same ∙ works)))
   ends_read items route before settled (Err e) reply image finds works same read replied fault =
       let on = same_book settled before (reads new) (images new) held.journal same finds.there in
-      ends_failed reads images moment since old new held (only held (read_reply held.journal route)) OutOfMemory reply (Some settled) known fault
+      ends_failed reads images moment since old new true true held (only held (read_reply held.journal route)) OutOfMemory reply (Some settled) known fault
       (holds_open settled (reads new) (images new) known held image clock on) finds.left finds.written (front_refl held.journal)

@@ -4,7 +4,6 @@ use Rattle.std.proofs.lemmas.Bool.{or_parts}
 use Rattle.gb_outside.specs.Faults.{Counts}
 use Rattle.act_model.specs.declared.receipts.Receipt.{Receipt}
 use Rattle.journal_disk.specs.Layout.{the_heading, IsMade}
-use Rattle.intake.specs.Requests.{is_fault}
 use Rattle.receipt_journal.specs.Opening.{BookRefuses, book_opening_disk_failed}
 use Rattle.receipt_journal.specs.Receiving.{is_received, receiving_disk_failed}
 use Rattle.receipt_journal.specs.Standing.{Stands, StandsForJournal}
@@ -19,12 +18,10 @@ use Rattle.connections.specs.Fates.{Failure, DiskFailed, NoJournal, OutOfMemory,
 use Rattle.connections.specs.Holding.{StandsForNone, StandsOpen, working}
 use Rattle.connections.specs.Replies.{ReplyParts, is_reply_status, out_of_memory}
 use Rattle.connections.specs.inner.Ends.{Serves}
-use Rattle.connections.specs.inner.Taking.{IsReplyTo, opening_reply, received_reply}
+use Rattle.connections.specs.inner.Taking.{IsReplyTo, has_number, opening_reply, received_reply}
+use Rattle.connections.proofs.EndsBy.{never_true}
 use Rattle.connections.proofs.NoBook.{none_still}
 use Rattle.connections.proofs.TakenBooks.{failed_is, to_working}
-
-pub never_true : (b : Bool) (P : Type 0) → b ≡ false → b ≡ true → P
-never_true b P fails passes = let never : true ≡ false = sym passes ∙ fails in absurd cc
 
 -- a count that one call left and another goes on with
 pub counts_then : (before mid now : ℕ) (failed : Bool) → Counts before mid false → Counts mid now failed → Counts before now failed
@@ -141,18 +138,18 @@ status_by answers.Disk opened = record { disk = refl; no_journal = refl; known =
 status_by answers.MustReopen opened = absurd (opened refl)
 status_by answers.Memory opened = record { disk = refl; no_journal = refl; known = refl; late = refl }
 
-no_disk : (answer : Received) → is_fault answer ≡ false → HasStatus out_of_memory (receiving_disk_failed answer)
-no_disk (answers.Accepted n) sound = record { disk = refl; no_journal = refl; known = refl; late = refl }
-no_disk (answers.Repeated n) sound = record { disk = refl; no_journal = refl; known = refl; late = refl }
-no_disk (answers.Differs n) sound = record { disk = refl; no_journal = refl; known = refl; late = refl }
-no_disk answers.Full sound = record { disk = refl; no_journal = refl; known = refl; late = refl }
-no_disk answers.Disk sound = absurd cc
-no_disk answers.MustReopen sound = absurd cc
-no_disk answers.Memory sound = record { disk = refl; no_journal = refl; known = refl; late = refl }
+no_disk : (answer : Received) → has_number answer ≡ true → HasStatus out_of_memory (receiving_disk_failed answer)
+no_disk (answers.Accepted n) number = record { disk = refl; no_journal = refl; known = refl; late = refl }
+no_disk (answers.Repeated n) number = record { disk = refl; no_journal = refl; known = refl; late = refl }
+no_disk (answers.Differs n) number = record { disk = refl; no_journal = refl; known = refl; late = refl }
+no_disk answers.Full number = absurd cc
+no_disk answers.Disk number = absurd cc
+no_disk answers.MustReopen number = absurd cc
+no_disk answers.Memory number = absurd cc
 
 pub status_of_item : (answer : Received) (reply : ReplyParts) → (answer ≡ answers.MustReopen → ⊥) → IsReplyTo answer reply → HasStatus reply (receiving_disk_failed answer)
 status_of_item answer reply opened (inl is) = subst (λ r. HasStatus r (receiving_disk_failed answer)) (sym is) (status_by answer opened)
-status_of_item answer reply opened (inr (sound, is)) = subst (λ r. HasStatus r (receiving_disk_failed answer)) (sym is) (no_disk answer sound)
+status_of_item answer reply opened (inr (number, is)) = subst (λ r. HasStatus r (receiving_disk_failed answer)) (sym is) (no_disk answer number)
 
 -- the book that received stands on the disk unless it failed
 pub stands_behind : (settled : SettledBookState) (reads : List ℕ) (images : List ℕ → Type 0) (failed : Bool) → settled.book.log.failed ≡ failed → (failed ≡ false → Stands settled.book reads images) → StandsOpen (Some settled) reads images
@@ -181,4 +178,4 @@ reply_status answers.Memory = refl
 
 pub not_received : (answer : Received) (reply : ReplyParts) → IsReplyTo answer reply → (reply.status == 201) ≡ false → is_failed reply ≡ false → is_received answer ≡ false
 not_received answer reply (inl is) other sound = no_receipt answer (ap (λ n. n == 201) (sym (reply_status answer)) ∙ sym (ap (λ (r : ReplyParts). r.status == 201) is) ∙ other)
-not_received answer reply (inr (no_fault, is)) other sound = failed_so reply _ (OutOfMemory, is) sound
+not_received answer reply (inr (number, is)) other sound = failed_so reply _ (OutOfMemory, is) sound

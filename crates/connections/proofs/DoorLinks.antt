@@ -11,13 +11,12 @@ use Rattle.registry_http.specs.RequestParts.{RequestParts}
 use Rattle.registry_http.specs.Requests.{AtFront}
 use Rattle.connections.specs.Doors.{AskSo, LacksMemory, LinkRequests, LinkServed, ServesLinks, left_behind, pairs_of, turns_taken, whole_replies}
 use Rattle.connections.specs.Served.{Connection, IsWhole, held_by, replies_of, taken_of, written_by}
-use Rattle.connections.specs.Serving.{ServesLink, TakesTurns, is_link_fault}
-use Rattle.connections.specs.Turns.{Turn, held_behind, turns}
+use Rattle.connections.specs.Serving.{ServesLink, is_link_fault}
+use Rattle.connections.specs.Turns.{Turn, Taken, held_behind, turns}
 use Rattle.connections.specs.declared.serving.Ended.{Ended}
 use Rattle.connections.specs.declared.serving.Ended.TheVariants as ended
 use Rattle.connections.specs.declared.serving.Served.{Served}
 use Rattle.connections.proofs.LinksTaken.{drop_more, none_served, pairs_more, served_more, taken_more}
-use Rattle.connections.proofs.TakenTurns.{takes_none, takes_then}
 use Rattle.connections.proofs.TurnLists.{held_more}
 
 -- ---- what the door tells
@@ -57,16 +56,16 @@ replies_are ended.Finished us c n finished unfinished = let whole = finished ref
 replies_are ended.LinkFault us c n finished unfinished = unfinished (λ is. absurd cc)
 replies_are ended.Memory us c n finished unfinished = unfinished (λ is. absurd cc)
 
-module _ {D : Type 0} (reads : D → List ℕ) (images : D → List ℕ → Type 0) (moment : D → ℕ) (since : D → ℕ → List ℕ → Type 0) (faults : D → ℕ) where
+module _ {D : Type 0} (Takes : D → D → Held → List Taken → Type 0) where
   pub links_none : (disk : D) (held : Held) (left : ℕ) (waiting : List (List ℕ)) (asked : List LinkRequests) (waiting_new : Option (List (List ℕ))) (served_old served_new : Option Pairs) (HoldsNow : Held → Type 0)
-      → ((file : List ℕ) → since disk (moment disk) file → images disk file) → waiting_new ≡ Some waiting → served_new ≡ served_old → HoldsNow held
-      → ServesLinks reads images moment since faults disk disk held left waiting asked waiting_new served_old served_new HoldsNow []
-  links_none disk held left waiting asked waiting_new served_old served_new HoldsNow only_now waits same holds = record {
+      → Takes disk disk held [] → waiting_new ≡ Some waiting → served_new ≡ served_old → HoldsNow held
+      → ServesLinks Takes disk disk held left waiting asked waiting_new served_old served_new HoldsNow []
+  links_none disk held left waiting asked waiting_new served_old served_new HoldsNow none waits same holds = record {
     are = none_served held left asked;
     waits = waits;
     told = told_none served_old served_new same;
     holds = holds;
-    disk = takes_none reads images moment since faults disk held only_now;
+    disk = none;
   }
 
   -- one link was served: what became of its connection, with so many whole replies
@@ -75,12 +74,12 @@ module _ {D : Type 0} (reads : D → List ℕ) (images : D → List ℕ → Type
     pub link : LinkServed
     pub ended_is : link.ended ≡ served.ended
     pub replies_is : served.replies ≡ whole_replies link.ended link.connection
-    pub serves : ServesLinks reads images moment since faults old new held left waiting asked waiting_new served_old served_new HoldsNow (link ∷ [])
+    pub serves : ServesLinks Takes old new held left waiting asked waiting_new served_old served_new HoldsNow (link ∷ [])
 
   one_asked : (old new : D) (held : Held) (left : ℕ) (bytes : List ℕ) (waiting : List (List ℕ)) (first : LinkRequests) (asked : List LinkRequests) (waiting_new : Option (List (List ℕ)))
       (served_old served_mid served_new : Option Pairs) (w0 w1 : Option (List ℕ)) (link_faults : ℕ) (HoldsNow : Held → Type 0) (served : Served)
       → 1 ≤ left → served.replies ≤ left → waiting_new ≡ Some waiting → served_mid ≡ served_old → NothingWritten served_old w0 → Counts 0 link_faults (is_link_fault served.ended) → doors.Serves served_mid served_new w1 link_faults
-      → ServesLink (TakesTurns reads images moment since faults) old new held w0 w1 (turns left first.requests first.end) served HoldsNow
+      → ServesLink Takes old new held w0 w1 (turns left first.requests first.end) served HoldsNow
       → OneServed old new held left (bytes ∷ waiting) (first ∷ asked) waiting_new served_old served_new HoldsNow served
   one_asked old new held left bytes waiting first asked waiting_new served_old served_mid served_new w0 w1 link_faults HoldsNow served some few waits same none failed told is =
       let c = is.became in
@@ -106,7 +105,7 @@ module _ {D : Type 0} (reads : D → List ℕ) (images : D → List ℕ → Type
           waits = waits;
           told = told_one served_old served_mid served_new w0 w1 (written_by held c) link_faults same none is.written told;
           holds = subst (λ l. HoldsNow (held_behind held l)) taken is.holds;
-          disk = subst (λ l. TakesTurns reads images moment since faults old new held l) taken is.disk;
+          disk = subst (λ l. Takes old new held l) taken is.disk;
         };
       }
 
@@ -115,7 +114,7 @@ module _ {D : Type 0} (reads : D → List ℕ) (images : D → List ℕ → Type
       → 1 ≤ left → served.replies ≤ left → AllZip AskSo waiting asked → waiting_old ≡ Some waiting → TakesFirst waiting_old waiting_mid link_left → waiting_new ≡ waiting_mid → served_mid ≡ served_old → NothingWritten served_old w0
       → faults0 ≡ 0 → Counts faults0 faults1 (is_link_fault served.ended) → doors.Serves served_mid served_new w1 faults1
       → ((input : List ℕ) (requests : List RequestParts) (end : AtFront) → link_left ≡ Some input → AreRequests input requests end
-      → ServesLink (TakesTurns reads images moment since faults) old new held w0 w1 (turns left requests end) served HoldsNow)
+      → ServesLink Takes old new held w0 w1 (turns left requests end) served HoldsNow)
       → OneServed old new held left waiting asked waiting_new served_old served_new HoldsNow served
   links_one old new held left waiting asked waiting_old waiting_mid waiting_new served_old served_mid served_new link_left w0 w1 faults0 faults1 HoldsNow served some few ask waits takes later same none sound counts told serves =
       let first : TakesFirst (Some waiting) waiting_mid link_left = subst (λ (w : Option (List (List ℕ))). TakesFirst w waiting_mid link_left) waits takes in
@@ -138,15 +137,15 @@ module _ {D : Type 0} (reads : D → List ℕ) (images : D → List ℕ → Type
           (subst (λ n. Counts n faults1 (is_link_fault served.ended)) sound counts) told (serves w a.requests a.end (left_is ∙ ap (λ (l : List (List ℕ)). Some (head_of l)) (sym is)) ask.0)
 
   pub links_then : (old mid new : D) (held : Held) (left : ℕ) (waiting : List (List ℕ)) (asked : List LinkRequests) (waiting_mid waiting_new : Option (List (List ℕ)))
-      (served_old served_mid served_new : Option Pairs) (HoldsMid HoldsNow : Held → Type 0) (xs ys : List LinkServed) → ((t : ℕ) (c : List ℕ) → t ≤ moment mid → images mid c → since mid t c)
-      → ServesLinks reads images moment since faults old mid held left waiting asked waiting_mid served_old served_mid HoldsMid xs → (LacksMemory xs → ⊥)
-      → ServesLinks reads images moment since faults mid new (held_behind held (turns_taken xs)) (left_behind left xs) (drop (length xs) waiting) (drop (length xs) asked) waiting_new served_mid served_new HoldsNow ys
-      → ServesLinks reads images moment since faults old new held left waiting asked waiting_new served_old served_new HoldsNow (xs ++ ys)
-  links_then old mid new held left waiting asked waiting_mid waiting_new served_old served_mid served_new HoldsMid HoldsNow xs ys counts first sound second = record {
+      (served_old served_mid served_new : Option Pairs) (HoldsMid HoldsNow : Held → Type 0) (xs ys : List LinkServed) → ((done more : List Taken) → Takes old mid held done → Takes mid new (held_behind held done) more → Takes old new held (done ++ more))
+      → ServesLinks Takes old mid held left waiting asked waiting_mid served_old served_mid HoldsMid xs → (LacksMemory xs → ⊥)
+      → ServesLinks Takes mid new (held_behind held (turns_taken xs)) (left_behind left xs) (drop (length xs) waiting) (drop (length xs) asked) waiting_new served_mid served_new HoldsNow ys
+      → ServesLinks Takes old new held left waiting asked waiting_new served_old served_new HoldsNow (xs ++ ys)
+  links_then old mid new held left waiting asked waiting_mid waiting_new served_old served_mid served_new HoldsMid HoldsNow xs ys joins first sound second = record {
     are = served_more held left asked xs ys first.are sound second.are;
     waits = second.waits ∙ ap (λ (l : List (List ℕ)). Some l) (drop_more xs ys waiting);
     told = told_then served_old served_mid served_new (pairs_of held xs) (pairs_of (held_behind held (turns_taken xs)) ys) (pairs_of held (xs ++ ys)) (pairs_more held xs ys) first.told second.told;
     holds = subst HoldsNow (sym (held_more held (turns_taken xs) (turns_taken ys)) ∙ ap (λ l. held_behind held l) (sym (taken_more xs ys))) second.holds;
-    disk = subst (λ l. TakesTurns reads images moment since faults old new held l) (sym (taken_more xs ys))
-        (takes_then reads images moment since faults old mid new held (turns_taken xs) (turns_taken ys) counts first.disk second.disk);
+    disk = subst (λ l. Takes old new held l) (sym (taken_more xs ys))
+        (joins (turns_taken xs) (turns_taken ys) first.disk second.disk);
   }

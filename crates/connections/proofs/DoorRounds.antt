@@ -2,7 +2,7 @@
 use Rattle.std.proofs.Common.{◌≡◌, ◌⊎◌, inl, inr, ⊎_elim, ℕ, ◌+◌, ◌-◌, ◌<◌, ◌≤◌, List, [], ◌∷◌, ◌++◌, drop, length, Option, Some, Result, Ok, Err, refl, sym, ◌∙◌, ap, subst, arith, length-append}
 use Rattle.intake.specs.Requests.{Held}
 use Rattle.connections.specs.Doors.{LacksMemory, LinkRequests, LinkServed, ServesDoor, ServesLinks, left_behind, turns_taken}
-use Rattle.connections.specs.Turns.{held_behind}
+use Rattle.connections.specs.Turns.{Taken, held_behind}
 use Rattle.connections.specs.declared.doors.DoorEnd.{DoorEnd}
 use Rattle.connections.specs.declared.doors.DoorEnd.TheVariants as door
 use Rattle.connections.specs.declared.serving.Ended.{Ended}
@@ -26,7 +26,7 @@ or_done (Err end) = end
 
 -- ---- how a link ends
 
-goes_by : (e : Ended) (n replies : ℕ) → behind_end e n ≡ Ok replies → n ≡ replies
+pub goes_by : (e : Ended) (n replies : ℕ) → behind_end e n ≡ Ok replies → n ≡ replies
 goes_by ended.Finished n replies is = ap or_zero is
 goes_by ended.LinkFault n replies is = ap or_zero is
 goes_by ended.Memory n replies is = absurd cc
@@ -41,12 +41,12 @@ memory_is ended.Finished n is = absurd cc
 memory_is ended.LinkFault n is = absurd cc
 memory_is ended.Memory n is = refl
 
-module _ {D : Type 0} (reads : D → List ℕ) (images : D → List ℕ → Type 0) (moment : D → ℕ) (since : D → ℕ → List ℕ → Type 0) (faults : D → ℕ) where
+module _ {D : Type 0} (Takes : D → D → Held → List Taken → Type 0) where
   -- ---- one round
 
   pub round_of_link : (old new : D) (held : Held) (left : ℕ) (waiting : List (List ℕ)) (asked : List LinkRequests) (waiting_new : Option (List (List ℕ))) (served_old served_new : Option Pairs)
-      (HoldsNow : Held → Type 0) (served : Served) (result : Result ℕ DoorEnd) → OneServed reads images moment since faults old new held left waiting asked waiting_new served_old served_new HoldsNow served
-      → result ≡ behind_link served → IsRound reads images moment since faults old new held left waiting asked waiting_new served_old served_new HoldsNow result
+      (HoldsNow : Held → Type 0) (served : Served) (result : Result ℕ DoorEnd) → OneServed Takes old new held left waiting asked waiting_new served_old served_new HoldsNow served
+      → result ≡ behind_link served → IsRound Takes old new held left waiting asked waiting_new served_old served_new HoldsNow result
   round_of_link old new held left waiting asked waiting_new served_old served_new HoldsNow served result one is = record {
     links = one.link ∷ [];
     serves = one.serves;
@@ -59,11 +59,11 @@ module _ {D : Type 0} (reads : D → List ℕ) (images : D → List ℕ → Type
 
   -- no link came
   pub round_of_none : (disk : D) (held : Held) (left : ℕ) (waiting : List (List ℕ)) (asked : List LinkRequests) (waiting_new : Option (List (List ℕ))) (served_old served_new : Option Pairs) (HoldsNow : Held → Type 0) (end : DoorEnd)
-      → ((file : List ℕ) → since disk (moment disk) file → images disk file) → waiting_new ≡ Some waiting → served_new ≡ served_old → HoldsNow held → (end ≡ door.Done → waiting ≡ []) → (end ≡ door.Memory → ⊥)
-      → IsRound reads images moment since faults disk disk held left waiting asked waiting_new served_old served_new HoldsNow (Err end)
-  round_of_none disk held left waiting asked waiting_new served_old served_new HoldsNow end only_now waits same holds done sound = record {
+      → Takes disk disk held [] → waiting_new ≡ Some waiting → served_new ≡ served_old → HoldsNow held → (end ≡ door.Done → waiting ≡ []) → (end ≡ door.Memory → ⊥)
+      → IsRound Takes disk disk held left waiting asked waiting_new served_old served_new HoldsNow (Err end)
+  round_of_none disk held left waiting asked waiting_new served_old served_new HoldsNow end none waits same holds done sound = record {
     links = [];
-    serves = links_none reads images moment since faults disk held left waiting asked waiting_new served_old served_new HoldsNow only_now waits same holds;
+    serves = links_none Takes disk held left waiting asked waiting_new served_old served_new HoldsNow none waits same holds;
     few = omega arith;
     goes_on = λ replies on. absurd cc;
     done = λ on. done (ap or_done on);
@@ -77,29 +77,29 @@ module _ {D : Type 0} (reads : D → List ℕ) (images : D → List ℕ → Type
   pub record WentLinks (old now : D) (held : Held) (most : ℕ) (waiting : List (List ℕ)) (asked : List LinkRequests) (waiting_now : Option (List (List ℕ))) (served_old served_now : Option Pairs)
       (HoldsNow : Held → Type 0) (left count : ℕ) : Type 0 where
     pub links : List LinkServed
-    pub serves : ServesLinks reads images moment since faults old now held most waiting asked waiting_now served_old served_now HoldsNow links
+    pub serves : ServesLinks Takes old now held most waiting asked waiting_now served_old served_now HoldsNow links
     pub sound : LacksMemory links → ⊥
     pub left_is : left_behind most links ≡ left
     pub count_is : length links ≡ count
 
   pub links_begun : (disk : D) (held : Held) (most : ℕ) (waiting : List (List ℕ)) (asked : List LinkRequests) (waiting_now : Option (List (List ℕ))) (served : Option Pairs) (HoldsNow : Held → Type 0)
-      → ((file : List ℕ) → since disk (moment disk) file → images disk file) → waiting_now ≡ Some waiting → HoldsNow held
+      → Takes disk disk held [] → waiting_now ≡ Some waiting → HoldsNow held
       → WentLinks disk disk held most waiting asked waiting_now served served HoldsNow most 0
-  links_begun disk held most waiting asked waiting_now served HoldsNow only_now waits holds = record {
+  links_begun disk held most waiting asked waiting_now served HoldsNow none waits holds = record {
     links = [];
-    serves = links_none reads images moment since faults disk held most waiting asked waiting_now served served HoldsNow only_now waits refl holds;
+    serves = links_none Takes disk held most waiting asked waiting_now served served HoldsNow none waits refl holds;
     sound = λ lacks. absurd lacks;
     left_is = refl;
     count_is = refl;
   }
 
   module _ (old mid new : D) (held : Held) (most : ℕ) (waiting : List (List ℕ)) (asked : List LinkRequests) (waiting_mid waiting_new : Option (List (List ℕ))) (served_old served_mid served_new : Option Pairs)
-      (HoldsMid HoldsNow : Held → Type 0) (left count : ℕ) (counts : (t : ℕ) (c : List ℕ) → t ≤ moment mid → images mid c → since mid t c) (less : count < most)
+      (HoldsMid HoldsNow : Held → Type 0) (left count : ℕ) (joins : (done more : List Taken) → Takes old mid held done → Takes mid new (held_behind held done) more → Takes old new held (done ++ more)) (less : count < most)
       (went : WentLinks old mid held most waiting asked waiting_mid served_old served_mid HoldsMid left count) (result : Result ℕ DoorEnd)
-      (round : IsRound reads images moment since faults mid new (held_behind held (turns_taken went.links)) left (drop (length went.links) waiting) (drop (length went.links) asked) waiting_new served_mid served_new HoldsNow result) where
-    all_links : ServesLinks reads images moment since faults old new held most waiting asked waiting_new served_old served_new HoldsNow (went.links ++ round.links)
-    all_links = links_then reads images moment since faults old mid new held most waiting asked waiting_mid waiting_new served_old served_mid served_new HoldsMid HoldsNow went.links round.links counts went.serves went.sound
-        (subst (λ n. ServesLinks reads images moment since faults mid new (held_behind held (turns_taken went.links)) n (drop (length went.links) waiting) (drop (length went.links) asked) waiting_new served_mid served_new HoldsNow
+      (round : IsRound Takes mid new (held_behind held (turns_taken went.links)) left (drop (length went.links) waiting) (drop (length went.links) asked) waiting_new served_mid served_new HoldsNow result) where
+    all_links : ServesLinks Takes old new held most waiting asked waiting_new served_old served_new HoldsNow (went.links ++ round.links)
+    all_links = links_then Takes old mid new held most waiting asked waiting_mid waiting_new served_old served_mid served_new HoldsMid HoldsNow went.links round.links joins went.serves went.sound
+        (subst (λ n. ServesLinks Takes mid new (held_behind held (turns_taken went.links)) n (drop (length went.links) waiting) (drop (length went.links) asked) waiting_new served_mid served_new HoldsNow
         round.links) (sym went.left_is) round.serves)
 
     lacks_now : LacksMemory (went.links ++ round.links) → result ≡ Err door.Memory
@@ -116,7 +116,7 @@ module _ {D : Type 0} (reads : D → List ℕ) (images : D → List ℕ → Type
     }
 
     -- the last round
-    pub links_end : (end : DoorEnd) → result ≡ Err end → ServesDoor reads images moment since faults old new held most waiting asked waiting_new served_old served_new end HoldsNow
+    pub links_end : (end : DoorEnd) → result ≡ Err end → ServesDoor Takes old new held most waiting asked waiting_new served_old served_new end HoldsNow
     links_end end is = record {
       links = went.links ++ round.links;
       serves = all_links;
@@ -129,7 +129,7 @@ module _ {D : Type 0} (reads : D → List ℕ) (images : D → List ℕ → Type
   -- no reply is left, or no link more is to be served
   pub links_out : (old now : D) (held : Held) (most : ℕ) (waiting : List (List ℕ)) (asked : List LinkRequests) (waiting_now : Option (List (List ℕ))) (served_old served_now : Option Pairs)
       (HoldsNow : Held → Type 0) (left count : ℕ) → count ≤ most → (left ≡ 0) ⊎ (most ≤ count) → WentLinks old now held most waiting asked waiting_now served_old served_now HoldsNow left count
-      → ServesDoor reads images moment since faults old now held most waiting asked waiting_now served_old served_now door.Done HoldsNow
+      → ServesDoor Takes old now held most waiting asked waiting_now served_old served_now door.Done HoldsNow
   links_out old now held most waiting asked waiting_now served_old served_now HoldsNow left count few over went = record {
     links = went.links;
     serves = went.serves;

@@ -6,6 +6,7 @@ pub mod ByDiskAlone
 pub mod Completed
 pub mod DiskReplies
 pub mod DoorLinks
+pub mod DoorOrders
 pub mod DoorRounds
 pub mod EndsBy
 pub mod GrownWrites

@@ -1,13 +1,19 @@
 -- A made file stays made, whatever is written behind its heading.
 use Rattle.std.proofs.Common.{◌≡◌, ℕ, ◌<◌, ◌≤◌, List, [], ◌∷◌, ◌++◌, length, take, drop, refl, sym, ◌∙◌, ap, subst, arith, length-append, length-drop, take-append-drop, take-take, take_at}
 use Rattle.gb_outside.specs.Images.{Torn}
-use Rattle.journal_disk.specs.Layout.{the_heading, end_of, first_gate, IsMade, IsUnmade}
+use Rattle.journal_disk.specs.Layout.{the_heading, end_of, first_gate, IsJournal, IsMade, IsUnmade}
 use Rattle.journal_disk.specs.Opening.{IsKept}
 
 made_not_unmade : (file : List ℕ) → IsMade the_heading file → IsUnmade file → ⊥
 made_not_unmade [] is unmade = let whole = is.whole in absurd cc
 made_not_unmade (mark ∷ []) is unmade = let whole = is.whole in absurd cc
 made_not_unmade (mark ∷ next ∷ rest) is unmade = let whole = is.whole in let same : mark ≡ is.mark = cc in is.made (sym same ∙ unmade)
+
+-- a file that stands for frames is made
+pub journal_not_unmade : (bodies : List (List ℕ)) (file : List ℕ) → IsJournal the_heading file bodies → IsUnmade file → ⊥
+journal_not_unmade bodies [] is unmade = let whole = is.whole in absurd cc
+journal_not_unmade bodies (mark ∷ []) is unmade = let whole = is.whole in absurd cc
+journal_not_unmade bodies (mark ∷ next ∷ rest) is unmade = let whole = is.whole in let same : mark ≡ is.mark = cc in is.made (sym same ∙ unmade)
 
 -- an opening keeps it
 pub made_kept : (file new : List ℕ) → IsKept file new → IsMade the_heading file → IsMade the_heading new

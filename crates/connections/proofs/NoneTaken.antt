@@ -1,5 +1,5 @@
 -- What turns do to a disk whose file stands for no journal, one list of them after another.
-use Rattle.std.proofs.Common.{◌≡◌, ⊎_elim, ℕ, ◌==◌, Bool, true, false, List, [], ◌∷◌, ◌++◌, refl, sym, ◌∙◌, ap, subst}
+use Rattle.std.proofs.Common.{◌≡◌, ⊎_elim, ℕ, ◌==◌, true, false, List, [], ◌∷◌, ◌++◌, refl, ◌∙◌, ap, subst}
 use Rattle.std.proofs.lemmas.Bool.{cases_Bool}
 use Rattle.std.proofs.lemmas.List.Elements.{All-append, All-cons, All-nil}
 use Rattle.gb_outside.specs.Faults.{Counts}
@@ -14,6 +14,7 @@ use Rattle.connections.specs.Serving.{FailsUnbegun}
 use Rattle.connections.specs.Turns.{Taken, Answering, Refusing, held_behind}
 use Rattle.connections.proofs.ByDiskAlone.{counts_still}
 use Rattle.connections.proofs.DiskReplies.{disk_by_reply}
+use Rattle.connections.proofs.EndsBy.{never_true}
 use Rattle.connections.proofs.Grows.{uncalled_held}
 use Rattle.connections.proofs.LinkEnds.{TurnTaken}
 use Rattle.connections.proofs.TakenTurns.{counts_more, stays_more, stays_one}
@@ -53,17 +54,14 @@ module _ {D : Type 0} (faults : D → ℕ) where
       };
     }
 
-    never_both : (b : Bool) (P : Type 0) → b ≡ false → b ≡ true → P
-    never_both b P fails passes = let never : true ≡ false = sym passes ∙ fails in absurd cc
-
     pub turn_none : (all : Held) → held ≡ all → AnswersNone old new request reply → TurnTaken Takes old new held request reply (λ h. h ≡ all)
     turn_none all same none = ⊎_elim
         (λ (calls : may_call_disk none.asked request.body ≡ true).
         let failure = none.failed calls in
-        taken_so (λ h. h ≡ all) none (Failed failure.0 NotBegun) failure.1 (λ uncalled. never_both (may_call_disk none.asked request.body) _ uncalled calls) (λ again. (failure.0, refl)) same)
+        taken_so (λ h. h ≡ all) none (Failed failure.0 NotBegun) failure.1 (λ uncalled. never_true (may_call_disk none.asked request.body) _ uncalled calls) (λ again. (failure.0, refl)) same)
         (λ (uncalled : may_call_disk none.asked request.body ≡ false). ⊎_elim
-        (λ is. taken_so (λ h. h ≡ all) none Answered (is held) (λ again. refl) (λ calls. never_both (may_call_disk none.asked request.body) _ uncalled calls)
+        (λ is. taken_so (λ h. h ≡ all) none Answered (is held) (λ again. refl) (λ calls. never_true (may_call_disk none.asked request.body) _ uncalled calls)
         (uncalled_held held request.body none.asked uncalled ∙ same))
-        (λ is. taken_so (λ h. h ≡ all) none (Failed OutOfMemory NotBegun) is (λ again. refl) (λ calls. never_both (may_call_disk none.asked request.body) _ uncalled calls) same)
+        (λ is. taken_so (λ h. h ≡ all) none (Failed OutOfMemory NotBegun) is (λ again. refl) (λ calls. never_true (may_call_disk none.asked request.body) _ uncalled calls) same)
         (none.uncalled uncalled).1)
         (cases_Bool (may_call_disk none.asked request.body))

@@ -24,6 +24,7 @@ use Rattle.connections.specs.Answers.{item_answer, received_by_clock}
 use Rattle.connections.specs.Holding.{IsOpenOn}
 use Rattle.connections.specs.inner.Taking.{Receives}
 use Rattle.connections.proofs.GrownWrites.{no_receipt_more}
+use Rattle.connections.proofs.ServedReplies.{memory_not_expected}
 
 -- ---- by the stamp that the clock gave
 
@@ -56,6 +57,11 @@ answer_expected : (expected answer : Received) → Answers expected answer → i
 answer_expected expected answer (inl same) sound = same
 answer_expected expected answer (inr (accepts, inl memory)) sound = let never : true ≡ false = sym (ap is_fault memory) ∙ sound in absurd cc
 answer_expected expected answer (inr (accepts, inr disk)) sound = let never : true ≡ false = sym (ap is_fault disk) ∙ sound in absurd cc
+
+-- memory is wanting for a receipt alone
+lacked_by : (expected answer : Received) → Answers expected answer → answer ≡ answers.Memory → (expected ≡ answers.Memory → ⊥) → is_received expected ≡ true
+lacked_by expected answer (inl same) memory never = absurd (never (sym same ∙ memory))
+lacked_by expected answer (inr (accepts, why)) memory never = accepts
 
 pub no_disk_failed : (answer : Received) → is_fault answer ≡ false → receiving_disk_failed answer ≡ false
 no_disk_failed (answers.Accepted n) sound = refl
@@ -111,6 +117,7 @@ module _ {D : Type 0} (reads : D → List ℕ) (images : D → List ℕ → Type
       let at = answered_at journal ticks stamp from item known0 known1 is tick in
       let here = run.each (reads new) (counts (moment old) (reads new) run.later image) in record {
         expected = λ sound. answer_expected (expected journal) answer answers_it sound ∙ sym at.answer;
+        lacked = λ memory. ap is_received at.answer ∙ lacked_by (expected journal) answer answers_it memory (memory_not_expected journal stamp from.sender from.reference item);
         clock = at.clock;
         file = subst (λ (j : List Receipt). StandsForJournal (reads new) journal ⊎ StandsForJournal (reads new) j) (sym at.journal)
             (file_by journal (next journal) (reads new) (is_received (expected journal)) (λ refused. were (reads new) (subst (λ d. images d (reads new)) (refused_same journal answers_it refused) image)) here);

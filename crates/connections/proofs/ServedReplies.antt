@@ -1,5 +1,5 @@
 -- No reply to a turn that is answered as it asks says that a call of the disk failed or that no memory was found.
-use Rattle.std.proofs.Common.{◌≡◌, ℕ, ◌-◌, ◌≤◌, ◌==◌, Bool, true, false, ◌||◌, ◌&&◌, cond, if◌then◌else◌, List, [], ◌∷◌, ◌++◌, length, Option, Some, None, Result, Ok, Err, refl, ◌∙◌, ap, arith}
+use Rattle.std.proofs.Common.{◌≡◌, ℕ, ◌-◌, ◌≤◌, ◌==◌, Bool, true, false, ◌||◌, ◌&&◌, cond, if◌then◌else◌, List, [], ◌∷◌, ◌++◌, length, Option, Some, None, Result, Ok, Err, refl, sym, ◌∙◌, ap, arith}
 use Rattle.std.proofs.lemmas.Bool.{and_parts}
 use Rattle.std.specs.List.{list_all, list_any}
 use Rattle.std.specs.Prelude.{◌+◌, nat_le, nat_lt, not}
@@ -19,6 +19,7 @@ use Rattle.intake.specs.Requests.{Held, OnDisk, replied_by_clock, reply_of}
 use Rattle.intake_requests.specs.declared.requests.SenderReference.{SenderReference}
 use Rattle.journal_disk.specs.Layout.{file_limit, the_heading}
 use Rattle.receipt_journal.specs.Receiving.{answer_on, file_size, in_journal, on_disk}
+use Rattle.receipt_journal.specs.declared.received.Received.{Received}
 use Rattle.receipt_journal.specs.declared.received.Received.TheVariants as answers
 use Rattle.registry_http.specs.RequestParts.{RequestParts}
 use Rattle.registry_http.specs.Requests.{AtFront, Whole, Nothing, Cut, HeadFault, BodyTooLong}
@@ -65,6 +66,10 @@ status_expected : (journal : List Receipt) (stamp : DayMinute) (sender reference
 unfolding answer_on
 status_expected journal stamp sender reference item =
     status_on_disk (file_size the_heading (journal ++ next_receipt journal stamp sender reference item ∷ [])) (answer_to journal sender reference item) (memory_by journal item (number_of sender reference journal))
+
+pub memory_not_expected : (journal : List Receipt) (stamp : DayMinute) (sender reference : ℕ) (item : Item) → answer_on journal stamp sender reference item ≡ answers.Memory → ⊥
+memory_not_expected journal stamp sender reference item is =
+    let never : true ≡ false = sym (ap (λ (a : Received). is_unserved_status (status_of a)) is) ∙ status_expected journal stamp sender reference item in absurd cc
 
 -- ---- the ticks that are left
 

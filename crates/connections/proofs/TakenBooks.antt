@@ -1,21 +1,24 @@
 -- What taking the book finds, whether it is at hand or has to be opened.
-use Rattle.std.proofs.Common.{◌+◌, ◌≡◌, inl, inr, ⊎_elim, ℕ, Bool, true, false, cond, List, Option, Some, None, Result, Ok, Err, IfOk, IfSome, OnOk, refl, subst}
+use Rattle.std.proofs.Common.{◌+◌, ◌≡◌, inl, inr, ⊎_elim, ℕ, Bool, true, false, cond, List, Option, Some, None, Result, Ok, Err, IfOk, IfSome, IsTrue, OnOk, is_ok, refl, subst}
+use Rattle.gb_outside.specs.Faults.{Counts}
 use Rattle.gb_outside.specs.Images.{Torn}
 use Rattle.gb_outside.proofs.Moments.{weakened}
 use Rattle.act_model.specs.declared.receipts.Receipt.{Receipt}
-use Rattle.journal_disk.specs.Layout.{the_heading, first_gate}
+use Rattle.journal_disk.specs.Layout.{the_heading, IsUnmade, first_gate, made_from}
 use Rattle.journal_disk.specs.Opening.{AnswersSynced, IsKept, SyncsFirst}
 use Rattle.intake.specs.Grown.{IsDurable}
 use Rattle.intake.proofs.Durable.{durable_stands}
 use Rattle.receipt_journal.specs.Opening.{BookOpens, book_opening_disk_failed}
-use Rattle.receipt_journal.specs.Standing.{AreRecordsTo, StandsForJournal}
+use Rattle.receipt_journal.specs.Standing.{AreRecordsTo, StandsForJournal, records}
 use Rattle.receipt_journal.specs.declared.faults.BookFault.{BookFault}
 use Rattle.receipt_journal.proofs.Standings.{journal_once, kept_frames, stands_by_frames}
 use Rattle.settled_book.specs.SettledBookState.{SettledBookState}
+use Rattle.connections.specs.Answering.{OpensBook}
 use Rattle.connections.specs.Holding.{IsOpenOn, working}
 use Rattle.connections.specs.inner.Taking.{Finds}
 use Rattle.connections.proofs.EndsBy.{LeavesHeld, leaves_now}
-use Rattle.connections.proofs.GrownWrites.{writes_nothing, writes_opening}
+use Rattle.connections.proofs.GrownWrites.{writes_no_more, writes_opening}
+use Rattle.connections.proofs.MadeFiles.{journal_not_unmade}
 
 -- a file that is kept stands for the journal that it stood for
 kept_journal : (file c : List ℕ) (journal : List Receipt) → StandsForJournal file journal → IsKept file c → StandsForJournal c journal
@@ -33,6 +36,10 @@ opened_on file reads images journal settled stands opens records =
       stands = λ c image. subst (StandsForJournal c) same (durable_stands settled.book reads images c durable image);
     }
 
+on_ok : {A E : Type 0} (opened : Result A E) (P : Type 0) → OnOk opened P → is_ok opened ≡ true → P
+on_ok (Ok value) P has is = has
+on_ok (Err fault) P has is = absurd cc
+
 module _ {D : Type 0} (reads : D → List ℕ) (images : D → List ℕ → Type 0) (moment : D → ℕ) (since : D → ℕ → List ℕ → Type 0) where
   synced_left : (old new : D) (journal : List Receipt) → StandsForJournal (reads old) journal → SyncsFirst reads images moment since old new → LeavesHeld reads images moment since old new journal
   synced_left old new journal stands first = inr (record {
@@ -47,12 +54,12 @@ module _ {D : Type 0} (reads : D → List ℕ) (images : D → List ℕ → Type
 
   pub finds_by_opening : (old new : D) (journal : List Receipt) (opened : Result SettledBookState BookFault) → StandsForJournal (reads old) journal
       → IfOk opened (λ settled. BookOpens (reads old) settled.book (reads new) (images new)) → IfOk opened (λ settled. AreRecordsTo settled.book.journal settled.book.log.gate)
-      → IsKept (reads old) (reads new) → Torn 0 (first_gate the_heading + 1) (reads old) (reads new) → AnswersSynced reads images moment since old new (book_opening_disk_failed opened)
-      → Finds reads images moment since old new journal opened
-  finds_by_opening old new journal opened stands opens records kept torn answers = record {
+      → OnOk opened (IsUnmade (reads old) → reads new ≡ made_from the_heading (reads old)) → IsKept (reads old) (reads new) → Torn 0 (first_gate the_heading + 1) (reads old) (reads new)
+      → AnswersSynced reads images moment since old new (book_opening_disk_failed opened) → Finds reads images moment since old new journal opened
+  finds_by_opening old new journal opened stands opens records makes kept torn answers = record {
     file = kept_journal (reads old) (reads new) journal stands kept;
     left = opening_left old new journal (book_opening_disk_failed opened) stands answers;
-    written = writes_opening journal (reads old) (reads new) kept torn;
+    written = writes_opening (is_ok opened) journal (reads old) (reads new) kept torn (on_ok opened (IsUnmade (reads old) → reads new ≡ made_from the_heading (reads old)) makes);
     there = there opened opens records;
   }
     where
@@ -63,13 +70,20 @@ module _ {D : Type 0} (reads : D → List ℕ) (images : D → List ℕ → Type
 
   pub finds_at_hand : (disk : D) (journal : List Receipt) (settled : SettledBookState) → ((file : List ℕ) → since disk (moment disk) file → images disk file) → StandsForJournal (reads disk) journal
       → IsOpenOn settled (reads disk) (images disk) journal → Finds reads images moment since disk disk journal (Ok settled)
-  finds_at_hand disk journal settled only_now stands open_on = record { file = stands; left = leaves_now reads images moment since disk journal only_now; written = writes_nothing journal journal (reads disk); there = open_on }
+  finds_at_hand disk journal settled only_now stands open_on = record { file = stands; left = leaves_now reads images moment since disk journal only_now; written = writes_no_more true journal journal (reads disk) (journal_not_unmade (records settled.book.journal) (reads disk) open_on.durable.stands.journal); there = open_on }
 
 -- what was opened stood for a journal
 pub opened_journal : (file reads : List ℕ) (images : List ℕ → Type 0) (opened : Result SettledBookState BookFault) → IfOk opened (λ settled. BookOpens file settled.book reads images)
     → OnOk opened ((journal : List Receipt) × StandsForJournal file journal)
 opened_journal file reads images (Ok settled) opens = (settled.book.journal, opens.found)
 opened_journal file reads images (Err fault) opens = tt
+
+-- what was opened stood open on the disk, which had not failed
+pub opens_book : {D : Type 0} (tells : Bool) (reads : D → List ℕ) (images : D → List ℕ → Type 0) (faults : D → ℕ) (old new : D) (opened : Result SettledBookState BookFault) → IfOk opened (λ settled. settled.book.log.failed ≡ false)
+    → (IsTrue tells → IfOk opened (λ settled. BookOpens (reads old) settled.book (reads new) (images new))) → Counts (faults old) (faults new) (book_opening_disk_failed opened)
+    → OnOk opened (OpensBook tells reads images faults old)
+opens_book tells reads images faults old new (Ok settled) works opens counts = record { opened = new; book = settled.book; works = works; quiet = counts.else_same refl; opens = opens }
+opens_book tells reads images faults old new (Err fault) works opens counts = tt
 
 -- ---- the book that works
 

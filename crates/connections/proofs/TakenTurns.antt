@@ -9,7 +9,7 @@ use Rattle.intake.specs.Grown.{GrownFrom}
 use Rattle.intake.specs.Requests.{Held}
 use Rattle.receipt_journal.specs.Standing.{StandsForJournal}
 use Rattle.registry_http.specs.RequestParts.{RequestParts}
-use Rattle.connections.specs.Answering.{AnswersRequest, is_from_disk}
+use Rattle.connections.specs.Answering.{AnswersRequest, is_from_disk, tells_of_file}
 use Rattle.connections.specs.Answers.{answer}
 use Rattle.connections.specs.Fates.{Fate, Answered, Failed, DiskFailed, NoJournal, OutOfMemory, answer_by, has_disk_failed}
 use Rattle.connections.specs.Holding.{IsNoJournal}
@@ -24,11 +24,11 @@ use Rattle.connections.proofs.EndsBy.{not_from_disk}
 use Rattle.connections.proofs.GrownWrites.{writes_more, writes_nothing}
 use Rattle.connections.proofs.LeftThen.{then_more, then_still, then_weakened}
 use Rattle.connections.proofs.LinkEnds.{TurnTaken}
-use Rattle.connections.proofs.TurnLists.{left_first, left_later, left_one, told_more, told_still}
+use Rattle.connections.proofs.TurnLists.{lack_more, left_first, left_later, left_one, told_more, told_still}
 
 -- ---- counts
 
-counts_both : (a b c : ℕ) (x y : Bool) → Counts a b x → Counts b c y → Counts a c (x || y)
+pub counts_both : (a b c : ℕ) (x y : Bool) → Counts a b x → Counts b c y → Counts a c (x || y)
 counts_both a b c false y first second = subst (λ n. Counts n c y) (first.else_same refl) second
 counts_both a b c true y first second = record {
   never_falls = le_trans first.never_falls second.never_falls;
@@ -104,6 +104,7 @@ module _ {D : Type 0} (reads : D → List ℕ) (images : D → List ℕ → Type
     stays = λ none. refl;
     disk = refl;
     journal = refl;
+    memory = tt;
     answered = λ quiet memory. refl;
   }
 
@@ -116,6 +117,7 @@ module _ {D : Type 0} (reads : D → List ℕ) (images : D → List ℕ → Type
     stays = λ none. refl;
     disk = (faults disk, counts_still (faults disk), refl);
     journal = refl;
+    memory = (refl, tt);
     answered = λ quiet memory. refl;
   }
 
@@ -132,10 +134,11 @@ module _ {D : Type 0} (reads : D → List ℕ) (images : D → List ℕ → Type
             (λ file grown. left_one held request is.asked is.fate file grown) is.left;
         written = (reads new, is.written, refl);
         kept = is.kept;
-        told = (λ from_disk. is.told (ap is_from_disk is.reply_is ∙ from_disk), tt);
+        told = (λ from_disk. is.told (ap (λ (r : ReplyParts). tells_of_file is.fate r) is.reply_is ∙ from_disk), tt);
         stays = stays_one old new (Answering request is.asked is.fate) is.uncalled;
         disk = rose;
         journal = found;
+        memory = (is.memory, tt);
         answered = λ quiet memory. answered_by _ _ (Answering request is.asked is.fate ∷ []) rose found quiet memory;
       }
     where
@@ -158,6 +161,7 @@ module _ {D : Type 0} (reads : D → List ℕ) (images : D → List ℕ → Type
         stays = stays_more old mid new xs ys first.stays second.stays;
         disk = rose;
         journal = found;
+        memory = lack_more held xs ys first.memory second.memory;
         answered = λ quiet memory. answered_by _ _ (xs ++ ys) rose found quiet memory;
       }
 

@@ -13,7 +13,7 @@ use Rattle.connections.specs.Asking.{Asked}
 use Rattle.connections.specs.Fates.{Fate}
 use Rattle.connections.specs.Replies.{ReplyParts, bytes_of}
 use Rattle.connections.specs.Served.{IsLeftIn, unfailed}
-use Rattle.connections.specs.Serving.{AllTold}
+use Rattle.connections.specs.Serving.{AllMayLack, AllTold}
 use Rattle.connections.specs.Turns.{Turn, Taken, Answering, IsOf, answer_in, held_behind, replies_in}
 
 pub held_more : (held : Held) (xs ys : List Taken) → held_behind held (xs ++ ys) ≡ held_behind (held_behind held xs) ys
@@ -36,6 +36,12 @@ told_still old new held (x ∷ xs) kept told = (λ from_disk. kept (answer_in he
 pub told_more : (images : List ℕ → Type 0) (held : Held) (xs ys : List Taken) → AllTold images held xs → AllTold images (held_behind held xs) ys → AllTold images held (xs ++ ys)
 told_more images held [] ys first second = second
 told_more images held (x ∷ xs) ys first second = (first.0, told_more images (answer_in held x).held xs ys first.1 second)
+
+-- ---- where memory is wanting
+
+pub lack_more : (held : Held) (xs ys : List Taken) → AllMayLack held xs → AllMayLack (held_behind held xs) ys → AllMayLack held (xs ++ ys)
+lack_more held [] ys first second = second
+lack_more held (x ∷ xs) ys first second = (first.0, lack_more (answer_in held x).held xs ys first.1 second)
 
 -- ---- what a stop leaves
 

@@ -1,5 +1,5 @@
 -- How a request ends that calls no disk: it has no route, its body is no item, or no memory was found ahead of the book.
-use Rattle.std.proofs.Common.{◌≡◌, ◌≢◌, ◌⊎◌, inl, inr, ℕ, true, false, List, Option, Result, Err, is_ok, refl, sym, ◌∙◌, ap, subst}
+use Rattle.std.proofs.Common.{◌≡◌, ◌≢◌, ◌⊎◌, inl, inr, ℕ, Bool, true, false, List, Option, Result, Err, is_ok, refl, sym, ◌∙◌, ap, subst}
 use Rattle.gb_base.specs.DayMinute.{DayMinute}
 use Rattle.act_json.specs.Lines.{ReadsAs}
 use Rattle.act_json.specs.declared.lines.LineFault.{LineFault}
@@ -20,7 +20,7 @@ use Rattle.connections.specs.Fates.{OutOfMemory}
 use Rattle.connections.specs.Holding.{Holds}
 use Rattle.connections.specs.Replies.{ReplyParts, not_found, out_of_memory, wrong_method}
 use Rattle.connections.specs.inner.Ends as ends
-use Rattle.connections.specs.inner.Taking.{unrouted_reply}
+use Rattle.connections.specs.inner.Taking.{IsReplyToFault, unrouted_reply}
 use Rattle.connections.proofs.AlwaysAsked.{always_asked}
 use Rattle.connections.proofs.EndsBy.{ends_failed, ends_only, leaves_now, not_from_disk}
 use Rattle.connections.proofs.GrownWrites.{writes_nothing}
@@ -37,9 +37,9 @@ malformed_apart line.NotJson = record { no_disk = refl; no_journal = refl; known
 malformed_apart (line.NotItem path) = record { no_disk = refl; no_journal = refl; known = refl; silent = refl }
 malformed_apart line.Memory = record { no_disk = refl; no_journal = refl; known = refl; silent = refl }
 
-pub apart_by_body : (fault : LineFault) (reply : ReplyParts) → (reply ≡ malformed fault) ⊎ (reply ≡ out_of_memory) → IsApart reply
+pub apart_by_body : (fault : LineFault) (reply : ReplyParts) → IsReplyToFault fault reply → IsApart reply
 apart_by_body fault reply (inl is) = subst IsApart (sym is) (malformed_apart fault)
-apart_by_body fault reply (inr is) = subst IsApart (sym is) out_of_memory_apart
+apart_by_body fault reply (inr (path, is)) = subst IsApart (sym is) out_of_memory_apart
 
 unrouted_apart : (fault : RouteFault) → IsApart (unrouted_reply fault)
 unrouted_apart routing.NotFound = record { no_disk = refl; no_journal = refl; known = refl; silent = refl }
@@ -69,19 +69,19 @@ asks_other request path method is by other = (other.0, other.1, sym is ∙ other
 -- ---- where the file stands for no journal
 
 -- want of memory may come whatever the body is
-pub unfound_body : (meant : Result (ℕ × ℕ × Item) LineFault) (fault : LineFault) (reply : ReplyParts) → ReadsAs {A = ℕ × ℕ × Item} (Err fault) meant → (reply ≡ malformed fault) ⊎ (reply ≡ out_of_memory)
+pub unfound_body : (meant : Result (ℕ × ℕ × Item) LineFault) (fault : LineFault) (reply : ReplyParts) → ReadsAs {A = ℕ × ℕ × Item} (Err fault) meant → IsReplyToFault fault reply
     → is_ok meant ≡ true → IsFailure reply
 unfound_body meant line.NotJson reply same (inl is) item = let never : true ≡ false = sym item ∙ ap is_ok same in absurd cc
 unfound_body meant (line.NotItem path) reply same (inl is) item = let never : true ≡ false = sym item ∙ ap is_ok same in absurd cc
 unfound_body meant line.Memory reply same (inl is) item = (OutOfMemory, is)
-unfound_body meant fault reply same (inr is) item = (OutOfMemory, is)
+unfound_body meant fault reply same (inr (path, is)) item = (OutOfMemory, is)
 
-pub refused_body : (meant : Result (ℕ × ℕ × Item) LineFault) (fault : LineFault) (reply : ReplyParts) → ReadsAs {A = ℕ × ℕ × Item} (Err fault) meant → (reply ≡ malformed fault) ⊎ (reply ≡ out_of_memory)
+pub refused_body : (meant : Result (ℕ × ℕ × Item) LineFault) (fault : LineFault) (reply : ReplyParts) → ReadsAs {A = ℕ × ℕ × Item} (Err fault) meant → IsReplyToFault fault reply
     → ((held : Held) → reply ≡ (body_answer held meant).reply) ⊎ (reply ≡ out_of_memory)
 refused_body meant line.NotJson reply same (inl is) = inl (λ held. is ∙ sym (ap (λ (m : Result (ℕ × ℕ × Item) LineFault). (body_answer held m).reply) same))
 refused_body meant (line.NotItem path) reply same (inl is) = inl (λ held. is ∙ sym (ap (λ (m : Result (ℕ × ℕ × Item) LineFault). (body_answer held m).reply) same))
 refused_body meant line.Memory reply same (inl is) = inr is
-refused_body meant fault reply same (inr is) = inr is
+refused_body meant fault reply same (inr (path, is)) = inr is
 
 pub unrouted_none : {D : Type 0} (disk : D) (request : RequestParts) (fault : RouteFault) (reply : ReplyParts) → reply ≡ unrouted_reply fault
     → (unfound fault ≡ unfound routing.NotFound → Asks request NoRoute) → (unfound fault ≡ unfound routing.WrongMethod → Asks request WrongMethod) → AnswersNone disk disk request reply
@@ -95,33 +95,33 @@ unrouted_none disk request routing.Memory reply is none other =
 module _ {D : Type 0} (reads : D → List ℕ) (images : D → List ℕ → Type 0) (moment : D → ℕ) (since : D → ℕ → List ℕ → Type 0) (disk : D)
     (only_now : (file : List ℕ) → since disk (moment disk) file → images disk file) (at_hand : Option SettledBookState) (known : Option (List DayMinute)) (held : Held)
     (holds : Holds at_hand (reads disk) (images disk) known held) where
-  abbrev IsEnd : Answer → ReplyParts → Type 0
-  IsEnd wanted reply = ends.EndsBy reads images moment since disk disk held wanted reply at_hand known
+  abbrev IsEnd : Bool → Answer → ReplyParts → Type 0
+  IsEnd calls wanted reply = ends.EndsBy reads images moment since disk disk calls held wanted reply at_hand known
 
-  pub silent_end : (reply : ReplyParts) → is_from_disk reply ≡ false → IsEnd (only held reply) reply
-  silent_end reply silent = ends_only reads images moment since disk disk held reply at_hand known holds (leaves_now reads images moment since disk held.journal only_now) (writes_nothing held.journal held.journal (reads disk)) (λ tells. not_from_disk reply _ silent tells)
+  pub silent_end : (reply : ReplyParts) → is_from_disk reply ≡ false → IsEnd false (only held reply) reply
+  silent_end reply silent = ends_only reads images moment since disk disk false held reply at_hand known holds (leaves_now reads images moment since disk held.journal only_now) (writes_nothing held.journal held.journal (reads disk)) (λ tells. not_from_disk reply _ silent tells)
 
-  pub memory_end : (wanted : Answer) (reply : ReplyParts) → reply ≡ out_of_memory → IsFront held.journal wanted.held.journal → IsEnd wanted reply
-  memory_end wanted reply is front = ends_failed reads images moment since disk disk held wanted OutOfMemory reply at_hand known is holds (leaves_now reads images moment since disk held.journal only_now) (writes_nothing held.journal held.journal (reads disk)) front
+  pub memory_end : (calls : Bool) (wanted : Answer) (reply : ReplyParts) → reply ≡ out_of_memory → IsFront held.journal wanted.held.journal → IsEnd calls wanted reply
+  memory_end calls wanted reply is front = ends_failed reads images moment since disk disk calls false held wanted OutOfMemory reply at_hand known is holds (leaves_now reads images moment since disk held.journal only_now) (writes_nothing held.journal held.journal (reads disk)) front
 
-  malformed_by : (meant : Result (ℕ × ℕ × Item) LineFault) (fault : LineFault) (reply : ReplyParts) → meant ≡ Err fault → reply ≡ malformed fault → IsEnd (body_answer held meant) reply
+  malformed_by : (meant : Result (ℕ × ℕ × Item) LineFault) (fault : LineFault) (reply : ReplyParts) → meant ≡ Err fault → reply ≡ malformed fault → IsEnd (is_ok meant) (body_answer held meant) reply
   malformed_by meant fault reply same is =
-      subst (λ m. IsEnd (body_answer held m) reply) (sym same)
-      (subst (λ r. IsEnd (only held r) reply) is (silent_end reply (ap is_from_disk is ∙ malformed_tells_none fault)))
+      subst (λ (m : Result (ℕ × ℕ × Item) LineFault). IsEnd (is_ok m) (body_answer held m) reply) (sym same)
+      (subst (λ r. IsEnd false (only held r) reply) is (silent_end reply (ap is_from_disk is ∙ malformed_tells_none fault)))
 
-  pub body_end : (meant : Result (ℕ × ℕ × Item) LineFault) (fault : LineFault) (reply : ReplyParts) → ReadsAs {A = ℕ × ℕ × Item} (Err fault) meant → (reply ≡ malformed fault) ⊎ (reply ≡ out_of_memory)
-      → IsEnd (body_answer held meant) reply
+  pub body_end : (meant : Result (ℕ × ℕ × Item) LineFault) (fault : LineFault) (reply : ReplyParts) → ReadsAs {A = ℕ × ℕ × Item} (Err fault) meant → IsReplyToFault fault reply
+      → IsEnd (is_ok meant) (body_answer held meant) reply
   body_end meant line.NotJson reply same (inl is) = malformed_by meant line.NotJson reply same is
   body_end meant (line.NotItem path) reply same (inl is) = malformed_by meant (line.NotItem path) reply same is
-  body_end meant line.Memory reply same (inl is) = memory_end (body_answer held meant) reply is (body_grows held meant)
-  body_end meant fault reply same (inr is) = memory_end (body_answer held meant) reply is (body_grows held meant)
+  body_end meant line.Memory reply same (inl is) = memory_end (is_ok meant) (body_answer held meant) reply is (body_grows held meant)
+  body_end meant fault reply same (inr (path, is)) = memory_end (is_ok meant) (body_answer held meant) reply is (body_grows held meant)
 
   -- a request that has no route: what it asks for, and how it ends
   pub record EndsUnrouted (request : RequestParts) (reply : ReplyParts) : Type 0 where
     pub asked : Asked
     pub asks : Asks request asked
     pub says : may_call_disk asked request.body ≡ false → SaysAsked request.body asked reply
-    pub end : IsEnd (answer held request.body asked) reply
+    pub end : IsEnd (may_call_disk asked request.body) (answer held request.body asked) reply
 
   unrouted_by : (request : RequestParts) (fault : RouteFault) → (unfound fault ≡ unfound routing.NotFound → Asks request NoRoute) → (unfound fault ≡ unfound routing.WrongMethod → Asks request WrongMethod)
       → EndsUnrouted request (unrouted_reply fault)
@@ -132,7 +132,7 @@ module _ {D : Type 0} (reads : D → List ℕ) (images : D → List ℕ → Type
         asked = always.asked;
         asks = always.asks;
         says = λ uncalled. inr refl;
-        end = memory_end (answer held request.body always.asked) out_of_memory refl (answer_grows held request.body always.asked);
+        end = memory_end (may_call_disk always.asked request.body) (answer held request.body always.asked) out_of_memory refl (answer_grows held request.body always.asked);
       }
 
   pub ends_unrouted : (request : RequestParts) (fault : RouteFault) (reply : ReplyParts) → reply ≡ unrouted_reply fault

@@ -1,24 +1,31 @@
 -- What answering a request does.
-use Rattle.std.specs.Prelude.{◌≡◌, ◌⊎◌, ℕ, ◌+◌, ◌==◌, ◌||◌, Bool, true, false, List, Option, None, IsSome, is_ok}
+use Rattle.std.specs.Prelude.{◌≡◌, ◌≢◌, ◌⊎◌, ℕ, ◌+◌, ◌==◌, ◌||◌, ◌&&◌, Bool, true, false, List, [], Option, None, IsSome, IsTrue, is_ok}
+use Rattle.gb_outside.specs.Faults.{Counts}
 use Rattle.gb_outside.specs.Images.{LeavesOnly, Torn}
 use Rattle.act_json.specs.Lines.{item_of}
 use Rattle.act_model.specs.declared.receipts.Receipt.{Receipt}
 use Rattle.intake.specs.Grown.{GrownFrom, WritesFrames}
 use Rattle.intake.specs.Requests.{Held}
-use Rattle.journal_disk.specs.Layout.{IsUnmade}
-use Rattle.receipt_journal.specs.Standing.{gate_behind}
+use Rattle.journal_disk.specs.Layout.{the_heading, IsUnmade, StandsFor, first_gate, made_from}
+use Rattle.receipt_journal.specs.BookState.{BookState}
+use Rattle.receipt_journal.specs.Opening.{BookOpens}
 use Rattle.registry_http.specs.RequestParts.{RequestParts}
+use Rattle.registry_http.specs.Routes.{method_of}
 use Rattle.registry_http.specs.declared.routes.Route.TheVariants.{Post}
 use Rattle.settled_book.specs.SettledBookState.{SettledBookState}
 use Rattle.connections.specs.Answers.{answer}
 use Rattle.connections.specs.Asking.{Asked, AskedFor, NoRoute, WrongMethod, Asks}
-use Rattle.connections.specs.Fates.{Fate, Failure, answer_by, failure_reply, is_apart}
+use Rattle.connections.specs.Fates.{Fate, Failure, answer_by, failure_reply, has_opened, is_apart, lacks_words, may_lack_memory}
 use Rattle.connections.specs.Holding.{Begins, working}
 use Rattle.connections.specs.Replies.{ReplyParts, out_of_memory}
 
 -- the status says that a text was read, or that an item was received
 abbrev pub is_from_disk : ReplyParts → Bool
 is_from_disk reply = reply.status == 200 || reply.status == 201
+
+-- a text was read or an item received: the status says so, or no memory was found to say it
+abbrev pub tells_of_file : Fate → ReplyParts → Bool
+tells_of_file fate reply = lacks_words fate || is_from_disk reply
 
 -- the status refuses a request by its method or by its body
 abbrev pub is_refusal : ReplyParts → Bool
@@ -57,13 +64,24 @@ pub record LeavesThen {D : Type 0} (images : D → List ℕ → Type 0) (moment 
 abbrev pub LeavesOldThen : {D : Type 0} → (D → List ℕ → Type 0) → (D → ℕ) → (D → ℕ → List ℕ → Type 0) → D → D → (List ℕ → Type 0) → Type 0
 LeavesOldThen images moment since old new left = LeavesOnly moment since old new (images old) ⊎ LeavesThen images moment since old new left
 
--- What is written of a file that stood for the first of these journals, where it grows to the second or may have: the frames between the two, and nothing where they are one. An unmade file is made before, and any byte up to the gate behind the second may be written.
-pub record WritesGrown (from to : List Receipt) (file new : List ℕ) : Type 0 where
+-- What is left of an unmade file where its making did not end: it stands for no frame, as before, and no byte is written behind the first gate.
+pub record IsLeftUnmade (file new : List ℕ) : Type 0 where
+  pub stands : StandsFor the_heading new []
+  pub torn : Torn 0 (first_gate the_heading + 1) file new
+
+-- An unmade file was made as the format has it, and then the frames between these two journals were written, and nothing where they are one.
+pub record IsMadeThen (from to : List Receipt) (file new : List ℕ) : Type 0 where
+  pub frames : WritesFrames from to (made_from the_heading file) new
+  pub same : to ≡ from → new ≡ made_from the_heading file
+
+-- What is written of a file that stood for the first of these journals, where it grows to the second or may have: the frames between the two, and nothing where they are one. An unmade file is made before, as the format has it; unless it is told that a book was open, it may be left as its making did not end.
+pub record WritesGrown (opened : Bool) (from to : List Receipt) (file new : List ℕ) : Type 0 where
   pub frames : (IsUnmade file → ⊥) → WritesFrames from to file new
   pub same : (IsUnmade file → ⊥) → to ≡ from → new ≡ file
-  pub unmade : IsUnmade file → Torn 0 (gate_behind to + 1) file new
+  pub made : IsUnmade file → opened ≡ true → IsMadeThen from to file new
+  pub unmade : IsUnmade file → IsLeftUnmade file new ⊎ IsMadeThen from to file new
 
--- A request was answered by what it asks for and by what became of it; that is what is held behind it. The disk is called only where it may be; where it is not, the request was answered as it asks, or no memory was found. A stop leaves what it might have left before, or, from some moment on, nothing but the journal that was held, with the receipt of this request or without it. Of the file no other bytes are written than the frame of its receipt. What every image began with each begins with still, and with all that a text was read of or an item was received into.
+-- A request was answered by what it asks for and by what became of it; that is what is held behind it. The disk is called only where it may be; where it is not, the request was answered as it asks, or no memory was found. Once the clock was asked, memory may be wanting for the receipt of an item that is accepted, or for words with a number, and for nothing else. A stop leaves what it might have left before, or, from some moment on, nothing but the journal that was held, with the receipt of this request or without it. Of the file no other bytes are written than the frame of its receipt. What every image began with each begins with still, and with all that a text was read of or an item was received into, also where no memory was found for the words of the reply.
 pub record AnswersRequest {D : Type 0} (reads : D → List ℕ) (images : D → List ℕ → Type 0) (moment : D → ℕ) (since : D → ℕ → List ℕ → Type 0) (old new : D) (request : RequestParts) (held : Held) (reply : ReplyParts) (HoldsNow : Held → Type 0) : Type 0 where
   pub asked : Asked
   pub fate : Fate
@@ -72,16 +90,39 @@ pub record AnswersRequest {D : Type 0} (reads : D → List ℕ) (images : D → 
   pub holds : HoldsNow (answer_by fate held (answer held request.body asked)).held
   pub uncalled : may_call_disk asked request.body ≡ false → new ≡ old
   pub apart : may_call_disk asked request.body ≡ false → is_apart fate ≡ true
+  pub memory : may_lack_memory fate (answer held request.body asked).reply ≡ true
   pub left : LeavesOldThen images moment since old new (GrownFrom held.journal (answer held request.body asked).held.journal)
-  pub written : WritesGrown held.journal (answer held request.body asked).held.journal (reads old) (reads new)
+  pub written : WritesGrown (has_opened fate && may_call_disk asked request.body) held.journal (answer held request.body asked).held.journal (reads old) (reads new)
   pub kept : (front : List Receipt) → AllBegin front (images old) → AllBegin front (images new)
-  pub told : is_from_disk reply ≡ true → AllBegin (answer_by fate held (answer held request.body asked)).held.journal (images new)
+  pub told : tells_of_file fate reply ≡ true → AllBegin (answer_by fate held (answer held request.body asked)).held.journal (images new)
 
 -- Behind a request for which the disk may be called a book is open that works, unless something failed in it.
 pub record LeavesOpen (request : RequestParts) (reply : ReplyParts) (at_hand : Option SettledBookState) : Type 0 where
   pub asked : Asked
   pub asks : Asks request asked
   pub works : may_call_disk asked request.body ≡ true → is_failed reply ≡ false → IsSome (working at_hand)
+
+-- What a request did to the disk and the book, with this reply. The disk's count rose just where a call of it failed. A book that worked works still unless one did, and after a request for which the disk may be called a book works unless something failed. While a book works, the disk is called for a POST alone, and only a 201 or what failed leaves it changed.
+pub record KeepsBook {D : Type 0} (faults : D → ℕ) (request : RequestParts) (reply : ReplyParts) (book_old book_new : Option SettledBookState) (old new : D) : Type 0 where
+  pub disk : Counts (faults old) (faults new) (reply.status == 503)
+  pub kept : IsSome (working book_old) → (reply.status == 503) ≡ false → IsSome (working book_new)
+  pub left : LeavesOpen request reply book_new
+  pub untouched : IsSome (working book_old) → request.method ≢ method_of Post → new ≡ old
+  pub unreceived : IsSome (working book_old) → (reply.status == 201) ≡ false → is_failed reply ≡ false → new ≡ old
+
+-- What was done to the disk and the book in some turns: the disk's count rose just where a call of it failed, and where none did, a book that worked works still.
+pub record KeepsOpen {D : Type 0} (faults : D → ℕ) (book_old book_new : Option SettledBookState) (old new : D) : Type 0 where
+  pub failed : Bool
+  pub disk : Counts (faults old) (faults new) failed
+  pub kept : failed ≡ false → IsSome (working book_old) → IsSome (working book_new)
+
+-- A book was opened, and no call of the disk failed before that: the state of the disk in which it stood open, and the book.
+pub record OpensBook {D : Type 0} (tells : Bool) (reads : D → List ℕ) (images : D → List ℕ → Type 0) (faults : D → ℕ) (old : D) : Type 0 where
+  pub opened : D
+  pub book : BookState
+  pub works : book.log.failed ≡ false
+  pub quiet : faults opened ≡ faults old
+  pub opens : IsTrue tells → BookOpens (reads old) book (reads opened) (images opened)
 
 -- ---- where no book is open and the file stands for no journal
 

@@ -6,7 +6,7 @@ use Rattle.registry_http.specs.RequestLists.{AreRequests}
 use Rattle.registry_http.specs.RequestParts.{RequestParts}
 use Rattle.registry_http.specs.Requests.{AtFront}
 use Rattle.connections.specs.Served.{Connection, IsCutOff, IsOfTurns, IsUnwritten, IsWhole, held_by, replies_of, taken_of, written_by}
-use Rattle.connections.specs.Serving.{TakesTurns, is_link_fault}
+use Rattle.connections.specs.Serving.{is_link_fault}
 use Rattle.connections.specs.Turns.{Turn, Taken, held_behind, turns}
 use Rattle.connections.specs.declared.doors.DoorEnd.{DoorEnd}
 use Rattle.connections.specs.declared.doors.DoorEnd.TheVariants as door
@@ -85,19 +85,19 @@ LacksMemory [] = ⊥
 LacksMemory (link ∷ links) = (link.ended ≡ ended.Memory) ⊎ LacksMemory links
 
 -- These links came through the door, the first of those that waited there, and were served with so many replies left: what became of each, what the door tells of them, what is held behind them, and what was done to the disk.
-pub record ServesLinks {D : Type 0} (reads : D → List ℕ) (images : D → List ℕ → Type 0) (moment : D → ℕ) (since : D → ℕ → List ℕ → Type 0) (faults : D → ℕ) (old new : D) (held : Held) (left : ℕ)
+pub record ServesLinks {D : Type 0} (Takes : D → D → Held → List Taken → Type 0) (old new : D) (held : Held) (left : ℕ)
     (waiting : List (List ℕ)) (asked : List LinkRequests) (waiting_new : Option (List (List ℕ))) (served_old served_new : Option (List (List ℕ × ℕ))) (HoldsNow : Held → Type 0) (links : List LinkServed) : Type 0 where
   pub are : AreServed held left asked links
   pub waits : waiting_new ≡ Some (drop (length links) waiting)
   pub told : IfSome served_old (λ before. served_new ≡ Some (before ++ pairs_of held links))
   pub holds : HoldsNow (held_behind held (turns_taken links))
-  pub disk : TakesTurns reads images moment since faults old new held (turns_taken links)
+  pub disk : Takes old new held (turns_taken links)
 
 -- The door was served, at which links waited that ask so, up to so many replies and so many links. It is done where all replies were written, as many links were served, or no more came; and memory is wanting just where none was found for a reply to the last link.
-pub record ServesDoor {D : Type 0} (reads : D → List ℕ) (images : D → List ℕ → Type 0) (moment : D → ℕ) (since : D → ℕ → List ℕ → Type 0) (faults : D → ℕ) (old new : D) (held : Held) (most : ℕ)
+pub record ServesDoor {D : Type 0} (Takes : D → D → Held → List Taken → Type 0) (old new : D) (held : Held) (most : ℕ)
     (waiting : List (List ℕ)) (asked : List LinkRequests) (waiting_new : Option (List (List ℕ))) (served_old served_new : Option (List (List ℕ × ℕ))) (result : DoorEnd) (HoldsNow : Held → Type 0) : Type 0 where
   pub links : List LinkServed
-  pub serves : ServesLinks reads images moment since faults old new held most waiting asked waiting_new served_old served_new HoldsNow links
+  pub serves : ServesLinks Takes old new held most waiting asked waiting_new served_old served_new HoldsNow links
   pub few : length links ≤ most
   pub done : result ≡ door.Done → (left_behind most links ≡ 0) ⊎ ((length links ≡ most) ⊎ (drop (length links) waiting ≡ []))
   pub memory : LacksMemory links → result ≡ door.Memory

@@ -1,5 +1,5 @@
 -- What becomes of a request: it is answered as it asks, or something failed in it.
-use Rattle.std.specs.Prelude.{Bool, true, false}
+use Rattle.std.specs.Prelude.{ℕ, ◌==◌, Bool, true, false, ◌||◌}
 use Rattle.intake.specs.Requests.{Held, holding}
 use Rattle.connections.specs.Answers.{Answer}
 use Rattle.connections.specs.Replies.{ReplyParts, disk_failed, not_a_journal, out_of_memory}
@@ -44,6 +44,22 @@ has_disk_failed (Failed DiskFailed progress) = true
 has_disk_failed (Failed NoJournal progress) = false
 has_disk_failed (Failed OutOfMemory progress) = false
 
+-- where the disk may be called for it, a book was open in it: it was answered, or its receipt was begun
+abbrev pub has_opened : Fate → Bool
+has_opened Answered = true
+has_opened (Failed failure NotBegun) = false
+has_opened (Failed failure Stamped) = true
+has_opened (Failed failure Received) = true
+
+-- its receipt came to the file whole, and no memory was found for the words of its reply
+abbrev pub lacks_words : Fate → Bool
+lacks_words Answered = false
+lacks_words (Failed DiskFailed progress) = false
+lacks_words (Failed NoJournal progress) = false
+lacks_words (Failed OutOfMemory NotBegun) = false
+lacks_words (Failed OutOfMemory Stamped) = false
+lacks_words (Failed OutOfMemory Received) = true
+
 -- it was answered as it asks, or no memory was found and nothing was begun
 abbrev pub is_apart : Fate → Bool
 is_apart Answered = true
@@ -52,3 +68,16 @@ is_apart (Failed NoJournal progress) = false
 is_apart (Failed OutOfMemory NotBegun) = true
 is_apart (Failed OutOfMemory Stamped) = false
 is_apart (Failed OutOfMemory Received) = false
+
+-- the status of an answer to an item whose words have a number
+abbrev pub is_numbered : ℕ → Bool
+is_numbered status = status == 200 || status == 201 || status == 409
+
+-- Memory may be wanting in it where this would be its reply: before the clock was asked, whatever the reply; after that only for the receipt of an item that is accepted, or for words that have a number.
+abbrev pub may_lack_memory : Fate → ReplyParts → Bool
+may_lack_memory Answered wanted = true
+may_lack_memory (Failed DiskFailed progress) wanted = true
+may_lack_memory (Failed NoJournal progress) wanted = true
+may_lack_memory (Failed OutOfMemory NotBegun) wanted = true
+may_lack_memory (Failed OutOfMemory Stamped) wanted = wanted.status == 201
+may_lack_memory (Failed OutOfMemory Received) wanted = is_numbered wanted.status

@@ -3,6 +3,7 @@ pub mod Answering
 pub mod Answers
 pub mod Asking
 pub mod Completeness
+pub mod DoorOrder
 pub mod Doors
 pub mod Fates
 pub mod Holding

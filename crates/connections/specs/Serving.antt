@@ -1,12 +1,12 @@
 -- What serving a connection does.
-use Rattle.std.specs.Prelude.{◌≡◌, ℕ, Bool, true, false, List, [], ◌∷◌, length, Option, All}
+use Rattle.std.specs.Prelude.{◌≡◌, ℕ, ◌&&◌, Bool, true, false, List, [], ◌∷◌, length, Option, All}
 use Rattle.std.specs.Io.KnownBytes.{Appends}
 use Rattle.std.specs.List.{list_all, list_any}
 use Rattle.gb_outside.specs.Faults.{Counts, Rose}
 use Rattle.act_model.specs.declared.receipts.Receipt.{Receipt}
 use Rattle.intake.specs.Requests.{Held}
-use Rattle.connections.specs.Answering.{AllBegin, LeavesOldThen, WritesGrown, is_from_disk, may_call_disk}
-use Rattle.connections.specs.Fates.{Failure, Fate, Answered, Failed, DiskFailed, NoJournal, NotBegun, OutOfMemory, has_disk_failed}
+use Rattle.connections.specs.Answering.{AllBegin, LeavesOldThen, WritesGrown, may_call_disk, tells_of_file}
+use Rattle.connections.specs.Fates.{Failure, Fate, Answered, Failed, DiskFailed, NoJournal, NotBegun, OutOfMemory, has_disk_failed, has_opened, may_lack_memory}
 use Rattle.connections.specs.Served.{Connection, IsCutOff, IsLeftIn, IsOfTurns, IsUnwritten, IsWhole, held_by, replies_of, taken_of, unfailed, written_by}
 use Rattle.connections.specs.Turns.{Turn, Taken, Answering, Refusing, answer_in, calls_disk}
 use Rattle.connections.specs.declared.serving.Ended.{Ended}
@@ -48,19 +48,24 @@ abbrev pub CountsTurns : ℕ → List Taken → ℕ → Type 0
 CountsTurns before [] now = now ≡ before
 CountsTurns before (turn ∷ turns) now = (mid : ℕ) × Counts before mid (has_disk_failed (fate_of turn)) × CountsTurns mid turns now
 
--- Of the file the frame of each item that is received in these turns is written, or part of it, and no other byte.
+-- Of the file the frame of each item that is received in these turns is written, or part of it, and no other byte; an unmade file is made before, as the format has it, or left.
 abbrev pub WritesTurns : Held → List Taken → List ℕ → List ℕ → Type 0
 WritesTurns held [] file new = new ≡ file
 WritesTurns held (turn ∷ turns) file new =
-    (mid : List ℕ) × WritesGrown held.journal (answer_in held (unfailed turn)).held.journal file mid × WritesTurns (answer_in held turn).held turns mid new
+    (mid : List ℕ) × WritesGrown (has_opened (fate_of turn) && calls_disk turn) held.journal (answer_in held (unfailed turn)).held.journal file mid × WritesTurns (answer_in held turn).held turns mid new
 
--- Each image begins with each journal that a text of these turns was read of, or an item received into.
+-- Each image begins with each journal that a text of these turns was read of, or an item received into, also where no memory was found for the words of the reply.
 abbrev pub AllTold : (List ℕ → Type 0) → Held → List Taken → Type 0
 AllTold images held [] = Unit {0}
 AllTold images held (turn ∷ turns) =
-    (is_from_disk (answer_in held turn).reply ≡ true → AllBegin (answer_in held turn).held.journal images) × AllTold images (answer_in held turn).held turns
+    (tells_of_file (fate_of turn) (answer_in held turn).reply ≡ true → AllBegin (answer_in held turn).held.journal images) × AllTold images (answer_in held turn).held turns
 
--- What these turns did to the disk: what a stop leaves, that is what it might have left before or, from some moment on, only files that it leaves in these turns, what is written and what kept of the file and told of it, and that its count of faults rose for each turn in which a call of it failed. The disk stays where it is called in none of them. None finds that the file is no journal. Where no count rose and no memory was wanting, each was answered as it asks.
+-- Memory was wanting in these turns only where it may be.
+abbrev pub AllMayLack : Held → List Taken → Type 0
+AllMayLack held [] = Unit {0}
+AllMayLack held (turn ∷ turns) = (may_lack_memory (fate_of turn) (answer_in held (unfailed turn)).reply ≡ true) × AllMayLack (answer_in held turn).held turns
+
+-- What these turns did to the disk: what a stop leaves, that is what it might have left before or, from some moment on, only files that it leaves in these turns, what is written and what kept of the file and told of it, and that its count of faults rose for each turn in which a call of it failed. The disk stays where it is called in none of them. None finds that the file is no journal, and memory is wanting only where it may be. Where no count rose and no memory was wanting, each was answered as it asks.
 pub record TakesTurns {D : Type 0} (reads : D → List ℕ) (images : D → List ℕ → Type 0) (moment : D → ℕ) (since : D → ℕ → List ℕ → Type 0) (faults : D → ℕ) (old new : D) (held : Held) (taken : List Taken) : Type 0 where
   pub left : LeavesOldThen images moment since old new (IsLeftIn held taken)
   pub written : WritesTurns held taken (reads old) (reads new)
@@ -69,6 +74,7 @@ pub record TakesTurns {D : Type 0} (reads : D → List ℕ) (images : D → List
   pub stays : list_any calls_disk taken ≡ false → new ≡ old
   pub disk : CountsTurns (faults old) taken (faults new)
   pub journal : list_any (λ turn. lacks_journal (fate_of turn)) taken ≡ false
+  pub memory : AllMayLack held taken
   pub answered : (Rose (faults old) (faults new) → ⊥) → list_any (λ turn. lacks_memory (fate_of turn)) taken ≡ false → list_all (λ turn. is_answered (fate_of turn)) taken ≡ true
 
 -- Where the disk may be called for it, something failed in it, and nothing was begun.

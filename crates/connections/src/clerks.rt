@@ -1,5 +1,5 @@
 //! The clerk, who answers requests and keeps the open book between them.
-ghost use Rattle.std.specs.Prelude.{◌≡◌, ◌≢◌, ◌≤◌, ◌==◌, ◌+◌, List, Option, Some, None, length, IfOk, IfErr, IfSome, IsSome, OnErr, OnOk, IsTrue, is_ok, option_map, true, false};
+ghost use Rattle.std.specs.Prelude.{◌≡◌, ◌≢◌, ◌⊎◌, ◌≤◌, ◌==◌, ◌+◌, List, Option, Some, None, length, IfOk, IfErr, IfSome, IsSome, OnErr, OnOk, IsTrue, is_ok, option_map, true, false};
 ghost use Rattle.gb_base.specs.DayMinute.{DayMinute};
 ghost use Rattle.gb_outside.specs.Faults.{Counts};
 ghost use Rattle.gb_outside.specs.Images.{Only, Torn};
@@ -14,7 +14,7 @@ ghost use Rattle.receipt_journal.specs.Standing.{Stands, StandsForJournal};
 ghost use Rattle.registry_http.specs.Routes.{method_of};
 ghost use Rattle.registry_http.specs.declared.routes.Route.TheVariants.{Post};
 ghost use Rattle.registrar.specs.HasSettled.{IsRegisterOf};
-ghost use Rattle.connections.specs.Answering.{AnswersNone, AnswersRequest, IsFailure, LeavesOpen, OpensNone, SaysAsked, is_failed, is_refusal, may_call_disk, tells_of_journal};
+ghost use Rattle.connections.specs.Answering.{AnswersNone, AnswersRequest, IsFailure, LeavesOpen, OpensBook, OpensNone, SaysAsked, is_failed, is_refusal, may_call_disk, tells_of_journal};
 ghost use Rattle.connections.specs.Answers.{answer, body_answer, item_answer, only, read_reply};
 ghost use Rattle.connections.specs.Asking.{AskedFor};
 ghost use Rattle.connections.specs.Holding.{Holds, IsNoJournal, IsOpenOn, StandsForNone, StandsOpen, working};
@@ -126,6 +126,7 @@ impl Clerk {
         ensures made { IsTrue D.tells → IsMade the_heading (D.reads disk.old) → IsMade the_heading (D.reads disk.new) }
         ensures untouched { IsSome (working self.old) → disk.new ≡ disk.old }
         ensures journal { IsTrue D.tells → working self.old ≡ None → OnOk result ((journal : List Receipt) × StandsForJournal (D.reads disk.old) journal) }
+        ensures opens { working self.old ≡ None → OnOk result (OpensBook D.tells D.reads D.images D.faults disk.old) }
         ensures no_book { IsTrue D.tells → working self.old ≡ None → StandsForNone (D.reads disk.old) → OpensNone D.reads D.images D.moment D.since disk.old disk.new self.new }
         ensures cause { Counts (D.faults disk.old) (D.faults disk.new) (book_opening_disk_failed result) }
     {
@@ -139,7 +140,7 @@ impl Clerk {
     fn read<D: Disk>(&mut self, alloc: Global, disk: &mut D, route: Route) -> Reply
         requires { IsTrue D.tells → StandsOpen self.old (D.reads disk.old) (D.images disk.old) }
         ensures ends { IsTrue D.tells → (known : Option (List DayMinute)) (held : Held) → Holds self.old (D.reads disk.old) (D.images disk.old) known held
-            → EndsBy D.reads D.images D.moment D.since disk.old disk.new held (only held (read_reply held.journal route)) result self.new known }
+            → EndsBy D.reads D.images D.moment D.since disk.old disk.new true held (only held (read_reply held.journal route)) result self.new known }
         ensures serves { Serves D.tells D.reads D.images D.moment D.since D.faults disk.old disk.new self.old self.new result }
         ensures late { is_refusal result ≡ false }
         ensures unfound { IsTrue D.tells → working self.old ≡ None → StandsForNone (D.reads disk.old) → IsFailure result }
@@ -167,12 +168,14 @@ impl Clerk {
         requires item { IsTrue (well_formed item.now) }
         requires stands_open { IsTrue D.tells → StandsOpen self.old (D.reads disk.old) (D.images disk.old) }
         ensures ends { IsTrue D.tells → (held : Held) → Holds self.old (D.reads disk.old) (D.images disk.old) (C.ticks clock.old) held
-            → EndsBy D.reads D.images D.moment D.since disk.old disk.new held (item_answer held from item.now) result self.new (C.ticks clock.new) }
+            → EndsBy D.reads D.images D.moment D.since disk.old disk.new true held (item_answer held from item.now) result self.new (C.ticks clock.new) }
         ensures serves { Serves D.tells D.reads D.images D.moment D.since D.faults disk.old disk.new self.old self.new result }
         ensures late { is_refusal result ≡ false }
         ensures unfound { IsTrue D.tells → working self.old ≡ None → StandsForNone (D.reads disk.old) → IsFailure result }
         ensures works { is_failed result ≡ false → IsSome (working self.new) }
         ensures clock { self.new ≡ None → clock.new ≡ clock.old }
+        ensures unopened { working self.new ≡ None → (result.status == 503) ≡ false → clock.new ≡ clock.old }
+        ensures opening { working self.old ≡ None → (clock.new ≡ clock.old) ⊎ OpensBook D.tells D.reads D.images D.faults disk.old }
         ensures same_clock { IsTrue D.tells → working self.old ≡ None → StandsForNone (D.reads disk.old) → clock.new ≡ clock.old }
         ensures unreceived { IsSome (working self.old) → (result.status == 201) ≡ false → is_failed result ≡ false → disk.new ≡ disk.old }
     {
@@ -196,7 +199,7 @@ impl Clerk {
         requires short { length body.now ≤ longest_line }
         requires stands_open { IsTrue D.tells → StandsOpen self.old (D.reads disk.old) (D.images disk.old) }
         ensures ends { IsTrue D.tells → (held : Held) → Holds self.old (D.reads disk.old) (D.images disk.old) (C.ticks clock.old) held
-            → EndsBy D.reads D.images D.moment D.since disk.old disk.new held (body_answer held (item_of body.now)) result self.new (C.ticks clock.new) }
+            → EndsBy D.reads D.images D.moment D.since disk.old disk.new (is_ok (item_of body.now)) held (body_answer held (item_of body.now)) result self.new (C.ticks clock.new) }
         ensures serves { Serves D.tells D.reads D.images D.moment D.since D.faults disk.old disk.new self.old self.new result }
         ensures apart { is_refusal result ≡ true → (self.new ≡ self.old) × (disk.new ≡ disk.old) × (clock.new ≡ clock.old) }
         ensures uncalled { is_ok (item_of body.now) ≡ false → (disk.new ≡ disk.old) × SaysAsked body.now (AskedFor Post) result }
@@ -204,6 +207,8 @@ impl Clerk {
         ensures works { is_ok (item_of body.now) ≡ true → is_failed result ≡ false → IsSome (working self.new) }
         ensures unreceived { IsSome (working self.old) → (result.status == 201) ≡ false → is_failed result ≡ false → disk.new ≡ disk.old }
         ensures clock { self.new ≡ None → clock.new ≡ clock.old }
+        ensures unopened { working self.new ≡ None → (result.status == 503) ≡ false → clock.new ≡ clock.old }
+        ensures opening { working self.old ≡ None → (clock.new ≡ clock.old) ⊎ OpensBook D.tells D.reads D.images D.faults disk.old }
         ensures same_clock { IsTrue D.tells → working self.old ≡ None → StandsForNone (D.reads disk.old) → clock.new ≡ clock.old }
     {
         let (sender, reference, item) = match read_item(alloc, body) {
@@ -226,7 +231,7 @@ impl Clerk {
         requires short { length body.now ≤ longest_line }
         requires stands_open { IsTrue D.tells → StandsOpen self.old (D.reads disk.old) (D.images disk.old) }
         ensures ends { IsTrue D.tells → (held : Held) → Holds self.old (D.reads disk.old) (D.images disk.old) (C.ticks clock.old) held
-            → EndsBy D.reads D.images D.moment D.since disk.old disk.new held (answer held body.now (AskedFor route)) result self.new (C.ticks clock.new) }
+            → EndsBy D.reads D.images D.moment D.since disk.old disk.new (may_call_disk (AskedFor route) body.now) held (answer held body.now (AskedFor route)) result self.new (C.ticks clock.new) }
         ensures serves { Serves D.tells D.reads D.images D.moment D.since D.faults disk.old disk.new self.old self.new result }
         ensures apart { is_refusal result ≡ true → (self.new ≡ self.old) × (disk.new ≡ disk.old) × (clock.new ≡ clock.old) }
         ensures uncalled { may_call_disk (AskedFor route) body.now ≡ false → (disk.new ≡ disk.old) × SaysAsked body.now (AskedFor route) result }
@@ -235,6 +240,8 @@ impl Clerk {
         ensures untouched { IsSome (working self.old) → (route ≡ Post → ⊥) → disk.new ≡ disk.old }
         ensures unreceived { IsSome (working self.old) → (result.status == 201) ≡ false → is_failed result ≡ false → disk.new ≡ disk.old }
         ensures clock { self.new ≡ None → clock.new ≡ clock.old }
+        ensures unopened { working self.new ≡ None → (result.status == 503) ≡ false → clock.new ≡ clock.old }
+        ensures opening { working self.old ≡ None → (clock.new ≡ clock.old) ⊎ OpensBook D.tells D.reads D.images D.faults disk.old }
         ensures same_clock { IsTrue D.tells → working self.old ≡ None → StandsForNone (D.reads disk.old) → clock.new ≡ clock.old }
     {
         match &route {
@@ -264,9 +271,12 @@ impl Clerk {
         ensures status { IsTrue (is_reply_status result.status) }
 
         // What is refused by its method or by its body calls neither the disk nor the clock; and the
-        // clock is not asked where no book is there behind it, nor where the file stands for no journal.
+        // clock is not asked where no book is there behind it, nor where the file stands for no journal,
+        // nor where an opening failed.
         ensures apart { is_refusal result ≡ true → (self.new ≡ self.old) × (disk.new ≡ disk.old) × (clock.new ≡ clock.old) }
         ensures clock { self.new ≡ None → clock.new ≡ clock.old }
+        ensures unopened { working self.new ≡ None → (result.status == 503) ≡ false → clock.new ≡ clock.old }
+        ensures opening { working self.old ≡ None → (clock.new ≡ clock.old) ⊎ OpensBook D.tells D.reads D.images D.faults disk.old }
         ensures same_clock { IsTrue D.tells → working self.old ≡ None → StandsForNone (D.reads disk.old) → clock.new ≡ clock.old }
 
         // While a book works the disk is written only where an item is received, and called only for a POST.

@@ -4,10 +4,13 @@ ghost use Rattle.std.specs.List.{AllZip};
 ghost use Rattle.gb_outside.specs.Faults.{Counts};
 ghost use Rattle.journal_disk.specs.Layout.{the_heading, IsMade};
 ghost use Rattle.intake.specs.Requests.{Held};
-ghost use Rattle.connections.specs.Answering.{OpensNone};
+ghost use Rattle.connections.specs.Answering.{KeepsOpen, OpensNone};
+ghost use Rattle.connections.specs.DoorOrder.{ServesDoorInOrder};
 ghost use Rattle.connections.specs.Doors.{AskSo, LinkRequests, ServesDoor, is_door_fault};
 ghost use Rattle.connections.specs.Holding.{Holds, StandsForNone, StandsOpen, working};
-ghost use Rattle.connections.specs.inner.LinkRounds.{IsRound, behind_link, has_door_failed};
+ghost use Rattle.connections.specs.LinkOrder.{stage};
+ghost use Rattle.connections.specs.Serving.{TakesNone, TakesTurns};
+ghost use Rattle.connections.specs.inner.LinkRounds.{IsRound, ServesFirst, behind_link, has_door_failed};
 
 use crate::{Clerk, Ended, Served};
 use gb_outside::{Clock, Disk, Door, Listener};
@@ -49,12 +52,17 @@ impl Clerk {
         requires stands_open { IsTrue D.tells → StandsOpen self.old (D.reads disk.old) (D.images disk.old) }
         ensures round { IsTrue D.tells → (held : Held) (waiting : List (List ℕ)) (asked : List LinkRequests)
             → Holds self.old (D.reads disk.old) (D.images disk.old) (C.ticks clock.old) held → L.waiting door.old ≡ Some waiting → AllZip AskSo waiting asked
-            → IsRound D.reads D.images D.moment D.since D.faults disk.old disk.new held left waiting asked (L.waiting door.new) (L.served door.old) (L.served door.new)
+            → IsRound (TakesTurns D.reads D.images D.moment D.since D.faults) disk.old disk.new held left waiting asked (L.waiting door.new) (L.served door.old) (L.served door.new)
             (λ h. Holds self.new (D.reads disk.new) (D.images disk.new) (C.ticks clock.new) h) result }
         ensures few { IfOk result (λ replies. replies ≤ left) }
+        ensures none_round { IsTrue D.tells → working self.old ≡ None → StandsForNone (D.reads disk.old) → (held all : Held) (waiting : List (List ℕ)) (asked : List LinkRequests)
+            → held ≡ all → L.waiting door.old ≡ Some waiting → AllZip AskSo waiting asked
+            → IsRound (TakesNone D.faults) disk.old disk.new held left waiting asked (L.waiting door.new) (L.served door.old) (L.served door.new) (λ h. h ≡ all) result }
         ensures stands_open { IsTrue D.tells → StandsOpen self.new (D.reads disk.new) (D.images disk.new) }
         ensures made { IsTrue D.tells → IsMade the_heading (D.reads disk.old) → IsMade the_heading (D.reads disk.new) }
         ensures no_book { IsTrue D.tells → working self.old ≡ None → StandsForNone (D.reads disk.old) → OpensNone D.reads D.images D.moment D.since disk.old disk.new self.new }
+        ensures same_clock { IsTrue D.tells → working self.old ≡ None → StandsForNone (D.reads disk.old) → clock.new ≡ clock.old }
+        ensures order { ServesFirst L.waiting L.served L.Link.left L.Link.written L.Link.faults D.faults left (stage door.old disk.old self.old) (stage door.new disk.new self.new) result }
         ensures handed_back { IsSome (L.served door.old) → IsSome (L.served door.new) × (L.out door.new ≡ L.out door.old) }
         ensures cause { Counts (L.faults door.old) (L.faults door.new) (has_door_failed result) }
     {
@@ -82,11 +90,17 @@ impl Clerk {
         requires { IsTrue D.tells → StandsOpen self.old (D.reads disk.old) (D.images disk.old) }
         ensures serves { IsTrue D.tells → (held : Held) (waiting : List (List ℕ)) (asked : List LinkRequests)
             → Holds self.old (D.reads disk.old) (D.images disk.old) (C.ticks clock.old) held → L.waiting door.old ≡ Some waiting → AllZip AskSo waiting asked
-            → ServesDoor D.reads D.images D.moment D.since D.faults disk.old disk.new held most waiting asked (L.waiting door.new) (L.served door.old) (L.served door.new) result
+            → ServesDoor (TakesTurns D.reads D.images D.moment D.since D.faults) disk.old disk.new held most waiting asked (L.waiting door.new) (L.served door.old) (L.served door.new) result
             (λ h. Holds self.new (D.reads disk.new) (D.images disk.new) (C.ticks clock.new) h) }
+        ensures serves_none { IsTrue D.tells → working self.old ≡ None → StandsForNone (D.reads disk.old) → (held : Held) (waiting : List (List ℕ)) (asked : List LinkRequests)
+            → L.waiting door.old ≡ Some waiting → AllZip AskSo waiting asked
+            → ServesDoor (TakesNone D.faults) disk.old disk.new held most waiting asked (L.waiting door.new) (L.served door.old) (L.served door.new) result (λ h. h ≡ held) }
         ensures stands_open { IsTrue D.tells → StandsOpen self.new (D.reads disk.new) (D.images disk.new) }
         ensures made { IsTrue D.tells → IsMade the_heading (D.reads disk.old) → IsMade the_heading (D.reads disk.new) }
         ensures no_book { IsTrue D.tells → working self.old ≡ None → StandsForNone (D.reads disk.old) → OpensNone D.reads D.images D.moment D.since disk.old disk.new self.new }
+        ensures same_clock { IsTrue D.tells → working self.old ≡ None → StandsForNone (D.reads disk.old) → clock.new ≡ clock.old }
+        ensures order { ServesDoorInOrder L.waiting L.served L.Link.left L.Link.written L.Link.faults D.faults most (stage door.old disk.old self.old) (stage door.new disk.new self.new) }
+        ensures kept_open { KeepsOpen D.faults self.old self.new disk.old disk.new }
         ensures handed_back { IsSome (L.served door.old) → IsSome (L.served door.new) × (L.out door.new ≡ L.out door.old) }
         ensures cause { Counts (L.faults door.old) (L.faults door.new) (is_door_fault result) }
     {

@@ -1,8 +1,8 @@
 //! Replies.
-ghost use Rattle.std.specs.Prelude.{◌≡◌, ◌⊎◌, ◌++◌, IfOk, OnErr, codes, option_map, string_bytes};
-ghost use Rattle.connections.specs.Answers.{malformed, text_reply};
+ghost use Rattle.std.specs.Prelude.{◌≡◌, ◌++◌, IfOk, OnErr, codes, option_map, string_bytes};
+ghost use Rattle.connections.specs.Answers.{text_reply};
 ghost use Rattle.connections.specs.Replies.{bad_request, body_too_long, disk_failed, not_a_journal, not_found, out_of_memory, wrong_method};
-ghost use Rattle.connections.specs.inner.Taking.{IsReplyTo, opening_reply, unrouted_reply};
+ghost use Rattle.connections.specs.inner.Taking.{IsReplyTo, IsReplyToFault, opening_reply, unrouted_reply};
 
 use crate::bodies::Body;
 use act_json::LineFault;
@@ -109,7 +109,7 @@ impl Reply {
 
     /// The reply to a body that is no item.
     pub(crate) fn malformed(alloc: Global, fault: &LineFault) -> Reply
-        ensures { (result ≡ malformed fault.now) ⊎ (result ≡ out_of_memory) }
+        ensures { IsReplyToFault fault.now result }
     {
         match fault {
             LineFault::NotJson => Reply::words(StatusCode::BAD_REQUEST, "malformed json\n"),

@@ -9,9 +9,9 @@ ghost use Rattle.registry_http.specs.Replies.{AppendsPart};
 ghost use Rattle.registry_http.specs.RequestLists.{AreRequests};
 ghost use Rattle.registry_http.specs.RequestParts.{RequestParts};
 ghost use Rattle.registry_http.specs.Requests.{AtFront};
-ghost use Rattle.connections.specs.Answering.{OpensNone};
+ghost use Rattle.connections.specs.Answering.{KeepsOpen, OpensNone};
 ghost use Rattle.connections.specs.Holding.{Holds, StandsForNone, StandsOpen, working};
-ghost use Rattle.connections.specs.LinkOrder.{ServesInOrder};
+ghost use Rattle.connections.specs.LinkOrder.{ServesInOrder, stage};
 ghost use Rattle.connections.specs.Replies.{bytes_of};
 ghost use Rattle.connections.specs.Serving.{ServesLink, TakesNone, TakesTurns, is_link_fault};
 ghost use Rattle.connections.specs.Turns.{turns};
@@ -111,7 +111,7 @@ impl Clerk {
         ensures no_book { IsTrue D.tells → working self.old ≡ None → StandsForNone (D.reads disk.old) → OpensNone D.reads D.images D.moment D.since disk.old disk.new self.new }
         ensures same_clock { IsTrue D.tells → working self.old ≡ None → StandsForNone (D.reads disk.old) → clock.new ≡ clock.old }
         ensures told { IsSome (L.written link.old) → IsSome (L.written link.new) }
-        ensures replied { WritesReply (L.written link.old) (L.written link.new) result }
+        ensures replied { WritesReply D.faults request.now (L.written link.old) (L.written link.new) self.old self.new disk.old disk.new result }
         ensures left { L.left link.new ≡ L.left link.old }
         ensures cause { Counts (L.faults link.old) (L.faults link.new) (is_cut_off result) }
     {
@@ -153,7 +153,7 @@ impl Clerk {
         ensures made { IsTrue D.tells → IsMade the_heading (D.reads disk.old) → IsMade the_heading (D.reads disk.new) }
         ensures no_book { IsTrue D.tells → working self.old ≡ None → StandsForNone (D.reads disk.old) → OpensNone D.reads D.images D.moment D.since disk.old disk.new self.new }
         ensures same_clock { IsTrue D.tells → working self.old ≡ None → StandsForNone (D.reads disk.old) → clock.new ≡ clock.old }
-        ensures order { TurnsNext L.left L.written link.old rest.old.items link.new rest.new.items result }
+        ensures order { TurnsNext L.left L.written D.faults (stage link.old disk.old self.old) rest.old.items (stage link.new disk.new self.new) rest.new.items result }
         ensures told { IsSome (L.written link.old) → IsSome (L.written link.new) }
         ensures cause { Counts (L.faults link.old) (L.faults link.new) (is_cut_off result) }
     {
@@ -197,7 +197,8 @@ impl Clerk {
         ensures no_book { IsTrue D.tells → working self.old ≡ None → StandsForNone (D.reads disk.old) → OpensNone D.reads D.images D.moment D.since disk.old disk.new self.new }
         ensures same_clock { IsTrue D.tells → working self.old ≡ None → StandsForNone (D.reads disk.old) → clock.new ≡ clock.old }
         ensures few { result.replies ≤ left }
-        ensures order { ServesInOrder L.left L.written link.old link.new result }
+        ensures order { ServesInOrder L.left L.written D.faults left (stage link.old disk.old self.old) (stage link.new disk.new self.new) result }
+        ensures kept_open { KeepsOpen D.faults self.old self.new disk.old disk.new }
         ensures told { IsSome (L.written link.old) → IsSome (L.written link.new) }
         ensures cause { Counts (L.faults link.old) (L.faults link.new) (is_link_fault result.ended) }
     {

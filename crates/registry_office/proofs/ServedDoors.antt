@@ -18,7 +18,7 @@ use Rattle.connections.specs.Answering.{LeavesOldThen}
 use Rattle.connections.specs.Doors.{LinkRequests, ServesDoor}
 use Rattle.connections.specs.Holding.{Holds, StandsOpen, working}
 use Rattle.connections.specs.Served.{IsLeftIn}
-use Rattle.connections.specs.Serving.{ServesLink}
+use Rattle.connections.specs.Serving.{ServesLink, TakesTurns}
 use Rattle.connections.specs.Turns.{Turn, Taken}
 use Rattle.connections.specs.declared.doors.DoorEnd.{DoorEnd}
 use Rattle.connections.specs.declared.doors.DoorEnd.TheVariants as door
@@ -72,7 +72,7 @@ module _ {D : Type 0} (reads : D → List ℕ) (images : D → List ℕ → Type
     Office waits served result = ServesOffice reads images moment since faults old new held most waiting asked waits served_old served known result
 
     abbrev Door : D → Option (List (List ℕ)) → Option (List (List ℕ × ℕ)) → Option SettledBookState → DoorEnd → Type 0
-    Door mid waits served at_hand end = ServesDoor reads images moment since faults mid new held most waiting asked waits served_old served end (λ h. Holds at_hand (reads new) (images new) known h)
+    Door mid waits served at_hand end = ServesDoor (TakesTurns reads images moment since faults) mid new held most waiting asked waits served_old served end (λ h. Holds at_hand (reads new) (images new) known h)
 
     -- the door was served on a book that was opened
     pub served_opened : (mid : D) (waits : Option (List (List ℕ))) (served : Option (List (List ℕ × ℕ))) (at_hand : Option SettledBookState) (end : DoorEnd) (result : Status)

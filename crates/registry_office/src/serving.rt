@@ -1,6 +1,6 @@
 //! The commands that answer requests over links: a whole door, or one connection.
 //! Why so: docs/DECISIONS.md, "One connection settles as one registrar does".
-ghost use Rattle.std.specs.Prelude.{◌≡◌, ◌≤◌, ℕ, List, Some, IsSome, IsTrue, true, false};
+ghost use Rattle.std.specs.Prelude.{◌≡◌, ◌≤◌, ℕ, List, Option, Some, None, IsSome, IsTrue, true, false};
 ghost use Rattle.std.specs.List.{AllZip};
 ghost use Rattle.gb_outside.specs.Faults.{Counts, Rose};
 ghost use Rattle.gb_outside.specs.Images.{LeavesOnly};
@@ -10,10 +10,11 @@ ghost use Rattle.intake.specs.Requests.{Held};
 ghost use Rattle.registry_http.specs.RequestLists.{AreRequests};
 ghost use Rattle.registry_http.specs.RequestParts.{RequestParts};
 ghost use Rattle.registry_http.specs.Requests.{AtFront};
+ghost use Rattle.settled_book.specs.SettledBookState.{SettledBookState};
 ghost use Rattle.connections.specs.Completeness.{Completes};
 ghost use Rattle.connections.specs.Doors.{AskSo, LinkRequests};
 ghost use Rattle.connections.specs.Holding.{StandsForNone};
-ghost use Rattle.connections.specs.LinkOrder.{ServesInOrder};
+ghost use Rattle.connections.specs.LinkOrder.{ServesInOrder, stage};
 ghost use Rattle.connections.specs.Serving.{ServesLink, TakesNone, TakesTurns, is_link_fault};
 ghost use Rattle.connections.specs.Turns.{turns};
 ghost use Rattle.registry_office.specs.Disks.{FindsBy, IsJournalFile};
@@ -53,8 +54,9 @@ pub fn serve_connection<R: AllocGlobal, L: Link, D: Disk, C: Clock, G: DeskGate>
         → (Rose (D.faults disk.old) (D.faults disk.new) → ⊥) → (Rose (L.faults link.old) (L.faults link.new) → ⊥)
         → Completes held (L.written link.old) (L.written link.new) (turns left requests end) result }
     ensures kept { IsTrue D.tells → StandsForNone (D.reads disk.old) → (D.reads disk.new ≡ D.reads disk.old) × LeavesOnly D.moment D.since disk.old disk.new (D.images disk.old) × (clock.new ≡ clock.old) }
+    ensures made { IsTrue D.tells → IsMade the_heading (D.reads disk.old) → IsMade the_heading (D.reads disk.new) }
     ensures few { result.replies ≤ left }
-    ensures order { ServesInOrder L.left L.written link.old link.new result }
+    ensures order { (at_hand : Option SettledBookState) × ServesInOrder L.left L.written D.faults left (stage link.old disk.old None) (stage link.new disk.new at_hand) result }
     ensures cause { Counts (L.faults link.old) (L.faults link.new) (is_link_fault result.ended) }
 {
     let mut clerk = Clerk::new();

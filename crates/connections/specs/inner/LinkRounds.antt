@@ -1,7 +1,10 @@
 -- What taking up the link that comes next through a door comes to.
-use Rattle.std.specs.Prelude.{◌≡◌, ℕ, ◌-◌, ◌≤◌, Bool, false, List, [], drop, length, Option, Result, Ok, Err}
+use Rattle.std.specs.Prelude.{◌≡◌, ◌⊎◌, ℕ, ◌-◌, ◌≤◌, Bool, false, List, [], drop, length, Option, Result, Ok, Err}
 use Rattle.intake.specs.Requests.{Held}
 use Rattle.connections.specs.Doors.{LacksMemory, LinkRequests, LinkServed, ServesLinks, is_door_fault, left_behind}
+use Rattle.connections.specs.DoorOrder.{ComesNone, ServesOne}
+use Rattle.connections.specs.LinkOrder.{Stage}
+use Rattle.connections.specs.Turns.{Taken}
 use Rattle.connections.specs.declared.doors.DoorEnd.{DoorEnd}
 use Rattle.connections.specs.declared.doors.DoorEnd.TheVariants as door
 use Rattle.connections.specs.declared.serving.Ended.{Ended}
@@ -24,12 +27,17 @@ has_door_failed (Ok replies) = false
 has_door_failed (Err end) = is_door_fault end
 
 -- The link that comes next was served, with so many replies left; or none came. It goes on by the replies that the link had, or ends as no link waits or no memory was found for a reply.
-pub record IsRound {D : Type 0} (reads : D → List ℕ) (images : D → List ℕ → Type 0) (moment : D → ℕ) (since : D → ℕ → List ℕ → Type 0) (faults : D → ℕ) (old new : D) (held : Held) (left : ℕ)
+pub record IsRound {D : Type 0} (Takes : D → D → Held → List Taken → Type 0) (old new : D) (held : Held) (left : ℕ)
     (waiting : List (List ℕ)) (asked : List LinkRequests) (waiting_new : Option (List (List ℕ))) (served_old served_new : Option (List (List ℕ × ℕ))) (HoldsNow : Held → Type 0) (result : Result ℕ DoorEnd) : Type 0 where
   pub links : List LinkServed
-  pub serves : ServesLinks reads images moment since faults old new held left waiting asked waiting_new served_old served_new HoldsNow links
+  pub serves : ServesLinks Takes old new held left waiting asked waiting_new served_old served_new HoldsNow links
   pub few : length links ≤ 1
   pub goes_on : (replies : ℕ) → result ≡ Ok replies → (length links ≡ 1) × (left_behind left links ≡ left - replies)
   pub done : result ≡ Err door.Done → drop (length links) waiting ≡ []
   pub memory : LacksMemory links → result ≡ Err door.Memory
   pub wanting : result ≡ Err door.Memory → LacksMemory links
+
+-- The link that comes next was served in order, and it goes on by that; or none came, and it ends.
+abbrev pub ServesFirst : {P L D : Type 0} → (P → Option (List (List ℕ))) → (P → Option (List (List ℕ × ℕ))) → (L → Option (List ℕ)) → (L → Option (List ℕ)) → (L → ℕ) → (D → ℕ) → ℕ → Stage P D → Stage P D → Result ℕ DoorEnd → Type 0
+ServesFirst waiting served left written link_faults faults most old new result =
+    ((one : Served) × (result ≡ behind_link one) × ServesOne waiting served left written link_faults faults most old new one) ⊎ ((end : DoorEnd) × (result ≡ Err end) × ComesNone waiting served old new)

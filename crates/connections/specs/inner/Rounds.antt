@@ -9,7 +9,9 @@ use Rattle.registry_http.specs.RequestParts.{RequestParts}
 use Rattle.registry_http.specs.Requests.{AtFront}
 use Rattle.registry_http.specs.declared.replies.ReplyFault.{ReplyFault}
 use Rattle.registry_http.specs.declared.replies.ReplyFault.TheVariants as fault
-use Rattle.connections.specs.LinkOrder.{TurnsLast, TurnsOnce}
+use Rattle.settled_book.specs.SettledBookState.{SettledBookState}
+use Rattle.connections.specs.Answering.{KeepsBook}
+use Rattle.connections.specs.LinkOrder.{Stage, TurnsLast, TurnsOnce}
 use Rattle.connections.specs.Replies.{ReplyParts, bytes_of}
 use Rattle.connections.specs.Serving.{ServesLink, is_link_fault}
 use Rattle.connections.specs.Turns.{Taken, Request, IsOf, answer_in, turns}
@@ -69,13 +71,15 @@ IsTurn Takes old new held written_old written_new requests end HoldsNow MeetsNow
 
 -- ---- in which order the link was read and written
 
--- a reply was written, whole where more may follow
-pub record WritesReply (written_old written_new : Option (List ℕ)) (result : Option Served) : Type 0 where
+-- a reply to a request was written, whole where more may follow, and then it was not the last; and what answering it did to the disk and the book
+pub record WritesReply {D : Type 0} (faults : D → ℕ) (request : RequestParts) (written_old written_new : Option (List ℕ)) (book_old book_new : Option SettledBookState) (old new : D) (result : Option Served) : Type 0 where
   pub reply : ReplyParts
+  pub more : result ≡ None → request.last ≡ false
   pub whole : result ≡ None → Appends written_old written_new (bytes_of (reply ∷ []))
   pub part : AppendsFront written_old written_new (bytes_of (reply ∷ []))
+  pub book : KeepsBook faults request reply book_old book_new old new
 
 -- one turn was taken and more may follow, or the last one
-abbrev pub TurnsNext : {L : Type 0} → (L → Option (List ℕ)) → (L → Option (List ℕ)) → L → List ℕ → L → List ℕ → Option Served → Type 0
-TurnsNext left written link kept now behind None = (reply : ReplyParts) × TurnsOnce left written link kept reply now behind
-TurnsNext left written link kept now behind (Some served) = TurnsLast left written link kept now
+abbrev pub TurnsNext : {L D : Type 0} → (L → Option (List ℕ)) → (L → Option (List ℕ)) → (D → ℕ) → Stage L D → List ℕ → Stage L D → List ℕ → Option Served → Type 0
+TurnsNext left written faults from kept to behind None = (reply : ReplyParts) × TurnsOnce left written faults from kept reply to behind
+TurnsNext left written faults from kept to behind (Some served) = TurnsLast left written faults from kept to

@@ -1,9 +1,12 @@
 -- What is done for a reply: a route is found, a book is taken, and an item is received.
-use Rattle.std.specs.Prelude.{◌≡◌, ◌⊎◌, ℕ, false, List, Option, Some, Result, IfOk}
+use Rattle.std.specs.Prelude.{◌≡◌, ◌⊎◌, ℕ, Bool, true, false, List, Option, Some, Result, IfOk, is_ok}
 use Rattle.gb_base.specs.DayMinute.{DayMinute}
 use Rattle.gb_outside.specs.Images.{LeavesOnly}
+use Rattle.act_json.specs.declared.lines.LineFault.{LineFault}
+use Rattle.act_json.specs.declared.lines.LineFault.TheVariants as line
 use Rattle.act_model.specs.declared.items.Item.{Item}
 use Rattle.act_model.specs.declared.receipts.Receipt.{Receipt}
+use Rattle.receipt_journal.specs.Receiving.{is_received}
 use Rattle.receipt_journal.specs.Standing.{StandsForJournal}
 use Rattle.receipt_journal.specs.declared.faults.BookFault.{BookFault}
 use Rattle.receipt_journal.specs.declared.faults.BookFault.TheVariants as fault
@@ -16,7 +19,7 @@ use Rattle.registry_http.specs.declared.finding.RouteFault.{RouteFault}
 use Rattle.registry_http.specs.declared.finding.RouteFault.TheVariants as routing
 use Rattle.settled_book.specs.SettledBookState.{SettledBookState}
 use Rattle.connections.specs.Answering.{LeavesOldThen, WritesGrown}
-use Rattle.connections.specs.Answers.{item_answer, item_reply, received_by_clock}
+use Rattle.connections.specs.Answers.{item_answer, item_reply, malformed, received_by_clock}
 use Rattle.connections.specs.Fates.{Failure, DiskFailed, NoJournal, OutOfMemory, failure_reply}
 use Rattle.connections.specs.Holding.{IsOpenOn}
 use Rattle.connections.specs.Replies.{ReplyParts, disk_failed, not_found, out_of_memory, wrong_method}
@@ -46,7 +49,7 @@ opening_reply f = failure_reply (failure_of f)
 pub record Finds {D : Type 0} (reads : D → List ℕ) (images : D → List ℕ → Type 0) (moment : D → ℕ) (since : D → ℕ → List ℕ → Type 0) (old new : D) (journal : List Receipt) (taken : Result SettledBookState BookFault) : Type 0 where
   pub file : StandsForJournal (reads new) journal
   pub left : LeavesOldThen images moment since old new (λ file. StandsForJournal file journal)
-  pub written : WritesGrown journal journal (reads old) (reads new)
+  pub written : WritesGrown (is_ok taken) journal journal (reads old) (reads new)
   pub there : IfOk taken (λ settled. IsOpenOn settled (reads new) (images new) journal)
 
 -- ---- an item is received
@@ -55,6 +58,7 @@ pub record Finds {D : Type 0} (reads : D → List ℕ) (images : D → List ℕ 
 pub record Receives {D : Type 0} (reads : D → List ℕ) (images : D → List ℕ → Type 0) (moment : D → ℕ) (since : D → ℕ → List ℕ → Type 0) (old new : D) (held : Held) (from : SenderReference) (item : Item)
     (answer : Received) (settled : SettledBookState) (known : Option (List DayMinute)) : Type 0 where
   pub expected : is_fault answer ≡ false → answer ≡ received_by_clock held from item
+  pub lacked : answer ≡ answers.Memory → is_received (received_by_clock held from item) ≡ true
   pub clock : known ≡ Some (item_answer held from item).held.ticks
   pub file : StandsForJournal (reads new) held.journal ⊎ StandsForJournal (reads new) (item_answer held from item).held.journal
   pub left : LeavesOnly moment since old new (GrownFrom held.journal (item_answer held from item).held.journal)
@@ -73,6 +77,26 @@ received_reply answers.Disk = disk_failed
 received_reply answers.MustReopen = disk_failed
 received_reply answers.Memory = out_of_memory
 
+-- the words of its reply have a number, and so want memory
+abbrev pub has_number : Received → Bool
+has_number (answers.Accepted n) = true
+has_number (answers.Repeated n) = true
+has_number (answers.Differs n) = true
+has_number answers.Full = false
+has_number answers.Disk = false
+has_number answers.MustReopen = false
+has_number answers.Memory = false
+
 -- the reply is that of the answer, or says that no memory was found for its words
 abbrev pub IsReplyTo : Received → ReplyParts → Type 0
-IsReplyTo answer reply = (reply ≡ received_reply answer) ⊎ ((is_fault answer ≡ false) × (reply ≡ out_of_memory))
+IsReplyTo answer reply = (reply ≡ received_reply answer) ⊎ ((has_number answer ≡ true) × (reply ≡ out_of_memory))
+
+-- the words of its reply name a path, and so want memory
+abbrev pub has_path : LineFault → Bool
+has_path line.NotJson = false
+has_path (line.NotItem path) = true
+has_path line.Memory = false
+
+-- the reply is that to a body that is no item, or says that no memory was found for its words
+abbrev pub IsReplyToFault : LineFault → ReplyParts → Type 0
+IsReplyToFault fault reply = (reply ≡ malformed fault) ⊎ ((has_path fault ≡ true) × (reply ≡ out_of_memory))

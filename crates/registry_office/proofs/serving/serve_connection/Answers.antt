@@ -2,6 +2,7 @@ use Rattle.std.proofs.Common.{Option, ap, subst, sym}
 use Rattle.settled_book.specs.SettledBookState.{SettledBookState}
 use Rattle.connections.proofs.Completed.{completes}
 use Rattle.connections.specs.Holding.{Holds, working}
+use Rattle.connections.specs.LinkOrder.{ServesInOrder, stage}
 use Rattle.connections.specs.Serving.{TakesTurns}
 use Rattle.connections.specs.Turns.{turns}
 use Rattle.registry_office.proofs.ServedDoors.{link_held}
@@ -26,3 +27,13 @@ returns-clause-kept g c = λ tells stands_for_none.
 
 pub returns-clause-serves_none : goal.returns-clause-serves_none
 returns-clause-serves_none g c = λ tells stands_for_none. c.serve_link.ensures.serves_none tells (ap working c.new-clerk.ensures) stands_for_none
+
+pub returns-clause-made : goal.returns-clause-made
+returns-clause-made g c = λ tells was. c.serve_link.ensures.made tells was
+
+pub returns-clause-order : goal.returns-clause-order
+returns-clause-order g c = (
+  c.serve_link.new.self,
+  subst (λ (h : Option SettledBookState). ServesInOrder g.L.Link.left g.L.Link.written g.D.Disk.faults c.args.left (stage c.args.link.now c.args.disk.now h) (stage c.serve_link.new.link c.serve_link.new.disk c.serve_link.new.self) c.serve_link.result) c.new-clerk.ensures
+      c.serve_link.ensures.order,
+)

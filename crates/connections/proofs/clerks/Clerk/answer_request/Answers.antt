@@ -1,4 +1,4 @@
-use Rattle.std.proofs.Common.{◌≡◌, ◌∙◌, false, List, ℕ, ap, refl, sym, subst}
+use Rattle.std.proofs.Common.{◌≡◌, ◌∙◌, false, List, ℕ, ap, inl, refl, sym, subst}
 use Rattle.registry_http.specs.Routes.{method_of}
 use Rattle.connections.specs.Answering.{SaysAsked, may_call_disk}
 use Rattle.connections.specs.Answers.{answer}
@@ -60,7 +60,7 @@ uncalled g c = subst (λ (body : List ℕ). may_call_disk (AskedFor c.in-Ok.rout
 
 pub returns-clause-answers : goal.returns-clause-answers
 returns-clause-answers g c = λ tells held holds.
-    let end = subst (λ (body : List ℕ). EndsBy g.D.Disk.reads g.D.Disk.images g.D.Disk.moment g.D.Disk.since c.args.disk.now c.answer_route.new.disk held (answer held body (AskedFor c.in-Ok.route))
+    let end = subst (λ (body : List ℕ). EndsBy g.D.Disk.reads g.D.Disk.images g.D.Disk.moment g.D.Disk.since c.args.disk.now c.answer_route.new.disk (may_call_disk (AskedFor c.in-Ok.route) body) held (answer held body (AskedFor c.in-Ok.route))
     c.answer_route.result c.answer_route.new.self (g.C.Clock.ticks c.answer_route.new.clock)) c.body.ensures (c.answer_route.ensures.ends tells held holds) in
     answers g.D.Disk.reads g.D.Disk.images g.D.Disk.moment g.D.Disk.since c.args.disk.now c.answer_route.new.disk (g.met.D.Disk.reads_is_image c.args.disk.now tells)
     (λ t file le image. g.met.D.Disk.counts_now c.answer_route.new.disk t file tells le image)
@@ -116,3 +116,17 @@ returns-in-Err-clause-made g c = λ tells was. was
 
 pub returns-clause-made : goal.returns-clause-made
 returns-clause-made g c = c.answer_route.ensures.serves.made
+
+-- ---- when the clock is asked
+
+pub returns-in-Err-clause-unopened : goal.returns-in-Err-clause-unopened
+returns-in-Err-clause-unopened g c = λ none sound. refl
+
+pub returns-clause-unopened : goal.returns-clause-unopened
+returns-clause-unopened g c = λ none sound. c.answer_route.ensures.unopened none sound
+
+pub returns-in-Err-clause-opening : goal.returns-in-Err-clause-opening
+returns-in-Err-clause-opening g c = λ was. inl refl
+
+pub returns-clause-opening : goal.returns-clause-opening
+returns-clause-opening g c = λ was. c.answer_route.ensures.opening was

@@ -1,4 +1,4 @@
-use Rattle.std.proofs.Common.{◌≡◌, ◌∙◌, true, false, ap, sym, subst}
+use Rattle.std.proofs.Common.{◌≡◌, ◌∙◌, true, false, ap, inl, refl, sym, subst}
 use Rattle.registry_http.specs.declared.routes.Route.{Route}
 use Rattle.connections.specs.Answering.{SaysAsked, may_call_disk}
 use Rattle.connections.specs.Answers.{Answer, answer}
@@ -9,13 +9,15 @@ use Rattle.connections.proofs.clerks.Clerk.answer_route.Goals as goal
 
 pub returns-in-Post-clause-ends : goal.returns-in-Post-clause-ends
 returns-in-Post-clause-ends g c = λ tells held holds.
-    subst (λ (r : Route). EndsBy g.D.Disk.reads g.D.Disk.images g.D.Disk.moment g.D.Disk.since c.args.disk.now c.post.new.disk held (answer held c.args.body.now (AskedFor r)) c.post.result c.post.new.self (g.C.Clock.ticks c.post.new.clock))
+    subst (λ (r : Route). EndsBy g.D.Disk.reads g.D.Disk.images g.D.Disk.moment g.D.Disk.since c.args.disk.now c.post.new.disk (may_call_disk (AskedFor r) c.args.body.now) held (answer held c.args.body.now (AskedFor r)) c.post.result c.post.new.self (g.C.Clock.ticks c.post.new.clock))
     (sym c.in-Post.is) (c.post.ensures.ends tells held holds)
 
 pub returns-in_default-clause-ends : goal.returns-in_default-clause-ends
 returns-in_default-clause-ends g c = λ tells held holds.
-    subst (λ (wanted : Answer). EndsBy g.D.Disk.reads g.D.Disk.images g.D.Disk.moment g.D.Disk.since c.args.disk.now c.read.new.disk held wanted c.read.result c.read.new.self (g.C.Clock.ticks c.args.clock.now))
-    (sym (answer_reads held c.args.body.now c.args.route c.in_default.not-Post)) (c.read.ensures.ends tells (g.C.Clock.ticks c.args.clock.now) held holds)
+    subst (λ b. EndsBy g.D.Disk.reads g.D.Disk.images g.D.Disk.moment g.D.Disk.since c.args.disk.now c.read.new.disk b held (answer held c.args.body.now (AskedFor c.args.route)) c.read.result c.read.new.self (g.C.Clock.ticks c.args.clock.now))
+    (sym (reading_calls c.args.body.now c.args.route c.in_default.not-Post))
+    (subst (λ (wanted : Answer). EndsBy g.D.Disk.reads g.D.Disk.images g.D.Disk.moment g.D.Disk.since c.args.disk.now c.read.new.disk true held wanted c.read.result c.read.new.self (g.C.Clock.ticks c.args.clock.now))
+    (sym (answer_reads held c.args.body.now c.args.route c.in_default.not-Post)) (c.read.ensures.ends tells (g.C.Clock.ticks c.args.clock.now) held holds))
 
 pub returns-in-Post-clause-uncalled : goal.returns-in-Post-clause-uncalled
 returns-in-Post-clause-uncalled g c = λ none.
@@ -49,3 +51,17 @@ returns-in-Post-clause-unreceived g c = λ works other sound. c.post.ensures.unr
 
 pub returns-in_default-clause-unreceived : goal.returns-in_default-clause-unreceived
 returns-in_default-clause-unreceived g c = λ works other sound. c.read.ensures.untouched works
+
+-- ---- when the clock is asked
+
+pub returns-in-Post-clause-unopened : goal.returns-in-Post-clause-unopened
+returns-in-Post-clause-unopened g c = λ none sound. c.post.ensures.unopened none sound
+
+pub returns-in_default-clause-unopened : goal.returns-in_default-clause-unopened
+returns-in_default-clause-unopened g c = λ none sound. refl
+
+pub returns-in-Post-clause-opening : goal.returns-in-Post-clause-opening
+returns-in-Post-clause-opening g c = λ was. c.post.ensures.opening was
+
+pub returns-in_default-clause-opening : goal.returns-in_default-clause-opening
+returns-in_default-clause-opening g c = λ was. inl refl

@@ -1,4 +1,4 @@
-use Rattle.std.proofs.Common.{◌≡◌, ◌∙◌, true, false, ap, is_ok, refl, sym, subst}
+use Rattle.std.proofs.Common.{◌≡◌, ◌∙◌, true, false, ap, inl, is_ok, refl, sym, subst}
 use Rattle.act_json.specs.Lines.{item_of}
 use Rattle.connections.specs.Answers.{body_answer}
 use Rattle.connections.specs.inner.Ends.{EndsBy}
@@ -19,7 +19,7 @@ returns-in-Err-clause-serves g c =
 
 pub returns-clause-ends : goal.returns-clause-ends
 returns-clause-ends g c = λ tells held holds.
-    subst (λ read. EndsBy g.D.Disk.reads g.D.Disk.images g.D.Disk.moment g.D.Disk.since c.args.disk.now c.post_item.new.disk held (body_answer held read) c.post_item.result c.post_item.new.self (g.C.Clock.ticks c.post_item.new.clock))
+    subst (λ read. EndsBy g.D.Disk.reads g.D.Disk.images g.D.Disk.moment g.D.Disk.since c.args.disk.now c.post_item.new.disk (is_ok read) held (body_answer held read) c.post_item.result c.post_item.new.self (g.C.Clock.ticks c.post_item.new.clock))
     (sym c.in-Ok.ensures.exact) (c.post_item.ensures.ends tells held holds)
 
 pub returns-in-Err-clause-uncalled : goal.returns-in-Err-clause-uncalled
@@ -46,3 +46,17 @@ returns-in-Err-clause-unreceived g c = λ works other sound. refl
 
 pub returns-clause-unreceived : goal.returns-clause-unreceived
 returns-clause-unreceived g c = λ works other sound. c.post_item.ensures.unreceived works other sound
+
+-- ---- when the clock is asked
+
+pub returns-in-Err-clause-unopened : goal.returns-in-Err-clause-unopened
+returns-in-Err-clause-unopened g c = λ none sound. refl
+
+pub returns-clause-unopened : goal.returns-clause-unopened
+returns-clause-unopened g c = λ none sound. c.post_item.ensures.unopened none sound
+
+pub returns-in-Err-clause-opening : goal.returns-in-Err-clause-opening
+returns-in-Err-clause-opening g c = λ was. inl refl
+
+pub returns-clause-opening : goal.returns-clause-opening
+returns-clause-opening g c = λ was. c.post_item.ensures.opening was

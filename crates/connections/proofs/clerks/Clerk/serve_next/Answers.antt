@@ -14,7 +14,7 @@ use Rattle.connections.proofs.LinkEnds.{cut_off, memory_ends, none_ends, refusal
 use Rattle.connections.proofs.LinkTurns.{comes_next}
 use Rattle.connections.proofs.NoneTaken.{none_refused, none_taken}
 use Rattle.connections.proofs.TakenTurns.{takes_none, takes_refusal}
-use Rattle.connections.proofs.OrderedTurns.{last_closed, last_silent, next_of_request}
+use Rattle.connections.proofs.OrderedTurns.{last_closed, last_silent, next_of_request, quiet_end}
 use Rattle.connections.proofs.ToldLinks.{same_told}
 use Rattle.connections.proofs.clerks.Clerk.serve_next.Goals as goal
 
@@ -178,26 +178,29 @@ returns-in-Memory-clause-no_book g c = λ tells was none.
 
 pub returns-in-Request-clause-order : goal.returns-in-Request-clause-order
 returns-in-Request-clause-order g c =
-    next_of_request g.L.Link.left g.L.Link.written c.args.link.now c.next_request.new.link c.serve_request.new.link c.args.rest.now.items c.next_request.new.rest.items c.in-Request.request c.serve_request.result
+    next_of_request g.L.Link.left g.L.Link.written g.D.Disk.faults c.args.link.now c.next_request.new.link c.serve_request.new.link c.args.disk.now c.serve_request.new.disk c.args.self.now c.serve_request.new.self c.args.rest.now.items c.next_request.new.rest.items c.in-Request.request c.serve_request.result
     c.in-Request.ensures.answer c.next_request.ensures.written c.serve_request.ensures.left c.serve_request.ensures.replied
 
 pub returns-in-End-clause-order : goal.returns-in-End-clause-order
-returns-in-End-clause-order g c = last_silent g.L.Link.left g.L.Link.written c.args.link.now c.next_request.new.link c.args.rest.now.items c.next_request.new.rest.items c.next_request.result c.next_request.ensures.answer c.next_request.ensures.written
+returns-in-End-clause-order g c =
+    last_silent g.L.Link.left g.L.Link.written g.D.Disk.faults c.args.link.now c.next_request.new.link c.args.disk.now c.args.self.now c.args.rest.now.items c.next_request.new.rest.items c.next_request.result c.next_request.ensures.answer c.next_request.ensures.written
+    (quiet_end g.D.Disk.faults c.next_request.result bad_request c.args.self.now c.args.disk.now c.in-End.is)
 
 pub returns-in-LinkFault-clause-order : goal.returns-in-LinkFault-clause-order
-returns-in-LinkFault-clause-order g c = last_silent g.L.Link.left g.L.Link.written c.args.link.now c.next_request.new.link c.args.rest.now.items c.next_request.new.rest.items next.LinkFault c.in-LinkFault.ensures.answer c.next_request.ensures.written
+returns-in-LinkFault-clause-order g c =
+    last_silent g.L.Link.left g.L.Link.written g.D.Disk.faults c.args.link.now c.next_request.new.link c.args.disk.now c.args.self.now c.args.rest.now.items c.next_request.new.rest.items next.LinkFault c.in-LinkFault.ensures.answer c.next_request.ensures.written (refl, refl)
 
 pub returns-in-HeadFault-clause-order : goal.returns-in-HeadFault-clause-order
 returns-in-HeadFault-clause-order g c =
-    last_closed g.L.Link.left g.L.Link.written c.args.link.now c.next_request.new.link c.close.new.link c.args.rest.now.items c.next_request.new.rest.items next.HeadFault c.bad_request.result c.close.result
-    c.in-HeadFault.ensures.answer c.next_request.ensures.written c.close.ensures.left c.close.ensures.ends
+    last_closed g.L.Link.left g.L.Link.written g.D.Disk.faults c.args.link.now c.next_request.new.link c.close.new.link c.args.disk.now c.args.self.now c.args.rest.now.items c.next_request.new.rest.items next.HeadFault c.bad_request.result c.close.result
+    c.in-HeadFault.ensures.answer c.next_request.ensures.written c.close.ensures.left c.close.ensures.ends (refl, refl)
 
 pub returns-in-BodyTooLong-clause-order : goal.returns-in-BodyTooLong-clause-order
 returns-in-BodyTooLong-clause-order g c =
-    last_closed g.L.Link.left g.L.Link.written c.args.link.now c.next_request.new.link c.close-in-BodyTooLong.new.link c.args.rest.now.items c.next_request.new.rest.items next.BodyTooLong c.body_too_long.result c.close-in-BodyTooLong.result
-    c.in-BodyTooLong.ensures.answer c.next_request.ensures.written c.close-in-BodyTooLong.ensures.left c.close-in-BodyTooLong.ensures.ends
+    last_closed g.L.Link.left g.L.Link.written g.D.Disk.faults c.args.link.now c.next_request.new.link c.close-in-BodyTooLong.new.link c.args.disk.now c.args.self.now c.args.rest.now.items c.next_request.new.rest.items next.BodyTooLong c.body_too_long.result c.close-in-BodyTooLong.result
+    c.in-BodyTooLong.ensures.answer c.next_request.ensures.written c.close-in-BodyTooLong.ensures.left c.close-in-BodyTooLong.ensures.ends (refl, refl)
 
 pub returns-in-Memory-clause-order : goal.returns-in-Memory-clause-order
 returns-in-Memory-clause-order g c =
-    last_closed g.L.Link.left g.L.Link.written c.args.link.now c.next_request.new.link c.close-in-Memory.new.link c.args.rest.now.items c.next_request.new.rest.items next.Memory c.out_of_memory.result c.close-in-Memory.result
-    c.in-Memory.ensures.answer c.next_request.ensures.written c.close-in-Memory.ensures.left c.close-in-Memory.ensures.ends
+    last_closed g.L.Link.left g.L.Link.written g.D.Disk.faults c.args.link.now c.next_request.new.link c.close-in-Memory.new.link c.args.disk.now c.args.self.now c.args.rest.now.items c.next_request.new.rest.items next.Memory c.out_of_memory.result c.close-in-Memory.result
+    c.in-Memory.ensures.answer c.next_request.ensures.written c.close-in-Memory.ensures.left c.close-in-Memory.ensures.ends (refl, refl)

@@ -85,10 +85,10 @@ returns-clause-told g c = λ told. still_told (g.L.Link.written c.args.link.now)
 -- ---- what was written
 
 pub returns-in-Err-clause-replied : goal.returns-in-Err-clause-replied
-returns-in-Err-clause-replied g c = record { reply = c.answer_request-reply.result; whole = λ none. absurd cc; part = part_front (g.L.Link.written c.args.link.now) (g.L.Link.written c.send.new.link) (bytes_of (c.answer_request-reply.result ∷ [])) c.in-Err.ensures.part }
+returns-in-Err-clause-replied g c = record { reply = c.answer_request-reply.result; more = λ none. absurd cc; whole = λ none. absurd cc; part = part_front (g.L.Link.written c.args.link.now) (g.L.Link.written c.send.new.link) (bytes_of (c.answer_request-reply.result ∷ [])) c.in-Err.ensures.part; book = record { disk = c.answer_request-reply.ensures.disk; kept = c.answer_request-reply.ensures.kept_open; left = c.answer_request-reply.ensures.left_open; untouched = c.answer_request-reply.ensures.untouched; unreceived = c.answer_request-reply.ensures.unreceived } }
 
 pub returns-then-is_last-clause-replied : goal.returns-then-is_last-clause-replied
-returns-then-is_last-clause-replied g c = record { reply = c.answer_request-reply.result; whole = λ none. absurd cc; part = whole_front (g.L.Link.written c.args.link.now) (g.L.Link.written c.send.new.link) (bytes_of (c.answer_request-reply.result ∷ [])) c.in_default.ensures.whole }
+returns-then-is_last-clause-replied g c = record { reply = c.answer_request-reply.result; more = λ none. absurd cc; whole = λ none. absurd cc; part = whole_front (g.L.Link.written c.args.link.now) (g.L.Link.written c.send.new.link) (bytes_of (c.answer_request-reply.result ∷ [])) c.in_default.ensures.whole; book = record { disk = c.answer_request-reply.ensures.disk; kept = c.answer_request-reply.ensures.kept_open; left = c.answer_request-reply.ensures.left_open; untouched = c.answer_request-reply.ensures.untouched; unreceived = c.answer_request-reply.ensures.unreceived } }
 
 pub returns-clause-replied : goal.returns-clause-replied
-returns-clause-replied g c = record { reply = c.answer_request-reply.result; whole = λ none. c.in_default.ensures.whole; part = whole_front (g.L.Link.written c.args.link.now) (g.L.Link.written c.send.new.link) (bytes_of (c.answer_request-reply.result ∷ [])) c.in_default.ensures.whole }
+returns-clause-replied g c = record { reply = c.answer_request-reply.result; more = λ none. sym c.is_last.ensures ∙ c.if-is_last.false; whole = λ none. c.in_default.ensures.whole; part = whole_front (g.L.Link.written c.args.link.now) (g.L.Link.written c.send.new.link) (bytes_of (c.answer_request-reply.result ∷ [])) c.in_default.ensures.whole; book = record { disk = c.answer_request-reply.ensures.disk; kept = c.answer_request-reply.ensures.kept_open; left = c.answer_request-reply.ensures.left_open; untouched = c.answer_request-reply.ensures.untouched; unreceived = c.answer_request-reply.ensures.unreceived } }
