@@ -71,8 +71,7 @@ class Room:
 
     def begin(self, *words):
         how = {"stdin": subprocess.DEVNULL, "stdout": subprocess.PIPE, "stderr": subprocess.PIPE, "text": True}
-        # A shell has what it runs in the background pass over the first of the signals that are tried.
-        how["preexec_fn"] = lambda: signal.signal(signal.SIGINT, signal.SIG_DFL)
+        how["preexec_fn"] = checks.hear_signals
         return subprocess.Popen([sys.executable, self.folder / "scripts" / "try-edits.py", *words], env=self.env, **how)
 
     def tries(self, *words):
@@ -115,7 +114,7 @@ def check_refusals(look, room):
 def check_endings(look, room):
     waits, begun = room.folder.parent / "waits", room.folder.parent / "begun"
     waits.touch()
-    for number, status in ((signal.SIGINT, 130), (signal.SIGTERM, 143)):
+    for number, status in ((signal.SIGINT, 130), (signal.SIGTERM, 143), (signal.SIGHUP, 129)):
         ran = room.begin("top")
         until = time.monotonic() + checks.LIMIT
         while not begun.exists() and time.monotonic() < until:

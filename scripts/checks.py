@@ -10,6 +10,7 @@ import os
 import pathlib
 import re
 import shutil
+import signal
 import subprocess
 import sys
 
@@ -91,6 +92,13 @@ def run(words, folder=None, before=None, **how):
         del how["stdin"]
     ran = subprocess.run([*(before or []), PROGRAM, *words], cwd=folder, timeout=LIMIT, **how)
     return ran.returncode, ran.stdout, ran.stderr
+
+
+def hear_signals():
+    """Has a program that a check starts, and will send a signal, be ended by it: a shell has what it runs in the
+    background pass over some."""
+    for number in (signal.SIGINT, signal.SIGTERM, signal.SIGHUP):
+        signal.signal(number, signal.SIG_DFL)
 
 
 def routes_of_page():

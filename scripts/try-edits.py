@@ -17,20 +17,17 @@ import os
 import pathlib
 import re
 import shutil
-import signal
 import subprocess
 import sys
 import tempfile
 
 import checks
 import crates
+import ending
 
 # What `rt must-fail` says of an edit, and what that is called here.
 SAID = re.compile(r"^rt: must-fail \w+/(\S+)\.edit: (refused|NOT REFUSED|BAD EDIT|NOT TRIED)(?:, as it must be)?(.*)$", re.M)
 OUTCOMES = {"refused": "refused", "NOT REFUSED": "not refused", "BAD EDIT": "bad", "NOT TRIED": "not tried"}
-
-# How long `rt` may take to end once it is told to, in seconds.
-PATIENCE = 10
 
 
 def link_or_copy(old, new):
@@ -85,12 +82,7 @@ def what_rt_says(crate, room, spare):
     try:
         return ran.communicate()[0]
     finally:
-        ran.terminate()
-        try:
-            ran.wait(PATIENCE)
-        except subprocess.TimeoutExpired:
-            ran.kill()
-            ran.wait()
+        ending.end(ran)
 
 
 def try_crate(crate, edits, room, spare):
@@ -125,7 +117,7 @@ def main():
     if not shutil.which("rt"):
         sys.exit("the kit's rt has to be on the path")
     # So that the folder goes also where this program is told to end.
-    signal.signal(signal.SIGTERM, lambda *_: sys.exit(143))
+    ending.end_when_told()
     folder = pathlib.Path(tempfile.mkdtemp(prefix="edits-"))
     counts = collections.Counter()
     try:
