@@ -12,6 +12,7 @@ again. Last, in this repository, that the program that the gate proved is the on
 
 import importlib.machinery
 import importlib.util
+import itertools
 import os
 import pathlib
 import re
@@ -23,32 +24,22 @@ import tempfile
 import time
 
 import checks
+import ending
 import proof_minutes
 import stand_in_kit
 import unproved_build
-
-CRATES = """# layers
-low: std
-left: low
-right: low
-grundbuch: left right
-other: low
-"""
-
-MINUTES = """
-| crate | its proof | its tests |
-|---|---|---|
-| `low` | 4.0 | `other` 5.0 |
-| `left`, `right` | 2.0 each | |
-| `grundbuch` | 1.0 | 1.5 |
-"""
+from small_repository import Room, told_by
 
 PROVES = "./grundbuch --build proves and builds it\n"
 FIRST = f"the program runs unproved, and is built for that first, once, in two to four minutes; {PROVES}".encode()
 AGAIN = f"the program runs unproved; {PROVES}".encode()
+WAITING = b"another run builds it; waiting\n"
 LINES = ["settle", "--desks", "1", "--lines"]
 TOLD = b"unproved settle --desks 1 --lines\n"
 BUILT = ["begins grundbuch", "compiles plain", "compiles optimised", "links optimised"]
+
+# How a run ends that a signal ends while it builds.
+ENDS = ((signal.SIGTERM, 143), (signal.SIGHUP, 129), (signal.SIGINT, 130))
 
 # Each command on the journal's file.
 ON_FILE = (["take"], ["opening", "--sender", "9"], ["--desks", "1", "settle"], ["serve", "--desks", "1", "--requests", "9"])
@@ -56,62 +47,7 @@ ON_FILE = (["take"], ["opening", "--sender", "9"], ["--desks", "1", "settle"], [
 
 def choice(command):
     """The line that tells what to choose from."""
-    return f"`{command}` wants the proved program, which is not built of today's files: {PROVES[:-1]}, ./grundbuch --unproved {command} .. does without\n".encode()
-
-
-class Room:
-    """A repository of five small crates, with the wrapper and the stand-in."""
-
-    def __init__(self, folder):
-        self.folder, self.notes, self.says, self.scratch = folder, folder / "notes", folder / "says", folder / "scratch"
-        self.kit, self.source = folder / "kit", folder / "crates" / "grundbuch" / "src"
-        out = folder / "crates" / "grundbuch" / "out"
-        self.proved, self.unproved, self.logs, self.rooms = out / "grundbuch", out / "unproved" / "grundbuch", out / "logs", out / "rooms"
-        shutil.copy(checks.WRAPPER, folder / "grundbuch")
-        (folder / "scripts").mkdir()
-        for name in ("proof_minutes.py", "unproved_build.py"):
-            shutil.copy(checks.ROOT / "scripts" / name, folder / "scripts" / name)
-        (folder / "docs").mkdir()
-        (folder / "docs" / "PROVING.md").write_text(MINUTES)
-        (folder / "crates.txt").write_text(CRATES)
-        for line in CRATES.splitlines()[1:]:
-            source = folder / "crates" / line.split(":")[0] / "src"
-            source.mkdir(parents=True)
-            (source / "lib.rt").write_text("")
-        self.scratch.mkdir()
-        stand_in_kit.make(self.kit)
-
-    def begin(self, *words):
-        """Starts the wrapper."""
-        return self.start(self.folder / "grundbuch", *words)
-
-    def start(self, *words):
-        """Starts a program in the scratch folder."""
-        told = {"PATH": f"{self.kit}/bin:{os.environ['PATH']}", "NOTES": str(self.notes), "SAYS": str(self.says), "TMPDIR": str(self.scratch)}
-        streams = {"stdin": subprocess.PIPE, "stdout": subprocess.PIPE, "stderr": subprocess.PIPE}
-        around = {name: value for name, value in os.environ.items() if name not in ("PYTHONDONTWRITEBYTECODE", "GLIBC_TUNABLES")}
-        return subprocess.Popen(words, cwd=self.scratch, env={**around, **told}, **streams)
-
-    def run(self, *words, given=b""):
-        """The status, the output and the errors of the wrapper."""
-        self.notes.write_text("")
-        ran = self.begin(*words)
-        output, errors = ran.communicate(given, checks.LIMIT)
-        return ran.returncode, output, errors
-
-    def noted(self):
-        return self.notes.read_text().split("\n")[:-1]
-
-    def wait_for(self, note):
-        """Waits until the stand-in noted this."""
-        begun = time.monotonic()
-        while note not in self.noted() and time.monotonic() - begun < checks.LIMIT:
-            time.sleep(0.01)
-
-    def forget(self):
-        """Leaves nothing that was built."""
-        for out in self.folder.glob("crates/*/out"):
-            shutil.rmtree(out)
+    return f"`{command}` wants the proved program, which is not built, or is older than a file: {PROVES[:-1]}, ./grundbuch --unproved {command} .. does without\n".encode()
 
 
 def check_help(look, room):
@@ -131,9 +67,49 @@ def check_first_run(look, room):
     look.same("a second run starts at once", (room.run(*LINES, given=b"more"), room.noted()), ((4, TOLD + b"more", AGAIN), []))
     look.same("its command last", room.run("--lines", "--desks", "1", "settle"), (4, b"unproved --lines --desks 1 settle\n", AGAIN))
     look.same("a sample, with large pages", room.run("sample", "--seed", "7"), (4, b"unproved sample --seed 7\nglibc.malloc.hugetlb=1\n", AGAIN))
-    look.same("words that are no command", room.run("-h"), (4, b"unproved -h\n", AGAIN))
     look.same("nothing is left elsewhere", checks.names_in(room.scratch), [])
     look.same("nor among the sources", [str(file) for file in room.folder.rglob("*.pyc")], [])
+
+
+def check_words(look, room):
+    """Words that are no command build nothing, as far as they are looked at."""
+    for words in (["-h"], ["--version"], ["foo"], ["--build", "x"], ["--build", "take"], ["--unproved", "--build"], ["--unproved", "-h"]):
+        look.same(f"{' '.join(words)} where nothing is built", (room.run(*words), room.noted()), ((2, b"", b"usage\n"), []))
+    for words, command in ((["--help", "take"], "take"), (["settle", "settle"], "settle")):
+        look.same(f"{' '.join(words)} where nothing is built", (room.run(*words), room.noted()), ((1, b"", choice(command)), []))
+    look.same("nothing is built by that", room.proved.parent.exists(), False)
+
+
+def check_streams(look, room):
+    """Streams that are closed, full or not read."""
+    for stream, redirected in (("closed", "2>&-"), ("full", "2>/dev/full")):
+        look.same(f"nothing is built, with standard error {stream}", room.shell("take", redirected=redirected), (1, b"", b""))
+        look.same(f"the first command, with standard error {stream}", room.shell(*LINES, redirected=redirected, given=b"line"), (4, TOLD + b"line", b""))
+        look.same(f"the same again, with standard error {stream}", room.shell(*LINES, redirected=redirected, given=b"line"), (4, TOLD + b"line", b""))
+        room.forget()
+    look.same("--help with standard output full", room.shell("--help", redirected=">/dev/full"), (1, b"", b"standard output: No space left on device\n"))
+    look.same("--help with standard output closed", room.shell("--help", redirected=">&-"), (1, b"", b"standard output: Bad file descriptor\n"))
+    unread, end = os.pipe()
+    os.close(unread)
+    ran = room.start(room.folder / "grundbuch", "--help", stdout=end)
+    os.close(end)
+    look.same("--help that nobody reads", told_by(ran), (0, None, b""))
+
+
+def check_missing(look, room):
+    """Files and tools that are not there are named."""
+    page = room.folder / "docs" / "PROVING.md"
+    page.rename(page.with_suffix(".away"))
+    look.same("no page of minutes", room.run("--build"), (1, b"", f"{page}: No such file or directory\n".encode()))
+    page.with_suffix(".away").rename(page)
+    ran = room.start(sys.executable, room.folder / "grundbuch", *LINES, path=str(room.scratch))
+    look.same("no kit", told_by(ran), (1, b"", b"rt is not there; the kit's rt has to be on the path\n"))
+    room.forget()
+    out = room.proved.parent
+    out.write_text("")
+    for words, said in ((LINES, FIRST), (["--build"], b"")):
+        look.same(f"no folder for what {words[0]} builds", room.run(*words), (1, b"", said + f"{out}: File exists\n".encode()))
+    out.unlink()
 
 
 def check_on_file(look, room):
@@ -169,16 +145,51 @@ def check_newer(look, room):
     look.same("a file that changes meanwhile", ran.communicate(b"", checks.LIMIT), (TOLD, FIRST))
     look.same("is newer too", (room.run(*LINES)[2], room.noted()), (FIRST, BUILT))
     (room.source / "long").unlink()
+    (room.source / "more.rt").write_text("")
+    look.same("a file more", (room.run(*LINES)[2], room.run(*LINES)[2]), (FIRST, AGAIN))
+    (room.source / "more.rt").unlink()
+    look.same("a file less", (room.run(*LINES), room.noted()), ((4, TOLD, FIRST), BUILT))
 
 
 def check_two_at_once(look, room):
     (room.source / "long").write_text("")
     room.notes.write_text("")
     both = [room.begin(*LINES) for _ in range(2)]
-    told = [(*ran.communicate(b"line", checks.LIMIT), ran.returncode) for ran in both]
-    look.same("two first runs at once", told, [(TOLD + b"line", FIRST, 4)] * 2)
+    told = sorted(told_by(ran, b"line") for ran in both)
+    look.same("two first runs at once", told, [(4, TOLD + b"line", FIRST), (4, TOLD + b"line", FIRST + WAITING)])
     look.same("build once", room.noted(), BUILT)
     (room.source / "long").unlink()
+
+
+def check_two_builds(look, room):
+    """Two runs that prove at once, and a first command meanwhile."""
+    (room.source / "long").write_text("")
+    room.notes.write_text("")
+    first = room.begin("--build")
+    room.wait_for("begins low")
+    second = room.begin("--build")
+    room.wait_for("begins grundbuch")
+    look.same("a first command while the program is proved", told_by(room.begin(*LINES), b"line"), (4, TOLD + b"line", FIRST))
+    look.same("the first of two --build", told_by(first)[:2], (0, b""))
+    look.same("the second", told_by(second), (0, b"", WAITING))
+    # The unproved build is the other one that begins with the program's crate.
+    look.same("each crate is proved once", [room.noted().count(f"ends {crate}") for crate in ("low", "left", "right", "grundbuch")], [1] * 4)
+    (room.source / "long").unlink()
+
+
+def check_ended_build(look, room):
+    """A run that proves and is ended by a signal."""
+    stuck = room.source / "stuck"
+    for number, status in ENDS:
+        stuck.write_text("")
+        ran = room.begin("--build")
+        tool = stuck_in(stuck)
+        ran.send_signal(number)
+        look.same(f"a --build that signal {number} ends", told_by(ran)[:2], (status, b""))
+        look.same("ends what it began", pathlib.Path("/proc", str(tool)).exists(), False)
+        look.same("and leaves no program", (room.proved.exists(), room.rooms.exists(), checks.names_in(room.scratch)), (False, False, []))
+    stuck.unlink()
+    look.same("the next one proves", (room.run("--build")[0], room.proved.exists()), (0, True))
 
 
 def stuck_in(file):
@@ -191,17 +202,15 @@ def stuck_in(file):
 
 def check_ended(look, room):
     """Builds that are ended by a signal."""
-    stuck = room.source / "stuck"
-    for number, status in ((signal.SIGTERM, 143), (signal.SIGHUP, 129), (signal.SIGINT, 130)):
+    for stuck, (number, status) in itertools.product((room.source / "stuck", room.kit / "stuck"), ENDS):
         stuck.write_text("")
         ran = room.begin(*LINES)
         tool = stuck_in(stuck)
         ran.send_signal(number)
-        output, errors = ran.communicate(timeout=checks.LIMIT)
-        look.same(f"a build that signal {number} ends", (ran.returncode, output, errors), (status, b"", FIRST))
+        look.same(f"a build that signal {number} ends", told_by(ran), (status, b"", FIRST))
         look.same("ends what it began", pathlib.Path("/proc", str(tool)).exists(), False)
-        look.same("and leaves nothing", (checks.names_in(room.scratch), room.unproved.exists()), ([], False))
-    stuck.unlink()
+        look.same("and leaves nothing", (checks.names_in(room.scratch), checks.names_in(room.unproved.parent)), ([], []))
+        stuck.unlink()
     look.same("the next run builds", (room.run(*LINES), room.noted()), ((4, TOLD, FIRST), BUILT))
 
 
@@ -229,7 +238,10 @@ def check_failing(look, room):
     (room.kit / "refuses").write_text("")
     look.same("the compiler gives up", (room.run("--unproved", "take"), log.read_text()), (failed, "cannot optimise\n"))
     (room.kit / "refuses").unlink()
-    look.same("no program is left", (room.unproved.exists(), checks.names_in(room.scratch)), (False, []))
+    (room.kit / "breaks").write_text("")
+    look.same("linking fails", room.run(*LINES), failed)
+    (room.kit / "breaks").unlink()
+    look.same("no program is left", (checks.names_in(room.unproved.parent), checks.names_in(room.scratch)), ([], []))
 
 
 def check_bench(look, room):
@@ -254,6 +266,7 @@ def check_other_kit(look, room):
     look.same("another kit runs it", room.run(*LINES, given=b"some\0\xff\nlines"), (0, b"some\0\xff\nlines", said))
     room.says.write_text("usage\nchecked: ended status=2\nrun=ended status=2 runners=1 proved=no\n")
     look.same("wrong words in another kit", room.run("settle", "--lines"), (2, b"", said + b"usage\n"))
+    look.same("the same with standard error closed", room.shell("settle", "--lines", redirected="2>&-"), (2, b"", b""))
     room.says.write_text("checked: no-answer: it wrote too much\nrun=none proved=no\n")
     status, _, errors = room.run(*LINES)
     look.same("no answer in another kit", (status, errors.endswith(b"the unproved run gave no answer\n")), (1, True))
@@ -279,6 +292,7 @@ def check_building(look, room):
     for words in (LINES, *ON_FILE, ["--unproved", "take"]):
         given = words if words[0] != "--unproved" else words[1:]
         look.same(f"{' '.join(words)} runs the proved program", (room.run(*words, given=b"line"), room.noted()), ((4, f"proved {' '.join(given)}\nline".encode(), b""), []))
+    look.same("words that are no command are the program's then", room.run("-h"), (4, b"proved -h\n", b""))
     look.same("a second --build does nothing", (room.run("--build"), room.noted()), ((0, b"", b""), []))
 
 
@@ -312,6 +326,16 @@ def check_minutes(look):
     look.same("a machine that takes twice as long", progress.told(8), "1 of 4 crates after 8 minutes, about 12 left")
     progress.note("right", 0.01)
     look.same("a proof that was kept says nothing of the machine", progress.left(8), 6)
+
+
+def check_patience(look):
+    """A tool that passes over the signal that ends others."""
+    ending.PATIENCE = 0.2
+    tool = subprocess.Popen(["sh", "-c", "trap '' TERM; echo; exec sleep 60"], stdout=subprocess.PIPE)
+    tool.stdout.read(1)
+    ending.end(tool)
+    tool.stdout.close()
+    look.same("a tool that does not end when it is told to", tool.returncode, -signal.SIGKILL)
 
 
 def real_wrapper():
@@ -374,6 +398,8 @@ def check_real(look, copy):
 
 
 def main():
+    if sys.argv[1:] not in ([], ["--real"]):
+        sys.exit(__doc__)
     look = checks.Checks()
     with tempfile.TemporaryDirectory() as name:
         folder = pathlib.Path(name).resolve()
@@ -384,12 +410,14 @@ def main():
             look.end()
         room = Room(folder)
         # Each begins with nothing built, or goes on where the one ahead of it ended.
-        for row in ([check_help, check_first_run, check_bench], [check_on_file, check_signals, check_newer], [check_two_at_once], [check_ended], [check_killed],
+        for row in ([check_help, check_words, check_first_run, check_bench], [check_streams], [check_missing], [check_on_file, check_signals, check_newer], [check_two_at_once], [check_two_builds], [check_ended], [check_ended_build],
+                    [check_killed],
                     [check_failing], [check_other_kit], [check_building, check_building_again]):
             for check in row:
                 check(look, room)
             room.forget()
     check_minutes(look)
+    check_patience(look)
     check_here(look)
     look.end()
 

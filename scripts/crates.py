@@ -3,10 +3,11 @@
 An edit names a file by `file: PATH`, and turns it by pairs of `old: TEXT` and `new: TEXT`, one line each.
 """
 
-import checks
+import pathlib
 
-CRATES = checks.ROOT / "crates"
-LIST = checks.ROOT / "crates.txt"
+ROOT = pathlib.Path(__file__).resolve().parent.parent
+CRATES = ROOT / "crates"
+LIST = ROOT / "crates.txt"
 
 # The edits that the gate tries, and those that scripts/try-edits.py tries: docs/DECISIONS.md, "Most edits are
 # tried by a script".

@@ -87,7 +87,8 @@ echo $how >"$object"
 """
 
 # The program that it links tells its words and its input; `sample` tells how memory is asked for, and `serve`
-# stays until it is ended. Where the kit has a file `stuck` only half of the program is written.
+# stays until it is ended. Only half of the program is written where the kit has a file `stuck`, and then it does
+# not end, or a file `breaks`, and then it fails.
 LINK = """#!/bin/sh
 kit=$(dirname "$(dirname "$0")")
 while [ $# -gt 0 ]; do
@@ -98,9 +99,10 @@ while [ $# -gt 0 ]; do
     shift
 done
 echo "links $(cat "$object")" >>"$NOTES"
-if [ -e "$kit/stuck" ]; then
+if [ -e "$kit/stuck" ] || [ -e "$kit/breaks" ]; then
     printf '#!/bin/sh\\necho "half"\\n' >"$program"
     chmod +x "$program"
+    [ -e "$kit/stuck" ] || exit 1
     echo "$$" >"$kit/stuck"
     exec sleep 60
 fi

@@ -5,6 +5,7 @@ the program's module. So it is run with a copy of the kit whose compiler keeps t
 the module is compiled and linked as the kit does it with a proved program.
 """
 
+import contextlib
 import errno
 import os
 import pathlib
@@ -12,6 +13,8 @@ import shutil
 import subprocess
 import tempfile
 import time
+
+import ending
 
 # What follows is how this kit works, so no other is asked.
 KNOWN_KIT = "rattle-kit-13f logic dac8208d650f15bf"
@@ -99,27 +102,33 @@ def run(log, words, folder=None):
     try:
         return tool.wait()
     finally:
-        # One that has ended is told nothing. `rt` ends what it started itself.
-        tool.terminate()
-        tool.wait()
+        ending.end(tool)
 
 
 def build(kit, crate, program, log):
     """Builds the program of the crate in this folder, and puts it in its place once it is whole. The tools
     tell the log what they do. The program is as old as the beginning, so a file that changes meanwhile is newer."""
-    begun, toolchain, new = time.time(), kit / "toolchain", program.with_name(program.name + ".new")
-    with tempfile.TemporaryDirectory(prefix="unproved-") as name:
-        folder = pathlib.Path(name)
-        module, compiled = folder / "module.bc", folder / "module.o"
-        rt = copy_that_keeps(kit, folder / "kit", module)
-        # It fails, since its compiler gives up.
-        run(log, [rt, "try", "--", "settle", "--desks", "1", "--lines"], crate)
-        if not module.exists():
-            raise NotBuilt
-        compiling = [toolchain / "bin" / "clang", f"--target={TARGET}", f"--sysroot={toolchain}", *COMPILE, "-x", "ir", module, "-o", compiled]
-        linking = [kit / "bin" / "rattle-link", "--target", TARGET, "--toolchain", toolchain, "-o", new, compiled,
-                   *(kit / "c" / library for library in ("libos_c.a", "liblibc_c.a"))]
-        if run(log, compiling) != 0 or run(log, linking) != 0:
-            raise NotBuilt
-    os.utime(new, (begun, begun))
-    os.replace(new, program)
+    begun, new = time.time(), program.with_name(program.name + ".new")
+    try:
+        with tempfile.TemporaryDirectory(prefix="unproved-") as name:
+            compile_and_link(kit, crate, new, log, pathlib.Path(name))
+        os.utime(new, (begun, begun))
+        os.replace(new, program)
+    finally:
+        with contextlib.suppress(FileNotFoundError):
+            new.unlink()
+
+
+def compile_and_link(kit, crate, program, log, folder):
+    """Makes the program, with all else that is made for it in this folder."""
+    toolchain, module, compiled = kit / "toolchain", folder / "module.bc", folder / "module.o"
+    rt = copy_that_keeps(kit, folder / "kit", module)
+    # It fails, since its compiler gives up.
+    run(log, [rt, "try", "--", "settle", "--desks", "1", "--lines"], crate)
+    if not module.exists():
+        raise NotBuilt
+    compiling = [toolchain / "bin" / "clang", f"--target={TARGET}", f"--sysroot={toolchain}", *COMPILE, "-x", "ir", module, "-o", compiled]
+    linking = [kit / "bin" / "rattle-link", "--target", TARGET, "--toolchain", toolchain, "-o", program, compiled,
+               *(kit / "c" / library for library in ("libos_c.a", "liblibc_c.a"))]
+    if run(log, compiling) != 0 or run(log, linking) != 0:
+        raise NotBuilt
