@@ -1,8 +1,9 @@
 #!/usr/bin/env python3
 """Checks what documents say of the code's rooms: that the words of docs/glossary.md stand in the code,
 that each must-fail edit can be applied and stands in a row of its crate, that docs/promises.md names those
-that the gate tries, that there are not too many, that docs/TESTING.md names each journal of cases/, and
-that crates.txt has the crates in order, with a user for each library but those of tests.
+that the gate tries, that there are not too many, that docs/TESTING.md names the journals of cases/, that
+each test which a page names is a function, and that crates.txt has the crates in order, with a user for each
+library but those of tests.
 
 Needs no built program.
 """
@@ -36,6 +37,11 @@ NAME = re.compile(r"`([^`]+)`(?: of `?(\w+)`?)?")
 
 # A word of the code, or of the command line.
 WORD = re.compile(r"--\w+|\w+")
+
+# The tests that a page names, one or several; their names have several words.
+TESTS = re.compile(r"\b[Tt]ests? (`\w+_\w+`(?:(?:, | and )`\w+_\w+`)*)")
+
+FUNCTION = re.compile(r"\bfn (\w+)")
 
 
 def names_of_crates():
@@ -129,9 +135,20 @@ def check_counts(look, crates):
 
 
 def check_cases(look):
-    """That docs/TESTING.md says of each journal of cases/ what it shows."""
-    said = {name for line in TESTING.read_text().splitlines() if line.startswith("|") for name, _ in NAME.findall(line)}
-    look.same("cases that docs/TESTING.md does not name", sorted(case.stem for case in CASES.glob("*.jsonl") if case.stem not in said), [])
+    """That the rows of docs/TESTING.md that say what files show name the journals of cases/."""
+    said = {name for _, cell in rows(TESTING, "file") for name, _ in NAME.findall(cell)}
+    there = {case.stem for case in CASES.glob("*.jsonl")}
+    look.same("cases that docs/TESTING.md names and that are not there", sorted(said - there), [])
+    look.same("cases that docs/TESTING.md does not name", sorted(there - said), [])
+
+
+def check_tests(look):
+    """That each test which a page names is a function of the crates."""
+    functions = {name for file in CRATES.glob("*/src/**/*.rt") for name in FUNCTION.findall(file.read_text())}
+    pages = [page for place in ("*.md", "docs/**/*.md", "bench/*.md", "cases/*.md", "crates/*/README.md") for page in sorted(checks.ROOT.glob(place))]
+    named = [(page.name, name) for page in pages for names in TESTS.findall(page.read_text()) for name in WORD.findall(names.replace(" and ", " "))]
+    look.same("pages name tests", bool(named), True)
+    look.same("tests that a page names and no crate has", [(page, name) for page, name in named if name not in functions], [])
 
 
 def is_program(crate):
@@ -171,6 +188,7 @@ def main():
     check_edits(look, crates)
     check_counts(look, crates)
     check_cases(look)
+    check_tests(look)
     check_crates(look, crates)
     look.end()
 
