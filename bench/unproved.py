@@ -4,7 +4,7 @@
     bench/unproved.py OUT
 
 How is told in scripts/unproved_build.py. OUT is for measuring alone, beside another that was made so: it
-takes about a sixth longer than the proved program. To make it takes two minutes, and ten beside proofs.
+takes about a sixth longer than the proved program. bench/README.md says how long it takes to make it.
 """
 
 import pathlib
