@@ -13,7 +13,7 @@ import wrong_lines
 
 DESKS = (1, 2, 3, 8, 64)
 
-# Journals that are drawn, each with so many folios and so many items behind their openings.
+# Journals that are drawn, each with so many folios and so many items after their openings.
 DRAWN = [(seed, folios, items) for folios, items in ((8, 80), (3, 40), (1, 60), (40, 300)) for seed in range(12)]
 
 # What becomes of the items of the drawn journals.

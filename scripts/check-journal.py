@@ -63,6 +63,10 @@ def check_refusals(look):
     with tempfile.TemporaryDirectory() as folder:
         os.mkdir(os.path.join(folder, checks.JOURNAL))
         look.same("settle over a folder of the journal's name", checks.run(SETTLE, folder), REFUSED)
+    if os.path.exists("/dev/full"):
+        with tempfile.TemporaryDirectory() as folder:
+            os.symlink("/dev/full", os.path.join(folder, checks.JOURNAL))
+            look.same("settle over a device that takes no byte", checks.run(SETTLE, folder), REFUSED)
     if not checks.has_strace():
         look.skip("settle where the system fails", "there is no strace that works here")
         return
@@ -82,14 +86,8 @@ def check_refusals(look):
         ran, files = over(three, tracer)
         look.same(what, ran, ends)
         look.same(f"{what}: the folder", files, {checks.JOURNAL: three})
-
-
     tracer = ["strace", "-o", os.devnull, "-P", f"FOLDER/{checks.JOURNAL}", "-e", "trace=pread64", "-e", "inject=pread64:retval=0:when=1"]
     look.same("settle where a read gives no byte", over(three, tracer), (REFUSED, {checks.JOURNAL: three}))
-    if os.path.exists("/dev/full"):
-        with tempfile.TemporaryDirectory() as folder:
-            os.symlink("/dev/full", os.path.join(folder, checks.JOURNAL))
-            look.same("settle over a device that takes no byte", checks.run(SETTLE, folder), REFUSED)
 
 
 def check_receiving(look):
@@ -98,7 +96,7 @@ def check_receiving(look):
         look.skip("take where the system fails", "there is no strace that works here")
         return
     lines = "".join(checks.plain(number) + "\n" for number in (1, 2)).encode()
-    # Behind an opening each receipt is two writes, with a sync behind each. The opening has a sync of the file too.
+    # After an opening each receipt is two writes, with a sync after each. The opening has a sync of the file too.
     for call, error, before in (("pwrite64", "ENOSPC", 0), ("fsync", "EIO", 1)):
         for number in (1, 2, 3, 4):
             with tempfile.TemporaryDirectory() as folder:
@@ -114,7 +112,7 @@ def check_receiving(look):
                 status, said, _ = checks.run(["take"], folder, input=lines)
                 replies = [reply.split() for reply in said.decode().splitlines()]
                 look.same(f"{what}: the numbers of both, taken again", (status, [number for _, number in replies]), (0, ["1", "2"]))
-                look.same(f"{what}: what was acknowledged", all(reply == "repeated" for reply, _ in replies[: len(told) // 11]), True)
+                look.same(f"{what}: what was acknowledged", all(reply == "repeated" for reply, _ in replies[: told.count(b"\n")]), True)
 
 
 def check_held(look):

@@ -46,7 +46,7 @@ def settled(folder):
 def check_round(look, number, lines, after):
     with tempfile.TemporaryDirectory(dir=IN_MEMORY if IN_MEMORY.is_dir() else None) as folder:
         said = killed(folder, lines, after)
-        what = f"kill {number}, behind reply {len(said)}"
+        what = f"kill {number}, after reply {len(said)}"
         look.same(f"{what}: the replies", said, [f"accepted {n}" for n in range(1, len(said) + 1)])
         kept = settled(folder)
         look.same(f"{what}: each receipt with a reply is there", kept is not None and len(said) <= kept, True)

@@ -1,5 +1,5 @@
 #!/usr/bin/env python3
-"""Refuses the built program each call of malloc and realloc of a run in turn, alone and with all behind it,
+"""Refuses the built program each call of malloc and realloc of a run in turn, alone and with all after it,
 and of a `serve` each alone.
 
 A run that was refused memory either needed none of it and writes what any run writes, or it writes
@@ -50,7 +50,7 @@ class Refused:
         return ran if self.told.exists() else None
 
     def each(self, words, folder, text, anew=lambda: None):
-        """The runs of which one allocation is refused, alone and with all behind it, each with its name."""
+        """The runs of which one allocation is refused, alone and with all after it, each with its name."""
         for how in ("REFUSED_AT", "REFUSED_FROM"):
             for number in itertools.count(1):
                 anew()

@@ -122,9 +122,9 @@ def drawn(chance):
     for number, request in enumerate(requests, 1):
         sent, wanted = sent + request.bytes, wanted + request.reply
         if request.is_last:
-            # Behind its last reply a connection is read for a while, and then ended.
-            behind = b"".join(later.bytes for later in requests[number:])
-            return sent + (behind[:20] if size else behind), size, wanted
+            # After its last reply a connection is read for a while, and then ended.
+            rest = b"".join(later.bytes for later in requests[number:])
+            return sent + (rest[:20] if size else rest), size, wanted
     if chance.randrange(4) == 0:
         cut = chance.randint(1, len(requests[-1].bytes))
         return sent[:-cut], size, wanted[: -len(requests[-1].reply)]
@@ -204,7 +204,7 @@ def check_cuts(look):
     look.same("a target that is no text, cut off", said(b"GET /\xff"), b"")
     look.same("a target that is no text", said(b"GET /\xff "), BAD_REQUEST)
     two = b"GET /report HTTP/1.0\n\nGET /plans/7 HTTP/1.1\r\n\r\n"
-    look.same("a request behind one of version 1.0", said(two), REPORT)
+    look.same("a request after one of version 1.0", said(two), REPORT)
 
 
 def check_paths(look):

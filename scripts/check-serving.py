@@ -34,7 +34,7 @@ MOST_RECEIPTS = 200_000
 
 
 def sends_on(sent, wanted):
-    """Whether a connection may send on behind the reply that ends it."""
+    """Whether a connection may send on after the reply that ends it."""
     with connected() as link:
         link.sendall(sent)
         told = so_many_of(link, len(wanted))
@@ -118,11 +118,12 @@ def check_open_connection(look, folder):
             ("its verdict", head("GET", "/receipts/2"), 200, b"receipt 2 entered\n"),
             ("its folio", head("GET", "/folios/1"), 200, extract(1) + right),
             ("its ranks", head("GET", "/folios/1/ranks"), 200, ranks),
-            ("the report behind it", head("GET", "/report"), 200, report),
+            ("the report after it", head("GET", "/report"), 200, report),
             ("the plan of a filing", head("GET", "/plans/2"), 404, b"not found\n"),
             ("a receipt that is not there", head("GET", "/receipts/3"), 404, b"not found\n"),
             ("the ranks of a folio that is not there", head("GET", "/folios/2/ranks"), 404, b"not found\n"),
         ):
+            # What is read is asked for twice, byte by byte and whole. A filing that came again would be repeated.
             for size in (1, 0) if status == 200 else (7,):
                 send(link, sent, size)
                 wanted = reply(status, {200: "OK", 201: "Created", 404: "Not Found"}[status], text)
@@ -203,15 +204,15 @@ def check_endings(look):
     look.same("a browser's request", said(head("GET", "/x", more=browser)), NOT_FOUND)
     sent = head("POST", "/receipts", more="Content-Length: 65537\r\n")
     look.same("a refusal while the peer still sends", said(sent + b"x" * 400_000), TOO_LONG)
-    look.same("a peer that sends on behind its refusal", sends_on(sent, TOO_LONG), True)
+    look.same("a peer that sends on after its refusal", sends_on(sent, TOO_LONG), True)
     with connected() as gone:
         gone.sendall(head("GET", "/x") * 100)
         gone.setsockopt(socket.SOL_SOCKET, socket.SO_LINGER, struct.pack("ii", 1, 0))
-    look.same("a request behind a peer that went away", said(head("GET", "/x")), NOT_FOUND)
+    look.same("a request after a peer that went away", said(head("GET", "/x")), NOT_FOUND)
     look.same("connections that wait beside one another", beside(head("GET", "/x")), [NOT_FOUND] * BESIDE)
     with connected() as silent:
         start = time.monotonic()
-        look.same("a request behind a connection that says nothing", said(head("GET", "/x")), NOT_FOUND)
+        look.same("a request after a connection that says nothing", said(head("GET", "/x")), NOT_FOUND)
         look.at_most("seconds that it waited", round(time.monotonic() - start), 30)
         silent.close()
 
@@ -220,15 +221,15 @@ def check_ends(look):
     """What ends the program: so many replies, so many connections, a port that is taken, a file that is no journal."""
     with tempfile.TemporaryDirectory() as folder, serving(folder, 2) as child:
         look.same("three requests where two are left", said(head("GET", "/x") * 3), NOT_FOUND * 2)
-        look.same("the end behind two replies", (child.wait(checks.LIMIT), child.stderr.read()), (0, b""))
+        look.same("the end after two replies", (child.wait(checks.LIMIT), child.stderr.read()), (0, b""))
     with tempfile.TemporaryDirectory() as folder, serving(folder, 1) as child, connected() as first, connected() as second:
         first.sendall(head("GET", "/x"))
         look.same("a reply where one is left", all_of(first), NOT_FOUND)
-        look.same("the end behind one reply", (child.wait(checks.LIMIT), child.stderr.read()), (0, b""))
+        look.same("the end after one reply", (child.wait(checks.LIMIT), child.stderr.read()), (0, b""))
         look.same("a connection that waits then", is_let_go(second), True)
     with tempfile.TemporaryDirectory() as folder, serving(folder, 2) as child:
         look.same("two connections that ask nothing", [said(b""), said(b"")], [b"", b""])
-        look.same("the end behind two connections", (child.wait(checks.LIMIT), child.stderr.read()), (0, b""))
+        look.same("the end after two connections", (child.wait(checks.LIMIT), child.stderr.read()), (0, b""))
     with tempfile.TemporaryDirectory() as folder, serving(folder) as child:
         look.same("a first reply", said(head("GET", "/x"))[:12], b"HTTP/1.1 404")
         with tempfile.TemporaryDirectory() as other:
@@ -364,7 +365,7 @@ def check_kills(look):
             total += count or 0
             if count is None or kept not in (count, count + 1):
                 lost.append((count, kept))
-    look.same(f"{KILLS} kills behind {total} receipts: those that were lost", lost, [])
+    look.same(f"{KILLS} kills after {total} receipts: those that were lost", lost, [])
 
 
 def main():
