@@ -6,6 +6,7 @@ What a file stands for is worked out here, by a reader of the layout of docs/for
 of it is taken from a program.
 """
 
+import itertools
 import json
 import tempfile
 
@@ -153,11 +154,14 @@ def check_examples(look):
     for lines in sorted([*(checks.ROOT / "examples").glob("*.jsonl"), *(checks.ROOT / "cases").glob("*.jsonl")]):
         told = lines.with_suffix(".txt").read_text().splitlines()
         asked = [text for text in lines.read_text().splitlines() if text.strip()]
-        received = [json.loads(text) for text, reply in zip(asked, told) if reply.startswith("accepted ")]
+        replies = list(itertools.takewhile(lambda text: not text.startswith(("receipt ", "end ")), told))
+        if len(replies) != len(asked):
+            look.differs(f"{lines.parent.name}/{lines.stem}", f"{len(replies)} replies to {len(asked)} lines")
+        received = [json.loads(text) for text, reply in zip(asked, replies) if reply.startswith("accepted ")]
         for before, line in zip(received, received[1:]):
             line["day"], line["minute"] = max((before["day"], before["minute"]), (line["day"], line["minute"]))
         ran, _ = over(checks.journal([spelling.receipt(line) for line in received]))
-        report = "".join(text + "\n" for text in told[len(asked) :]).encode()
+        report = "".join(text + "\n" for text in told[len(replies) :]).encode()
         look.same(f"{lines.parent.name}/{lines.stem} as a file", ran, (0, report, b""))
 
 
