@@ -9,7 +9,6 @@ import tempfile
 import checks
 import drawn_journals
 import spelling
-import wrong_lines
 
 DESKS = (1, 2, 3, 8, 64)
 
@@ -29,16 +28,12 @@ def settled(words, **how):
     return alone, [desks for desks in DESKS if checks.run([*words, "--desks", str(desks)], **how) != alone]
 
 
-def text_of(lines):
-    return "".join(wrong_lines.compact(line) + "\n" for line in lines).encode()
-
-
 def check_drawn(look):
     told, in_two = [], 0
     for seed, folios, items in DRAWN:
-        lines = list(drawn_journals.Drawn(seed, folios).lines(items))
+        lines = list(drawn_journals.DrawnJournal(seed, folios).lines(items))
         in_two += sum(len({act["folio"] for act in line["item"].get("acts", [])}) == 2 for line in lines)
-        (status, said, _), otherwise = settled(["settle", "--lines"], input=text_of(lines))
+        (status, said, _), otherwise = settled(["settle", "--lines"], input=checks.text_of(lines))
         told += [line.split(" ", 2)[2] for line in said.decode().splitlines() if line.startswith("receipt ")]
         what = f"drawn journal {seed} of {folios} folios and {items} items"
         look.same(what, (status, otherwise), (0, []))
@@ -49,12 +44,12 @@ def check_drawn(look):
 
 def check_file(look):
     """A journal's file is settled at any number of desks too."""
-    lines = list(drawn_journals.Drawn(7, 8).lines(80))
+    lines = list(drawn_journals.DrawnJournal(7, 8).lines(80))
     with tempfile.TemporaryDirectory() as folder:
         with open(f"{folder}/{checks.JOURNAL}", "wb") as file:
             file.write(checks.journal([spelling.receipt(line) for line in lines]))
         alone, otherwise = settled(["settle"], folder=folder)
-    _, said, _ = checks.run(["settle", "--lines", "--desks", "1"], input=text_of(lines))
+    _, said, _ = checks.run(["settle", "--lines", "--desks", "1"], input=checks.text_of(lines))
     replies = "".join(f"accepted {number}\n" for number in range(1, len(lines) + 1)).encode()
     look.same("a drawn journal's file", (alone, otherwise), ((0, said[len(replies):], b""), []))
 
@@ -65,17 +60,16 @@ def check_by_hand(look):
     lapses = [{**stamp, "reference": number, "item": {"kind": "lapse", "filing": number}} for number in (1, 2, 9)]
     charged = []
     for number, folio in enumerate((7, 9, 8, 6), 1):
-        right = {"act": "create", "folio": folio, "kind": "land-charge", "rate": 500, "capital": 100_000, "holder": 20}
-        acts = [checks.opening(folio), *({**right, "group": group} for group in range(1, 6))]
-        docs = [drawn_journals.consent(act, 10) for act in range(1, 7)]
-        charged.append({**stamp, "reference": number, "item": drawn_journals.filing(acts, docs)})
+        acts = [checks.opening(folio), *(checks.land_charge(folio, 100_000, group) for group in range(1, 6))]
+        docs = [checks.consent(act, 10) for act in range(1, 7)]
+        charged.append({**stamp, "reference": number, "item": checks.filed(acts, docs)})
     for what, lines, verdict in (
         ("no receipt", [], None),
         ("lapses of what does not wait", lapses, "not pending"),
         ("items of six acts", charged, "entered"),
         ("2,000 folios", [checks.filing(number, checks.opening(number)) for number in range(1, 2_001)], "entered"),
     ):
-        (status, said, _), otherwise = settled(["settle", "--lines"], input=text_of(lines))
+        (status, said, _), otherwise = settled(["settle", "--lines"], input=checks.text_of(lines))
         told = {line.split(" ", 2)[2] for line in said.decode().splitlines() if line.startswith("receipt ")}
         look.same(what, (status, otherwise, told), (0, [], {verdict} - {None}))
 

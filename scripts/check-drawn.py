@@ -11,7 +11,6 @@ import random
 import cent_lines
 import checks
 import sample_lines
-import wrong_lines
 from sample_lines import euro
 
 LINES = ["settle", "--desks", "2", "--lines"]
@@ -27,7 +26,7 @@ SERVED = "2024-01-15"
 SAMPLES = [(0, 1), (0, 2), (0, 15), (0, 16), (0, 31), (0, 32), (7, 200), (2**32 - 1, 5_000), (5, 200_000)]
 
 
-class Drawn:
+class DrawnFolios:
     """A journal of drawn folios, and the rights of each with the exchanges among them."""
 
     def __init__(self, seed):
@@ -37,11 +36,9 @@ class Drawn:
         self.exchanges = {}
 
     def file(self, folio, acts, persons, docs=()):
-        consents = [{"doc": "consent", "act": act, "person": person, "form": "certified"}
-                    for act in range(1, len(acts) + 1) for person in persons]
+        consents = [checks.consent(act, person) for act in range(1, len(acts) + 1) for person in persons]
         acts = [{"act": act.pop("act"), "folio": folio, **act} for act in acts]
-        item = {"kind": "filing", "applicant": persons[0], "conditional": False, "acts": acts, "docs": [*consents, *docs]}
-        self.items.append(item)
+        self.items.append(checks.filed(acts, [*consents, *docs], persons[0]))
         return len(self.items)
 
     def open(self, folio, rights):
@@ -139,7 +136,7 @@ def award(folio, bid):
 def settled(items):
     """The lines of the report of these items."""
     stamped = ({"day": DAY, "minute": 540, "sender": 1, "reference": n, "item": item} for n, item in enumerate(items, 1))
-    status, said, errors = checks.run(LINES, input="".join(wrong_lines.compact(line) + "\n" for line in stamped).encode())
+    status, said, errors = checks.run(LINES, input=checks.text_of(stamped))
     return said.decode().splitlines() if (status, errors) == (0, b"") else []
 
 
@@ -214,7 +211,7 @@ def verdicts_in(report):
 
 def check_growing(look):
     """Folios in which rights are exchanged again and again, with a call to bid after each exchange."""
-    drawn, seized, wanted = Drawn(880), {}, []
+    drawn, seized, wanted = DrawnFolios(880), {}, []
     folios = range(1, GROWING + 1)
     for folio in [*(folio for folio in folios for _ in range(6)), *folios, *folios, *folios]:
         if folio not in seized:
@@ -232,8 +229,7 @@ def check_growing(look):
 
 def check_sample(look, seed, size):
     """A generated journal is summed up as the report of its lines says."""
-    lines = "".join(wrong_lines.compact(line) + "\n" for line in sample_lines.journal(seed, size))
-    status, said, errors = checks.run(LINES, input=lines.encode())
+    status, said, errors = checks.run(LINES, input=checks.text_of(sample_lines.journal(seed, size)))
     wanted = sample_lines.summary(said.decode()).encode()
     summed = checks.run(["sample", "--seed", str(seed), "--size", str(size), "--desks", "2"])
     look.same(f"the summary of {size} receipts of seed {seed}", (status, errors, *summed), (0, b"", 0, wanted, b""))
@@ -242,7 +238,7 @@ def check_sample(look, seed, size):
 def main():
     checks.build()
     look = checks.Checks()
-    drawn = Drawn(881)
+    drawn = DrawnFolios(881)
     for folio in range(1, FOLIOS + 1):
         drawn.draw_folio(folio)
     lines = {folio: cent_lines.Line(rights, drawn.exchanges[folio]) for folio, rights in drawn.rights.items()}

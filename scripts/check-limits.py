@@ -5,7 +5,6 @@ import pathlib
 import tempfile
 
 import checks
-import wrong_lines
 
 LINES = ["settle", "--desks", "1", "--lines"]
 MOST_LINE = 65_536
@@ -31,8 +30,8 @@ def check_lines(look):
     lapse = {"kind": "lapse", "filing": 1}
     numbers = [*range(1, MOST_RECEIPTS + 2), 7]
     line = {"day": "2024-03-01", "minute": 540, "sender": 1}
-    lines = "".join(wrong_lines.compact({**line, "reference": number, "item": lapse}) + "\n" for number in numbers)
-    status, said, _ = checks.run(LINES, input=lines.encode())
+    lines = checks.text_of({**line, "reference": number, "item": lapse} for number in numbers)
+    status, said, _ = checks.run(LINES, input=lines)
     text = said.decode().splitlines()
     look.same("200,001 lines: the status", status, 0)
     look.same("200,001 lines: the replies", text[: len(numbers)], [*replies("accepted", MOST_RECEIPTS), "full", "repeated 7"])
@@ -51,18 +50,11 @@ def check_rows(look):
         look.same("200,001 rows: the replies", said.decode().splitlines(), [*replies("repeated", MOST_RECEIPTS), "full"])
 
 
-def charge(number):
-    return {
-        "act": "create", "folio": 7, "kind": "land-charge", "rate": 500,
-        "capital": 100_000 + number, "holder": 20, "group": 1,
-    }
-
-
 def check_rights(look):
     """A folio takes 256 rights; each stands in its extract, its ranks and its cents."""
-    acts = [checks.opening(7), *(charge(number) for number in range(2, MOST_RIGHTS + 3))]
-    lines = "".join(wrong_lines.compact(checks.filing(number, act)) + "\n" for number, act in enumerate(acts, 1))
-    status, said, _ = checks.run(LINES, input=lines.encode())
+    acts = [checks.opening(7), *(checks.land_charge(7, 100_000 + number) for number in range(2, MOST_RIGHTS + 3))]
+    lines = checks.text_of(checks.filing(number, act) for number, act in enumerate(acts, 1))
+    status, said, _ = checks.run(LINES, input=lines)
     text = said.decode().splitlines()
     look.same("257 rights of a folio: the status", status, 0)
     for word, wanted in (("right ", MOST_RIGHTS), ("rank ", MOST_RIGHTS), ("cents ", MOST_RIGHTS)):

@@ -8,7 +8,6 @@ import tempfile
 
 import checks
 import spelling
-import wrong_lines
 
 SENDER = 9
 HEADER = b"folio,district,parcel,sub,area,owner\n"
@@ -67,8 +66,7 @@ def item_of(row):
     """The filing that a row asks for."""
     folio, district, parcel, sub, area, owner = row
     act = {"act": "open", "folio": folio, "district": district, "parcel": parcel, "sub": sub, "area": area, "owners": [owner]}
-    consent = {"doc": "consent", "act": 1, "person": owner, "form": "certified"}
-    return {"kind": "filing", "applicant": owner, "conditional": False, "acts": [act], "docs": [consent]}
+    return checks.filed([act], [checks.consent(1, owner)], owner)
 
 
 def bodies_of(rows, file):
@@ -97,7 +95,7 @@ def check_as_lines(look):
     """A row leaves the receipt of the line that says the same: each is the other sent again."""
     row = HEADER + b"7,12,345,6,800,10\n"
     line = {"sender": SENDER, "reference": 7, "item": item_of(ROW)}
-    text = wrong_lines.compact(line).encode() + b"\n"
+    text = checks.text_of([line])
     opening, take = ["opening", "--sender", str(SENDER)], ["take"]
     for first, then in (((opening, row), (take, text)), ((take, text), (opening, row))):
         with tempfile.TemporaryDirectory(dir=checks.QUICK) as folder:

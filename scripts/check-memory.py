@@ -101,11 +101,9 @@ def check_take(look, refused, folder):
 
 def asked():
     """Items that the journal's lists have to do with: filings that create rights, one of which waits, and its cures."""
-    charge = {"act": "create", "folio": 1, "kind": "land-charge", "rate": 500, "capital": 10000, "holder": 20, "group": 1}
-    plain, consent = ({"doc": "consent", "act": 1, "person": 10, "form": form} for form in ("plain", "certified"))
-    waits = {"kind": "filing", "applicant": 10, "conditional": False, "acts": [charge], "docs": [plain]}
+    charge, plain, consent = checks.land_charge(1, 10_000), checks.consent(1, 10, "plain"), checks.consent(1, 10)
     items = [
-        checks.filing(1, checks.opening(1))["item"], waits, {**waits, "docs": [consent]}, {"kind": "cure", "filing": 2, "docs": [plain]},
+        checks.filing(1, checks.opening(1))["item"], checks.filed([charge], [plain]), checks.filed([charge], [consent]), {"kind": "cure", "filing": 2, "docs": [plain]},
         {"kind": "cure", "filing": 2, "docs": [consent]},
     ]
     lines = [wrong_lines.compact({"sender": 1, "reference": number, "item": item}) for number, item in enumerate(items, 1)]
@@ -191,7 +189,7 @@ def check_serving(look, refused):
 
 
 def of_several_folios(lines):
-    """These lines, and behind them openings of folios of their own, so that there is work for several desks."""
+    """These lines, and after them openings of folios of their own, so that there is work for several desks."""
     sale = [json.loads(line) for line in lines.splitlines()]
     stamp = {name: sale[-1][name] for name in ("day", "minute")}
     return sale + [{**checks.filing(number, checks.opening(number)), **stamp, "sender": 9} for number in range(101, 101 + OTHERS)]

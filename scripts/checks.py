@@ -134,11 +134,29 @@ def opening(folio):
     return {"act": "open", "folio": folio, "district": 1, "parcel": folio, "sub": 0, "area": 500, "owners": [10]}
 
 
+def land_charge(folio, capital, group=1):
+    """The creation of a land charge of so many cents, with interest, for person 20."""
+    return {"act": "create", "folio": folio, "kind": "land-charge", "rate": 500, "capital": capital, "holder": 20, "group": group}
+
+
+def consent(act, person, form="certified"):
+    return {"doc": "consent", "act": act, "person": person, "form": form}
+
+
+def filed(acts, docs, applicant=10):
+    """The item that files these acts."""
+    return {"kind": "filing", "applicant": applicant, "conditional": False, "acts": acts, "docs": docs}
+
+
 def filing(number, act):
     """A stamped line with one act, applied for and consented to by person 10."""
-    consent = {"doc": "consent", "act": 1, "person": 10, "form": "certified"}
-    item = {"kind": "filing", "applicant": 10, "conditional": False, "acts": [act], "docs": [consent]}
+    item = filed([act], [consent(1, 10)])
     return {"day": "2024-03-01", "minute": 540, "sender": 1, "reference": number, "item": item}
+
+
+def text_of(lines):
+    """The bytes of lines."""
+    return "".join(wrong_lines.compact(line) + "\n" for line in lines).encode()
 
 
 def stamped(number):

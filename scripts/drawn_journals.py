@@ -7,20 +7,15 @@ Receipt n creates its rights in the folio `folio_of` that number, so that a late
 import datetime
 import random
 
+from checks import consent, filed, land_charge, opening
+
+# Who owns the folios that checks.py opens, and applies where it names nobody.
 OWNER = 10
 HOLDERS = (20, 21, 22)
 FIRST_DAY = datetime.date(2024, 3, 1)
 
 
-def consent(act, person, form="certified"):
-    return {"doc": "consent", "act": act, "person": person, "form": form}
-
-
-def filing(acts, docs, applicant=OWNER):
-    return {"kind": "filing", "applicant": applicant, "conditional": False, "acts": acts, "docs": docs}
-
-
-class Drawn:
+class DrawnJournal:
     """Draws the items of a journal with so many folios, which its first receipts open."""
 
     def __init__(self, seed, folios):
@@ -47,9 +42,7 @@ class Drawn:
         return self.chance.randint(1, self.folios)
 
     def opening(self):
-        folio = self.number
-        act = {"act": "open", "folio": folio, "district": 1, "parcel": folio, "sub": 0, "area": 500, "owners": [OWNER]}
-        return filing([act], [consent(1, OWNER)])
+        return filed([opening(self.number)], [consent(1, OWNER)])
 
     def agreed(self, act):
         """The owner's consent, one time in four in plain form, with what a transfer wants besides."""
@@ -86,19 +79,19 @@ class Drawn:
         act = {"act": self.chance.choice(["create", "create", "notice"]), "folio": self.folio_of(self.number), **self.spec()}
         if act["act"] == "create" and self.chance.randrange(3) == 0:
             act["reserve"] = 100_000
-        return filing([act], self.agreed(1))
+        return filed([act], self.agreed(1))
 
     def in_two_folios(self):
         first = {"act": "create", "folio": self.folio_of(self.number), **self.spec()}
         second = {"act": "create", "folio": self.any_folio(), **self.spec(2)}
-        return filing([first, second], self.agreed(1) + self.agreed(2))
+        return filed([first, second], self.agreed(1) + self.agreed(2))
 
     def of_a_right(self):
         right, folio = self.right()
         name = self.chance.choice(["convert", "assign", "cancel"])
         more = {"holder": self.chance.choice(HOLDERS)} if name == "assign" else {}
         docs = self.agreed(1) + self.held(1)
-        return filing([{"act": name, "folio": folio, "right": right, **more}], docs, self.chance.choice([OWNER, *HOLDERS]))
+        return filed([{"act": name, "folio": folio, "right": right, **more}], docs, self.chance.choice([OWNER, *HOLDERS]))
 
     def overtaken(self):
         """A charge; then come a filing of it that waits, its cancellation, and a cure of that filing, too late."""
@@ -107,18 +100,17 @@ class Drawn:
 
         def assigned():
             waits.append(self.number)
-            return filing([{"act": "assign", "folio": folio, "right": right, "holder": 22}], [consent(1, 20, "plain")], 20)
+            return filed([{"act": "assign", "folio": folio, "right": right, "holder": 22}], [consent(1, 20, "plain")], 20)
 
         def cancelled():
-            return filing([{"act": "cancel", "folio": folio, "right": right}], [consent(1, OWNER), consent(1, 20)])
+            return filed([{"act": "cancel", "folio": folio, "right": right}], [consent(1, OWNER), consent(1, 20)])
 
         def cured():
             return {"kind": "cure", "filing": waits[0], "docs": [consent(1, 20)]}
 
         if not self.story:
             self.story = [assigned, cancelled, cured]
-        charge = {"act": "create", "folio": folio, "kind": "land-charge", "rate": 500, "capital": 100_000, "holder": 20, "group": 1}
-        return filing([charge], [consent(1, OWNER)])
+        return filed([land_charge(folio, 100_000)], [consent(1, OWNER)])
 
     def exchanged(self):
         recede, folio = self.right()
@@ -126,16 +118,16 @@ class Drawn:
         if rise == recede:
             return self.created()
         acts = [{"act": "exchange", "folio": folio, "recede": recede, "rise": rise}]
-        return filing(acts, self.agreed(1) + self.held(1))
+        return filed(acts, self.agreed(1) + self.held(1))
 
     def exercised(self):
         behind, folio = self.right()
         spec = {"kind": "land-charge", "rate": 500, "capital": 50_000, "holder": 21, "group": 1}
-        return filing([{"act": "exercise", "folio": folio, "behind": behind, **spec}], self.agreed(1))
+        return filed([{"act": "exercise", "folio": folio, "behind": behind, **spec}], self.agreed(1))
 
     def transferred(self):
         docs = self.agreed(1)[: self.chance.randint(1, 3)]
-        return filing([{"act": "transfer", "folio": self.any_folio(), "owners": [OWNER, 11]}], docs + [consent(1, 11)])
+        return filed([{"act": "transfer", "folio": self.any_folio(), "owners": [OWNER, 11]}], docs + [consent(1, 11)])
 
     def cured(self):
         docs = self.agreed(1) + self.agreed(2) if self.chance.randrange(3) == 0 else [consent(act, OWNER) for act in (1, 2)]

@@ -83,6 +83,9 @@ class Progress:
 
     def left(self, passed):
         """The minutes that are left of a build once so many have passed."""
+        # What is proved may have ended in another order than it was told, so the work that is done is looked for in
+        # the order that was told: `reached` is the minute by which no more was to be done. How much longer that
+        # took is the pace of what is left.
         told = ends(self.uses, self.minutes, self.at_once, self.processors)
         done = sum(self.minutes[crate] for crate in self.proved)
         whole, reached, so_far = max(told.values()), 0.0, 0.0
