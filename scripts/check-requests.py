@@ -168,6 +168,8 @@ def check_headers(look):
     ):
         sent = f"POST /receipts HTTP/1.1\r\n{headers}\r\n\r\n{{}}GET /x HTTP/1.1\r\n\r\n".encode()
         look.same(f"the headers {headers!r}", said(sent), wanted)
+    browser = "Host: 127.0.0.1:7117\r\nUser-Agent: Mozilla/5.0\r\nAccept: text/html,*/*;q=0.8\r\nConnection: keep-alive\r\n"
+    look.same("a browser's headers", said(head("GET", "/x", more=browser)), NOT_FOUND)
 
 
 def check_limits(look):
@@ -180,10 +182,10 @@ def check_limits(look):
         look.same(f"a head of {size} bytes", said(long_head(size)), wanted)
     for size, wanted in ((8191, b""), (8192, BAD_REQUEST), (8193, BAD_REQUEST)):
         look.same(f"{size} bytes of a head without an end", said(long_head(9000)[:size]), wanted)
-    for lines, wanted in ((64, NOT_FOUND), (65, BAD_REQUEST), (1000, BAD_REQUEST)):
+    for lines, wanted in ((64, NOT_FOUND * 2), (65, BAD_REQUEST), (1000, BAD_REQUEST)):
         sent = b"GET / HTTP/1.1\n" + b"a:\n" * lines
         look.same(f"{lines} header lines without an end", said(sent), b"")
-        look.same(f"{lines} header lines", said(sent + b"\n"), wanted)
+        look.same(f"{lines} header lines, and another request", said(sent + b"\n" + head("GET", "/x")), wanted)
 
 
 def check_cuts(look):

@@ -21,7 +21,7 @@ import time
 
 import checks
 from asking import (
-    BAD_REQUEST, HOST, NOT_FOUND, NOT_JSON, NO_SENDER, PORT, TOO_LONG, UNAVAILABLE, WRONG_METHOD, all_of, connected, head, is_free,
+    HOST, NOT_FOUND, NOT_JSON, NO_SENDER, PORT, TOO_LONG, UNAVAILABLE, WRONG_METHOD, all_of, connected, head, is_free,
     posted, reply, said, send, serving, so_many_of,
 )
 import wrong_lines
@@ -94,16 +94,14 @@ def check_requests(look, folder):
         other = checks.plain(1).replace('"area":500', '"area":501').encode()
         look.same("another item under the number", said(head("POST", "/receipts", other)), reply(409, "Conflict", b"differs 1\n"))
         check_routes(look)
-        check_endings(look)
+        check_connection_ends(look)
         look.same("the program still serves", child.poll(), None)
 
 
 def check_open_connection(look, folder):
     """A filing is answered while its own connection stays open, however its bytes come, and the texts that
     are then read over it go on with the journal."""
-    consent = {"doc": "consent", "act": 1, "person": 10, "form": "certified"}
-    charge = {"act": "create", "folio": 1, "kind": "land-charge", "rate": 500, "capital": 10000, "holder": 20, "group": 1}
-    item = {"kind": "filing", "applicant": 10, "conditional": False, "acts": [charge], "docs": [consent]}
+    item = checks.filed([checks.land_charge(1, 10_000)], [checks.consent(1, 10)])
     charged = head("POST", "/receipts", wrong_lines.compact({"sender": 1, "reference": 2, "item": item}).encode())
     today = time.strftime("%Y-%m-%d", time.gmtime())
     right = f"right 2.1 III right land-charge 100.00 rate 500 holder 20 placed {today}\n".encode()
@@ -185,23 +183,8 @@ def check_routes(look):
             look.same(f"PUT {asked}", status_of(said(head("PUT", asked))), "405")
 
 
-def check_endings(look):
-    """What ends a connection: a refused head, too long a body, its last request, and its own end."""
-    for what, sent in (
-        ("a body of unknown length", head("POST", "/receipts", more="Transfer-Encoding: chunked\r\n")),
-        ("two lengths", head("POST", "/receipts", more="Content-Length: 1\r\nContent-Length: 1\r\n")),
-        ("a length with a sign", head("POST", "/receipts", more="Content-Length: +5\r\n")),
-        ("65 header lines", head("GET", "/report", more="a: b\r\n" * 65)),
-        ("a head without an end", b"GET / HTTP/1.1\r\n" + b"a" * 8193),
-    ):
-        look.same(what, said(sent + head("GET", "/folios/8")), BAD_REQUEST)
-    look.same("a body of 65,537 bytes", said(head("POST", "/receipts", more="Content-Length: 65537\r\n")), TOO_LONG)
-    look.same("version 1.0", said(head("GET", "/x", version="1.0") * 2), NOT_FOUND)
-    look.same("a connection that is to be closed", said(head("GET", "/x", more="Connection: Close\r\n") * 2), NOT_FOUND)
-    look.same("half a request", said(head("POST", "/receipts", b"x" * 100)[:-1]), b"")
-    look.same("no byte", said(b""), b"")
-    browser = "Host: 127.0.0.1:7117\r\nUser-Agent: Mozilla/5.0\r\nAccept: text/html,*/*;q=0.8\r\nConnection: keep-alive\r\n"
-    look.same("a browser's request", said(head("GET", "/x", more=browser)), NOT_FOUND)
+def check_connection_ends(look):
+    """Connections of which one end goes or stays: what ends them by their bytes scripts/check-requests.py asks."""
     sent = head("POST", "/receipts", more="Content-Length: 65537\r\n")
     look.same("a refusal while the peer still sends", said(sent + b"x" * 400_000), TOO_LONG)
     look.same("a peer that sends on after its refusal", sends_on(sent, TOO_LONG), True)
@@ -217,7 +200,7 @@ def check_endings(look):
         silent.close()
 
 
-def check_ends(look):
+def check_program_ends(look):
     """What ends the program: so many replies, so many connections, a port that is taken, a file that is no journal."""
     with tempfile.TemporaryDirectory() as folder, serving(folder, 2) as child:
         look.same("three requests where two are left", said(head("GET", "/x") * 3), NOT_FOUND * 2)
@@ -381,7 +364,7 @@ def main():
     with tempfile.TemporaryDirectory() as folder:
         check_full(look, folder)
     check_disk(look)
-    check_ends(look)
+    check_program_ends(look)
     with tempfile.TemporaryDirectory() as folder:
         check_clients(look, folder)
     check_story(look)
