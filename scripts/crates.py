@@ -9,6 +9,9 @@ ROOT = pathlib.Path(__file__).resolve().parent.parent
 CRATES = ROOT / "crates"
 LIST = ROOT / "crates.txt"
 
+# The folders of a crate that have its sources.
+PARTS = ("src", "specs", "proofs")
+
 # The edits that the gate tries, and those that scripts/try-edits.py tries: docs/DECISIONS.md, "Most edits are
 # tried by a script".
 OF_GATE = ("must-fail", ".edit")

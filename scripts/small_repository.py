@@ -41,7 +41,7 @@ class Room:
         self.proved, self.unproved, self.logs, self.rooms = out / "grundbuch", out / "unproved" / "grundbuch", out / "logs", out / "rooms"
         shutil.copy(checks.WRAPPER, folder / "grundbuch")
         (folder / "scripts").mkdir()
-        for name in ("crates.py", "ending.py", "proof_minutes.py", "unproved_build.py"):
+        for name in ("crates.py", "ending.py", "proof_minutes.py", "rooms.py", "unproved_build.py"):
             shutil.copy(checks.ROOT / "scripts" / name, folder / "scripts" / name)
         (folder / "docs").mkdir()
         (folder / "docs" / "PROVING.md").write_text(MINUTES)

@@ -24,46 +24,11 @@ import tempfile
 import checks
 import crates
 import ending
+import rooms
 
 # What `rt must-fail` says of an edit, and what that is called here.
 SAID = re.compile(r"^rt: must-fail \w+/(\S+)\.edit: (refused|NOT REFUSED|BAD EDIT|NOT TRIED)(?:, as it must be)?(.*)$", re.M)
 OUTCOMES = {"refused": "refused", "NOT REFUSED": "not refused", "BAD EDIT": "bad", "NOT TRIED": "not tried"}
-
-
-def link_or_copy(old, new):
-    """A second name of a file of what is kept: `rt` replaces such a file, and never writes into it."""
-    try:
-        os.link(old, new)
-    except OSError:
-        shutil.copy2(old, new)
-
-
-def take_over(old, new):
-    """Copies what is kept of a proof; nothing where another command is just replacing it, so that `rt` proves it here."""
-    try:
-        shutil.copytree(old, new, copy_function=link_or_copy)
-    except OSError:
-        shutil.rmtree(new, ignore_errors=True)
-
-
-def copy_crate(crate, room, kept):
-    """Copies the files of a crate, and what is kept of its proof."""
-    old, new = crates.CRATES / crate, room / "crates" / crate
-    for part in ("src", "specs", "proofs"):
-        if (old / part).exists():
-            shutil.copytree(old / part, new / part)
-    for part in kept:
-        take_over(old / "out" / part, new / "out" / part)
-
-
-def make_room(room, wanted):
-    """Copies the wanted crates and those that they stand on."""
-    needed = {*wanted, *crates.below(wanted)}
-    for crate in needed:
-        copy_crate(crate, room, ["rlib", "incremental"] if crate in wanted else ["rlib"])
-    lines = [line + "\n" for crate, line in crates.listed().items() if crate in needed]
-    (room / "crates.txt").write_text("".join(lines))
-    shutil.copy2(checks.ROOT / "HANDLES", room)
 
 
 def place(room, crate, edits):
@@ -124,7 +89,8 @@ def main():
         room, spare = folder / "room", folder / "spare"
         room.mkdir()
         spare.mkdir()
-        make_room(room, wanted)
+        rooms.make(room, wanted, ["out/rlib", "out/incremental"])
+        shutil.copy2(checks.ROOT / "HANDLES", room)
         for crate, edits in wanted.items():
             print(f"== {crate}, edits: {len(edits)}", flush=True)
             counts += try_crate(crate, edits, room, spare)
