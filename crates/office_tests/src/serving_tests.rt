@@ -138,29 +138,34 @@ fn the_journal_is_settled_at_the_desks_first(rt: HostRuntime) -> Result<(), Fail
     Ok(())
 }
 
+/// Two links that post the same end so where this call of the disk fails.
+fn disk_fails_at<R: AllocGlobal + Threads + Wait + Sync + Abort>(
+    rt: &R,
+    call: u32,
+    status: Status,
+    wanted: &[&[u8]],
+) -> Result<(), Fail> {
+    let calls = [call];
+    let failing = Asked {
+        failing_calls: &calls,
+        ..unfailing([POST, POST])
+    };
+    failing.ends(rt, status, wanted)
+}
+
 /// The opening makes four calls, and ends the run where one fails. Each call of a receipt may fail:
 /// it is kept once. No other call is made.
 #[test]
 fn each_call_of_the_disk_may_fail(rt: HostRuntime) -> Result<(), Fail> {
-    let wanted: [(u32, Status, &[&[u8]]); 9] = [
-        (1, Status::DiskFault, &[]),
-        (2, Status::DiskFault, &[]),
-        (3, Status::DiskFault, &[]),
-        (4, Status::DiskFault, &[]),
-        (5, Status::Ok, &[UNAVAILABLE, ACCEPTED]),
-        (6, Status::Ok, &[UNAVAILABLE, ACCEPTED]),
-        (7, Status::Ok, &[UNAVAILABLE, ACCEPTED]),
-        (8, Status::Ok, &[UNAVAILABLE, REPEATED]),
-        (9, Status::Ok, &[ACCEPTED, REPEATED]),
-    ];
-    for (call, status, replies) in wanted {
-        let failing = Asked {
-            failing_calls: &[call],
-            ..unfailing([POST, POST])
-        };
-        failing.ends(&rt, status, replies)?;
-    }
-    Ok(())
+    disk_fails_at(&rt, 1, Status::DiskFault, &[])?;
+    disk_fails_at(&rt, 2, Status::DiskFault, &[])?;
+    disk_fails_at(&rt, 3, Status::DiskFault, &[])?;
+    disk_fails_at(&rt, 4, Status::DiskFault, &[])?;
+    disk_fails_at(&rt, 5, Status::Ok, &[UNAVAILABLE, ACCEPTED])?;
+    disk_fails_at(&rt, 6, Status::Ok, &[UNAVAILABLE, ACCEPTED])?;
+    disk_fails_at(&rt, 7, Status::Ok, &[UNAVAILABLE, ACCEPTED])?;
+    disk_fails_at(&rt, 8, Status::Ok, &[UNAVAILABLE, REPEATED])?;
+    disk_fails_at(&rt, 9, Status::Ok, &[ACCEPTED, REPEATED])
 }
 
 #[test]
@@ -172,29 +177,44 @@ fn an_open_book_is_read_without_the_disk(rt: HostRuntime) -> Result<(), Fail> {
     failing.ends(&rt, Status::Ok, &[NOT_FOUND, NOT_FOUND_TWICE])
 }
 
-/// One read gives both requests, and each reply is one write. A reply counts once all its bytes are
-/// written, whatever becomes of its link then.
+/// One read gives both requests, and each reply is one write.
 #[test]
 fn each_call_of_a_link_may_fail(rt: HostRuntime) -> Result<(), Fail> {
-    let twice = unfailing([READ_TWICE, READ_TWICE]);
-    let wanted: [(u32, &[u8]); 3] = [(1, b""), (2, b""), (3, NOT_FOUND)];
-    for (call, reply) in wanted {
-        let failing = Asked {
-            failing_of_first: &[call],
-            ..twice
-        };
-        failing.ends(&rt, Status::Ok, &[reply, NOT_FOUND_TWICE])?;
-    }
+    let read = Asked {
+        failing_of_first: &[1],
+        ..unfailing([READ_TWICE, READ_TWICE])
+    };
+    read.ends(&rt, Status::Ok, &[b"", NOT_FOUND_TWICE])?;
+    let first_reply = Asked {
+        failing_of_first: &[2],
+        ..unfailing([READ_TWICE, READ_TWICE])
+    };
+    first_reply.ends(&rt, Status::Ok, &[b"", NOT_FOUND_TWICE])?;
+    let second_reply = Asked {
+        failing_of_first: &[3],
+        ..unfailing([READ_TWICE, READ_TWICE])
+    };
+    second_reply.ends(&rt, Status::Ok, &[NOT_FOUND, NOT_FOUND_TWICE])
+}
+
+/// A reply counts once all its bytes are written, whatever becomes of its link then.
+#[test]
+fn a_reply_of_a_link_that_fails_counts(rt: HostRuntime) -> Result<(), Fail> {
     let counted = Asked {
         failing_of_first: &[3],
         requests: "2",
-        ..twice
+        ..unfailing([READ_TWICE, READ_TWICE])
     };
-    counted.ends(&rt, Status::Ok, &[NOT_FOUND, NOT_FOUND])?;
+    counted.ends(&rt, Status::Ok, &[NOT_FOUND, NOT_FOUND])
+}
+
+/// A reply without its last byte does not count.
+#[test]
+fn a_link_without_room_takes_a_front_of_a_reply(rt: HostRuntime) -> Result<(), Fail> {
     let cut_off = Asked {
         room_of_first: CUT_OFF.len(),
         requests: "2",
-        ..twice
+        ..unfailing([READ_TWICE, READ_TWICE])
     };
     cut_off.ends(&rt, Status::Ok, &[CUT_OFF, NOT_FOUND_TWICE])
 }
