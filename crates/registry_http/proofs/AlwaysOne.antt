@@ -88,11 +88,11 @@ shorter bytes h body rest x =
     let some = head_is_some (print_request h) h [] (record { reads = (x.reads.0, sym (append-nil (print_request h))); fits = x.fits }) in
     omega (arith, some, ap length x.reads.1, length-append (print_request h) (body ++ rest), length-append body rest)
 
--- no list of requests and nothing behind them is that of these bytes
+-- there is no list of requests, with what stands behind them, that these bytes are
 abbrev NoList : List ℕ → Type 0
 NoList bytes = (requests : List RequestParts) (last : AtFront) → ¬ (AreRequests bytes requests last)
 
--- what stands at their front begins one, where shorter bytes are some list
+-- where shorter bytes are some list of requests and these are none, nothing stands at their front
 first_of_list : (bytes : List ℕ) → NoList bytes → ((rest : List ℕ) → length rest < length bytes → ¬ (NoList rest)) → (a : AtFront) → ¬ (StandsIn bytes a)
 first_of_list bytes none again (Whole request rest) x =
     again rest (shorter bytes x.0 x.1 rest x.2.head) (λ requests last are. none (request ∷ requests) last (rest, x, are))

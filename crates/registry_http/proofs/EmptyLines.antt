@@ -1,4 +1,4 @@
--- The empty line of a head: as it is said, and as it is found byte by byte.
+-- The empty line of a head: as the definition says it, and as it is found byte by byte.
 use Rattle.std.proofs.Common.{◌≡◌, ℕ, ◌⊎◌, inl, inr, ⊎_elim, Bool, true, false, ◌==◌, ◌||◌, ◌&&◌, if◌then◌else◌, List, [], ◌∷◌, ◌++◌, refl, sym, ap, ◌∙◌, append_assoc}
 use Rattle.std.proofs.lemmas.Bool.{eqb-true, false≢true}
 use Rattle.httparse.specs.Grammar.{LineEnd, crlf, lf, print_end, print_blank}
@@ -25,7 +25,7 @@ blank_ahead [] = refl
 blank_ahead (crlf ∷ ends) = blank_ahead ends
 blank_ahead (lf ∷ ends) = blank_ahead ends
 
--- ---- what is said is found
+-- ---- an empty line by the definition is found byte by byte
 
 -- there is a line that is not empty
 abbrev is_past : Lines → Bool
@@ -91,7 +91,7 @@ line_found bytes x =
 pub no_line : (bytes : List ℕ) → has_empty_line bytes ≡ false → ¬ (HasEmptyLine bytes)
 no_line bytes not x = false≢true (sym not ∙ line_found bytes x)
 
--- ---- what is found is said
+-- ---- an empty line that is found byte by byte is one by the definition
 
 -- lines up to an LF, and a line end right behind it
 record Ends (bytes : List ℕ) : Type 0 where
@@ -151,7 +151,7 @@ found (b ∷ bytes) = record {
   ended_cr = λ over. ended_cr_at (b == 10) b bytes (found bytes) refl over;
 }
 
--- behind a CR ahead of all lines: an LF, or the second byte of a line
+-- behind a CR that stands before all lines: an LF, or the second byte of a line
 abbrev BehindCr : List ℕ → Type 0
 BehindCr bytes =
     ((rest : List ℕ) × (bytes ≡ 10 ∷ rest) × HasEmptyLine rest)

@@ -11,7 +11,7 @@ use Rattle.registry_http.proofs.HeadLines.{lacks_end_no_head}
 use Rattle.registry_http.proofs.OneFound.{one_beginning}
 use Rattle.registry_http.proofs.WholeHeads.{head_in_front, BeginsRequest-append}
 
--- bytes that want more are few
+-- bytes after which more are wanted are few
 wants_few : (bytes : List ℕ) → WantsMore bytes → length bytes < 73728
 wants_few bytes wants =
     ⊎_elim (λ (lacks : LacksEnd bytes). let few = lacks.0 in omega (arith, few))
@@ -25,7 +25,7 @@ request_length : (bytes : List ℕ) (h : RequestHead) (body kept : List ℕ) →
 request_length bytes h body kept reads =
     omega (arith, ap length reads.1, length-append (print_request h) (body ++ kept), length-append body kept)
 
--- a request ends among the bytes that were wanted ahead of its end
+-- where more bytes were wanted and the last ones make a request whole, no more bytes than these are kept behind it
 ends_in_last : (bytes last kept : List ℕ) (request : RequestParts) → WantsMore bytes → StandsIn (bytes ++ last) (Whole request kept) → length kept ≤ length last
 ends_in_last bytes last kept request wants x =
     let h = x.0 in

@@ -148,7 +148,7 @@ csv_part n is =
     walk_one (codes "/plans/") (codes "/csv") (decimal n) (codes "/csv") (codes "/plans/{number}/csv") (codes "number") 8 14 refl refl
     (slash_size 7 (decimal n) (codes "csv") (numeral n is).1)
 
--- ---- the two together
+-- ---- the row and the number together
 
 -- the path of a route finds a row that fits the route
 pub record Finds (route : Route) : Type 0 where

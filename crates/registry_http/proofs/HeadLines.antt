@@ -21,7 +21,7 @@ use Rattle.registry_http.proofs.ReadSoFar.{answer_then}
 use Rattle.registry_http.proofs.OneRequest.{shorter_front}
 use Rattle.registry_http.proofs.TargetEnds.{token_differs, lf_ends_token, cr_ends_token}
 
--- ---- where they are over
+-- ---- where the lines are over
 
 over_is : (l : Lines) → are_over l ≡ true → l ≡ Over
 over_is Ahead is = absurd (false≢true is)
@@ -35,11 +35,11 @@ over_is Over is = refl
 pub over_gone : (l : Lines) (bytes : List ℕ) → are_over l ≡ true → l ≡ after_bytes l bytes
 over_gone l bytes is = let over = over_is l is in over ∙ sym (over_stays bytes) ∙ ap (λ x. after_bytes x bytes) (sym over)
 
--- more bytes are over where a front of them is
+-- the lines of bytes are over where those of a front of them are
 pub over_front : (bytes more : List ℕ) → has_empty_line bytes ≡ true → has_empty_line (bytes ++ more) ≡ true
 over_front bytes more is = ap are_over (after_then Ahead Over bytes more (over_is (after_bytes Ahead bytes) is) ∙ over_stays more)
 
--- a front of bytes that are not over is not
+-- where the lines of bytes are not over, those of a front of them are not
 pub front_not_over : (bytes more whole : List ℕ) → bytes ++ more ≡ whole → has_empty_line whole ≡ false → has_empty_line bytes ≡ false
 front_not_over bytes more whole is none =
     ⊎_elim (λ (over : has_empty_line bytes ≡ true). absurd (false≢true (sym none ∙ sym (ap has_empty_line is) ∙ over_front bytes more over)))
@@ -154,7 +154,7 @@ all_but_one_open : (h : RequestHead) → IsRequestHead h → has_empty_line (all
 all_but_one_open h is =
     ap are_over (after_then Ahead Ended (lines_of h) (end_front h.last) (lines_ended h is)) ∙ front_open h.last
 
--- a part of a head has none
+-- a part of a head has no empty line
 pub part_not_over : (bytes more : List ℕ) (h : RequestHead) → IsRequestHead h → bytes ++ more ≡ print_request h → 0 < length more → has_empty_line bytes ≡ false
 part_not_over bytes more h is whole some =
     let parts : bytes ++ more ≡ all_but_one h ++ 10 ∷ [] = whole ∙ one_more h in

@@ -1,4 +1,4 @@
--- The answers of a link are the requests of its bytes, one behind another.
+-- The answers of a link are the requests of its bytes, one after another.
 use Rattle.std.proofs.Common.{◌≡◌, ℕ, List, [], ◌∷◌, ◌++◌, Some, refl, sym, ap, subst, ◌∙◌, append_assoc, append-nil}
 use Rattle.registry_http.specs.RequestParts.{RequestParts}
 use Rattle.registry_http.specs.Requests.{AtFront, Whole, Nothing, Cut, HeadFault, BodyTooLong, StandsIn, Tells, ReadsNext}
@@ -8,7 +8,7 @@ use Rattle.registry_http.specs.declared.requests.Next.TheVariants as next
 use Rattle.registry_http.proofs.OneFound.{one_found}
 use Rattle.registry_http.proofs.OneRequest.{whole_stays, refused_stays, too_long_stays}
 
--- where a request stands, it is the first
+-- where a request stands at the front, it is the first of the list
 first_is : (bytes rest : List ℕ) (request : RequestParts) (requests : List RequestParts) (last : AtFront) → StandsIn bytes (Whole request rest)
     → AreRequests bytes requests last → IsNext (next.Request request) rest requests last
 first_is bytes rest request [] last x are = absurd (subst IsLast (one_found bytes last (Whole request rest) are.0 x) are.1)
@@ -32,13 +32,13 @@ first_is bytes rest request (other ∷ others) last x are =
     rest_of d HeadFault = d
     rest_of d BodyTooLong = d
 
--- where none stands, there is none
+-- where no request stands at the front, the list is empty
 none_is : (bytes : List ℕ) (here : AtFront) (requests : List RequestParts) (last : AtFront) → IsLast here → StandsIn bytes here → AreRequests bytes requests last
     → (requests ≡ []) × (last ≡ here)
 none_is bytes here [] last is x are = (refl, one_found bytes last here are.0 x)
 none_is bytes here (other ∷ others) last is x are = absurd (subst IsLast (one_found bytes here (Whole other are.0) x are.1) is)
 
--- the bytes that came are all where none are left
+-- where no bytes are left, the bytes that came are all
 all_came : (came left : List ℕ) → left ≡ [] → came ≡ came ++ left
 all_came came left end = sym (append-nil came) ∙ sym (ap (λ l. came ++ l) end)
 

@@ -81,7 +81,7 @@ take_some : (n x : ℕ) (xs : List ℕ) → 0 < n → take n (x ∷ xs) ≡ x �
 take_some zero x xs some = absurd (omega arith)
 take_some (suc n) x xs some = let one : suc n - 1 ≡ n = omega arith in rw one refl
 
--- bytes that never become a head and end inside no target do neither with more bytes
+-- bytes that never become a head and end inside no target end inside none with more bytes behind them either
 outside_stays : (bytes more : List ℕ) → NeverHasRequest bytes → ¬ (EndsInTarget bytes) → ¬ (EndsInTarget (bytes ++ more))
 outside_stays bytes more never outside ends =
     let line = print_blank ends.0 ++ ends.1 in
@@ -104,7 +104,7 @@ outside_stays bytes more never outside ends =
 never_stays : (bytes more : List ℕ) → NeverHasRequest bytes → NeverHasRequest (bytes ++ more)
 never_stays bytes more never = λ further. subst HasNoRequest (sym (append_assoc bytes more further)) (never (more ++ further))
 
--- a head in a front of the bytes is one in the bytes
+-- where the bytes have no head, no front of them has one
 pub none_in_front : (bytes : List ℕ) (n : ℕ) → HasNoRequest bytes → HasNoRequest (take n bytes)
 none_in_front bytes n none = λ h rest reads.
     none h (rest ++ drop n bytes)

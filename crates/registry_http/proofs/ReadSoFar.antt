@@ -1,4 +1,4 @@
--- A request that is read piece by piece: what each piece leaves to be said.
+-- A request that is read piece by piece: what is known after each piece.
 use Rattle.std.proofs.Common.{◌≡◌, ℕ, ◌+◌, ◌<◌, ◌≤◌, inl, inr, ⊎_elim, Bool, List, [], ◌++◌, length, take, drop, Option, Result, Ok, Err, IfErr, refl, sym, ap, subst, ◌∙◌, arith, append_assoc, append-nil, length-append, length-take, length-drop, take-append-drop, drop-drop}
 use Rattle.std.specs.Io.KnownBytes.{IsAtEnd}
 use Rattle.std.proofs.KnownBytes.{Consumes-nil, Consumes-trans}
@@ -40,7 +40,7 @@ reads_then a b c old mid new first second = record {
   grown = second.grown ∙ ap (λ l. l ++ second.read) first.grown ∙ append_assoc old first.read second.read;
 }
 
--- an answer by the bytes that were there is one by those before and what was read since
+-- an answer about the bytes that are there is one about those before and what was read since
 pub answer_since : (a b c : Option (List ℕ)) (old mid kept : List ℕ) (answer : Next) → ReadsOn a b old mid → ReadsNext b c mid kept answer
     → ReadsNext a c old kept answer
 answer_since a b c old mid kept answer before now = record {
@@ -63,7 +63,7 @@ answer_now left bytes answer is = record {
   answered = subst (λ b. Tells b bytes left answer) (sym (append-nil bytes)) is;
 }
 
--- the same behind what was read before
+-- an answer that needs no more bytes than were read before it
 pub answer_then : (a b : Option (List ℕ)) (old bytes : List ℕ) (answer : Next) → ReadsOn a b old bytes → Tells bytes bytes b answer → ReadsNext a b old bytes answer
 answer_then a b old bytes answer before is = answer_since a b b old bytes bytes answer before (answer_now b bytes answer is)
 
@@ -137,7 +137,7 @@ pub body_cut : (bytes method path : List ℕ) (len body : ℕ) (last : Bool) →
 body_cut bytes method path len body last x short =
     (some_bytes bytes method path len body last x, inr (lacks_body bytes method path len body last x short))
 
--- the link ended ahead of the end of a body
+-- the link ended before the end of a body
 pub ended_in_body : (a b c : Option (List ℕ)) (old mid new method path : List ℕ) (len body : ℕ) (last : Bool)
     → ReadsOn a b old mid → HasHead mid method path len body last → length mid < len + body → Brings b c mid new → new ≡ mid → IsAtEnd c
     → ReadsNext a c old new next.Cut
@@ -146,7 +146,7 @@ ended_in_body a b c old mid new method path len body last before x short more sa
     answer_then a c old new next.Cut (brought a b c old mid new before wants more)
     (subst (λ l. StandsIn l Cut) (sym same) (body_cut mid method path len body last x short), end)
 
--- the link broke off ahead of it
+-- the link broke off before the end of a body
 pub broken_in_body : (a b c : Option (List ℕ)) (old mid new method path : List ℕ) (len body : ℕ) (last : Bool) (answer : Next)
     → ReadsOn a b old mid → HasHead mid method path len body last → length mid < len + body → Breaks b c mid new answer → ReadsNext a c old new answer
 broken_in_body a b c old mid new method path len body last answer before x short breaks =
@@ -187,7 +187,7 @@ taken bytes method path len body last request kept x long is kept_is =
       is ∙ parts_same x.h method path (take body (drop len bytes)) (take body x.behind) last x.method_is x.path_is (ap (take body) behind) x.last_is,
     )
 
--- all of it came
+-- all bytes of a request came
 pub whole_request : (a b c : Option (List ℕ)) (old bytes1 bytes2 kept method path : List ℕ) (len body : ℕ) (last : Bool) (request : RequestParts)
     → ReadsOn a b old bytes1 → HasHead bytes1 method path len body last → ReadsOn b c bytes1 bytes2 → len + body ≤ length bytes2
     → request ≡ record { method = method; path = path; body = take body (drop len bytes2); last = last }
@@ -208,7 +208,7 @@ pub at_exit : {T : Type 0} (r : Result T Next) (P : Next → Type 0) (answer : N
 at_exit (Ok x) P answer is holds = absurd is
 at_exit (Err e) P answer is holds = subst P (sym is) holds
 
--- want of memory leaves nothing to be said of the bytes
+-- when memory runs out, nothing is said of the bytes
 pub memory_after : (a b : Option (List ℕ)) (old bytes kept : List ℕ) → ReadsOn a b old bytes → length kept ≤ length bytes → ReadsNext a b old kept next.Memory
 memory_after a b old bytes kept reads few = record {
   read = reads.read;

@@ -161,7 +161,7 @@ ends_by bytes line behind r line_is behind_is shorter r_is =
       λ ends. r_is ∙ ap is_space_and_target rest ∙ (shows_target bytes ends).target,
     )
 
--- where none were, the bytes do not end in a target
+-- where no byte of a method was skipped, the bytes do not end in a target
 pub ends_nowhere : (bytes line behind : List ℕ) (r : Bool) → line ≡ without_blank bytes → behind ≡ without_token line → length line ≤ length behind
     → (r ≡ true → length behind < length line) → (r ≡ true → EndsInTarget bytes) × (EndsInTarget bytes → r ≡ true)
 ends_nowhere bytes line behind r line_is behind_is longer shorter =

@@ -45,7 +45,7 @@ no_slash_alone (c ∷ cs) d =
 pub digits_not_cut : (x : List ℕ) → AllDigits 10 x → cuts x (47 ∷ []) ≡ false
 digits_not_cut x d = and_right _ _ (no_slash_alone (drop (length x - 1) x) (digits_drop (length x - 1) x d))
 
--- a number and a slash do
+-- a number and a slash end in a slash
 pub slash_cut : (x : List ℕ) → 0 < length x → cuts (x ++ 47 ∷ []) (47 ∷ []) ≡ true
 slash_cut x some =
     let long : length (x ++ 47 ∷ []) ≡ length x + 1 = length-append x (47 ∷ []) in

@@ -36,7 +36,7 @@ long_wants_none bytes x wants =
     ⊎_elim (λ (lacks : LacksEnd bytes). lacks_end_no_head bytes x.0 _ lacks x.3.head.reads)
     (λ (lacks : LacksBody bytes). cut_long bytes (head_is_some bytes x.0 _ x.3.head, inr lacks) x) wants
 
--- where more are wanted they were wanted ahead of that too
+-- where more bytes are wanted, they were wanted at each front of the bytes too
 pub front_wants : (bytes more : List ℕ) → WantsMore (bytes ++ more) → WantsMore bytes
 front_wants bytes more wants =
     ⊎_elim

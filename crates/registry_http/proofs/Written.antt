@@ -13,7 +13,7 @@ Appends-take a b c text done count before now =
     rw (take-add done count text)
     (Appends-trans a b c (take done text) (take count (drop done text)) before (rw (take_rest text done) at now))
 
--- where a link that has some of the bytes, and not all, then fails, it has those
+-- where a link got some of the bytes and not all, and then fails, it has a front of them that is not the whole
 pub AppendsPart-take : (a b c : Option (List ℕ)) (text : List ℕ) (done : ℕ) → done < length text → Appends a b (take done text) → c ≡ b → AppendsPart a c text
 AppendsPart-take a b c text done more written stays = record {
   front = take done text;

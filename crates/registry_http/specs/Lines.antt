@@ -9,8 +9,8 @@ begins_with_end [] = false
 begins_with_end (a ∷ []) = a == 10
 begins_with_end (a ∷ b ∷ bytes) = a == 10 || (a == 13 && b == 10)
 
--- an empty line stands in the bytes, behind a line that is none: line ends, which do not count; lines, the first of
--- which is not empty, up to an LF; and a line end right behind it
+-- the bytes have an empty line behind a line that is not empty: first line ends, which do not count; then lines up to an LF, the
+-- first of which is not empty; and right behind that LF a line end
 pub record HasEmptyLine (bytes : List ℕ) : Type 0 where
   pub blank : List LineEnd
   pub lines : List ℕ

@@ -1,4 +1,4 @@
--- The requests of a link, one behind another.
+-- The requests of a link, one after another.
 use Rattle.std.specs.Prelude.{◌≡◌, ℕ, List, [], ◌∷◌}
 use Rattle.registry_http.specs.RequestParts.{RequestParts}
 use Rattle.registry_http.specs.Requests.{AtFront, Whole, Nothing, Cut, HeadFault, BodyTooLong, StandsIn}
@@ -13,12 +13,12 @@ IsLast Cut = Unit {0}
 IsLast HeadFault = Unit {0}
 IsLast BodyTooLong = Unit {0}
 
--- all bytes of a link are these requests, one behind another, and then bytes at whose front this stands
+-- the bytes of a link are these requests, one after another, and then bytes at whose front this stands
 abbrev pub AreRequests : List ℕ → List RequestParts → AtFront → Type 0
 AreRequests bytes [] last = StandsIn bytes last × IsLast last
 AreRequests bytes (request ∷ requests) last = (rest : List ℕ) × StandsIn bytes (Whole request rest) × AreRequests rest requests last
 
--- the answer is the first of the requests, and these bytes have the others; or there is none, and it is what stands behind them; a link fault and want of memory say nothing
+-- the answer is the first of the requests, and these bytes have the others; or there are no requests, and the answer is what stands behind them; where the link failed or memory ran out nothing is said
 abbrev pub IsNext : Next → List ℕ → List RequestParts → AtFront → Type 0
 IsNext (next.Request request) bytes requests last =
     (others : List RequestParts) × (requests ≡ request ∷ others) × AreRequests bytes others last

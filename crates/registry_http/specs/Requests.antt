@@ -14,12 +14,12 @@ pub record BeginsWith (bytes : List ℕ) (h : RequestHead) (behind : List ℕ) :
   pub reads : ReadsRequest bytes h behind
   pub fits : length (print_request h) ≤ longest_head
 
--- the bytes begin with no head, and never will: as many as a head may have came, or none begins so
+-- the bytes begin with no head, and never will: they are as many as a head may have, or no head begins as they do
 pub record HasNoHead (bytes : List ℕ) : Type 0 where
   pub none : HasNoRequest (take longest_head bytes)
   pub none_comes : (longest_head ≤ length bytes) ⊎ (NeverHasRequest bytes × ¬ (EndsInTarget bytes))
 
--- the bytes begin with no head, and may yet do so; bytes that end inside the target may, whatever they are
+-- the bytes begin with no head yet, and one may still come; where they end inside the target it may, whatever they are
 pub record HasNoHeadYet (bytes : List ℕ) : Type 0 where
   pub none : HasNoRequest bytes
   pub room : length bytes < longest_head
@@ -72,13 +72,13 @@ WantsMore bytes = LacksEnd bytes ⊎ LacksBody bytes
 abbrev pub longest_read : ℕ
 longest_read = 4096
 
--- these bytes were read behind those that were kept, and only because they were wanted: there are none, or more were wanted ahead of the last, which one read brings
+-- these bytes were read beyond those that were kept, and only because they were wanted: there are none, or more were wanted before the last of them, which one read brought
 abbrev pub IsWanted : List ℕ → List ℕ → Type 0
 IsWanted kept read =
     (read ≡ []) ⊎ ((front : List ℕ) × (last : List ℕ)
     × (read ≡ front ++ last) × (length last ≤ longest_read) × WantsMore (kept ++ front))
 
--- the answer says what stands at the front of the bytes that came; at the end of a link no more come, and a link fails where more are wanted
+-- the answer says what stands at the front of the bytes that came; where it is the end of a link no more come, and where it is a failed link more were wanted
 abbrev pub Tells : List ℕ → List ℕ → Option (List ℕ) → Next → Type 0
 Tells bytes kept left (next.Request request) = StandsIn bytes (Whole request kept)
 Tells bytes kept left next.End = StandsIn bytes Nothing × IsAtEnd left
@@ -88,7 +88,7 @@ Tells bytes kept left next.BodyTooLong = StandsIn bytes BodyTooLong
 Tells bytes kept left next.LinkFault = WantsMore bytes
 Tells bytes kept left next.Memory = Unit {0}
 
--- some bytes were read of the link, because they were wanted; no more are kept than came; and the answer is by those that were kept before and these
+-- some bytes were read from the link, because they were wanted; no more are kept than were kept before and came; and the answer is about those that were kept before and these
 pub record ReadsNext (left_old left_new : Option (List ℕ)) (kept_old kept_new : List ℕ) (answer : Next) : Type 0 where
   pub read : List ℕ
   pub consumed : Consumes left_old left_new read
@@ -106,7 +106,7 @@ link_failed next.BodyTooLong = false
 link_failed next.LinkFault = true
 link_failed next.Memory = false
 
--- the most bytes that are kept where some were read: behind a request those of one read, and else a head and a body too
+-- the most bytes that are kept where some were read: after a request those of one read, and else those of a head, a body and one read
 abbrev pub most_kept : Next → ℕ
 most_kept (next.Request request) = longest_read
 most_kept _ = longest_head + longest_request_body + longest_read

@@ -41,7 +41,7 @@ pub(crate) enum Front<'b> {
     Head(Head<'b>),
     /// No head yet.
     Cut,
-    /// No head, and none will come, or one that is refused.
+    /// No head and none will come, or a head that is refused.
     Refused,
     /// A head that announces too long a body.
     TooLong,

@@ -20,13 +20,13 @@ pub fn one_request()
     ensures too_long { (bytes more : List ℕ) → StandsIn bytes BodyTooLong → StandsIn (bytes ++ more) BodyTooLong }
 {}
 
-/// Something stands at the front of all bytes: that nothing does is absurd.
+/// At the front of any bytes something stands: it is false that nothing does.
 pub fn always_one()
     ensures { (bytes : List ℕ) → ¬ ((a : AtFront) → ¬ (StandsIn bytes a)) }
 {}
 
-/// All bytes of a link are one list of requests, and what stands behind them: that there is none is
-/// absurd, and there is only one. The answers of
+/// The bytes of a link are one list of requests, and what stands behind them: it is false that there
+/// is no such list, and there is only one. The answers of
 /// `next_request`, one after another, are those requests in turn, and then what stands behind them,
 /// however the bytes are cut.
 pub fn requests_in_turn()
@@ -39,9 +39,9 @@ pub fn requests_in_turn()
         → IsNext answer (kept_new ++ left_new) requests last }
 {}
 
-/// More bytes are wanted where nothing or a part of a request stands at the front, and not behind a
+/// More bytes are wanted where nothing or a part of a request stands at the front, and not after a
 /// whole request, a whole head that is refused, an end without a head, or too long a body. Where
-/// they are wanted, they were wanted ahead of that too: so where the last read of an answer was
+/// they are wanted, they were wanted before too: so where the last read for an answer was
 /// wanted, each read was.
 pub fn wanted_bytes()
     ensures lacking { (bytes : List ℕ) → StandsIn bytes Nothing ⊎ StandsIn bytes Cut → WantsMore bytes }

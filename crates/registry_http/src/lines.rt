@@ -2,21 +2,21 @@
 ghost use Rattle.std.specs.Prelude.{◌≡◌};
 ghost use Rattle.registry_http.specs.inner.Lines.{after_byte, after_bytes, are_over};
 
-/// How far the lines of a head have come, by which its end is found without a second look at any
+/// How far the lines of a head have come. So the end of a head is found without a second look at any
 /// byte.
 #[derive(Clone, Copy)]
 pub enum Lines {
     /// There are at most empty lines.
     Ahead,
-    /// The same, and a CR.
+    /// There are at most empty lines, and then a CR.
     AheadCr,
     /// A line is still without its end.
     Inside,
     /// A line has ended.
     Ended,
-    /// The same, and a CR came.
+    /// A line has ended, and then a CR came.
     EndedCr,
-    /// An empty line came behind a line.
+    /// An empty line came after a line.
     Over,
 }
 
@@ -49,7 +49,7 @@ impl Lines {
         lines
     }
 
-    /// Whether an empty line came behind a line.
+    /// Whether an empty line came after a line.
     pub(crate) fn are_over(self) -> bool
         ensures { result ≡ are_over self }
     {

@@ -19,12 +19,12 @@ use std::alloc::{AllocError, Global};
 /// How many bytes one read asks for at most.
 const LONGEST_READ: usize = 4096;
 
-/// What comes next of a link.
+/// What comes next on a link.
 #[derive(Debug, Drop)]
 pub enum Next {
     /// A whole request.
     Request(Request),
-    /// The link ended ahead of a request's first byte.
+    /// The link ended before a request's first byte.
     End,
     /// The link ended inside a request.
     Cut,
@@ -97,7 +97,7 @@ fn begin(alloc: Global, head: Head<'_>) -> Result<Begun, NoMemory>
     })
 }
 
-/// Reads some of the bytes to come behind those that are there; false at the end of the link.
+/// Reads some more bytes of the link to the end of `bytes`; false at the end of the link.
 fn read_more<L: Link>(link: &mut L, bytes: &mut Vec<u8>, block: &mut [u8]) -> Result<bool, Next>
     requires { length block.old ≡ longest_read }
     ensures more { OnOk result (Brings (L.left link.old) (L.left link.new) bytes.old.items bytes.new.items) }
@@ -220,9 +220,9 @@ fn read_request<L: Link>(alloc: Global, link: &mut L, bytes: &mut Vec<u8>) -> Re
     Ok(take_request(alloc, bytes, begun)?)
 }
 
-/// The next request of a link. `rest` has the bytes that were read behind the request before; those
+/// The next request of a link. `rest` has the bytes that were read beyond the request before; those
 /// behind this one are kept there. The link is read only where more bytes are wanted: where no empty
-/// line has come behind a line, nor as many bytes as a head may have, or where a body lacks bytes.
+/// line has followed a line and fewer bytes came than a head may have, or where a body lacks bytes.
 /// So no reply waits for bytes that it does not need, and a broken head is refused at its empty line
 /// at the latest. After any answer but a request the connection is over, and what `rest` has is of
 /// no use.

@@ -19,7 +19,7 @@ pub enum Route {
     Ranks(FolioId),
     /// `GET /plans/{n}`: the plan of distribution of receipt n (ZVG § 113).
     Plan(ReceiptNo),
-    /// `GET /plans/{n}/csv`: the same plan as CSV.
+    /// `GET /plans/{n}/csv`: the plan of distribution of receipt n as CSV.
     PlanCsv(ReceiptNo),
     /// `GET /report`: the report.
     Report,

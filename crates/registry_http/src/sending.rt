@@ -1,11 +1,11 @@
-//! What threads may hand on.
+//! What threads may hand to one another.
 use crate::Request;
 use gb_outside::{MemLink, SureLink};
 
-/// Takes any type whose values threads may hand on.
+/// Takes any type whose values threads may hand to one another.
 fn is_sent<T: Send>() {}
 
-/// Threads may hand on the links in memory, and requests.
+/// Threads may hand the links in memory, and requests, to one another.
 fn links_are_sent() {
     is_sent::<MemLink<'static>>();
     is_sent::<SureLink<'static>>();

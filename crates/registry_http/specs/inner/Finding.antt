@@ -37,7 +37,7 @@ the_table =
     ∷ plain (codes "/report") row.Report
     ∷ []
 
--- the parts that the parameters took of a path: one, which is this number
+-- the parameters took one part of the path, and it is this number
 abbrev pub IsNumberPart : ℕ → List (List ℕ × List ℕ) → Type 0
 IsNumberPart n parts = parts ≡ (codes "number", decimal n) ∷ []
 

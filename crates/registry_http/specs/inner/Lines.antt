@@ -3,7 +3,7 @@ use Rattle.std.specs.Prelude.{ℕ, ◌==◌, Bool, true, false, if◌then◌else
 use Rattle.registry_http.specs.declared.lines.Lines.{Lines}
 use Rattle.registry_http.specs.declared.lines.Lines.TheVariants.{Ahead, AheadCr, Inside, Ended, EndedCr, Over}
 
--- one more byte came: a line ends with LF, and a CR may stand ahead of that; an empty line behind a line is the end of a head
+-- one more byte came: a line ends with LF, and a CR may stand before that; an empty line after a line is the end of a head
 abbrev pub after_byte : Lines → ℕ → Lines
 after_byte Ahead b = if b == 10 then Ahead else (if b == 13 then AheadCr else Inside)
 after_byte AheadCr b = if b == 10 then Ahead else Inside
@@ -17,7 +17,7 @@ abbrev pub after_bytes : Lines → List ℕ → Lines
 after_bytes lines [] = lines
 after_bytes lines (b ∷ bytes) = after_bytes (after_byte lines b) bytes
 
--- an empty line came behind a line
+-- an empty line came after a line
 abbrev pub are_over : Lines → Bool
 are_over Ahead = false
 are_over AheadCr = false
@@ -26,6 +26,6 @@ are_over Ended = false
 are_over EndedCr = false
 are_over Over = true
 
--- an empty line stands in the bytes, behind a line that is none
+-- the bytes have an empty line behind a line that is not empty
 abbrev pub has_empty_line : List ℕ → Bool
 has_empty_line bytes = are_over (after_bytes Ahead bytes)

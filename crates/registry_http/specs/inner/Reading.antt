@@ -1,4 +1,4 @@
--- How a request is read of a link: its head first, and then its body.
+-- How a request is read from a link: its head first, and then its body.
 use Rattle.std.specs.Prelude.{◌≡◌, ℕ, ◌==◌, ◌≤◌, Bool, true, false, ◌&&◌, if◌then◌else◌, List, [], ◌∷◌, ◌++◌, length, Option, Result, Ok, Err}
 use Rattle.std.specs.List.{list_all}
 use Rattle.std.specs.Io.KnownBytes.{Consumes}
@@ -62,7 +62,7 @@ pub record Breaks (left_old left_new : Option (List ℕ)) (old new : List ℕ) (
   pub kept : new ≡ old
   pub broken : IsBreak read answer
 
--- the bytes that were read of the link, because they were wanted, stand behind those that were there
+-- the bytes that were read from the link, because they were wanted, stand behind those that were there
 pub record ReadsOn (left_old left_new : Option (List ℕ)) (old new : List ℕ) : Type 0 where
   pub read : List ℕ
   pub consumed : Consumes left_old left_new read
@@ -74,7 +74,7 @@ abbrev pub work_failed : {A : Type 0} → Result A Next → Bool
 work_failed (Ok a) = false
 work_failed (Err answer) = link_failed answer
 
--- as many header lines as a head of the most bytes can have
+-- the most header lines that a head of at most 8,192 bytes can have
 abbrev pub most_fields : ℕ
 most_fields = 2731
 
