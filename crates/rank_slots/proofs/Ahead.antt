@@ -6,7 +6,7 @@ use Rattle.gb_base.specs.RightNo.{RightNo}
 use Rattle.rank_slots.specs.declared.places.Piece.{Piece}
 use Rattle.rank_slots.specs.inner.Pieces.{AreJoined, line_of}
 
--- how many stand ahead of the first that passes, behind n of one that fails
+-- how many stand ahead of the first that passes, where n of one that fails come first
 behind_others : (test : RightNo → Bool) (n : ℕ) (c : RightNo) (cs : List RightNo) → test c ≡ false → position_or_len test (replicate n c ++ cs) ≡ n + position_or_len test cs
 behind_others test zero c cs other = omega arith
 behind_others test (suc n) c cs other =

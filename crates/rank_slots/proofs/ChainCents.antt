@@ -24,7 +24,7 @@ use Rattle.rank_slots.proofs.SpanLines.{row_sum}
 
 -- ---- a walk
 
--- The rest of the chain, behind what is counted of it.
+-- A walk over a chain: what is counted of it so far, and the rest that is still to be counted.
 pub record IsWalking (spans : List Span) (links : List (Option ℕ)) (next : Option ℕ) (cents t : ℕ) (xs : List Span) : Type 0 where
   pub rest : List Span
   pub walk : Linked spans links next rest
@@ -86,7 +86,7 @@ walked spans links cents t xs it = by it.rest it.walk it.counted it.few
 
 -- ---- the chain of a place
 
--- spans of a row, the last one first
+-- the spans of a row descend where the last one is first
 descends_from : (test : Span → Bool) (others : List Span) (n : ℕ) (xs : List Span) → StandInRow n xs → AllByRecursion (λ y. y.from < n) others → Descend others → Descend (last_first test others xs)
 descends_from test others n [] row before down = down
 descends_from test others n (x ∷ xs) row before down =
@@ -101,7 +101,7 @@ descends_from test others n (x ∷ xs) row before down =
     sooner m k [] less all = tt
     sooner m k (y ∷ ys) less all = (omega (arith, less, all.0), sooner m k ys less all.1)
 
--- what a sum over them comes to, in any order
+-- a sum over spans comes to the same where the last one is first
 sum_last_first : (f : Span → ℕ) (test : Span → Bool) (others xs : List Span) → sum_by f (last_first test others xs) ≡ sum_by f others + sum_by (λ x. cond (test x) (f x) 0) xs
 sum_last_first f test others [] = omega arith
 sum_last_first f test others (x ∷ xs) =
@@ -115,7 +115,7 @@ none_counted : (test : RightNo → Bool) (k : ℕ) → 0 ≡ count_by test (take
 none_counted test zero = refl
 none_counted test (suc k) = refl
 
--- so many of the first cents are the right's
+-- the spans of a right have as many of the first cents as are the right's
 counted_spans : (r : RightNo) (t n : ℕ) (ps : List Piece) → sum_by (λ x. cond (is_span_of r x) (cents_within t x) 0) (spans_of n ps) ≡ count_by (same_right r) (take (t - n) (line_of ps))
 counted_spans r t n [] = none_counted (same_right r) (t - n)
 counted_spans r t n (p ∷ ps) =
@@ -128,7 +128,7 @@ counted_spans r t n (p ∷ ps) =
     let front = counted_front (same_right r) (t - n) p.cents p.right (line_of ps) in
     omega (arith, own, here, behind, rest, front)
 
--- of a right that stands alone
+-- the chain of a right has as many of the first cents as are the right's
 pub chain_pays : (r : RightNo) (t : ℕ) (ps : List Piece) → sum_by (cents_within t) (last_first (is_span_of r) [] (spans_of 0 ps)) ≡ count_by (same_right r) (take t (line_of ps))
 chain_pays r t ps =
     let all = sum_last_first (cents_within t) (is_span_of r) [] (spans_of 0 ps) in
@@ -168,7 +168,7 @@ place_at (x ∷ xs) (suc n) within = place_at xs n (omega (arith, within))
 
 -- ---- a right that stands alone
 
--- its chain, by the number of its place
+-- the chain of a right that stands alone can be walked by the number of its place
 pub lone_chain : (a : SpanLists) (places : List Place) (pieces : List Piece) (r : RightNo) (n : ℕ) → AreChainedPieces a places pieces → AreJoined pieces → sum_by (λ q. q.cents) pieces < most_sum
     → n < length places → n ≡ position_or_len (is_of r) places → CanBeWalked a.spans a.links (link_at a.heads n) (last_first (is_span_of r) [] (spans_of 0 pieces))
 lone_chain a places pieces r n are joined sum within first =
@@ -179,7 +179,7 @@ lone_chain a places pieces r n are joined sum within first =
     subst (λ x. CanBeWalked a.spans a.links (link_at a.heads n) (last_first (is_span_of x) [] (spans_of 0 pieces))) (right_is p.right r own)
     (can_be_walked a places pieces n p are joined sum within here)
 
--- what it gets
+-- what a right that stands alone gets
 pub lone_pays : (filled : Filled) (pieces : List Piece) (r : RightNo) (t n cents : ℕ) → line_of pieces ≡ line filled → n < length filled.places → group_of filled.places r ≡ take 1 (drop n filled.places)
     → cents ≡ sum_by (cents_within t) (last_first (is_span_of r) [] (spans_of 0 pieces)) → cents ≡ plain_pay filled r t
 lone_pays filled pieces r t n cents is_line within group counts =

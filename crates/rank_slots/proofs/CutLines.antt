@@ -75,7 +75,7 @@ to_deal_row a c places row s joined cut chain = record {
   bounded = all_kept (λ x. x.from + x.cents < most_sum) (is_span_of_either s) row (row_bounded 0 row cut.in_row);
 }
 
--- ---- behind the exchange
+-- ---- after the exchange
 
 -- other chains have no spans of the two rights
 none_of_either : (s : Swap) (right : RightNo) → ((x : Span) → is_span_of right x ≡ true → is_span_of_either s x ≡ false) → (others xs : List Span) → AllByRecursion (λ x. is_span_of_either s x ≡ false) others

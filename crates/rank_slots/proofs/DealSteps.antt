@@ -54,7 +54,7 @@ next_span a s recede rise number left start cents whole d = by d.rest d.rest_cha
       passes = λ test all. ap test chain.1.0 ∙ (pass test all).0;
     }
 
--- ---- what a deal leaves of other chains, and how far it still is
+-- ---- what a deal leaves of other chains, and how far it still has to go
 
 pub dealt_leaves : (test : Span → Bool) (a : SpanLists) (s : Swap) (recede rise number left : ℕ) → length a.links ≡ length a.spans → test (span_at a.spans number) ≡ true
     → (head : Option ℕ) (xs : List Span) → AllByRecursion (λ x. test x ≡ false) xs → Linked a.spans a.links head xs
@@ -85,7 +85,7 @@ dealt_heads a s recede rise number left place one other =
     get_or-set_other (set a.heads rise (Some number)) recede place (Some (length (set a.spans number (front_of (span_at a.spans number) left s.rise)))) None one
     ∙ get_or-set_other a.heads rise place (Some number) None other)
 
--- the chain ahead of a step, and behind it
+-- after a step the rest of the chain begins nearer to the last cent that a line may have
 pub nearer : (a b : SpanLists) (s : Swap) (recede rise number left further_left start cents : ℕ) (next : Option ℕ) (whole : List Span) → IsDealing a s recede rise (Some number) left start cents whole
     → next ≡ link_at a.links number → ((test : Span → Bool) → test (span_at a.spans number) ≡ true → (xs : List Span) → AllByRecursion (λ x. test x ≡ false) xs → Linked a.spans a.links next xs → Linked b.spans b.links next xs)
     → gap b.spans next < gap a.spans (Some number)

@@ -51,7 +51,7 @@ pub record IsFirst (a : SpanLists) (number : ℕ) (x : Span) (xs : List Span) : 
   pub is : span_at a.spans number ≡ x
   pub chain : Linked a.spans a.links (link_at a.links number) xs
 
--- all that the next step wants of the places
+-- all that the next step needs of the places
 pub record CanDeal (a : SpanLists) (s : Swap) (recede rise : ℕ) : Type 0 where
   pub differ : same_right s.recede s.rise ≡ false
   pub recede_rise : recede ≢ rise

@@ -19,13 +19,13 @@ use Rattle.rank_slots.proofs.LineCounts.{counted, first_within, none_ahead, one_
 use Rattle.rank_slots.proofs.LonePay.{lone_group, lone_pay}
 use Rattle.rank_slots.proofs.Precedence.{first_ahead, room_behind}
 
--- the right gets nothing up to m, and a cent of one more, if the line has one
+-- the right gets nothing of sums up to m, and one cent of the next sum, if the line is that long
 pub record BeginsAt (filled : Filled) (r : RightNo) (m : ℕ) : Type 0 where
   pub within : m ≤ length (line filled)
   pub none : (t : ℕ) → t ≤ m → pay filled r t ≡ 0
   pub one : m < length (line filled) → pay filled r (m + 1) ≡ 1
 
--- nothing up to m, and something from the next on, if there is one
+-- where an amount is 0 up to m, and 1 at the next number if there is one, the amounts of 0 end at m
 last_empty : (f : ℕ → ℕ) (n m : ℕ) → m ≤ n → ((t : ℕ) → t ≤ m → f t ≡ 0) → (m < n → f (m + 1) ≡ 1) → prefix_len (λ t. f t == 0) (range_with_len 1 n) ≡ m
 last_empty f n m within none some =
     let long = length-range_with_len 1 n in
@@ -44,7 +44,7 @@ empty_at filled r m begins = last_empty (λ t. pay filled r t) (length (line fil
 lone_ahead : (filled : Filled) (r : RightNo) → IsAlone (group_of filled.places r) r → cents_ahead (group_of filled.places r) (line filled) ≡ position_or_len (same_right r) (line filled)
 lone_ahead filled r alone = λ i. position_or_len (λ c. lone_group (group_of filled.places r) r alone c i) (line filled)
 
--- a right that stands alone has the greatest such sum for its threshold
+-- the threshold of a right that stands alone is the greatest sum up to which it gets nothing
 alone_threshold : (filled : Filled) (r : RightNo) → StandsAlone filled.places r → threshold filled r ≡ empty_up_to filled r
 alone_threshold filled r alone = ap (λ b. cond b (empty_up_to filled r) (cents_ahead (group_of filled.places r) (line filled))) (eq-eqb (length (group_of filled.places r)) 1 alone)
 

@@ -28,7 +28,7 @@ two_stay s left (c ∷ cs) =
       | false ↦ λ other. λ i. other i ∷ two_stay s left cs i
     ] refl
 
--- all others are as before
+-- the cents of all other rights are as before
 others_stay : (s : Swap) (left : ℕ) (cs : List RightNo) → filter (λ c. not (is_of_either s c)) (exchanged s left cs) ≡ filter (λ c. not (is_of_either s c)) cs
 others_stay s left [] = refl
 others_stay s left (c ∷ cs) =
@@ -43,7 +43,7 @@ others_stay s left (c ∷ cs) =
       | false ↦ λ other. (λ i. cond (not (other i)) (c ∷ kept (exchanged s left cs)) (kept (exchanged s left cs))) ∙ ap (λ ys. c ∷ ys) (others_stay s left cs)
     ] refl
 
--- with none left to rise all of them are the receding one's
+-- with no cents left to rise, all cents of the two are the receding one's
 all_recede : (s : Swap) (cs : List RightNo) → filter (is_of_either s) (exchanged s 0 cs) ≡ replicate (counted (is_of_either s) cs) s.recede
 all_recede s [] = refl
 all_recede s (c ∷ cs) =
@@ -61,7 +61,7 @@ all_recede s (c ∷ cs) =
           (λ i. cond (other i) (c ∷ kept (exchanged s 0 cs)) (kept (exchanged s 0 cs))) ∙ all_recede s cs ∙ ap (λ k. replicate k s.recede) (sym same)
     ] refl
 
--- the first of them are the rising one's
+-- the first cents of the two are the rising one's
 first_rise : (s : Swap) (left : ℕ) (cs : List RightNo) → left ≤ counted (is_of_either s) cs
     → filter (is_of_either s) (exchanged s left cs) ≡ replicate left s.rise ++ replicate (counted (is_of_either s) cs - left) s.recede
 first_rise s zero cs few =

@@ -22,14 +22,14 @@ all_rise s (suc n) m c cs party =
     (λ i. cond (party i) (cond (some i) (s.recede ∷ exchanged s 0 (replicate n c ++ cs)) (s.rise ∷ exchanged s (next i) (replicate n c ++ cs))) (c ∷ exchanged s (suc n + m) (replicate n c ++ cs)))
     ∙ ap (λ t. s.rise ∷ t) (all_rise s n m c cs party)
 
--- where none are left, they recede
+-- where no cents are left to rise, those of the two rights recede
 all_recede : (s : Swap) (n : ℕ) (c : RightNo) (cs : List RightNo) → is_of_either s c ≡ true → exchanged s 0 (replicate n c ++ cs) ≡ replicate n s.recede ++ exchanged s 0 cs
 all_recede s zero c cs party = refl
 all_recede s (suc n) c cs party =
     (λ i. cond (party i) (s.recede ∷ exchanged s 0 (replicate n c ++ cs)) (c ∷ exchanged s 0 (replicate n c ++ cs)))
     ∙ ap (λ t. s.recede ∷ t) (all_recede s n c cs party)
 
--- a piece of one of the two rights rises as far as cents are left to, and recedes behind
+-- a piece of one of the two rights rises as far as cents are left to rise, and recedes from there on
 pub party_splits : (s : Swap) (left n : ℕ) (c : RightNo) (cs : List RightNo) → is_of_either s c ≡ true
     → exchanged s left (replicate n c ++ cs) ≡ replicate (min left n) s.rise ++ (replicate (n - min left n) s.recede ++ exchanged s (left - min left n) cs)
 party_splits s left n c cs party = elim (cases_lt left n) [

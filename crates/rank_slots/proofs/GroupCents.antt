@@ -36,7 +36,7 @@ group_pay filled r t fits more = unfound filled r t (let none = knots_alone fill
 
 -- ---- nothing up to the threshold
 
--- no cents of the line are none of the group's
+-- where none of the first cents are the group's, the right gets nothing, knots left aside
 no_plain : (filled : Filled) (r : RightNo) (t : ℕ) → count_by (is_of_group (group_of filled.places r)) (take t (line filled)) ≡ 0 → plain_pay filled r t ≡ 0
 no_plain filled r t none = ap (share_in_group (group_of filled.places r) r) none ∙ no_part (group_of filled.places r) r
 
@@ -56,7 +56,7 @@ no_sum filled r (Some k) =
       | false ↦ omega arith
     ]
 
--- what the search for the greatest such sum has passed
+-- a sum that the search for the greatest such sum has passed gives nothing
 empty_below : (f : ℕ → ℕ) (n t : ℕ) → f 0 ≡ 0 → t ≤ prefix_len (λ u. f u == 0) (range_with_len 1 n) → f t ≡ 0
 empty_below f n zero none few = none
 empty_below f n (suc t) none few =
@@ -74,7 +74,7 @@ nothing filled r t fits few =
           group_pay filled r t fits more ∙ no_plain filled r t (counted_is (is_of_group group) (take t (line filled)) ∙ none_ahead (is_of_group group) t (line filled) less)
     ] refl few
 
--- ---- the cent behind it
+-- ---- the cent behind the threshold
 
 -- a right of the group has no more cents than the group
 counted_less : (p q : RightNo → Bool) → ((c : RightNo) → p c ≡ true → q c ≡ true) → (cs : List RightNo) → counted p cs ≤ counted q cs

@@ -178,7 +178,7 @@ in_same (g ∷ gs) a r few there =
           (λ i. option_map_or (λ h. h) (cond (none i) (Some g) (find (list_any (is_of a)) gs)) []) ∙ in_same gs a r (omega arith) behind
     ] there
 
--- ---- the same of the groups of places
+-- ---- the groups of places
 
 pub alone_group : (places : List Place) (a : RightNo) → StandsAlone places a → IsAlone (group_of places a) a
 alone_group places a one = in_alone (groups places) a one

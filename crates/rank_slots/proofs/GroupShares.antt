@@ -32,7 +32,7 @@ can_share places r are kept =
       sum = omega (arith, group_sum (λ p. p.claim) places r);
     }
 
--- the same of a group that was read
+-- a group that was read as the right's has what it needs to be shared
 pub read_group : (filled : Filled) (places group : List Place) (r : RightNo) → places ≡ filled.places → group ≡ group_of places r → ArePlaces filled.places → keeps_place filled.places r ≡ true → CanShare group r
 read_group filled places group r same is are kept = subst (λ g. CanShare g r) (sym (is ∙ ap (λ ps. group_of ps r) same)) (can_share filled.places r are kept)
 
@@ -43,7 +43,7 @@ read_pay filled places group pieces r t cents paid same is same_line counts part
     let whole : group ≡ group_of filled.places r = is ∙ ap (λ ps. group_of ps r) same in
     part ∙ (ap (share_in_group group r) counts ∙ (λ i. share_in_group (whole i) r (count_by (is_of_group (whole i)) (take t (same_line i)))))
 
--- and all of the group's cents where it stands alone
+-- what was read is all of the group's cents where the right stands alone
 pub read_alone : (filled : Filled) (places group : List Place) (r : RightNo) (cents paid : ℕ) → places ≡ filled.places → group ≡ group_of places r → paid ≡ share_in_group group r cents → StandsAlone filled.places r → paid ≡ cents
 read_alone filled places group r cents paid same is part alone =
     part ∙ lone_part group r cents (subst (λ g. IsAlone g r) (sym (is ∙ ap (λ ps. group_of ps r) same)) (alone_group filled.places r alone))

@@ -46,7 +46,7 @@ group_found right rest behind first p n split many front has =
     ∙ ap (λ g. option_map_or (λ h. h) (find (list_any (is_of right)) (g ∷ groups (drop (joining behind) behind))) []) (sym is)
     ∙ (λ i. option_map_or (λ h. h) (cond (has i) (Some first) (find (list_any (is_of right)) (groups (drop (joining behind) behind)))) [])
 
--- where it does not have it
+-- where the first group does not have the right
 pub group_behind : (right : RightNo) (rest behind first others : List Place) (p : Place) (n : ℕ) → rest ≡ p ∷ behind → n ≡ joining behind → first ≡ take (1 + n) rest → others ≡ drop (1 + n) rest
     → list_any (is_of right) first ≡ false → group_of rest right ≡ group_of others right
 group_behind right rest behind first others p n split many front back lacks =

@@ -55,7 +55,7 @@ total_one a f g differ (p ∷ ps) one =
           let rest = total_one a f g differ ps (omega arith) in omega arith
     ] refl one
 
--- two rights that get as much together in both
+-- where two amounts give two rights as much together, and all others the same, they come to the same
 total_two : (a c : RightNo) (f g : RightNo → ℕ) → same_right a c ≡ false → ((r : RightNo) → same_right a r ≡ false → same_right c r ≡ false → g r ≡ f r) → g a + g c ≡ f a + f c
     → (ps : List Place) → counted (is_of a) ps ≡ 1 → counted (is_of c) ps ≡ 1 → total g ps ≡ total f ps
 total_two a c f g two differ same ps first last =
@@ -92,7 +92,7 @@ kept_once r places differ kept =
 
 -- ---- knot by knot
 
--- the two rights of a further knot get as much together
+-- the two rights of a further knot get as much together as without it
 two_pay : (k : Knot) (ks : List Knot) (filled : Filled) (t : ℕ) → AreTied filled k → AllByRecursion (λ y. same_right k.reserved y ≡ false) (k.exercised ∷ knotted ks) → AllByRecursion (λ y. same_right k.exercised y ≡ false) (knotted ks)
     → pay_with (k ∷ ks) filled k.reserved t + pay_with (k ∷ ks) filled k.exercised t ≡ pay_with ks filled k.reserved t + pay_with ks filled k.exercised t
 two_pay k ks filled t tie first last =

@@ -76,7 +76,7 @@ ends spans links None None joined whole made first_chain second_chain makes is =
 ends spans links None (Some k) joined whole made first_chain second_chain makes is = absurd second_chain
 ends spans links (Some n) second joined whole made first_chain second_chain makes is = absurd first_chain
 
--- the next span is the first one's
+-- where the next span is the first chain's, the test says that this chain does not begin ahead
 of_first : (spans : List Span) (links : List (Option ℕ)) (first second : Option ℕ) (x : Span) (ys seconds : List Span) → Linked spans links first (x ∷ ys) → Linked spans links second seconds
     → AllByRecursion (λ r. Before r x) seconds → (n : ℕ) × ((first ≡ Some n) × (begins_ahead spans first second ≡ false))
 of_first spans links None second x ys seconds chain others ahead = absurd chain
@@ -85,7 +85,7 @@ of_first spans links (Some n) (Some k) x ys [] chain others ahead = absurd other
 of_first spans links (Some n) (Some k) x ys (y ∷ seconds) chain others ahead =
     (n, (refl, le-ltb (span_at spans n).from (span_at spans k).from (omega (arith, ahead.0.0, ap (λ (z : Span). z.from) others.1.0, ap (λ (z : Span). z.from) chain.1.0))))
 
--- or the second one's
+-- where the next span is the second chain's, the test says that the first one begins ahead
 of_second : (spans : List Span) (links : List (Option ℕ)) (first second : Option ℕ) (x : Span) (ys firsts : List Span) → Linked spans links first firsts → Linked spans links second (x ∷ ys)
     → AllByRecursion (λ r. Before r x) firsts → (n : ℕ) × ((second ≡ Some n) × (begins_ahead spans first second ≡ true))
 of_second spans links first None x ys firsts others chain ahead = absurd chain
@@ -94,7 +94,7 @@ of_second spans links (Some k) (Some n) x ys [] others chain ahead = absurd othe
 of_second spans links (Some k) (Some n) x ys (y ∷ firsts) others chain ahead =
     (n, (refl, lt-ltb (span_at spans k).from (span_at spans n).from (omega (arith, ahead.0.0, ap (λ (z : Span). z.from) others.1.0, ap (λ (z : Span). z.from) chain.1.0))))
 
--- the two, the second one first where the test holds
+-- two numbers, the second one first where the test holds
 abbrev ordered : Bool → Option ℕ → Option ℕ → Option ℕ × Option ℕ
 ordered second_first first second = cond second_first (second, first) (first, second)
 
@@ -149,7 +149,7 @@ whole_of spans links first second joined whole pair as_many is none join =
     subst (λ head. GoesOn spans links head pair.1 joined whole) none
     (subst (λ (q : Option ℕ × Option ℕ). GoesOn spans links q.0 q.1 joined whole) (sym is) (goes_on spans links first second joined whole as_many join))
 
--- the same with the link as it was read
+-- what is to be joined after the next span, with the link as it was read
 pub further_of : (spans : List Span) (links : List (Option ℕ)) (first second joined : Option ℕ) (whole : List Span) (n : ℕ) (pair : Option ℕ × Option ℕ) (link : Option ℕ) → length links ≡ length spans
     → pair ≡ later_first spans first second → pair.0 ≡ Some n → AreToJoin spans links first second joined whole → link ≡ get_or links n link
     → AreToJoin spans (set links n joined) link pair.1 (Some n) whole

@@ -67,7 +67,7 @@ all_left : (P : RightNo → Type 0) (test : RightNo → Bool) (cs : List RightNo
 all_left P test [] all = tt
 all_left P test (c ∷ cs) all = elim (test c) as (λ b. AllByRecursion P (cond b (c ∷ filter test cs) (filter test cs))) [ true ↦ (all.0, all_left P test cs all.1) | false ↦ all_left P test cs all.1 ]
 
--- and that of each piece of a line that is written without some cents
+-- the right of each piece of a line that is written without some cents has a place
 pub written_owned : (a : SpanLists) (places : List Place) (row spans : List Span) (ps : List Piece) → AreCut a places row → spans ≡ row → AreJoined ps
     → line_of ps ≡ filter (λ c. not (is_dropped places c)) (line_of_spans spans) → All (λ p. list_any (is_of p.right) places ≡ true) ps
 written_owned a places row spans ps cut is joined line =

@@ -23,7 +23,7 @@ goes_on a last places made further swaps kept same begins can = record {
   can_swap = subst (All (CanSwap places)) (ap (drop (length made)) begins ∙ drop-append_seam made further) (All-drop (CanSwap places) (length made) swaps can);
 }
 
--- places that are cut anew
+-- places that are cut again
 pub begins_anew : (a : SpanLists) (places : List Place) (swaps : List Swap) → StandInOrder a places (written places) → length a.spans ≡ length places → All (CanSwap places) swaps → AreToGoOn a places swaps swaps
 begins_anew a places swaps stand few can = record { line = written places; stand = stand; goes_on = refl; few = omega (arith, few); can_swap = can }
 

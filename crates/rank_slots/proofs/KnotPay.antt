@@ -56,11 +56,11 @@ found_reserved filled r t k found own = ap (λ o. pay_by o filled r t) found ∙
 pub found_exercised : (filled : Filled) (r : RightNo) (t : ℕ) (k : Knot) → knot_of filled.knots r ≡ Some k → same_right k.reserved r ≡ false → pay filled r t ≡ pay_exercised filled k t
 found_exercised filled r t k found other = ap (λ o. pay_by o filled r t) found ∙ exercised_pay k filled r t other
 
--- it ties the right
+-- the knot that a search finds ties the right
 pub found_ties : (ks : List Knot) (r : RightNo) (k : Knot) → knot_of ks r ≡ Some k → ties r k ≡ true
 found_ties ks r k found = (find_sound (ties r) ks k found).1
 
--- and is one of the knots
+-- what holds of all knots holds of the one that a search finds
 pub found_all : (P : Knot → Type 0) (ks : List Knot) (r : RightNo) (k : Knot) → All P ks → knot_of ks r ≡ Some k → P k
 found_all P [] r k all found = absurd (cc found)
 found_all P (j ∷ ks) r k all found =
@@ -96,7 +96,7 @@ each_found (k ∷ ks) once =
       found_behind k ks ks others.1 (IsDistinct-head same_right k.exercised (knotted ks) later) (each_found ks (IsDistinct-tail same_right k.exercised (knotted ks) later)),
     )
 
--- ---- what is taken off is never more than there is, and so both get together what they get without the knot
+-- ---- what is taken off is never more than there is, so both together get what they get without the knot
 
 pub uncut : (filled : Filled) (k : Knot) (t : ℕ) → CanFill filled → Contains filled.knots k → pay_reserved filled k t ≤ plain_pay filled k.reserved t + plain_pay filled k.exercised t
 uncut filled k t fits there =

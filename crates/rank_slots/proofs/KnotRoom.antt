@@ -29,7 +29,7 @@ fewer right (p ∷ ps) listed = elim (is_of right p) as (λ b. is_of right p ≡
   | false ↦ λ other has. let rest = fewer right ps has in omega arith
 ] refl listed
 
--- another right keeps its place there
+-- another right keeps its place where this one's places are taken out
 still_listed : (right other : RightNo) (places : List Place) → same_right right other ≡ false → is_listed places other ≡ true → is_listed (others right places) other ≡ true
 still_listed right other [] apart listed = listed
 still_listed right other (p ∷ ps) apart listed = elim (is_of right p) as (λ b. is_of right p ≡ b → is_listed (cond (not b) (p ∷ others right ps) (others right ps)) other ≡ true) [

@@ -1,4 +1,4 @@
--- Exchanges leave how many cents each right has.
+-- Exchanges change nothing of how many cents each right has.
 use Rattle.std.proofs.Common.{◌≡◌, ℕ, ◌+◌, ◌-◌, ◌≤◌, ◌||◌, Bool, true, false, cond, eqb, min, not, List, [], ◌∷◌, refl, sym, ap, ◌∙◌, subst, arith}
 use Rattle.std.proofs.lemmas.Bool.{both_ways, eqb-false, eqb-true, false_from_ne_true, not_from_false, or_left, or_parts, or_right}
 use Rattle.gb_base.specs.RightNo.{RightNo, same_right}
@@ -90,7 +90,7 @@ two_kept s r cs two =
           ] refl
     ] refl
 
--- and so has a right that is exchanged with itself
+-- after an exchange of a right with itself each right has as many cents as before
 itself_kept : (s : Swap) (r : RightNo) (cs : List RightNo) → same_right s.recede s.rise ≡ true → counted (same_right r) (exchange cs s) ≡ counted (same_right r) cs
 itself_kept s r cs one =
     let left = cents_of s.rise cs in
@@ -131,7 +131,7 @@ undropped_cents places swaps r differ undropped =
 pub kept_cents : (places : List Place) (swaps : List Swap) (r : RightNo) → AreDifferent places → keeps_place places r ≡ true → counted (same_right r) (cent_line places swaps) ≡ claim_of places r
 kept_cents places swaps r differ kept = undropped_cents places swaps r differ (kept_undropped r places differ kept)
 
--- so it has a cent there
+-- a right that keeps its place has a cent in the line
 pub has_cents : (filled : Filled) (r : RightNo) → ArePlaces filled.places → keeps_place filled.places r ≡ true → 1 ≤ counted (same_right r) (line filled)
 has_cents filled r places kept =
     subst (λ n. 1 ≤ n) (sym (kept_cents filled.places filled.swaps r places.distinct kept)) (claim_least r filled.places places.claims (kept_listed r filled.places kept))

@@ -66,7 +66,7 @@ counted_filter k p (x ∷ xs) =
       | false ↦ omega (arith, counted_filter k p xs)
     ]
 
--- it keeps all that pass, and so their number
+-- a filter that keeps all that pass keeps their number
 pub counted_kept : {X : Type 0} (k p : X → Bool) → ((x : X) → p x ≡ true → k x ≡ true) → (xs : List X) → counted p (filter k xs) ≡ counted p xs
 counted_kept k p keeps [] = refl
 counted_kept k p keeps (x ∷ xs) =
@@ -105,7 +105,7 @@ none_from_count p (x ∷ xs) none =
       | false ↦ λ h. none_from_count p xs (omega arith)
     ] none
 
--- none among those ahead of the first that passes
+-- none passes among those ahead of the first that does
 pub none_ahead : {X : Type 0} (p : X → Bool) (t : ℕ) (xs : List X) → t ≤ position_or_len p xs → counted p (take t xs) ≡ 0
 none_ahead p zero xs few = refl
 none_ahead p (suc t) [] few = refl
@@ -115,7 +115,7 @@ none_ahead p (suc t) (x ∷ xs) few =
       | false ↦ λ h. omega (arith, none_ahead p t xs (omega arith))
     ] few
 
--- and one with it
+-- one passes among those up to the first that does
 pub one_with_first : {X : Type 0} (p : X → Bool) (xs : List X) → position_or_len p xs < length xs → counted p (take (position_or_len p xs + 1) xs) ≡ 1
 one_with_first p [] room = absurd (omega arith)
 one_with_first p (x ∷ xs) room =

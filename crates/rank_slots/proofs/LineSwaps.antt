@@ -36,7 +36,7 @@ counted_exchanged p s neither left (c ∷ cs) =
       | false ↦ λ other. ap (λ n. tally (p c) + n) (counted_exchanged p s neither left cs)
     ] refl
 
--- and so it is among the first of those that a test keeps, which keeps both rights
+-- where one test passes both rights and another neither, an exchange leaves how many of the first cents that pass the one pass the other
 pub front_exchanged : (k p : RightNo → Bool) (s : Swap) → k s.recede ≡ true → k s.rise ≡ true → PassesNeither p s → (left t : ℕ) (cs : List RightNo)
     → counted p (take t (filter k (exchanged s left cs))) ≡ counted p (take t (filter k cs))
 front_exchanged k p s recedes rises neither left t [] = refl

@@ -13,14 +13,14 @@ use Rattle.gb_base.specs.RightNo.{RightNo}
 use Rattle.rank_slots.specs.declared.places.Piece.{Piece}
 use Rattle.rank_slots.specs.inner.Pieces.{line_of}
 
--- with one piece more
+-- the line with one piece more
 pub line_push : (ps : List Piece) (p : Piece) → line_of (ps ++ p ∷ []) ≡ line_of ps ++ replicate p.cents p.right
 line_push ps p = flat_map-append (λ q. replicate q.cents q.right) ps (p ∷ []) ∙ ap (λ t. line_of ps ++ t) (append-nil (replicate p.cents p.right))
 
 pub line_drop : (ps : List Piece) (i : ℕ) (d : Piece) → i < length ps → line_of (drop i ps) ≡ replicate (get_or ps i d).cents (get_or ps i d).right ++ line_of (drop (i + 1) ps)
 line_drop ps i d h = ap line_of (drop_more ps i d h)
 
--- as many cents as the pieces have
+-- the line has as many cents as the pieces
 pub length_line : (ps : List Piece) → length (line_of ps) ≡ sum_by (λ p. p.cents) ps
 length_line [] = refl
 length_line (p ∷ ps) =

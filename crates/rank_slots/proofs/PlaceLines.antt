@@ -82,7 +82,7 @@ claim_least r (p ∷ ps) least there =
 
 -- ---- the place of one right ahead of another's
 
--- by recursion
+-- a right's place stands ahead of another's, by recursion
 abbrev stands_ahead : List Place → RightNo → RightNo → Bool
 stands_ahead [] a c = false
 stands_ahead (p ∷ ps) a c = not (same_right p.right c) && (same_right p.right a || stands_ahead ps a c)
@@ -118,7 +118,7 @@ precedes_by a c (p ∷ ps) differ ahead =
 pub precedes_written : (a c : RightNo) (places : List Place) → AreDifferent places → is_listed_ahead places a c ≡ true → Precedes (same_right a) (same_right c) (written places)
 precedes_written a c places differ ahead = precedes_by a c places differ (sym (stands_ahead_is places a c) ∙ ahead)
 
--- two such rights are not one
+-- two rights of which one is listed ahead of the other are not one
 pub ahead_differ : (places : List Place) (a c : RightNo) → is_listed_ahead places a c ≡ true → same_right a c ≡ false
 ahead_differ places a c ahead =
     false_from_ne_true (same_right a c)

@@ -37,7 +37,7 @@ number_is (x ∷ xs) r (suc n) p differ within here own =
       | false ↦ λ other. let rest = number_is xs r n p (different_behind x xs differ) (omega (arith, within)) here own in omega (arith, rest)
     ] refl
 
--- its claim
+-- the claim of a right is that of its place
 pub claim_at : (places : List Place) (r : RightNo) (d : Place) → list_any (is_of r) places ≡ true → claim_of places r ≡ (get_or places (position_or_len (is_of r) places) d).claim
 claim_at [] r d there = absurd (false≢true there)
 claim_at (x ∷ xs) r d there =

@@ -65,7 +65,7 @@ window p q apart (suc u) e c (x ∷ xs) ahead few less =
           let rest = window p q apart u e c xs ahead.1 (omega arith) less in omega arith
     ] refl few)
 
--- what passes p in the first t, and not ahead of the last c of them, and what passes q in the first t are c together
+-- those that pass p and those that pass q among the first t are together at most c more than those that pass p among the first t - c
 pub window_below : {X : Type 0} (p q : X → Bool) → AreApart p q → (t c : ℕ) (xs : List X) → Precedes p q xs → counted q xs ≤ c
     → counted p (take t xs) + counted q (take t xs) ≤ counted p (take (t - c) xs) + c
 window_below p q apart t c xs ahead few =
@@ -74,7 +74,7 @@ window_below p q apart t c xs ahead few =
 
 -- ---- the first that passes p
 
--- none passes q ahead of it, where one passes p
+-- where one passes p, none passes q up to the first that passes p
 pub first_ahead : {X : Type 0} (p q : X → Bool) → AreApart p q → (t : ℕ) (xs : List X) → Precedes p q xs → 1 ≤ counted p xs → t ≤ position_or_len p xs + 1 → counted q (take t xs) ≡ 0
 first_ahead p q apart zero xs ahead some few = refl
 first_ahead p q apart (suc t) [] ahead some few = refl
@@ -93,7 +93,7 @@ first_ahead p q apart (suc t) (x ∷ xs) ahead some few =
           ] refl
     ] refl some few
 
--- all that pass q stand behind it
+-- all that pass q stand behind the first that passes p
 pub room_behind : {X : Type 0} (p q : X → Bool) → AreApart p q → (xs : List X) → Precedes p q xs → 1 ≤ counted p xs → position_or_len p xs + 1 + counted q xs ≤ length xs
 room_behind p q apart [] ahead some = absurd (omega arith)
 room_behind p q apart (x ∷ xs) ahead some =

@@ -1,4 +1,4 @@
--- A span is put ahead of the chain of a place: what it leaves of the others.
+-- A span is put at the front of a place's chain: what it leaves of the other chains.
 use Rattle.std.proofs.Common.{◌≡◌, ◌≢◌, ℕ, ◌<◌, Bool, true, false, eqb, List, [], ◌∷◌, ◌++◌, length, set, Option, Some, None, refl, subst, sym, ap, arith}
 use Rattle.std.specs.List.{AllByRecursion}
 use Rattle.std.proofs.lemmas.Bool.{eq-eqb, ne_eqb}
@@ -20,7 +20,7 @@ pub ahead_apart : (x : Span) (xs ys : List Span) → AllByRecursion (λ y. AllBy
 ahead_apart x xs ys ahead =
     each_weaker (λ y. AllByRecursion (λ z. y.from < z.from) (x ∷ xs)) (λ y. eqb y.from x.from ≡ false) (λ y all. ne_eqb y.from x.from (λ same. absurd (omega (arith, all.0)))) ys ahead
 
--- ---- a span is put at a number, ahead of the chain of a place
+-- ---- a span is put at a number, at the front of a place's chain
 
 pub record IsPut (b : SpanLists) (own other : ℕ) (next : Option ℕ) (y : Span) (owns others rest : List Span) : Type 0 where
   pub own_chain : Linked b.spans b.links (link_at b.heads own) (y ∷ owns)
@@ -48,7 +48,7 @@ is_put a own other number next x y owns others rest as_many within two here is o
       rest_chain = carried (same_from x) a.spans a.links spans links leaves next rest rest_apart rest_chain;
     }
 
--- ---- a span is pushed, ahead of the chain of a place
+-- ---- a span is pushed, at the front of a place's chain
 
 pub none_passes : (ys : List Span) → AllByRecursion (λ y. false ≡ false) ys
 none_passes [] = tt

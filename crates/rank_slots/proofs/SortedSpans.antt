@@ -79,7 +79,7 @@ rest_in : (x : Span) (xs : List Span) (y : Span) (ys : List Span) → x.from ≤
 rest_in x xs y [] least after all = tt
 rest_in x xs y (z ∷ zs) least after all = (⊎_elim (λ is. absurd (omega (arith, least, after.0.0, ap (λ (u : Span). u.from) is))) (λ there. there) all.0, rest_in x xs y zs least after.1 all.1)
 
--- a row that stands in a list is no longer
+-- a row whose spans are all in a list that rises is no longer than it
 row_within : (xs ys : List Span) → Rise xs → Ascend ys → AllByRecursion (λ y. In y xs) ys → length ys ≤ length xs
 unfolding Rise
 row_within xs [] up row all = zero-le
@@ -93,7 +93,7 @@ row_within (x ∷ xs) (y ∷ ys) up row all =
     omega (arith, rest))
     all.0
 
--- and one that is as long is the list
+-- a row that is as long as such a list is the list
 row_is : (xs ys : List Span) → Rise xs → Ascend ys → AllByRecursion (λ y. In y xs) ys → length xs ≡ length ys → xs ≡ ys
 unfolding Rise
 row_is [] [] up row all same = refl

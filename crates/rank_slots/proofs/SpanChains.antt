@@ -132,7 +132,7 @@ merge_all P firsts seconds (x ∷ xs) both all =
     (λ other. let rest = merge_all P firsts other.0 xs other.1.1 all.1 in (rest.0, subst (λ ys. AllByRecursion P ys) (sym other.1.0) (all.0, rest.1)))
     both
 
--- the spans of two tests that no span passes both
+-- the spans that pass one of two tests, where none passes both, are those of the one merged with those of the other
 pub merge_from : (p q : Span → Bool) → ((x : Span) → p x ≡ true → q x ≡ false) → (firsts seconds both xs : List Span) → Merge firsts seconds both
     → Merge (last_first p firsts xs) (last_first q seconds xs) (last_first (λ x. p x || q x) both xs)
 merge_from p q apart firsts seconds both [] merge = merge

@@ -30,7 +30,7 @@ row_sum n (x ∷ xs) row = omega (arith, row_sum (n + x.cents) xs row.1.1, sum_b
 
 -- ---- exchanges
 
--- an exchange of a right with itself leaves the line
+-- an exchange of a right with itself leaves the line as it is
 itself : (s : Swap) → same_right s.recede s.rise ≡ true → (left : ℕ) (cs : List RightNo) → exchanged s left cs ≡ cs
 itself s one left [] = refl
 itself s one left (c ∷ cs) =

@@ -108,7 +108,7 @@ pub last_first_append : (test : Span → Bool) (others xs ys : List Span) → la
 last_first_append test others [] ys = refl
 last_first_append test others (x ∷ xs) ys = last_first_append test (cond (test x) (x ∷ others) others) xs ys
 
--- those of a test that passes spans of the two rights alone are among what becomes of these
+-- a test that passes spans of the two rights alone finds the same among what becomes of these as among all
 pub own_spans : (s : Swap) (test : Span → Bool) → ((x : Span) → is_span_of_either s x ≡ false → test x ≡ false) → (left : ℕ) (others xs : List Span)
     → last_first test others (spans_dealt s left (filter (is_span_of_either s) xs)) ≡ last_first test others (spans_exchanged s left xs)
 own_spans s test inside left others [] = refl
@@ -142,7 +142,7 @@ exchanged_count s left (x ∷ xs) =
 
 -- ---- what holds of all of them
 
--- what holds of each span of the two rights, and is kept by others, holds behind an exchange
+-- what holds of the two rights, and of the right of each span, holds of that of each span after an exchange
 pub exchanged_all : (P : RightNo → Type 0) (s : Swap) → P s.recede → P s.rise → (left : ℕ) (xs : List Span) → AllByRecursion (λ x. P x.right) xs → AllByRecursion (λ x. P x.right) (spans_exchanged s left xs)
 exchanged_all P s recede rise left [] all = tt
 exchanged_all P s recede rise left (x ∷ xs) all =

@@ -55,7 +55,7 @@ length_exchange_all : (swaps : List Swap) (cs : List RightNo) → length (exchan
 length_exchange_all [] cs = refl
 length_exchange_all (s ∷ swaps) cs = length_exchange_all swaps (exchange cs s) ∙ length_exchanged s (cents_of s.rise cs) cs
 
--- the cents of dropped places ahead of being taken out
+-- the cents of dropped places, before they are taken out, are their claims
 dropped_cents : (places : List Place) (swaps : List Swap) → AreDifferent places
     → counted (is_dropped places) (exchange_all (written places) swaps) ≡ sum_by (λ p. p.claim) (filter (λ p. p.dropped) places)
 dropped_cents places swaps differ =
@@ -84,7 +84,7 @@ cent_line_length places swaps differ =
 pub line_length : (filled : Filled) → CanFill filled → length (line filled) ≡ sum_by (λ p. p.claim) (filter (λ p. not p.dropped) filled.places)
 line_length filled fits = cent_line_length filled.places filled.swaps fits.places.distinct
 
--- ---- knots apart
+-- ---- knots left aside
 
 whole_front : (filled : Filled) → take (length (line filled)) (line filled) ≡ line filled
 whole_front filled = take_all (length (line filled)) (line filled) (le_refl (length (line filled)))
@@ -117,7 +117,7 @@ member_undropped filled r a fits more there =
     let same = same_group filled.places a r fits.places.distinct there in
     both_ways (length (group_of filled.places r) == 1) more (eq-eqb (length (group_of filled.places r)) 1 (sym (ap length same) ∙ alone)))
 
--- and a group of several has the cents of its claims
+-- a group of several has the cents of its claims
 group_cents : (filled : Filled) (r : RightNo) → CanFill filled → (length (group_of filled.places r) == 1) ≡ false
     → counted (is_of_group (group_of filled.places r)) (line filled) ≡ sum_by (λ p. p.claim) (group_of filled.places r)
 group_cents filled r fits more =
@@ -157,7 +157,7 @@ plain_whole filled r fits kept =
 
 -- ---- by a knot
 
--- the exercised right gets no more than its claim, and the reserved one no more than knots apart: so each gets its claim
+-- the exercised right gets no more than its claim, and the reserved one no more than with knots left aside: so each gets its claim
 record ArePaid (filled : Filled) (k : Knot) : Type 0 where
   reserved : pay_reserved filled k (length (line filled)) ≡ claim_of filled.places k.reserved
   exercised : pay_exercised filled k (length (line filled)) ≡ claim_of filled.places k.exercised

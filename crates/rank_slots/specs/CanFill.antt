@@ -48,7 +48,7 @@ pub record CanKnot (places : List Place) (swaps : List Swap) (k : Knot) : Type 0
 abbrev pub knotted : List Knot → List RightNo
 knotted knots = flat_map (λ k. k.reserved ∷ k.exercised ∷ []) knots
 
--- All of it: each right is in one knot at most.
+-- What a line can be filled with: places that make a line, exchanges and knots of their rights, and each right in one knot at most.
 pub record CanFill (filled : Filled) : Type 0 where
   pub places : ArePlaces filled.places
   pub swaps : All (CanSwap filled.places) filled.swaps

@@ -16,11 +16,11 @@ pub record Filled : Type 0 where
 abbrev pub line : Filled → List RightNo
 line filled = cent_line filled.places filled.swaps
 
--- the same with one exchange more, after the others
+-- what a line was filled with, and one exchange more after the others
 abbrev pub with_swap : Filled → Swap → Filled
 with_swap filled s = record { places = filled.places; swaps = filled.swaps ++ s ∷ []; knots = filled.knots }
 
--- the same without knots
+-- what a line was filled with, without the knots
 abbrev pub without_knots : Filled → Filled
 without_knots filled = record { places = filled.places; swaps = filled.swaps; knots = [] }
 

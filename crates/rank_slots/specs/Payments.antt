@@ -19,7 +19,7 @@ share_in_group group right cents =
     if length group == 1 then cents
     else share cents (map (λ p. p.claim) group) (position_or_len (is_of right) group)
 
--- what a right gets of the first t cents of the line, knots apart
+-- what a right gets of the first t cents of the line, knots left aside
 abbrev pub plain_pay : Filled → RightNo → ℕ → ℕ
 plain_pay filled right t =
     share_in_group (group_of filled.places right) right (count_by (is_of_group (group_of filled.places right)) (take t (line filled)))
@@ -32,11 +32,11 @@ claim_of places right = option_map_or (λ p. p.claim) (find (is_of right) places
 abbrev pub knot_of : List Knot → RightNo → Option Knot
 knot_of knots right = find (λ k. same_right k.reserved right || same_right k.exercised right) knots
 
--- what the reserved right of a knot gets: what it would, knots apart, of a sum that is smaller by the exercised one's claim
+-- what the reserved right of a knot gets: what it would, knots left aside, of a sum that is smaller by the exercised one's claim
 abbrev pub pay_reserved : Filled → Knot → ℕ → ℕ
 pay_reserved filled k t = plain_pay filled k.reserved (t - claim_of filled.places k.exercised)
 
--- what the exercised right gets: what both get knots apart, less what the reserved one gets (BGB § 881(4))
+-- what the exercised right gets: what both get knots left aside, less what the reserved one gets (BGB § 881(4))
 abbrev pub pay_exercised : Filled → Knot → ℕ → ℕ
 pay_exercised filled k t = plain_pay filled k.reserved t + plain_pay filled k.exercised t - pay_reserved filled k t
 

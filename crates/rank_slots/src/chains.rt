@@ -1,4 +1,4 @@
-//! An exchange of two rights: their chains are joined, and dealt out anew.
+//! An exchange of two rights: their chains are joined, and dealt out again.
 ghost use Rattle.std.specs.Prelude.{◌≡◌, ◌≢◌, ◌+◌, ◌-◌, ◌<◌, ◌≤◌, Bool, List, None, Option, ℕ, false, length, true, vec_capacity};
 ghost use Rattle.std.specs.List.{AllByRecursion};
 ghost use Rattle.rank_slots.specs.declared.spans.Span.{Span};
@@ -13,8 +13,8 @@ use crate::Swap;
 use crate::spans::Spans;
 
 impl Spans {
-    /// Joins the chains of two places into one of which the first span is first; theirs are not
-    /// to be read any more.
+    /// Joins the chains of two places into one, which begins with the span that stands first on the
+    /// line; after it the chains of the two places must not be read.
     pub fn join(&mut self, one: usize, other: usize) -> Option<usize>
         requires one { one < length self.old.heads.items }
         requires other { other < length self.old.heads.items }
@@ -47,8 +47,8 @@ impl Spans {
         }
     }
 
-    /// Deals such a chain out to two places, which have none: the first cents to the rising right,
-    /// and all others to the receding one.
+    /// Deals a joined chain out to two places that have no chain: the first cents to the rising
+    /// right, and all others to the receding one.
     pub fn deal(
         &mut self,
         joined: Option<usize>,
@@ -88,7 +88,7 @@ impl Spans {
         }
     }
 
-    /// Deals one span out, and says how many cents are left to rise behind it.
+    /// Deals one span out, and says how many cents are left to rise after it.
     fn deal_span(
         &mut self,
         swap: &Swap,

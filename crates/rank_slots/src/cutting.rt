@@ -44,7 +44,7 @@ impl Spans {
         }
     }
 
-    /// Puts the spans in their order on the line; the chains are not to be read any more.
+    /// Puts the spans in their order on the line; after it the chains must not be read.
     pub fn sort(&mut self)
         ensures row { (places : List Place) (row : List Span) → AreCut (lists_of self.old) places row → self.new.spans.items ≡ row }
         ensures len { length self.new.spans.items ≡ length self.old.spans.items }
@@ -76,14 +76,14 @@ pub(crate) fn write_line(pieces: &mut Vec<Piece>, spans: &[Span], places: &[Plac
     }
 }
 
-/// Whether any place is dropped, which few lines have: then each span asks for its own.
+/// Whether any place is dropped. Few lines have one; only there is asked for each span.
 fn any_is_dropped(places: &[Place]) -> bool
     ensures { result ≡ list_any (λ p. p.dropped) places.now }
 {
     places.iter().any(|place| place.dropped)
 }
 
-/// Whether the cents of a right stay on the line, where any place is dropped or none is.
+/// Whether the cents of a right stay on the line; `any` says whether any place is dropped.
 fn stays(places: &[Place], any: bool, right: RightId) -> bool
     requires { any ≡ list_any (λ p. p.dropped) places.now }
     ensures { result ≡ not (is_dropped places.now right) }

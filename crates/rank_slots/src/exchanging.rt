@@ -1,4 +1,4 @@
-//! Exchanges of a line in spans, each in the time of the spans of its two rights.
+//! Exchanges on a line in spans, each in the time that the spans of its two rights take.
 //! Why so: docs/DECISIONS.md, "An exchange walks the spans of its two rights".
 ghost use Rattle.std.specs.Prelude.{◌≡◌, ◌+◌, ◌<◌, ◌≤◌, All, List, false, length, vec_capacity};
 ghost use Rattle.std.specs.List.{IsDistinct, position_or_len};
@@ -15,8 +15,8 @@ use crate::{Piece, Place, Swap, place_numbers};
 use gb_base::RightId;
 
 impl Spans {
-    /// Makes these exchanges of the line that stands, one after the other. There is room for one span
-    /// more of each. Now and then neighbours are joined, by way of these pieces.
+    /// Makes these exchanges on the line that stands, one after the other. There is room for one
+    /// more span for each. Now and then neighbours are joined, by way of these pieces.
     pub fn exchange_all(&mut self, pieces: &mut Vec<Piece>, places: &[Place], swaps: &[Swap])
         requires places { ArePlaces places.now }
         requires swaps { All (CanSwap places.now) swaps.now }

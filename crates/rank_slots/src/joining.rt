@@ -15,9 +15,9 @@ use crate::spans::{Span, Spans};
 use crate::{Piece, Place};
 
 impl Spans {
-    /// Joins neighbours where no exchange is left ahead of the next joining, which is counted down in
-    /// `left`; says how many are left behind the one that comes. After as many exchanges as there were
-    /// spans they are twice as many at most.
+    /// Joins neighbours where no exchange is left before the next joining; `left` counts these
+    /// down. Says how many are left after the exchange that comes next. After as many exchanges
+    /// as there were spans there are twice as many spans at most.
     pub fn join_in_turn(&mut self, left: usize, pieces: &mut Vec<Piece>, places: &[Place]) -> usize
         requires places { ArePlaces places.now }
         requires cut { (row : List Span) × AreCut (lists_of self.old) places.now row }
@@ -58,7 +58,7 @@ impl Spans {
         self.cut_again(pieces, places);
     }
 
-    /// Cuts a line anew into these pieces, with a chain of those of each place.
+    /// Cuts the line again, into these pieces, with a chain of those of each place.
     pub fn cut_again(&mut self, pieces: &[Piece], places: &[Place])
         requires places { ArePlaces places.now }
         requires owned { All (λ p. list_any (is_of p.right) places.now ≡ true) pieces.now }

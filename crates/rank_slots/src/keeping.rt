@@ -9,8 +9,8 @@ use crate::spans::Spans;
 use crate::{Piece, Place, Swap};
 
 impl Spans {
-    /// Makes the line of these places behind these exchanges, in order, of the line that stands,
-    /// which is that of the last ones. Neighbours are joined by way of these pieces.
+    /// Makes the line of these places after these exchanges, with its spans in order, from the line
+    /// that stands, which is that of the last ones. Neighbours are joined by way of these pieces.
     pub fn make_of(
         &mut self,
         pieces: &mut Vec<Piece>,
@@ -33,7 +33,7 @@ impl Spans {
         ensures piece_capacity { vec_capacity pieces.new ≡ vec_capacity pieces.old }
     {
         let further = self.keep_or_cut(last_places, last_swaps, places, swaps);
-        // What is kept, and what is cut of places, is in order.
+        // A line that is kept, or cut from places, has its spans in order.
         if further.is_empty() {
             return;
         }
@@ -41,8 +41,8 @@ impl Spans {
         self.join_neighbours(pieces, places);
     }
 
-    /// Keeps the line that stands where these places and exchanges go on from it, and cuts the places
-    /// anew elsewhere. Gives the exchanges that are left to make.
+    /// Keeps the line that stands where these places and exchanges go on from it, and else cuts the
+    /// places again. Gives the exchanges that are left to make.
     fn keep_or_cut<'a>(
         &mut self,
         last_places: &[Place],
@@ -71,8 +71,8 @@ impl Spans {
     }
 }
 
-/// The exchanges behind the last ones, where the places are the last ones and the exchanges begin
-/// with the last ones. No clause says that this is always seen: with None the line is made anew.
+/// The exchanges that follow the last ones, where the places are the last ones and the exchanges
+/// begin with the last ones. No clause says that this is always seen: with None the line is rebuilt.
 fn further<'a>(
     last_places: &[Place],
     last_swaps: &[Swap],
@@ -96,7 +96,7 @@ fn are_same(last: &[Place], places: &[Place]) -> bool
     last == places
 }
 
-/// The exchanges behind these, where they are seen to begin with these.
+/// The exchanges that follow the last ones, where they are seen to begin with these.
 fn behind<'a>(last: &[Swap], swaps: &'a [Swap]) -> Option<&'a [Swap]>
     ensures { IfSome result (λ further. swaps.now ≡ last.now ++ further.now) }
 {

@@ -10,7 +10,7 @@ ghost use Rattle.rank_slots.specs.Payments.{claim_of, paid_out, pay, pay_reserve
 ghost use Rattle.rank_slots.specs.declared.places.Knot.{Knot};
 ghost use Rattle.rank_slots.specs.declared.places.Swap.{Swap};
 
-/// Behind an exchange the cents of the two rights stand where theirs stood. The first of them are
+/// After an exchange the cents of the two rights stand where theirs stood. The first of them are
 /// the rising one's, as many as it had, and the others the receding one's; all other cents are as
 /// before (BGB § 880(1), (5)).
 pub fn exchange()
@@ -23,8 +23,8 @@ pub fn exchange()
         ≡ replicate (cents_of s.rise line) s.rise ++ replicate (cents_of s.recede line) s.recede }
 {}
 
-/// A further exchange of two rights that are not dropped leaves what every third right gets of each
-/// sum (BGB § 880(5)).
+/// A further exchange of two rights that are not dropped changes nothing of what every third right
+/// gets of each sum (BGB § 880(5)).
 pub fn third_rights()
     ensures kept { (filled : Filled) (s : Swap) (right : RightNo) (t : ℕ) → CanFill (with_swap filled s)
         → keeps_place filled.places s.recede ≡ true → keeps_place filled.places s.rise ≡ true
@@ -55,7 +55,7 @@ pub fn threshold()
 {}
 
 /// What an exercised right gets is a true difference: the reserved one gets no more than both get
-/// knots apart. So both together get what they get without the knots (BGB § 881).
+/// knots left aside. So both together get what they get without the knots (BGB § 881).
 pub fn pay_exercised()
     ensures uncut { (filled : Filled) (k : Knot) (t : ℕ) → CanFill filled → Contains filled.knots k
         → pay_reserved filled k t ≤ plain_pay filled k.reserved t + plain_pay filled k.exercised t }

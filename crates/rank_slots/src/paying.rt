@@ -17,9 +17,9 @@ use gb_base::{RightId, share};
 
 impl Slots {
     /// How many of the first t cents the right gets. One of a group gets its share of the group's
-    /// cents; the reserved right of a knot gets what it would, knots apart, of a sum that is
-    /// smaller by the exercised one's claim, and the exercised one what is left of both
-    /// (BGB § 881(4)). Takes no memory.
+    /// cents; the reserved right of a knot gets what it would get, knots left aside, of a sum that
+    /// is smaller by the exercised one's claim, and the exercised one the rest of what both would
+    /// get (BGB § 881(4)). Takes no memory.
     ///
     /// ```
     /// // With A, B and C as in `Slots::fill`.
@@ -79,8 +79,8 @@ impl Slots {
         }
     }
 
-    /// How many of the first t cents the right gets, knots apart. Of a right that stands alone its
-    /// own pieces are walked, and else those of the line.
+    /// How many of the first t cents the right gets, knots left aside. For one that stands alone
+    /// its own pieces are walked, else those of the line.
     fn plain_pay(&self, right: RightId, t: u64) -> u64
         requires { keeps_place self.now.filled.places right ≡ true }
         ensures value { result ≡ plain_pay self.now.filled right t }
@@ -92,7 +92,8 @@ impl Slots {
         }
     }
 
-    /// The same of a right that may be of one group with others.
+    /// How many of the first t cents a right gets that may share its group with others, knots left
+    /// aside.
     fn pay_in_group(&self, right: RightId, t: u64) -> u64
         requires { keeps_place self.now.filled.places right ≡ true }
         ensures value { result ≡ plain_pay self.now.filled right t }

@@ -9,8 +9,8 @@ use crate::Place;
 use crate::groups::places_ahead;
 use gb_base::RightId;
 
-/// The number of the right's place; that of all places where it has none. Places that stand by
-/// receipt, as those of a folio do, are searched; of others all are walked.
+/// The number of the right's place; where it has none, the number of all places. Places in the
+/// order of their receipts, as those of a folio, are searched; others are walked one by one.
 pub(crate) fn number_of(places: &[Place], right: RightId) -> usize
     requires distinct { IsDistinct (λ p q. same_right p.right q.right) places.now }
     ensures value { result ≡ position_or_len (is_of right) places.now }
@@ -25,9 +25,9 @@ pub(crate) fn number_of(places: &[Place], right: RightId) -> usize
     }
 }
 
-/// The number of the right's place, where it is seen to be alone in its group; None elsewhere, and
-/// where the right has no place. What is said of a number is true, and no clause says that each lone
-/// right gets one: who gets None goes the long way.
+/// The number of the right's place, where it is seen to be alone in its group; else None, as where
+/// the right has no place. The clauses say what holds of a number, and none says that each lone
+/// right gets one: with None the caller goes the long way.
 pub(crate) fn lone_number(places: &[Place], right: RightId) -> Option<usize>
     requires distinct { IsDistinct (λ p q. same_right p.right q.right) places.now }
     requires first { joins places.now ≡ false }

@@ -29,7 +29,7 @@ pub struct Slots {
     pub(crate) knots: Vec<Knot>,
     /// The pieces of the line.
     pub(crate) pieces: Vec<Piece>,
-    /// The line ahead of taking out dropped places, from which the next fill may go on.
+    /// The line before dropped places are taken out; the next fill may go on from it.
     pub(crate) spans: Spans,
     /// The pieces, with a chain of those of each place.
     pub(crate) chains: Spans,
@@ -61,8 +61,8 @@ impl Model for Slots {
 }
 
 impl Slots {
-    /// An empty line, with room for so many places and so many exchanges among them. Wants memory,
-    /// and is the only call of a line that does.
+    /// An empty line, with room for so many places and so many exchanges among them. May run out of
+    /// memory (`NoMemory`); no other call of a line takes any.
     ///
     /// ```
     /// let mut slots = Slots::with_room(rt.alloc(), 3, 1)?;
@@ -85,8 +85,8 @@ impl Slots {
         })
     }
 
-    /// Fills the line anew: the claims of the places in order, with these exchanges in turn and
-    /// these exercised reservations. Takes no memory.
+    /// Fills the line in place of what stood there: with the claims of the places in order, these
+    /// exchanges in turn and these exercised reservations. Takes no memory.
     ///
     /// ```
     /// // A has a claim of 100 cents, B of 50 and C of 80, each in a group of its own.
@@ -158,7 +158,7 @@ impl Slots {
     }
 }
 
-/// Fills a list that has room for it anew.
+/// Fills a list that has room for these items with them, in place of its own.
 fn copy_into<T: Copy>(list: &mut Vec<T>, from: &[T])
     requires { length from.now ≤ vec_capacity list.old }
     ensures items { list.new.items ≡ from.now }

@@ -72,7 +72,7 @@ impl Spans {
         })
     }
 
-    /// Puts a span at this number, and ahead of the chain of the place.
+    /// Puts a span at this number, as the first of the place's chain.
     pub fn put(&mut self, place: usize, number: usize, span: Span)
         requires number { number < length self.old.spans.items }
         requires linked { number < length self.old.links.items }
@@ -89,7 +89,7 @@ impl Spans {
         self.heads[place] = Some(number);
     }
 
-    /// Adds a span ahead of the chain of the place.
+    /// Adds a span, as the first of the place's chain.
     pub fn push(&mut self, place: usize, span: Span)
         requires room { length self.old.spans.items < vec_capacity self.old.spans }
         requires link_room { length self.old.links.items < vec_capacity self.old.links }
@@ -125,7 +125,7 @@ impl Spans {
         cents
     }
 
-    /// These two chains, the one that begins further behind on the line first.
+    /// These two chains, first the one whose first span stands further behind on the line.
     pub fn later_first(
         &self,
         first: Option<usize>,
@@ -142,7 +142,8 @@ impl Spans {
         }
     }
 
-    /// Whether the first chain begins further ahead on the line than the second, or is none.
+    /// Whether the first span of the first chain stands ahead of that of the second on the line, or
+    /// only the first chain is empty.
     fn begins_ahead(&self, first: Option<usize>, second: Option<usize>) -> bool
         requires first { Begins self.now.spans.items first }
         requires second { Begins self.now.spans.items second }

@@ -25,8 +25,8 @@ pub fn always_one()
     ensures { (bytes : List ℕ) → ¬ ((a : AtFront) → ¬ (StandsIn bytes a)) }
 {}
 
-/// The bytes of a link are one list of requests, and what stands behind them: it is false that there
-/// is no such list, and there is only one. The answers of
+/// The bytes of a link are one list of requests, and what stands behind them: it is false that
+/// there is no such list, and there is only one. The answers of
 /// `next_request`, one after another, are those requests in turn, and then what stands behind them,
 /// however the bytes are cut.
 pub fn requests_in_turn()

@@ -2,8 +2,8 @@
 ghost use Rattle.std.specs.Prelude.{◌≡◌};
 ghost use Rattle.registry_http.specs.inner.Lines.{after_byte, after_bytes, are_over};
 
-/// How far the lines of a head have come. So the end of a head is found without a second look at any
-/// byte.
+/// How far the lines of a head have come. So the end of a head is found without a second look at
+/// any byte.
 #[derive(Clone, Copy)]
 pub enum Lines {
     /// There are at most empty lines.

@@ -221,11 +221,11 @@ fn read_request<L: Link>(alloc: Global, link: &mut L, bytes: &mut Vec<u8>) -> Re
 }
 
 /// The next request of a link. `rest` has the bytes that were read beyond the request before; those
-/// behind this one are kept there. The link is read only where more bytes are wanted: where no empty
-/// line has followed a line and fewer bytes came than a head may have, or where a body lacks bytes.
-/// So no reply waits for bytes that it does not need, and a broken head is refused at its empty line
-/// at the latest. After any answer but a request the connection is over, and what `rest` has is of
-/// no use.
+/// behind this one are kept there. The link is read only where more bytes are wanted: where no
+/// empty line has followed a line and fewer bytes came than a head may have, or where a body lacks
+/// bytes. So no reply waits for bytes that it does not need, and a broken head is refused at its
+/// empty line at the latest. After any answer but a request the connection is over, and what `rest`
+/// has is of no use.
 pub fn next_request<L: Link>(alloc: Global, link: &mut L, rest: &mut Vec<u8>) -> Next
     ensures answer { ReadsNext (L.left link.old) (L.left link.new) rest.old.items rest.new.items result }
     ensures few { KeepsFew rest.old.items rest.new.items result }

@@ -20,7 +20,7 @@ pub record HasRoom (place_room swap_room of_places of_swaps of_knots of_pieces :
   pub knots : place_room ≤ of_knots
   pub pieces : place_room + swap_room ≤ of_pieces
 
--- So have lists of a line in spans: each exchange cuts one span at most.
+-- Lists of these capacities have room for a line in spans: each exchange cuts one span at most.
 pub record HasSpanRoom (place_room swap_room of_spans of_links of_heads : ℕ) : Type 0 where
   pub spans : place_room + swap_room ≤ of_spans
   pub links : place_room + swap_room ≤ of_links

@@ -13,7 +13,7 @@ pub record IsToDeal (a : SpanLists) (joined : Option ℕ) (whole : List Span) : 
   pub ascends : Ascend whole
   pub bounded : AllByRecursion (λ x. x.from + x.cents < most_sum) whole
 
--- The rest of this chain, behind what the two places have of it already; the lists had `start` spans, and so many cents were to rise.
+-- The chain is dealt in part: the two places have the first of its cents, and `rest` is still to be dealt; the lists had `start` spans, and so many cents were to rise.
 pub record IsDealing (a : SpanLists) (s : Swap) (recede rise : ℕ) (next : Option ℕ) (left start cents : ℕ) (whole : List Span) : Type 0 where
   pub rest : List Span
   pub receded : List Span

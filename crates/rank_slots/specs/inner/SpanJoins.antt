@@ -4,16 +4,16 @@ use Rattle.std.specs.List.{AllByRecursion}
 use Rattle.rank_slots.specs.declared.spans.Span.{Span}
 use Rattle.rank_slots.specs.inner.Spans.{Linked, span_at}
 
--- the first ends ahead of the second
+-- the first span begins ahead of the second, and ends before it begins
 abbrev pub Before : Span → Span → Type 0
 Before x y = (x.from < y.from) × (x.from + x.cents ≤ y.from)
 
--- each ends ahead of those behind it
+-- each span ends before those behind it begin
 abbrev pub Ascend : List Span → Type 0
 Ascend [] = Unit {0}
 Ascend (x ∷ xs) = AllByRecursion (λ y. Before x y) xs × Ascend xs
 
--- these spans turned round, and then those that are made
+-- these spans in reverse order, and then those that are made
 abbrev pub turned : List Span → List Span → List Span
 turned made [] = made
 turned made (x ∷ xs) = turned (x ∷ made) xs
@@ -25,8 +25,8 @@ Merge firsts seconds (x ∷ xs) =
     ((rest : List Span) × ((firsts ≡ x ∷ rest) × Merge rest seconds xs))
     ⊎ ((rest : List Span) × ((seconds ≡ x ∷ rest) × Merge firsts rest xs))
 
--- Two chains, the last spans first, and a third one that is made of what stood behind them, the first span first: together they
--- are the whole.
+-- Two chains, the last spans first, and a third one, the first span first, that is made of the spans taken from them so far: together
+-- they are the whole.
 pub record AreToJoin (spans : List Span) (links : List (Option ℕ)) (first second joined : Option ℕ) (whole : List Span) : Type 0 where
   pub rest : List Span
   pub firsts : List Span
@@ -39,7 +39,7 @@ pub record AreToJoin (spans : List Span) (links : List (Option ℕ)) (first seco
   pub is_whole : turned made rest ≡ whole
   pub ascends : Ascend whole
 
--- up to which cent a chain reaches whose last spans are first, by its first span
+-- how far a chain whose last span is first reaches on the line, by where this span begins
 abbrev pub reach : List Span → Option ℕ → ℕ
 reach spans None = 0
 reach spans (Some number) = (span_at spans number).from + 1

@@ -45,7 +45,7 @@ spans_of n (p ∷ ps) = record { from = n; cents = p.cents; right = p.right } �
 abbrev pub front_of : Span → ℕ → RightNo → Span
 front_of x cents right = record { from = x.from; cents = cents; right = right }
 
--- its cents behind these, as this right's
+-- the cents of a span behind its first ones, as this right's
 abbrev pub back_of : Span → ℕ → RightNo → Span
 back_of x cents right = record { from = x.from + cents; cents = x.cents - cents; right = right }
 
@@ -62,12 +62,12 @@ spans_exchanged s left [] = []
 spans_exchanged s left (x ∷ xs) =
     if is_span_of_either s x then parts_of s left x ++ spans_exchanged s (left - x.cents) xs else x ∷ spans_exchanged s left xs
 
--- the same where all spans are of one of the two rights
+-- what an exchange makes of spans that are all of one of the two rights, while cents are left to rise
 abbrev pub spans_dealt : Swap → ℕ → List Span → List Span
 spans_dealt s left [] = []
 spans_dealt s left (x ∷ xs) = parts_of s left x ++ spans_dealt s (left - x.cents) xs
 
--- the spans behind an exchange; that of a right with itself leaves them
+-- the spans after an exchange; an exchange of a right with itself leaves them as they are
 abbrev pub exchange_spans : List Span → Swap → List Span
 exchange_spans spans s =
     if same_right s.recede s.rise then spans else spans_exchanged s (cents_of s.rise (line_of_spans spans)) spans
@@ -82,7 +82,7 @@ no_span = record { from = 0; cents = 0; right = record { receipt = 0; act = 0 } 
 abbrev pub span_at : List Span → ℕ → Span
 span_at spans number = slice_index_or spans number no_span
 
--- the number behind this one in its chain, or the first of this place's chain
+-- the number that follows this one in its chain, or the first of this place's chain
 abbrev pub link_at : List (Option ℕ) → ℕ → Option ℕ
 link_at links number = slice_index_or links number None
 
@@ -103,13 +103,13 @@ abbrev pub Begins : List Span → Option ℕ → Type 0
 Begins spans None = Unit {0}
 Begins spans (Some number) = number < length spans
 
--- the first chain begins further ahead on the line than the second, or is none
+-- the first span of the first chain stands ahead of that of the second on the line, or only the first chain is empty
 abbrev pub begins_ahead : List Span → Option ℕ → Option ℕ → Bool
 begins_ahead spans first None = false
 begins_ahead spans None (Some other) = true
 begins_ahead spans (Some number) (Some other) = nat_lt (span_at spans number).from (span_at spans other).from
 
--- these two chains, the one that begins further behind first
+-- these two chains, first the one whose first span stands further behind on the line
 abbrev pub later_first : List Span → Option ℕ → Option ℕ → Option ℕ × Option ℕ
 later_first spans first second = if begins_ahead spans first second then (second, first) else (first, second)
 
@@ -119,7 +119,7 @@ pub record SpanLists : Type 0 where
   pub links : List (Option ℕ)
   pub heads : List (Option ℕ)
 
--- with a span at this number, and ahead of the chain of the place
+-- the lists with a span at this number, as the first of the place's chain
 abbrev pub put : SpanLists → ℕ → ℕ → Span → SpanLists
 put a place number x = record {
   spans = slice_set a.spans number x;
@@ -127,7 +127,7 @@ put a place number x = record {
   heads = slice_set a.heads place (Some number);
 }
 
--- with one span more, ahead of the chain of the place
+-- the lists with one span more, as the first of the place's chain
 abbrev pub pushed : SpanLists → ℕ → Span → SpanLists
 pushed a place x = record {
   spans = a.spans ++ x ∷ [];
@@ -135,7 +135,7 @@ pushed a place x = record {
   heads = slice_set a.heads place (Some (length a.spans));
 }
 
--- with the parts of this span, of one of the two rights, ahead of the chains of the places to which they go
+-- the lists with this span, of one of the two rights, dealt out: its parts are the first of the chains of the places to which they go
 abbrev pub span_dealt : SpanLists → Swap → ℕ → ℕ → ℕ → ℕ → SpanLists
 span_dealt a s recede rise number left =
     if left == 0 then put a recede number (front_of (span_at a.spans number) (span_at a.spans number).cents s.recede)
@@ -148,7 +148,7 @@ span_dealt a s recede rise number left =
 abbrev pub cents_within : ℕ → Span → ℕ
 cents_within t x = min x.cents (t - x.from)
 
--- each span begins behind all that follow it
+-- each span begins further behind on the line than all that follow it
 abbrev pub Descend : List Span → Type 0
 Descend [] = Unit {0}
 Descend (x ∷ xs) = AllByRecursion (λ y. y.from < x.from) xs × Descend xs
@@ -183,25 +183,25 @@ pub record AreChainedPieces (a : SpanLists) (places : List Place) (pieces : List
   pub as_many_heads : length a.heads ≡ length places
   pub chains : AreChained a places
 
--- Such lists of some row that stands for this line.
+-- The lists are cut for some row of spans that stands for this line.
 pub record StandFor (a : SpanLists) (places : List Place) (line : List RightNo) : Type 0 where
   pub row : List Span
   pub cut : AreCut a places row
   pub is_line : line_of_spans row ≡ line
 
--- Such lists that have the spans in the order of the line.
+-- The lists are cut for their own spans, which stand in the order of this line.
 pub record StandInOrder (a : SpanLists) (places : List Place) (line : List RightNo) : Type 0 where
   pub cut : AreCut a places a.spans
   pub is_line : line_of_spans a.spans ≡ line
 
 -- ---- lists that are kept from one line to the next
 
--- The lists stand in order for the line of these places behind these exchanges, each of which has cut one span at most.
+-- The lists stand in order for the line of these places after these exchanges, each of which has cut one span at most.
 pub record AreMadeOf (a : SpanLists) (places : List Place) (swaps : List Swap) : Type 0 where
   pub stand : StandInOrder a places (exchange_all (written places) swaps)
   pub few : length a.spans ≤ length places + length swaps
 
--- The lists stand in order for a line of these places behind which the further ones are all that is left of these exchanges.
+-- The lists stand in order for a line of these places after some of these exchanges, and the further ones are all that are left to make.
 pub record AreToGoOn (a : SpanLists) (places : List Place) (further swaps : List Swap) : Type 0 where
   pub line : List RightNo
   pub stand : StandInOrder a places line

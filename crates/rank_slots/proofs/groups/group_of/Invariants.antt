@@ -1,4 +1,4 @@
--- The group is the one that it is among the places left.
+-- The group of the right is its group among the places left.
 use Rattle.std.proofs.Common.{◌≡◌, length}
 use Rattle.rank_slots.specs.Groups.{group_of}
 use Rattle.rank_slots.proofs.groups.group_of.Given as goal

@@ -1,4 +1,4 @@
--- Behind exchanges that are equal to the last ones stand the others.
+-- Where the exchanges begin with the last ones, the others follow.
 use Rattle.std.proofs.lemmas.Slice.Eq.{strip_prefix_is}
 use Rattle.rank_slots.proofs.SameFillings.{some_alone, swap_decides}
 use Rattle.rank_slots.proofs.keeping.behind.Goals as goal

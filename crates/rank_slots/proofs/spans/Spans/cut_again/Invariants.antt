@@ -1,4 +1,4 @@
--- The spans of the pieces so far, each ahead of the chain of its place.
+-- The spans of the pieces so far, each put at the front of its place's chain.
 use Rattle.std.proofs.Common.{◌≡◌, ◌++◌, drop, length, sum_by, take, vec_capacity}
 use Rattle.rank_slots.specs.inner.SpanLists.{lists_of}
 use Rattle.rank_slots.specs.inner.Spans.{AreChained, spans_of}

@@ -1,4 +1,4 @@
--- The lists stand for the line behind the exchanges so far.
+-- The lists stand for the line after the exchanges so far.
 use Rattle.std.proofs.Common.{◌≡◌, ◌+◌, ◌≤◌, List, length, take, vec_capacity}
 use Rattle.gb_base.specs.RightNo.{RightNo}
 use Rattle.rank_slots.specs.CentLine.{exchange_all}

@@ -1,4 +1,4 @@
--- The line goes on, or begins anew.
+-- The line goes on, or is cut again.
 use Rattle.rank_slots.specs.inner.SpanLists.{lists_of}
 use Rattle.rank_slots.proofs.KeptLines.{begins_anew, goes_on}
 use Rattle.rank_slots.proofs.spans.Spans.keep_or_cut.Goals as goal
