@@ -53,7 +53,7 @@ ascend_of m a [] up = tt
 ascend_of m a (x ∷ xs) up =
     (all_weaker (λ y. is_from x.receipt (x.act + 1) y ≡ true) (λ y. is_numbered_before x y ≡ true) xs (λ y from. before_it x y from) (all_behind x xs up.1), ascend_of x.receipt (x.act + 1) xs up.1)
 
--- the other way round
+-- where y is not up to x, x comes before y
 up_to_or_before : (x y : RightNo) → is_up_to x y ≡ false → is_numbered_before x y ≡ true
 up_to_or_before x y apart = grind (arith, nat_tests, apart)
 
@@ -96,7 +96,7 @@ in_taken (suc n) i [] d within less = absurd (omega (arith, within))
 in_taken (suc n) zero (x ∷ xs) d within less = inl refl
 in_taken (suc n) (suc i) (x ∷ xs) d within less = inr (in_taken n i xs d (omega (arith, within)) (omega (arith, less)))
 
--- by its rank the right is among the first
+-- a right whose rank is at most n is among the first n
 by_rank : (ids : List RightNo) (id : RightNo) (n : ℕ) → IsSomeAnd (option_map (λ k. k + 1) (position (same_right id) ids)) (λ k. k ≤ n) → is_among (take n ids) id ≡ true
 by_rank ids id n rank =
     elim (position (same_right id) ids) as (λ o. position (same_right id) ids ≡ o → IsSomeAnd (option_map (λ k. k + 1) o) (λ k. k ≤ n) → is_among (take n ids) id ≡ true) [
@@ -142,9 +142,9 @@ some_made : {P : Type 0} (o : Option Created) → IsSome o → ((made : Created)
 some_made None some then = absurd (false≢true some)
 some_made (Some made) some then = then made refl
 
--- ---- so they are all
+-- ---- so these are all the rights
 
--- the ones that the journal has filed
+-- the rights that the journal has filed are all
 pub filed_are_all : (before : Option ℕ) (journal : List Receipt) (at : Key → List Entry) (folio : ℕ) → Kept journal at → AreAllRights (rights_filed before journal folio) (read_at before at) folio
 filed_are_all before journal at folio kept = record {
   ascend = filed_ascend before journal folio;
@@ -174,7 +174,7 @@ pub these_are_all : (o before : Option ℕ) (ids : List RightNo) (journal : List
 these_are_all o before ids journal at folio is same kept =
     subst (λ b. AreAllRights ids (read_at b at) folio) (sym is) (subst (λ xs. AreAllRights xs (read_at o at) folio) (sym same) (filed_are_all o journal at folio kept))
 
--- and the ones that are held, where nothing is read elsewhere
+-- the rights that are held are all, where nothing is read elsewhere
 pub held_are_all : (before : Option ℕ) (holds : Key → Bool) (at : Key → List Entry) (folio : ℕ) → AreAllRights (held_rights holds folio) (read_at before (where_held holds at)) folio
 held_are_all before holds at folio = record {
   ascend = ascend_of_distinct (held_rights holds folio) (distinct_filter is_up_to (λ id. holds (Right folio id)) right_numbers numbers_rise);
@@ -188,7 +188,7 @@ held_are_all before holds at folio = record {
     held (Some n) id some =
         elim (holds (Right folio id)) as (λ b. IsSome (created (below n (cond b (at (Right folio id)) []))) → b ≡ true) [ true ↦ λ _. refl | false ↦ λ none. absurd (false≢true none) ] some
 
--- ---- those before a receipt are the first
+-- ---- the rights of filings before a receipt are the first
 
 not_before : (n : ℕ) (x y : RightNo) → nat_lt x.receipt n ≡ false → is_numbered_before x y ≡ true → nat_lt y.receipt n ≡ false
 not_before n x y late before = grind (arith, nat_tests, late, before)

@@ -58,7 +58,7 @@ spent_as_filed : (journal : List Receipt) (folio : ℕ) (reserved by : RightNo) 
 spent_as_filed journal folio reserved by (what.Exercised right) acts is = (acts.0, subst (λ (q : RightNo). reserved.receipt < q.receipt) (right_is right by is) acts.1)
 spent_as_filed journal folio reserved by other acts is = absurd (false≢true is)
 
--- what an exercise that counts is read by
+-- the exercise of these two rights
 abbrev the_knot : RightNo → RightNo → Knot
 the_knot reserved by = record { reserved = reserved; exercised = by }
 
@@ -121,7 +121,7 @@ is_tied journal at folio k stands there =
 abbrev pub share_a_right : Knot → Knot → Bool
 share_a_right k l = (same_right k.reserved l.reserved || same_right k.reserved l.exercised) || (same_right k.exercised l.reserved || same_right k.exercised l.exercised)
 
--- a reserved right is not an exercised one
+-- a right that reserved in one exercise is not the exercised one of another
 pub other_kinds : (journal : List Receipt) (at : Key → List Entry) (folio : ℕ) (k l : Knot) → RightsInOrder journal at → IsTied at folio k → IsTied at folio l → k.reserved ≡ l.exercised → ⊥
 other_kinds journal at folio k l stands first second same =
     let there : created (at (Right folio k.reserved)) ≡ Some second.behind = ap (λ id. created (at (Right folio id))) same ∙ second.exercised_is in

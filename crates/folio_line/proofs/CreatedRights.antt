@@ -1,4 +1,4 @@
--- A right that was created in a kept register: its creating act in the journal, and the ranges of what that says.
+-- A right that was created in a kept register: its creating act in the journal, and the ranges of what this act says.
 use Rattle.std.proofs.Common.{◌≡◌, ℕ, ◌-◌, ◌≤◌, zero, suc, eqb, Bool, true, false, cond, ◌&&◌, List, [], ◌∷◌, IsSomeAnd, Some, None, is_some, length, slice_get, refl, sym, ap, ◌∙◌, arith}
 use Rattle.std.specs.List.{list_all}
 use Rattle.std.specs.Option.{option_map_or}
@@ -28,7 +28,7 @@ use Rattle.folio_sections.specs.declared.entries.What.TheVariants as what
 use Rattle.kept_registers.proofs.KeptOrder.{OfCreation}
 use Rattle.kept_registers.proofs.WellFiled.{well_filed}
 
--- ---- its act
+-- ---- the creating act of a right
 
 -- The right is as an act of the journal creates it, among the first of its folio.
 pub record IsCreatedHere (journal : List Receipt) (folio : ℕ) (id : RightNo) (made : Created) : Type 0 where
@@ -39,7 +39,7 @@ pub enters_here : (journal : List Receipt) (at : Key → List Entry) (folio : �
 enters_here journal at folio id receipt (what.Created made) enters = record { filed = enters.filed; rank = enters.rank }
 enters_here journal at folio id receipt other enters = tt
 
--- ---- what it says is in its ranges
+-- ---- what the act says is in its ranges
 
 -- The number of the right is one of the journal, and its rate, group and capital are in their ranges.
 pub record IsInRanges (journal : List Receipt) (id : RightNo) (made : Created) : Type 0 where

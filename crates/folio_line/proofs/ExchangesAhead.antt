@@ -15,7 +15,7 @@ use Rattle.folio_line.specs.Exchanges.{rise_by}
 use Rattle.folio_line.specs.FolioLine.{rises_of}
 use Rattle.folio_line.specs.FolioReading.{read_at}
 
--- a list that passes nowhere behind a front passes at the front alone
+-- where a front has all that pass, none passes behind it
 none_left : {X : Type 0} (xs : List X) → length xs ≤ 0 → xs ≡ []
 none_left [] few = refl
 none_left (x ∷ xs) few = grind (arith, few)
@@ -29,7 +29,7 @@ front_has_all p (suc i) (x ∷ xs) few =
       | false ↦ front_has_all p i xs few
     ]
 
--- a front has no more that pass
+-- a filter leaves no more that pass
 fewer_below : {X : Type 0} (p q : X → Bool) (xs : List X) → length (filter p (filter q xs)) ≤ length (filter p xs)
 fewer_below p q [] = omega arith
 fewer_below p q (x ∷ xs) =

@@ -79,7 +79,7 @@ acts_placed placed folio m a (act ∷ acts) (suc k) few by =
       | false ↦ λ is. behind ∙ sym (ap (λ o. cons_option o rest) (none_of (placed (new_right m a)) (λ some. false≢true (sym is ∙ first_act placed folio m a (act ∷ acts) by some))))
     ] refl
 
--- ---- and the items of a journal those of all
+-- ---- so the items of a journal have all that are placed
 
 -- each right of this number that is placed is created in the folio by an act of this filing
 abbrev PlacedByFiling : (RightNo → Option CreatedRight) → ℕ → ℕ → Option Filing → Type 0
@@ -134,7 +134,7 @@ beyond journal m a above =
         (λ f there acts. option_and_then_some (λ r. filing_in r.item) (receipt_at journal m) f there
         (λ r received filing. let within = (numbered journal m r received).to in omega (arith, above, within)))
 
--- so nothing is placed there
+-- so nothing is placed at a number beyond the journal
 none_beyond : (holds : RightNo → List Entry → Bool) (journal : List Receipt) (at : Key → List Entry) (folio : ℕ) → RightsInOrder journal at → (m : ℕ) → length journal < m → rights_of holds at folio m ≡ []
 none_beyond holds journal at folio kept m above = by (range_with_len 1 most_acts)
   where

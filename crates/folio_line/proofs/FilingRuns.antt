@@ -35,7 +35,7 @@ placed_of_filings holds at folio m = by (range_with_len 1 8)
         right_of : ℕ → Created → CreatedRight
         right_of act made = record { id = new_right m act; made = made }
 
--- those of later filings are of none before
+-- rights of later filings are of no earlier filing
 later_filings : (f : ℕ → List CreatedRight) → AreOfFilings f → (m from many : ℕ) → m < from → AllByRecursion (λ x. is_of_filing m x ≡ false) (flat_map f (range_with_len from many))
 later_filings f own m from zero above = tt
 later_filings f own m from (suc many) above =

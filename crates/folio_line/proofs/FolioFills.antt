@@ -45,7 +45,7 @@ use Rattle.folio_line.proofs.RightsInOrder.{RightsInOrder, is_created_here, kept
 abbrev pub IsAmount : ℕ → Type 0
 IsAmount c = (1 ≤ c) × (c ≤ most_cents)
 
--- what remains behind these entries is one
+-- what remains of the right after these entries is an amount, where something remains
 remains_from : (before : Option ℕ) (es : List Entry) → IfSome before IsAmount → AllByRecursion (λ e. LeavesCents e.what) es → IfSome (fold (λ b e. remaining_by b e.what) before es) IsAmount
 remains_from before [] old all = old
 remains_from before (e ∷ es) old all = remains_from (remaining_by before e.what) es (next before e.what old all.0) all.1
@@ -54,7 +54,7 @@ remains_from before (e ∷ es) old all = remains_from (remaining_by before e.wha
     next o (what.Remains capital) had leaves = leaves
     next o other had leaves = had
 
--- what remains where something does, and else the capital that the act names
+-- where something remains it is an amount, and else the capital that the act names is
 amount_left : (o : Option ℕ) (k : ℕ) → IfSome o IsAmount → IsAmount k → IsAmount (option_map_or (λ c. c) (option_or o (Some k)) 0)
 amount_left None k had own = own
 amount_left (Some c) k had own = had
@@ -79,7 +79,7 @@ gone_recedes false gives stands gone = stands
 abbrev pub counted_places : (RightNo → ℕ) → (Key → List Entry) → ℕ → List Place
 counted_places claims at folio = line_places claims (is_gone at folio) (counted_exchanges at folio) at folio
 
--- the rights that stand on it
+-- the rights that stand on the line of the folio
 abbrev pub counted_rights : (Key → List Entry) → ℕ → List CreatedRight
 counted_rights at folio = rights_where (stands_on_line (counted_exchanges at folio)) at folio
 
@@ -123,12 +123,12 @@ can_fill claims journal at folio exchanges places swaps kept stands some counted
     subst CanFill (λ i. filled_of (sym of_folio i) (sym of_exchanges i))
     (line_can_fill claims journal at folio holds all [] (record { order = order; journal_is = stands; line = folio_line_is journal at folio order }) some (omega (arith, few, sum)))
 
--- the capitals are amounts
+-- the capitals of the rights on the line are amounts
 pub capitals_from : (journal : List Receipt) (at : Key → List Entry) (folio : ℕ) → Kept journal at → IsJournal journal → (x : CreatedRight) → In x (counted_rights at folio) → 1 ≤ capital_at at folio x.id
 capitals_from journal at folio kept stands x there =
     (is_amount journal at folio x (kept_in_order journal at kept) stands (of_placed_rights (stands_on_line (counted_exchanges at folio)) at folio x there).made).0
 
--- and these are what the line of the folio is filled with
+-- these places and exchanges are what the line of the folio is filled with
 pub line_is : (at : Key → List Entry) (folio : ℕ) (exchanges : List Exchange) (places : List Place) (swaps : List Swap)
     → exchanges ≡ counted_exchanges at folio → places ≡ line_places (capital_at at folio) (is_gone at folio) exchanges at folio → swaps ≡ map swap_of exchanges
     → filled_of places swaps ≡ folio_filled at folio

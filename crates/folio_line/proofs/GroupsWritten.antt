@@ -28,7 +28,7 @@ IsOfGroup m k x = (x.id.receipt ≡ m) × (has_group k x ≡ true)
 abbrev is_past : ℕ → ℕ → CreatedRight → Bool
 is_past m k x = nat_lt x.id.receipt m || (eqb x.id.receipt m && nat_lt x.made.spec.group k)
 
--- so is the right before, if there is one
+-- the right before, if there is one, is of an earlier filing than m, or of an earlier group of it than k
 abbrev IsPast : ℕ → ℕ → Option CreatedRight → Type 0
 IsPast m k before = IfSome before (λ x. is_past m k x ≡ true)
 
@@ -43,7 +43,7 @@ begins_group : (m k : ℕ) (before : Option CreatedRight) (x : CreatedRight) →
 begins_group m k None x past own = refl
 begins_group m k (Some b) x past own = two_places m k b x past own
 
--- behind a right of the group all of it join
+-- behind a right of the group, all rights of it join
 joined : (claims : RightNo → ℕ) (gone : RightNo → Bool) (m k : ℕ) (b : CreatedRight) (xs : List CreatedRight) → IsOfGroup m k b → AllByRecursion (IsOfGroup m k) xs
     → places_behind claims gone (Some b) xs ≡ map (place_on_line claims gone true) xs
 joined claims gone m k b [] own all = refl
@@ -60,7 +60,7 @@ one_group claims gone m k before (x ∷ xs) past all =
     let rest = joined claims gone m k x xs all.0 all.1 in
     λ i. place_on_line claims gone (begins i) x ∷ rest i
 
--- ---- one group behind another
+-- ---- one group after another
 
 -- the last of these rights, or else the one before them
 abbrev last_of : Option CreatedRight → List CreatedRight → Option CreatedRight
@@ -130,7 +130,7 @@ groups_written claims gone m rights from (suc many) before own past =
       past = subst (λ k. IsPast m k (last_of before (here ++ behind))) same last;
     }
 
--- ---- those of all filings
+-- ---- the groups of all filings
 
 filings_written : (claims : RightNo → ℕ) (gone : RightNo → Bool) (f : ℕ → List CreatedRight) (from many : ℕ) (before : Option CreatedRight)
     → ((m : ℕ) (x : CreatedRight) → In x (f m) → x.id.receipt ≡ m) → IsPast from 1 before
@@ -159,7 +159,7 @@ pub line_written : (claims : RightNo → ℕ) (gone : RightNo → Bool) (holds :
 line_written claims gone holds at folio =
     row_written claims gone (rights_of holds at folio) last_number receipt_numbers (λ m x there. (of_filing holds at folio m x there).filing) numbers_are
 
--- ---- and back
+-- ---- the groups of what is written out
 
 -- a group of places, where there is one
 abbrev lone : List Place → List (List Place)

@@ -56,7 +56,7 @@ pub record IsLine (at : Key → List Entry) (folio : ℕ) (holds : RightNo → L
   pub entered : (k : Knot) → In k knots → holds k.exercised (at (Right folio k.exercised)) ≡ true
   pub once : IsDistinct share_a_right knots
 
--- what is the same of all lemmas of a line
+-- what all lemmas of a line presuppose
 pub record StandsIn (journal : List Receipt) (at : Key → List Entry) (folio : ℕ) (holds : RightNo → List Entry → Bool) (exchanges : List Exchange) (knots : List Knot) : Type 0 where
   pub order : RightsInOrder journal at
   pub journal_is : IsJournal journal
@@ -77,14 +77,14 @@ swap_alone claims journal at folio holds exchanges knots y stands there =
       plain_alone claims (is_gone at folio) holds journal at folio y.rise stands.order stands.journal_is counted.rise (stands.line.rise y there),
     )
 
--- and so does the right of a dropped place
+-- the right of a dropped place stands alone
 dropped_alone : (claims : RightNo → ℕ) (journal : List Receipt) (at : Key → List Entry) (folio : ℕ) (holds : RightNo → List Entry → Bool) (exchanges : List Exchange) (knots : List Knot) (x : CreatedRight)
     → StandsIn journal at folio holds exchanges knots → In x (rights_where holds at folio) → is_gone at folio x.id ≡ true → StandsAlone (its_places claims holds at folio) x.id
 dropped_alone claims journal at folio holds exchanges knots x stands there gone =
     let from = of_any (λ (y : Exchange). same_right y.recede x.id) exchanges (stands.line.gone x there gone) in
     subst (StandsAlone (its_places claims holds at folio)) (right_is from.0.recede x.id from.2) (swap_alone claims journal at folio holds exchanges knots from.0 stands from.1).0
 
--- no more places than a line has
+-- a line has no more places than there may be
 pub few_places : (claims : RightNo → ℕ) (journal : List Receipt) (at : Key → List Entry) (folio : ℕ) (holds : RightNo → List Entry → Bool) → RightsInOrder journal at → IsJournal journal → length (its_places claims holds at folio) ≤ most_places
 few_places claims journal at folio holds order journal_is =
     subst (λ n. n ≤ most_places) (sym (places_many claims (is_gone at folio) None (rights_where holds at folio))) (placed_few holds journal at folio order journal_is)
@@ -123,7 +123,7 @@ never_plain journal at folio right made is apart plain =
     let its : IsPlain journal right made = subst (λ o. IsSomeAnd o (IsPlain journal right)) is plain in
     both_ways (is_ranked_apart made) (λ i. none_set made.reserve its.no_reserve i || none_set made.ahead_of its.no_exercise i) apart
 
--- so it is in no exchange
+-- so a right with a reservation, or in the rank of one, is in no exchange
 unswapped : (journal : List Receipt) (at : Key → List Entry) (folio : ℕ) (holds : RightNo → List Entry → Bool) (exchanges : List Exchange) (knots : List Knot) (right : RightNo) (made : Created)
     → StandsIn journal at folio holds exchanges knots → created (at (Right folio right)) ≡ Some made → is_ranked_apart made ≡ true → is_swapped (map swap_of exchanges) right ≡ false
 unswapped journal at folio holds exchanges knots right made stands is apart =
@@ -168,7 +168,7 @@ can_knot claims journal at folio holds exchanges knots k stands there =
 abbrev pub its_filling : (RightNo → ℕ) → (Key → List Entry) → ℕ → (RightNo → List Entry → Bool) → List Exchange → List Knot → Filled
 its_filling claims at folio holds exchanges knots = record { places = its_places claims holds at folio; swaps = map swap_of exchanges; knots = knots }
 
--- and group by group
+-- what the line is filled with is the same group by group
 pub filling_is : (claims : RightNo → ℕ) (at : Key → List Entry) (folio : ℕ) (holds : RightNo → List Entry → Bool) (exchanges : List Exchange) (knots : List Knot)
     → its_filling claims at folio holds exchanges knots ≡ filled_by claims (is_gone at folio) (groups_where holds at folio) exchanges knots
 filling_is claims at folio holds exchanges knots =

@@ -35,7 +35,7 @@ have_turns xs = all_in (λ x. has_turn x ≡ true) (filter has_turn xs) (λ x th
 has_its_turn : (n a : ℕ) (x : Exchange) → (1 ≤ n) × (n ≤ last_number) → (1 ≤ a) × (a ≤ most_acts) → is_by n a x ≡ true → has_turn x ≡ true
 has_its_turn n a x receipt act is = grind (arith, nat_tests, receipt.0, receipt.1, act.0, act.1, is)
 
--- what has no turn has no place among those in turn
+-- an exchange without a turn has no place among those in turn
 pub in_turn_filtered : (xs : List Exchange) → in_turn (filter has_turn xs) ≡ in_turn xs
 in_turn_filtered xs =
     flat_map_alike (λ n. flat_map (λ a. filter (is_by n a) (filter has_turn xs)) (range_with_len 1 most_acts)) (λ n. flat_map (λ a. filter (is_by n a) xs) (range_with_len 1 most_acts)) receipt_numbers
@@ -57,7 +57,7 @@ pub written : (holds : RightNo → List Entry → Bool) (at : Key → List Entry
     → rights ≡ rights_where holds at folio
 written holds at folio ids by_act rights all is grouped = grouped (rights_of holds at folio) (placed_of_filings holds at folio) (is ∙ walk_is holds at folio ids all)
 
--- behind no exchange they are the live ones
+-- where there is no exchange, those on the line are the live ones
 pub live_walk : (at : Key → List Entry) (folio : ℕ) (ids : List RightNo) (by_act : List CreatedRight) → by_act ≡ filter_map (right_found (stands_on_line []) at folio) ids
     → by_act ≡ filter_map (right_found is_live_with at folio) ids
 live_walk at folio ids by_act is = is ∙ ap (λ holds. filter_map (right_found holds at folio) ids) none_recedes

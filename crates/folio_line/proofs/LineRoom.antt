@@ -32,7 +32,7 @@ given_few h (x ∷ xs) =
     let rest = given_few h xs in
     elim (h x) as (λ o. length (cons_option o (filter_map h xs)) ≤ length (x ∷ xs)) [ None ↦ omega (arith, rest) | Some y ↦ omega (arith, rest) ]
 
--- ---- by group they bring no more
+-- ---- the rights by group bring no more exchanges
 
 one_more : {Y : Type 0} (g : CreatedRight → List Y) (x : CreatedRight) (xs : List CreatedRight) (from many : ℕ)
     → length (flat_map g (grouped (x ∷ xs) from many)) ≤ length (g x) + length (flat_map g (grouped xs from many))
@@ -70,7 +70,7 @@ all_by_group_few g f (m ∷ ms) =
     let right = ap length (flat_map-append g (f m) (flat_map f ms)) ∙ length-append (flat_map g (f m)) (flat_map g (flat_map f ms)) in
     omega (arith, here, others, left, right)
 
--- ---- nor do those that a walk finds
+-- ---- the rights that a walk finds bring no more
 
 found_few : {Y : Type 0} (g : RightNo → List Y) (find : RightNo → Option CreatedRight) (ids : List RightNo) → ((id : RightNo) (x : CreatedRight) → find id ≡ Some x → x.id ≡ id)
     → length (flat_map (λ x. g x.id) (filter_map find ids)) ≤ length (flat_map g ids)
@@ -86,7 +86,7 @@ found_few {Y} g find (id ∷ ids) own =
           omega (arith, rest, whole, here, first)
     ] refl
 
--- each brings no more exchanges that count than it has
+-- each right brings no more exchanges that count than it has
 counted_few : (at : Key → List Entry) (folio : ℕ) (xs : List CreatedRight) → length (flat_map (counted_at at folio) xs) ≤ length (flat_map (λ x. rises_of at folio x.id) xs)
 counted_few at folio [] = omega arith
 counted_few at folio (x ∷ xs) =

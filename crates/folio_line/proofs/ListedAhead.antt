@@ -28,7 +28,7 @@ keeps_its_place claims gone before (y ∷ xs) x there here =
 
 -- ---- a right of an earlier filing is listed ahead
 
--- by recursion
+-- a right's place stands ahead of another's, by recursion
 abbrev stands_ahead : List Place → RightNo → RightNo → Bool
 stands_ahead [] a c = false
 stands_ahead (p ∷ ps) a c = not (same_right p.right c) && (same_right p.right a || stands_ahead ps a c)

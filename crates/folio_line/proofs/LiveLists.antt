@@ -26,7 +26,7 @@ found_live at folio live id all found =
     let one = of_any (λ (x : CreatedRight). same_right x.id id) live found in
     subst (λ k. is_live (at (Right folio k)) ≡ true) (right_is one.0.id id one.2) (in_all (λ (x : CreatedRight). is_live (at (Right folio x.id)) ≡ true) live one.0 all one.1)
 
--- and its cents stay
+-- the cents of a right that is found among live ones stay
 pub found_keeps : (at : Key → List Entry) (folio : ℕ) (live : List CreatedRight) (id : RightNo) → AreLive at folio live → list_any (λ x. same_right x.id id) live ≡ true
     → keeps_cents (at (Right folio id)) ≡ true
 found_keeps at folio live id all found =

@@ -1,4 +1,4 @@
--- The rights of a line behind no exchange are the live ones.
+-- The rights of a line without exchanges are the live ones.
 use Rattle.std.proofs.Common.{◌≡◌, Bool, true, false, ◌||◌, [], refl}
 use Rattle.folio_sections.specs.Rights.{is_live}
 use Rattle.folio_line.specs.FolioSlots.{stands_on_line}

@@ -32,7 +32,7 @@ not_joined : (right : RightNo) (p : Place) (ps : List Place) → p.with_previous
 not_joined right p ps joined none =
     ⊎_elim (λ here. absurd (false≢true (sym (none here).0 ∙ joined))) (λ apart. apart) (cases_Bool (is_of right p))
 
--- so the first group is without the right where the first place is not its
+-- the first group is without the right where the first place is not the right's
 first_without : (right : RightNo) (p : Place) (ps : List Place) → is_of right p ≡ false → NoneJoins right ps → is_in right (first (groups (p ∷ ps))) ≡ false
 first_without right p [] apart none = ap (λ b. b || false) apart
 first_without right p (q ∷ ps) apart none =

@@ -54,7 +54,7 @@ keep_apart a b = not ((wants_own_group a || wants_own_group b) && share_group a 
 abbrev is_beside : ℕ → Act → ℕ × Act → Bool
 is_beside k a numbered = not (eqb numbered.0 k) && share_group a numbered.1
 
--- none behind it has its group
+-- no act behind it has its group
 none_behind : (a : Act) (n k : ℕ) (acts : List Act) → wants_own_group a ≡ true → list_all (keep_apart a) acts ≡ true → list_any (is_beside k a) (enumerate_from n acts) ≡ false
 none_behind a n k [] wants all = refl
 none_behind a n k (b ∷ acts) wants all =
@@ -62,7 +62,7 @@ none_behind a n k (b ∷ acts) wants all =
     let apart = apart_by (wants_own_group a || wants_own_group b) (share_group a b) parts.0 (or_left (wants_own_group a) (wants_own_group b) wants) in
     or_from (is_beside k a (n, b)) (list_any (is_beside k a) (enumerate_from (n + 1) acts)) (and_false (not (eqb n k)) (share_group a b) apart) (none_behind a (n + 1) k acts wants parts.1)
 
--- and none of them all
+-- no other act of the filing has its group
 none_beside : (n i : ℕ) (acts : List Act) (a : Act) → keep_groups_apart acts ≡ true → slice_get acts i ≡ Some a → wants_own_group a ≡ true → list_any (is_beside (n + i) a) (enumerate_from n acts) ≡ false
 none_beside n i [] a rule there wants = absurd (false≢true (ap is_some there))
 none_beside n zero (b ∷ acts) a rule there wants =

@@ -22,7 +22,7 @@ use Rattle.folio_line.specs.FolioRights.{by_group, has_group, right_where, right
 use Rattle.folio_line.specs.declared.folio_rights.CreatedRight.{CreatedRight}
 use Rattle.folio_line.proofs.PlacedOrder.{of_filing, of_filing_by_group, placed_at_number}
 
--- both are of one number
+-- both rights are of one number
 abbrev pub has_same_number : CreatedRight → CreatedRight → Bool
 has_same_number x y = same_right x.id y.id
 
@@ -77,7 +77,7 @@ placed_distinct holds at folio =
     (λ m n x y less here there.
     apart_filings x y m n (of_filing_by_group holds at folio m x here).filing (of_filing_by_group holds at folio n y there).filing less)
 
--- so are those by filing and act
+-- the rights of a folio by filing and act are of different numbers
 pub by_act_distinct : (holds : RightNo → List Entry → Bool) (at : Key → List Entry) (folio : ℕ) → IsDistinct has_same_number (flat_map (rights_of holds at folio) receipt_numbers)
 by_act_distinct holds at folio =
     distinct_over_numbers has_same_number (rights_of holds at folio) (acts_distinct holds at folio)

@@ -1,4 +1,4 @@
--- The rights of a folio of which a test holds: all that are created, and at most as many as a line has places.
+-- The rights of a folio of which a test holds: all that are created are among them, and they are at most as many as a line has places.
 use Rattle.std.proofs.Common.{◌≡◌, ℕ, zero, suc, ◌+◌, ◌<◌, ◌≤◌, Bool, true, cond, List, [], ◌∷◌, filter, filter_map, length, IsSomeAnd, Option, Some, None, is_some, option_and_then, option_map, refl, sym, ap, subst, ◌∙◌, arith}
 use Rattle.std.specs.List.{cons_option, position, range_with_len, slice_get}
 use Rattle.std.proofs.lemmas.Bool.{eq-eqb}
@@ -37,7 +37,7 @@ use Rattle.folio_line.proofs.RightsInOrder.{RightsInOrder, is_created_here}
 
 -- ---- all of them
 
--- a right that is created is placed where the test holds of it
+-- a right that is created, and of which the test holds, is placed
 pub is_placed : (holds : RightNo → List Entry → Bool) (journal : List Receipt) (at : Key → List Entry) (folio : ℕ) (id : RightNo) (made : Created) → IsJournal journal → IsInRanges journal id made → created (at (Right folio id)) ≡ Some made
     → holds id (at (Right folio id)) ≡ true → In (the_right id made) (rights_where holds at folio)
 is_placed holds journal at folio id made stands ranges is passes =
@@ -55,7 +55,7 @@ is_placed holds journal at folio id made stands ranges is passes =
 
 -- ---- few
 
--- where all that elements give stands at places below n
+-- where all that elements give stands at indices below n, there are at most n
 few_below : {X Y : Type 0} (h : X → Option Y) (xs : List X) (n : ℕ) → ((i : ℕ) (x : X) (y : Y) → slice_get xs i ≡ Some x → h x ≡ Some y → i < n) → length (filter_map h xs) ≤ n
 few_below h [] n below = omega arith
 few_below h (x ∷ xs) zero below =
@@ -88,7 +88,7 @@ folio_is folio made None filed = absurd filed
 folio_is folio made (Some act) filed =
     ap (λ o. cond (is_some o) (Some (folio_of act)) None) filed.spec ∙ ap Some filed.there
 
--- so its place is below the most
+-- so its place is below the most creations that a folio may have
 below_most : (journal : List Receipt) (folio i : ℕ) (id : RightNo) (made : Created) → slice_get (creations_in journal folio) i ≡ Some id → IsCreatedHere journal folio id made → i < most_creations
 below_most journal folio i id made here filed =
     let rank : IsSomeAnd (option_map (λ k. k + 1) (position (same_right id) (creations_in journal folio))) (λ n. n ≤ most_creations) =

@@ -48,7 +48,7 @@ placed_at_is holds at folio id x is =
       | false ↦ λ _ never. absurd (grind arith)
     ] refl is
 
--- it is of the number at which it is placed
+-- the right that is placed at a number has this number
 pub placed_at_number : (holds : RightNo → List Entry → Bool) (at : Key → List Entry) (folio : ℕ) (id : RightNo) (x : CreatedRight) → right_where holds at folio id ≡ Some x → x.id ≡ id
 placed_at_number holds at folio id x is =
     elim (cond (holds id (at (Right folio id))) (created (at (Right folio id))) None) as (λ o. option_map (the_right id) o ≡ Some x → x.id ≡ id) [
@@ -66,7 +66,7 @@ of_filing holds at folio m x there =
     let act = of_map (new_right m) (range_with_len 1 most_acts) from.0 from.1 in
     subst (λ k. IsPlacedOf holds at folio k x) (sym (ap (λ (id : RightNo). id.receipt) act.2)) (placed_at_is holds at folio from.0 x from.2)
 
--- the rights of a filing by group
+-- the rights of a filing by group are rights of the filing
 of_group : (rights : List CreatedRight) (x : CreatedRight) → In x (by_group rights) → In x rights
 of_group rights x there =
     let from = of_flat_map (λ group. filter (has_group group) rights) (range_with_len 1 most_groups) x there in
@@ -93,7 +93,7 @@ ascends_of (x ∷ xs) up = (up.0, ascends_of xs up.1)
 not_before : (x y : CreatedRight) (m k l : ℕ) → x.id.receipt ≡ m → y.id.receipt ≡ m → has_group k x ≡ true → has_group l y ≡ true → k ≤ l → is_filed_before y x ≡ false
 not_before x y m k l first second here there on = grind (arith, nat_tests)
 
--- rights of a later filing stand behind
+-- rights of a later filing do not stand before
 filed_later : (x y : CreatedRight) (m n : ℕ) → x.id.receipt ≡ m → y.id.receipt ≡ n → m < n → is_filed_before y x ≡ false
 filed_later x y m n first second less = grind (arith, nat_tests)
 

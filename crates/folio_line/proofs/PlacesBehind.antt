@@ -13,24 +13,24 @@ use Rattle.folio_line.specs.declared.folio_rights.CreatedRight.{CreatedRight}
 use Rattle.folio_line.proofs.LoneGroups.{NoneJoins}
 use Rattle.folio_line.proofs.PlacedDistinct.{has_same_number}
 
--- what holds of the place of each right, whatever stands before it
+-- what holds of the place of each right, whatever stands before it, holds of all places
 pub all_places : (P : Place → Type 0) (claims : RightNo → ℕ) (gone : RightNo → Bool) (before : Option CreatedRight) (xs : List CreatedRight) → ((b : Option CreatedRight) (x : CreatedRight) → In x xs → P (place_behind claims gone b x))
     → AllByRecursion P (places_behind claims gone before xs)
 all_places P claims gone before [] each = tt
 all_places P claims gone before (x ∷ xs) each = (each before x (inl refl), all_places P claims gone (Some x) xs (λ b y there. each b y (inr there)))
 
--- and what holds of the right of each place holds of each right
+-- what holds of the right of each place holds of each right
 pub of_places : (P : RightNo → Type 0) (claims : RightNo → ℕ) (gone : RightNo → Bool) (before : Option CreatedRight) (xs : List CreatedRight) (x : CreatedRight) → In x xs → AllByRecursion (λ p. P p.right) (places_behind claims gone before xs)
     → P x.id
 of_places P claims gone before [] x there all = absurd there
 of_places P claims gone before (y ∷ xs) x there all = ⊎_elim (λ same. subst (λ (z : CreatedRight). P z.id) same all.0) (λ more. of_places P claims gone (Some y) xs x more all.1) there
 
--- as many as the rights
+-- there are as many places as rights
 pub places_many : (claims : RightNo → ℕ) (gone : RightNo → Bool) (before : Option CreatedRight) (xs : List CreatedRight) → length (places_behind claims gone before xs) ≡ length xs
 places_many claims gone before [] = refl
 places_many claims gone before (x ∷ xs) = ap (λ n. suc n) (places_many claims gone (Some x) xs)
 
--- the first joins none
+-- the first place joins none
 pub first_joins_none : (claims : RightNo → ℕ) (gone : RightNo → Bool) (xs : List CreatedRight) → joins (places_behind claims gone None xs) ≡ false
 first_joins_none claims gone [] = refl
 first_joins_none claims gone (x ∷ xs) = refl
@@ -70,7 +70,7 @@ second_apart true true same apart is = apart
 second_apart false true same apart is = apart
 second_apart a false same apart is = absurd (false≢true is)
 
--- none behind it joins it, and it joins none
+-- where the place of a right is shared by none behind it, none behind joins it, and it joins none
 none_behind : (claims : RightNo → ℕ) (gone : RightNo → Bool) (right : RightNo) (x : CreatedRight) (xs : List CreatedRight) → IsDistinct (shares_place right) (x ∷ xs) → same_right x.id right ≡ true → joins (places_behind claims gone (Some x) xs) ≡ false
 unfolding IsDistinct
 none_behind claims gone right x [] apart is = refl

@@ -1,4 +1,4 @@
--- A right that shares its group with none, as a plain one, stands alone on any line of its folio.
+-- A plain right, which shares its group with none, stands alone on any line of its folio.
 use Rattle.std.proofs.Common.{◌≡◌, ℕ, Bool, true, false, ◌&&◌, ◌||◌, List, IsSomeAnd, Some, None, refl, ap, ◌∙◌, arith}
 use Rattle.std.proofs.lemmas.Bool.Decides.{nat_tests}
 use Rattle.gb_base.specs.RightNo.{RightNo, same_right}
@@ -34,11 +34,11 @@ use Rattle.folio_line.proofs.RightsInOrder.{RightsInOrder, is_created_here}
 abbrev pub tested_places : (RightNo → ℕ) → (RightNo → Bool) → (RightNo → List Entry → Bool) → (Key → List Entry) → ℕ → List Place
 tested_places claims gone holds at folio = places_behind claims gone None (rights_where holds at folio)
 
--- those of a folio behind these exchanges
+-- the places of the rights that stand on the line of a folio with these exchanges
 abbrev pub line_places : (RightNo → ℕ) → (RightNo → Bool) → List Exchange → (Key → List Entry) → ℕ → List Place
 line_places claims gone exchanges at folio = tested_places claims gone (stands_on_line exchanges) at folio
 
--- in either order
+-- the numbers of two rights differ in either order
 numbers_swap : (x y : CreatedRight) → has_same_number x y ≡ false → has_same_number y x ≡ false
 numbers_swap x y apart = grind (arith, nat_tests, apart)
 
@@ -71,7 +71,7 @@ alone claims gone holds journal at folio right x stands lone there same =
     (λ a b here behind apart. apart_where_alone holds journal at folio right a b stands lone here behind apart)))
     (listed claims gone None rights x right there same)
 
--- and a right that is created is placed where the test holds of it
+-- a right that is created, and of which the test holds, is placed and stands alone where it shares its group with none
 pub lone_alone : (claims : RightNo → ℕ) (gone : RightNo → Bool) (holds : RightNo → List Entry → Bool) (journal : List Receipt) (at : Key → List Entry) (folio : ℕ) (right : RightNo) (made : Created) → RightsInOrder journal at → IsJournal journal → shares_its_group journal right ≡ false → created (at (Right folio right)) ≡ Some made → holds right (at (Right folio right)) ≡ true
     → StandsAlone (tested_places claims gone holds at folio) right
 lone_alone claims gone holds journal at folio right made stands is_journal lone is passes =

@@ -40,7 +40,7 @@ shared_by f k l folio made other a b first number second apart same =
     any_numbered (λ numbered. not (eqb numbered.0 k) && share_group a numbered.1) 1 f.acts (l - 1) b number.there
     (and_from (not (eqb (1 + (l - 1)) k)) (share_group a b) (ap (λ n. not (eqb n k)) (sym back) ∙ ap not apart) share)
 
--- so in a filing, where there is one
+-- where two acts of a filing, if there is one, create rights of one group in the folio, the first of them shares its group
 shared_in : (o : Option Filing) (k l folio : ℕ) (made other : Created) → IsSomeAnd (option_and_then (λ f. act_at f k) o) (IsAsFiled folio made) → IsSomeAnd (option_and_then (λ f. act_at f l) o) (IsAsFiled folio other)
     → eqb l k ≡ false → eqb made.spec.group other.spec.group ≡ true → option_map_or (λ f. option_map_or (has_equal f.acts k) (act_at f k) false) o false ≡ true
 shared_in None k l folio made other first second apart same = absurd first

@@ -9,7 +9,7 @@ use Rattle.folio_sections.specs.declared.entries.Entry.{Entry}
 use Rattle.kept_registers.specs.Kept.{Kept}
 use Rattle.folio_line.specs.FolioReading.{read_at, where_held}
 
--- nothing stands where nothing is held
+-- nothing stands at a key that is not held
 abbrev pub NotHeld : (Key → Bool) → (Key → List Entry) → Type 0
 NotHeld held at = (k : Key) → held k ≡ false → at k ≡ []
 
@@ -26,7 +26,7 @@ pub kept_can_be_read : (journal : List Receipt) (holds : Key → Bool) (at : Key
 kept_can_be_read journal holds at None folio kept = tt
 kept_can_be_read journal holds at (Some n) folio kept = λ id _. kept.receipts_rise.never_fall (Right folio id)
 
--- what is read of the entries at a key that is held is what is read there
+-- what a reading reads of the entries at a key that is held is what it reads at that key
 pub read_where_held : (holds : Key → Bool) (at : Key → List Entry) (k j : Key) (entries : List Entry) (before : Option ℕ)
     → holds k ≡ true → entries ≡ at k → read_at before (λ _. entries) j ≡ read_at before (where_held holds at) k
 read_where_held holds at k j entries before held is =

@@ -19,6 +19,6 @@ before_not_same x y before = grind (arith, nat_tests)
 pub before_later : (x y : CreatedRight) → is_filed_before y x ≡ false → has_same_place x y ≡ false → is_filed_before x y ≡ true
 before_later x y up other = grind (arith, nat_tests)
 
--- and before all that do not stand before that one
+-- one that stands before a right stands before all that do not stand before that right
 pub before_on : (x y z : CreatedRight) → is_filed_before x y ≡ true → is_filed_before z y ≡ false → is_filed_before x z ≡ true
 before_on x y z before up = grind (arith, nat_tests)

@@ -1,4 +1,4 @@
--- What the lines of a folio want of a register: each right as the journal has it filed, and what acts on it as its kind allows.
+-- What the lines of a folio need of a register: each right as the journal has it filed, and what acts on it as its kind allows.
 use Rattle.std.proofs.Common.{◌≡◌, ℕ, ◌<◌, ◌≤◌, Bool, true, false, cond, nat_lt, List, [], ◌∷◌, filter, IfSome, IsSome, IsSomeAnd, Option, Some, None, is_some, length, refl, sym, ap, subst, ◌∙◌, arith}
 use Rattle.std.specs.List.{AllByRecursion}
 use Rattle.std.proofs.lemmas.List.Elements.{recursion_from_All}
@@ -40,7 +40,7 @@ ActsAsFiled journal folio right (what.Exercised by) =
     ((made : Created) → IsCreatedHere journal folio right made → IsSome made.reserve) × (right.receipt < by.receipt)
 ActsAsFiled journal folio right other = Unit {0}
 
--- All of it says something of each entry alone, or counts entries, so what stood before a receipt has it too.
+-- All of this says something of each entry alone, or counts entries, so the entries that stood before a receipt have it too.
 pub record RightsInOrder (journal : List Receipt) (at : Key → List Entry) : Type 0 where
   pub filed : (folio : ℕ) (right : RightNo) → AllByRecursion (λ e. OfCreation (IsCreatedHere journal folio right) e.what) (at (Right folio right))
   pub acts : (folio : ℕ) (right : RightNo) → AllByRecursion (λ e. ActsAsFiled journal folio right e.what) (at (Right folio right))
@@ -66,7 +66,7 @@ kept_filed journal at folio right kept =
     (λ e enters. enters_here journal at folio right e.receipt e.what enters)
     (recursion_from_All (λ (e : Entry). EntersAsFiled journal at folio right e.receipt e.what) (at (Right folio right)) (kept.created_as_filed.filed folio right))
 
--- what is filed of a right that stands is what it is created with
+-- what the journal has filed of a right that stands is what it is created with
 created_in : (journal : List Receipt) (at : Key → List Entry) (folio : ℕ) (right : RightNo) (made : Created) → Kept journal at → created (at (Right folio right)) ≡ Some made → IsCreatedHere journal folio right made
 created_in journal at folio right made kept is =
     subst (λ o. IfSome o (IsCreatedHere journal folio right)) is (created_has (IsCreatedHere journal folio right) (at (Right folio right)) (kept_filed journal at folio right kept))

@@ -1,4 +1,4 @@
--- Exchanges in turn: they rise, those of a turn stay, and of lists of which that holds there is one.
+-- Exchanges in turn: they rise, those of one turn keep their order, and of one list there is one such order.
 use Rattle.std.proofs.Common.{◌≡◌, ◌⊎◌, ℕ, zero, suc, ◌+◌, ◌<◌, ◌≤◌, Bool, true, false, cond, eqb, nat_lt, not, ◌&&◌, ◌||◌, List, [], ◌∷◌, ◌++◌, get_or, filter, flat_map, refl, sym, ap, ◌∙◌, subst, inl, inr, ⊎_elim, arith, suc-le-suc, zero-le}
 use Rattle.std.specs.List.{AllByRecursion, IsDistinct, range_with_len}
 use Rattle.std.specs.List.Sorted.{IsSortedBy, IsStableBy, ties}
@@ -31,7 +31,7 @@ same_turn = ties is_earlier
 not_itself : (x : Exchange) → is_earlier x x ≡ false
 not_itself x = grind (arith, nat_tests)
 
--- what is not earlier goes on
+-- where y is not earlier than x, and z not earlier than y, z is not earlier than x
 not_earlier_on : (x y z : Exchange) → is_earlier y x ≡ false → is_earlier z y ≡ false → is_earlier z x ≡ false
 not_earlier_on x y z first second = grind (arith, nat_tests, first, second)
 
@@ -111,11 +111,11 @@ pub record HasTurn (x : Exchange) : Type 0 where
   pub act_from : 1 ≤ x.act
   pub act_to : x.act ≤ most_acts
 
--- those of one receipt, by act
+-- the exchanges of one receipt, by act
 abbrev of_receipt : List Exchange → ℕ → List Exchange
 of_receipt xs n = flat_map (λ a. filter (is_by n a) xs) (range_with_len 1 most_acts)
 
--- those of an act are not earlier than one another, nor is one of a later act, or of a later receipt
+-- exchanges of one act are not earlier than one another, nor is one of a later act of the receipt earlier
 by_acts : (n a b : ℕ) (x y : Exchange) → is_by n a x ≡ true → is_by n b y ≡ true → a ≤ b → is_earlier y x ≡ false
 by_acts n a b x y first second on = grind (arith, nat_tests, first, second, on)
 
@@ -158,7 +158,7 @@ none_give p f from (suc many) none =
     let rest = none_give p f (from + 1) many (λ m above. none m (omega (arith, above))) in
     filter-append p (f from) (flat_map f (range_with_len (from + 1) many)) ∙ (λ i. first i ++ rest i)
 
--- and where one of them alone does, that one gives all
+-- where one list of a row alone has some that pass a test, all of them give what that one gives
 one_gives : (p : Exchange → Bool) (f : ℕ → List Exchange) (k from many : ℕ) (zs : List Exchange) → from ≤ k → k < from + many → ((m : ℕ) → eqb m k ≡ false → filter p (f m) ≡ []) → filter p (f k) ≡ zs
     → filter p (flat_map f (range_with_len from many)) ≡ zs
 one_gives p f k from zero zs low high others own = absurd (omega (arith, low, high))
@@ -186,7 +186,7 @@ row_gives : (p : Exchange → Bool) (f : ℕ → List Exchange) (k n : ℕ) (ms 
 row_gives p f k n ms zs is low high others own =
     subst (λ ks. filter p (flat_map f ks) ≡ zs) (sym is) (one_gives p f k 1 n zs low (omega (arith, high)) others own)
 
--- of the exchanges by an act, a turn has all of its own and none of another
+-- an exchange of the turn of exchange z is by the receipt and act of z
 own_turn : (z x : Exchange) → same_turn z x ≡ true → is_by z.item z.act x ≡ true
 own_turn z x same =
     let apart = of_one_turn z x same in
@@ -197,7 +197,7 @@ other_turn n a z x apart same =
     let turn = of_one_turn z x same in
     grind (arith, nat_tests, apart, turn.0, turn.1)
 
--- a further test that what passes the first passes leaves it, and one that it fails leaves nothing
+-- where all that pass test p pass test q, a filter by q changes nothing of what passes p
 pub both_tests : (p q : Exchange → Bool) (xs : List Exchange) → ((x : Exchange) → p x ≡ true → q x ≡ true) → filter p (filter q xs) ≡ filter p xs
 both_tests p q [] on = refl
 both_tests p q (x ∷ xs) on =
@@ -218,7 +218,7 @@ no_test p q (x ∷ xs) off =
     (λ fails. ap (filter p) (left_out q x xs fails) ∙ no_test p q xs off)
     (cases_Bool (q x))
 
--- the exchanges of a turn that there may be
+-- the exchanges of a turn that there may be stay in turn as they were
 turn_stays : (z : Exchange) (xs : List Exchange) → HasTurn z → filter (same_turn z) (in_turn xs) ≡ filter (same_turn z) xs
 turn_stays z xs turn =
     let p = same_turn z in
@@ -239,7 +239,7 @@ turn_stays z xs turn =
     and_none true t is = is
     and_none false t is = refl
 
--- of another turn there is none
+-- none of these is of the turn of z, or that is a turn that there may be
 none_of_turn : (z : Exchange) (xs : List Exchange) → AllByRecursion HasTurn xs → (filter (same_turn z) xs ≡ []) ⊎ HasTurn z
 none_of_turn z [] all = inl refl
 none_of_turn z (x ∷ xs) all =
@@ -267,7 +267,7 @@ of_turn xs y there =
     let act = of_flat_map (λ a. filter (is_by from.0 a) xs) (range_with_len 1 most_acts) y from.2 in
     (of_filter (is_by from.0 act.0) xs y act.2).0
 
--- so what a turn has none of, it has none of in turn
+-- where there is no exchange of a turn, there is none in turn either
 none_in_turn : (z : Exchange) (xs : List Exchange) → filter (same_turn z) xs ≡ [] → filter (same_turn z) (in_turn xs) ≡ []
 none_in_turn z xs none =
     filter_none (same_turn z) (in_turn xs) (all_in (λ x. same_turn z x ≡ false) (in_turn xs) (λ x there. apart x (of_turn xs x there)))

@@ -60,7 +60,7 @@ abbrev pub is_spent_on : RightNo → What → Bool
 is_spent_on right (what.Exercised by) = same_right by right
 is_spent_on right other = false
 
--- the exercise by which right x has spent the reservation of this one, where that is live
+-- the exercise by which right x has spent the reservation of the right `reserved`, where that one is live
 abbrev pub exercise_behind : (Key → List Entry) → ℕ → CreatedRight → RightNo → Option Knot
 exercise_behind at folio x reserved =
     if is_live (at (Right folio reserved)) && list_any (λ e. is_spent_on x.id e.what) (at (Right folio reserved))

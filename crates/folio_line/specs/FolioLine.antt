@@ -41,7 +41,7 @@ pub record IsLineOf (at : Key → List Entry) (folio : ℕ) (line : LineState) :
 abbrev pub rises_of : (Key → List Entry) → ℕ → RightNo → List Exchange
 rises_of at folio id = filter_map (λ e. rise_by id e.receipt e.what) (at (Right folio id))
 
--- those by which one of these rights rises
+-- the exchanges by which one of these rights rises, whether they count or not
 abbrev pub all_rises : (Key → List Entry) → ℕ → List RightNo → List Exchange
 all_rises at folio ids = flat_map (rises_of at folio) ids
 

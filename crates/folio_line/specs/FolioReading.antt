@@ -7,7 +7,7 @@ use Rattle.folio_sections.specs.Fronts.{NeverFall, below}
 use Rattle.folio_sections.specs.declared.entries.Entry.{Entry}
 use Rattle.folio_line.specs.declared.readings.FolioReading.{FolioReading}
 
--- what is read at a key: the entries there, and those by receipts below n where a reading stops before receipt n
+-- what is read at a key: the entries there, or where a reading stops before receipt n, those of them by receipts below n
 abbrev pub read_at : Option ℕ → (Key → List Entry) → Key → List Entry
 read_at None at key = at key
 read_at (Some n) at key = below n (at key)

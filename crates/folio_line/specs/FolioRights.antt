@@ -16,7 +16,7 @@ abbrev pub right_where : (RightNo → List Entry → Bool) → (Key → List Ent
 right_where holds at folio id =
     option_map (λ made. record { id = id; made = made }) (if holds id (at (Right folio id)) then created (at (Right folio id)) else None)
 
--- those of filing m, by act
+-- the rights of filing m, as they were created, of which the test holds, by act
 abbrev pub rights_of : (RightNo → List Entry → Bool) → (Key → List Entry) → ℕ → ℕ → List CreatedRight
 rights_of holds at folio m = filter_map (right_where holds at folio) (rights_of_filing m)
 
@@ -49,7 +49,7 @@ is_live_with id entries = is_live entries
 abbrev pub live_rights : (Key → List Entry) → ℕ → List CreatedRight
 live_rights at folio = rights_where is_live_with at folio
 
--- the same by filing and act
+-- the rights that are live in the folio, by filing and act
 abbrev pub live_by_act : (Key → List Entry) → ℕ → List CreatedRight
 live_by_act at folio = flat_map (rights_of is_live_with at folio) receipt_numbers
 

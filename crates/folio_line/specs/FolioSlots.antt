@@ -23,7 +23,7 @@ use Rattle.folio_line.specs.declared.folio_rights.CreatedRight.{CreatedRight}
 abbrev pub place_on_line : (RightNo → ℕ) → (RightNo → Bool) → Bool → CreatedRight → Place
 place_on_line claims gone with_previous x = record { right = x.id; claim = claims x.id; with_previous = with_previous; dropped = gone x.id }
 
--- The places of a group, which share one rank (BGB § 879, GBO § 45(1), (3)): one behind the other, of which each but the first
+-- The places of a group, which share one rank (BGB § 879, GBO § 45(1), (3)): they stand one after another, and each but the first
 -- joins the one before it.
 abbrev pub group_places : (RightNo → ℕ) → (RightNo → Bool) → List CreatedRight → List Place
 group_places claims gone [] = []

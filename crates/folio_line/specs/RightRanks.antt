@@ -15,6 +15,6 @@ different_places (x ∷ xs) = if list_any (has_same_place x) xs then different_p
 abbrev pub stands_ahead : List TitlePlace → CreatedRight → CreatedRight → Bool
 stands_ahead standing x y = is_ahead standing (ranked x.id x.made) (ranked y.id y.made)
 
--- one more than the number of different places ahead
+-- the rank of right y: one more than the number of different places ahead of it
 abbrev pub rank_of : List TitlePlace → List CreatedRight → CreatedRight → ℕ
 rank_of standing rights y = 1 + different_places (filter (λ x. stands_ahead standing x y) rights)

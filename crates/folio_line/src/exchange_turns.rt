@@ -6,7 +6,7 @@ ghost use Rattle.folio_line.specs.inner.Turns.{has_turn, turns_of};
 
 use crate::exchanges::Exchange;
 
-/// An exchange with its number in the order of the rights that rise. By it no two have one turn, so
+/// An exchange with its number in the order of the rights that rise. So no two have one turn, and
 /// a sort that takes no memory keeps those of one act in their order.
 #[derive(Clone, Copy, Debug)]
 pub(crate) struct Turn {

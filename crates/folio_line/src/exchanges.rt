@@ -30,8 +30,8 @@ pub struct Exchange {
     pub rise: RightId,
 }
 
-/// Writes the exchanges that count into a list that has room, by the right that rises: one of these,
-/// which are live. An exchange stands at both of its rights, and is read at the one that rises. It
+/// Writes the exchanges that count into a list that has room, in the order of `live`, the rights that
+/// rise by them. An exchange stands at both of its rights, and is read at the one that rises. It
 /// counts where the cents of the one that recedes stay.
 pub(crate) fn write_counted<P: Parts>(
     list: &mut Vec<Exchange>,
@@ -72,11 +72,11 @@ fn add_counted<P: Parts>(
     }
 }
 
-/// For how many exchanges a line of these rights wants room: as many as stand at them, each at both
-/// of its rights, whether they count or not. They are those of all entries, also where a receipt
-/// ends the reading, and behind an item for which room is kept. NoMemory where they are more than
-/// can be counted, for which no memory could be found. Takes none, and walks no entries: each right
-/// knows how many it has.
+/// For how many exchanges a line of these rights needs room: as many as stand at them, each at both
+/// of its rights, whether they count or not. All entries are counted, also those that the reading
+/// does not read, and those after an item for which room is kept. NoMemory where they are too many
+/// to be counted, since no memory could be found for them. Takes no memory, and walks no entries:
+/// each right knows how many exchanges it is in.
 ///
 /// 2.1 receded behind 4.1, and then 3.1 behind 2.1: of these three rights 2.1 is in two exchanges and
 /// the others in one each, which is room for four.
@@ -126,13 +126,13 @@ fn rise_by(right: RightId, entry: &Entry) -> Option<Exchange>
 fn has_turn(exchange: &Exchange) -> bool
     ensures { result ≡ has_turn exchange.now }
 {
-    // The type says that it is a receipt of the numbers that there may be.
+    // By its type the item is a receipt of the numbers that there may be.
     let receipt = exchange.item.get();
     prove!(1 <= receipt);
     1 <= exchange.act && exchange.act <= 8
 }
 
-/// Whether the cents of a right stay, with the live rights at hand. It mostly is one of these, and then
+/// Whether the cents of a right stay, with the live rights at hand. It is mostly one of these, and
 /// nothing is read of it: a folio may have thousands of exchanges among few rights.
 fn keeps_cents_beside<P: Parts>(
     reading: &FolioReading<P>,
@@ -146,9 +146,9 @@ fn keeps_cents_beside<P: Parts>(
     is_found(live, id) || keeps_cents(reading, id)
 }
 
-/// Whether the right is found among these. Lists of rights stand by filing, so it is sought behind
-/// those of earlier filings, among the few of its own. In any other order it may be missed: what is
-/// found is there, and no clause says that all is found.
+/// Whether the right is found among these. Lists of rights stand by filing, so it is looked for
+/// behind those of earlier filings, among the few of its own. In another order it may be missed:
+/// what is found is there, and no clause says that all is found.
 fn is_found(rights: &[CreatedRight], id: RightId) -> bool
     ensures { result ≡ true → list_any (λ x. same_right x.id id) rights.now ≡ true }
 {

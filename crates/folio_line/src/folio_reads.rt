@@ -50,8 +50,8 @@ pub(crate) fn right_entries<'a, P: Parts>(reading: &FolioReading<'a, P>, id: Rig
     }
 }
 
-/// The entries at a right of the folio as far as exchanges stand among them: behind these it has
-/// none by which it rises. So no reader of exchanges walks the entries of a right that is in none.
+/// The entries at a right of the folio as far as exchanges stand among them: it rises by none of the
+/// others. So no reader of exchanges walks the entries of a right that is in none.
 pub(crate) fn exchange_entries<'a, P: Parts>(
     reading: &FolioReading<'a, P>,
     id: RightId,
@@ -66,8 +66,8 @@ pub(crate) fn exchange_entries<'a, P: Parts>(
     }
 }
 
-/// The front of these entries in which all of their exchanges stand, which are so many at most. They
-/// are walked for it only where they do not end in one: a right that is exchanged often mostly does.
+/// The front of these entries in which all of their exchanges stand, at most so many. It is looked
+/// for only where they do not end in one: those of a right that is exchanged often mostly do.
 fn up_to_exchange(most: usize, entries: &[Entry]) -> &[Entry]
     requires { exchanges entries.now ≤ most }
     ensures { filter (λ e. is_exchange e.what) result.now ≡ filter (λ e. is_exchange e.what) entries.now }

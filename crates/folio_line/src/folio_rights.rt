@@ -139,7 +139,8 @@ fn recedes(exchanges: &[Exchange], id: RightId) -> bool
     exchanges.iter().any(|exchange| exchange.recede == id)
 }
 
-/// Writes rights, which stand by filing and act, by filing, group and act into a list that has room.
+/// Writes rights into a list that has room: they stand by filing and act, and then by filing, group
+/// and act.
 pub(crate) fn write_by_group(list: &mut Vec<CreatedRight>, by_act: &[CreatedRight])
     requires room { length by_act.now ≤ vec_capacity list.old }
     ensures items { (rights : ℕ → List CreatedRight) → AreOfFilings rights → by_act.now ≡ flat_map rights receipt_numbers
@@ -192,7 +193,7 @@ fn add_group(list: &mut Vec<CreatedRight>, of_filing: &[CreatedRight], group: u8
 
 /// Whether two rights of a folio have one place: they are of one filing and group (GBO § 45(1), (3)).
 ///
-/// 2.1 and 2.2, both of group 1, have; 2.1 and 3.1 have not, whatever their groups are.
+/// 2.1 and 2.2, both of group 1, have one place; 2.1 and 3.1 do not, whatever their groups are.
 pub fn has_same_place(a: &CreatedRight, b: &CreatedRight) -> bool
     ensures { result ≡ has_same_place a.now b.now }
 {

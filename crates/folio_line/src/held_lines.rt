@@ -8,7 +8,7 @@ use crate::{FolioLine, FolioReading, HeldRights};
 use gb_base::NoMemory;
 use std::alloc::Global;
 
-/// The line of a folio, in lists made for it. NoMemory where no memory is found for them.
+/// The line of a folio, in lists made for it. May run out of memory for them (`NoMemory`).
 pub fn held_line<P: HeldRights>(
     alloc: Global,
     reading: &FolioReading<P>,

@@ -5,16 +5,16 @@ use folio_sections::{MapParts, Parts};
 use gb_base::{FolioId, NoMemory, RightId};
 use std::alloc::Global;
 
-/// Parts that know which rights of a folio are among them. `Parts` alone are asked for one key
-/// after the other; a line is made of all rights of its folio, and no rule could try each number
-/// that a right may have.
+/// Parts that know which rights of a folio are among them. `Parts` alone are asked for one key after
+/// another; but a line is made of all rights of its folio, and no rule could try each number that a
+/// right may have.
 pub trait HeldRights: Parts {
     ghost use Rattle.std.specs.Prelude.{◌≡◌, false, List, [], IfOk};
     ghost use Rattle.gb_base.specs.declared.keys.Key.{Key};
     ghost use Rattle.folio_sections.specs.HeldRights.{held_rights};
 
-    /// The rights of a folio whose parts are held, by receipt and act. NoMemory where no memory is
-    /// found for the list.
+    /// The rights of a folio whose parts are held, by receipt and act. May run out of memory for the
+    /// list (`NoMemory`).
     fn rights_in(&self, alloc: Global, folio: FolioId) -> Result<Vec<RightId>, NoMemory>
         ensures rights { IfOk result (λ rights. rights.items ≡ held_rights (Self.holds self.now) folio) };
 

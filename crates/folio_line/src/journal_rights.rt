@@ -14,8 +14,8 @@ use act_model::{Journal, MOST_CREATIONS};
 use gb_base::{FolioId, ReceiptNo, RightId};
 
 /// The rights of the first creating acts of the folio, as many as it has at most, by receipt and
-/// act; of filings before a receipt, where one is given. In a kept register all rights that were
-/// entered in the folio, before that receipt, are among them. Takes no memory.
+/// act; where a receipt is given, those of filings before it. In a kept register all rights that
+/// were entered in the folio, before that receipt, are among them. Takes no memory.
 ///
 /// Filings 2 and 5 create 2.1, 2.2 and 5.1 in the folio: before receipt 5 these are 2.1 and 2.2.
 pub fn rights_filed(journal: &Journal, folio: FolioId, before: Option<ReceiptNo>) -> &[RightId]

@@ -58,8 +58,8 @@ impl Model for FolioLine {
 }
 
 impl FolioLine {
-    /// An empty line, with room for so many rights and so many exchanges. Wants memory (NoMemory),
-    /// and is the only call of a line that does.
+    /// An empty line, with room for so many rights and so many exchanges. May run out of memory
+    /// (`NoMemory`); no other call of a line takes any.
     pub fn with_room(alloc: Global, rights: usize, exchanges: usize) -> Result<FolioLine, NoMemory>
         ensures rights { IfOk result (λ line. rights ≤ line.right_room) }
         ensures exchanges { IfOk result (λ line. exchanges ≤ line.exchange_room) }
@@ -77,7 +77,7 @@ impl FolioLine {
         })
     }
 
-    /// Reads the line of a folio anew, among these rights. Takes no memory.
+    /// Reads the line of a folio, among these rights, in place of what stood there. Takes no memory.
     ///
     /// Charges 2.1, 3.1 and 4.1 stand in the folio, 2.1 recedes behind 4.1 by receipt 5, and receipt
     /// 6 cancels 2.1 by consent. Before receipt 5 the line has the three rights and no exchange.
@@ -100,8 +100,8 @@ impl FolioLine {
         write_by_group(&mut self.rights, &self.by_act);
     }
 
-    /// Reads the live rights of a folio anew, among these; of what else stands on the line nothing is
-    /// said then. Takes no memory.
+    /// Reads the live rights of a folio, among these, in place of those that stood there; of what else
+    /// stands on the line nothing is said then. Takes no memory.
     pub fn read_live<P: Parts>(&mut self, reading: &FolioReading<P>, ids: &[RightId])
         requires read { CanBeRead P.holds P.at reading.now }
         requires all { AreAllRights ids.now (reads P.holds P.at reading.now) reading.now.folio }
@@ -122,7 +122,7 @@ impl FolioLine {
         &self.rights
     }
 
-    /// Those of them that are live, in the same order.
+    /// Those of the rights that are live, by filing, group and act.
     pub fn live(&self) -> &[CreatedRight]
         ensures { result.now ≡ self.now.live }
     {

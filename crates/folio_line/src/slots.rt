@@ -18,8 +18,8 @@ use gb_base::NoMemory;
 use rank_slots::{Place, Slots, Swap};
 use std::alloc::Global;
 
-/// The line of a folio with its capitals, after the exchanges that count. Its lists and its room may
-/// want memory (NoMemory); to fill the line takes none.
+/// The line of a folio with its capitals, after the exchanges that count. To make its lists and its
+/// room may run out of memory (`NoMemory`); to fill the line takes none.
 ///
 /// Charges 2.1 of 100 euros, 3.1 of 50 and 4.1 of 80, of which 2.1 recedes behind 4.1: 4.1 takes the
 /// cents 1 to 8000, 2.1 those to 10000, 3.1 those to 15000, and 2.1 the rest.
@@ -45,7 +45,7 @@ pub fn folio_slots<P: HeldRights>(
     Ok(slots)
 }
 
-/// The places of these rights, which stand in order.
+/// The places of these rights, which stand by filing and group.
 fn places_of<P: HeldRights>(
     alloc: Global,
     reading: &FolioReading<P>,
@@ -64,7 +64,7 @@ fn places_of<P: HeldRights>(
     Ok(places)
 }
 
-/// The place of a right behind another.
+/// The place of a right, with the right that stands before it.
 fn place_behind<P: Parts>(
     reading: &FolioReading<P>,
     before: Option<CreatedRight>,

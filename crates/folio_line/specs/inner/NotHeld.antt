@@ -7,7 +7,7 @@ use Rattle.folio_sections.specs.Held.{entries_at, is_held}
 use Rattle.folio_sections.specs.PartState.{PartState}
 use Rattle.folio_sections.proofs.HeldParts.{held_found, is_at}
 
--- nothing stands there
+-- nothing is read at a key that is not held
 pub not_held : (parts : List PartState) (k : Key) → is_held parts k ≡ false → entries_at parts k ≡ []
 not_held parts k apart =
     elim (find (is_at k) parts) as (λ o. find (is_at k) parts ≡ o → option_map_or (λ (p : PartState). p.entries) o [] ≡ []) [

@@ -6,11 +6,11 @@ pub use Rattle.folio_line.specs.FolioRights.{joins_place}
 use Rattle.folio_line.specs.FolioSlots.{place_on_line}
 use Rattle.folio_line.specs.declared.folio_rights.CreatedRight.{CreatedRight}
 
--- the place of a right behind another
+-- the place of a right, with the right that stands before it, if there is one
 abbrev pub place_behind : (RightNo → ℕ) → (RightNo → Bool) → Option CreatedRight → CreatedRight → Place
 place_behind claims gone before x = place_on_line claims gone (joins_place before x) x
 
--- the places of these rights, from the right before them
+-- the places of these rights, with the right that stands before them, if there is one
 abbrev pub places_behind : (RightNo → ℕ) → (RightNo → Bool) → Option CreatedRight → List CreatedRight → List Place
 places_behind claims gone before [] = []
 places_behind claims gone before (x ∷ xs) = place_behind claims gone before x ∷ places_behind claims gone (Some x) xs
