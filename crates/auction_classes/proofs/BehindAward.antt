@@ -1,4 +1,4 @@
--- The lowest bid behind an award is the one that the award found: nothing that counts in it comes to a case behind its award.
+-- The lowest bid after an award is the one that the award found: nothing that counts in it comes to a case after its award.
 use Rattle.std.proofs.Common.{◌≡◌, ℕ, ◌-◌, ◌<◌, Bool, true, false, List, [], ◌∷◌, ◌++◌, filter, filter_map, fold, map, slice_get, IfSome, Option, Some, None, option_and_then, refl, sym, ap, subst, ◌∙◌, arith}
 use Rattle.std.specs.List.{AllByRecursion, cons_option}
 use Rattle.std.specs.Option.{option_map_or}
@@ -96,7 +96,7 @@ module _ (entries : List Entry) (a : ℕ) (awarded : IsAwardedIn entries a) wher
       ap (fold walk None) awarded.case_is ∙ fold-append walk None (case awarded.before) (awarded.entry ∷ awarded.after)
       ∙ ap (λ b. fold walk b awarded.after) (ap (call_by awarded.entry.receipt (call awarded.before)) awarded.awards) ∙ call_stays a (call awarded.before) awarded.after awarded.later
 
-  -- registrations behind the award come behind those before it
+  -- registrations after the award come behind those before it
   registrations_are : registration_numbers entries ≡ registration_numbers awarded.before ++ numbers (filter registers awarded.after)
   registrations_are =
       let rest = awarded.entry ∷ awarded.after in
@@ -104,7 +104,7 @@ module _ (entries : List Entry) (a : ℕ) (awarded : IsAwardedIn entries a) wher
       ∙ map-append (λ (e : Entry). e.receipt) (filter registers (case awarded.before)) (filter registers rest)
       ∙ ap (λ xs. registration_numbers awarded.before ++ numbers xs) (filter_skips registers awarded.entry awarded.after (ap is_registration awarded.awards))
 
-  -- and are late
+  -- registrations after the award are late
   behind_call : (m : ℕ) → a < m → is_late_by (call awarded.before) m ≡ true
   behind_call m later =
       elim (call awarded.before) as (λ o. IfSome o (λ c. c < a) → is_late_by o m ≡ true) [
@@ -129,7 +129,7 @@ all_late journal called (m ∷ ms) behind =
       | Some r ↦ λ is. (is, all_late journal called ms behind.1)
     ] (registers_late (is_late_by called m) behind.0 (item_at journal m))
 
--- ---- the sale behind the award
+-- ---- the sale after the award
 
 module _ (journal : List Receipt) (stands : Key → List Entry) (folio n a : ℕ) (less : a < n) (awarded : IsAwardedIn (below n (stands (Case folio))) a)
     (award_is : award (below n (stands (Case folio))) ≡ Some a) (no_call_n : option_and_then costs_named (item_at journal n) ≡ None) (no_call_a : option_and_then costs_named (item_at journal a) ≡ None) where
@@ -179,7 +179,7 @@ module _ (journal : List Receipt) (stands : Key → List Entry) (folio n a : ℕ
   same_seizures : seizures_found (sale_at journal stands folio n) ≡ seizures_found (sale_at journal stands folio a)
   same_seizures = λ j. filter_map (λ m. option_and_then seizure_by (item_at journal m)) (seizures_then j)
 
-  -- the registrations with those that are late
+  -- the registrations are those that the award found, and others that are late
   with_late : (more : List Registered) × (registrations_found (sale_at journal stands folio n) ≡ registrations_found (sale_at journal stands folio a) ++ more) × AllLate more
   with_late =
       let now = below n (stands (Case folio)) in

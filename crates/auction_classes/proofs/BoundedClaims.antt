@@ -63,7 +63,7 @@ claim_well (item.Seize folio (basis.Personal creditor claim) served) well = grin
 claim_well (item.Seize folio (basis.FromRight right) served) well = omega arith
 claim_well other well = tt
 
--- what is made of each item that is there has what each has that is made of a well-formed one
+-- what is made of each item that is there has what each has that is made of a well-formed item
 all_made : {X : Type 0} (P : X → Type 0) (make : ℕ → Item → Option X) (journal : List Receipt) (ns : List ℕ) → IsJournal journal
     → ((n : ℕ) (i : Item) → IsTrue (well_formed i) → IfSome (make n i) P)
     → AllByRecursion P (filter_map (λ n. option_and_then (make n) (item_at journal n)) ns)
@@ -126,7 +126,7 @@ personal_ahead (z ∷ zs) =
     one (basis.Personal creditor claim) = omega arith
     one (basis.FromRight right) = tt
 
--- a right claims nothing there
+-- a right claims nothing ahead of the rights
 rights_ahead : (f : Finding) (rs : List Registered) (read : RightNo → List Entry) (xs : List CreatedRight)
     → AllByRecursion IsAmountAhead (flat_map claims_of_right (map (λ x. right_with f rs x (read x.id)) xs))
 rights_ahead f rs read [] = tt
@@ -145,7 +145,7 @@ row_ahead : (before : Option Claim) (cs : List Claim) → AllByRecursion IsAmoun
 row_ahead before [] all = tt
 row_ahead before (c ∷ cs) all = (all.0, row_ahead (Some c) cs all.1)
 
--- the timely claims of classes 1 and 3, of so many claims
+-- the timely claims of classes 1 and 3 are in the range of sums, where they are so many
 pub ahead_within : (year : ℕ) (rs : List Registered) (zs : List Seizure) (f : Finding) (read : RightNo → List Entry) (live : List CreatedRight) (items : List ClaimItem)
     → AllByRecursion (λ (r : Registered). amount_of r.what ≤ most_cents) rs
     → items ≡ in_row (in_order (claims_by year rs zs (map (λ x. right_with f rs x (read x.id)) live)))
@@ -160,7 +160,7 @@ ahead_within year rs zs f read live items amounts are few lives =
     let sum = sum_by-le cents_ahead most_cents items (All-from_recursion (λ (c : ClaimItem). cents_ahead c ≤ most_cents) items each) in
     omega (arith, sum, few, lives)
 
--- what is seized for personally, of so many seizures
+-- what personal creditors seize for is in the range of sums, where the seizures are so many
 pub personal_within : (sale : ℕ) (read : RightNo → List Entry) (zs : List Seizure) (list : List SeizedFor)
     → AllByRecursion (λ (z : Seizure). personal_amount z.basis ≤ most_cents) zs → list ≡ map (seized_with sale read) zs → length list ≤ 8
     → sum_by (λ (z : SeizedFor). personal_amount z.basis) list < most_sum

@@ -1,4 +1,4 @@
--- What a live right of a sale bears of interest in its class is bounded.
+-- The interest that a live right of a sale bears in its class is bounded.
 use Rattle.std.proofs.Common.{ℕ, ◌*◌, ◌≤◌, Bool, true, false, cond, List, [], ◌∷◌, filter, length, option_and_then, arith}
 use Rattle.std.specs.List.{AllByRecursion}
 use Rattle.std.proofs.Math.Nat.{div-le_of_le-mul}
@@ -43,14 +43,14 @@ any_interest capital rate days amount most few =
     let second : capital * rate * days ≤ 1656600000000000000000 = mul-le (capital * rate) days 20000000000000000 82830 first few in
     div-le_of_le-mul 3600000 {n = most_of_term} (omega (arith, second))
 
--- that of three years
+-- the interest of three years
 interest_of_years : (capital rate days : ℕ) → capital ≤ most_cents → rate ≤ most_rate → days ≤ 1079 → interest capital rate days ≤ 6000000000000
 interest_of_years capital rate days amount most few =
     let first : capital * rate ≤ 20000000000000000 = mul-le capital rate 10000000000000 2000 amount most in
     let second : capital * rate * days ≤ 21580000000000000000 = mul-le (capital * rate) days 20000000000000000 1079 first few in
     div-le_of_le-mul 3600000 {n = 6000000000000} (omega (arith, second))
 
--- ---- that of a right
+-- ---- the interest of a right
 
 -- The capital is an amount, the rate one of those that there are, and the days are those of a year of the range.
 pub record IsBounded (a : Accrual) : Type 0 where
@@ -77,7 +77,7 @@ found_at_most late a id rs bounded few =
     let sum = sum_by-le each 6000000000000 rs (All-from_recursion (λ (r : Registered). each r ≤ 6000000000000) rs (all_at_most late a id rs bounded)) in
     omega (arith, sum, few)
 
--- ---- of the live rights of a sale
+-- ---- the live rights of a sale
 
 pub few_registrations : (journal : List Receipt) (at : Key → List Entry) (folio a : ℕ) → Kept journal at → length (registrations_found (sale_at journal at folio a)) ≤ 32
 few_registrations journal at folio a kept =
@@ -101,7 +101,7 @@ is_bounded s x own amount =
       days = λ from until. interest_of_years a.capital a.rate _ amount own.rate (arrears_days from until a.entered (year_seized s) (year_at_most (day_of s.journal (number_seized s))));
     }
 
--- the interest of its class that a live right with an amount for its capital has
+-- the interest in its class of a live right whose capital is an amount
 pub interest_at_most : (journal : List Receipt) (at : Key → List Entry) (folio a : ℕ) (x : CreatedRight) → Kept journal at → IsJournal journal → In x (rights_found (sale_at journal at folio a))
     → capital_at (read (sale_at journal at folio a)) folio x.id ≤ most_cents → interest_of (sale_at journal at folio a) x ≤ 660000000000000
 interest_at_most journal at folio a x kept stands there amount =

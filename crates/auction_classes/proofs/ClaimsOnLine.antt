@@ -22,7 +22,7 @@ use Rattle.auction_classes.specs.Sales.{Sale, read}
 use Rattle.auction_classes.proofs.NarrowedRights.{rights_narrowed}
 use Rattle.auction_classes.proofs.PlacesRead.{ClaimsSo, lives}
 
--- the test of a number among the rights of a class
+-- the test of whether a right has this number
 abbrev of_number : RightNo → CreatedRight → Bool
 of_number id x = same_right x.id id
 
@@ -45,7 +45,7 @@ found_live s class x there own =
     one_right (read s) s.folio found.item x (of_placed_rights is_live_with (read s) s.folio found.item other).made (of_placed_rights is_live_with (read s) s.folio x there).made found.passes in
     found.is ∙ (λ i. Some (the_right (number i) (made i)))
 
--- and no other is
+-- a right that is gone is not found among those of the class
 none_gone : (s : Sale) (class : ℕ) (id : RightNo) → is_live (read s (Right s.folio id)) ≡ false → find (of_number id) (rights_of_class s class) ≡ None
 none_gone s class id gone =
     let all = rights_of_class s class in

@@ -52,7 +52,7 @@ case_is_below a entries =
     recursion_from_All (λ (e : Entry). e.receipt < a) (case (below a entries))
     (all_of_case (λ e. e.receipt < a) (below a entries) (All-from_recursion (λ (e : Entry). e.receipt < a) (below a entries) (all_below a entries)))
 
--- so is the last call
+-- the number of the last call is below the receipt too
 call_step : (a receipt : ℕ) (before : Option ℕ) (w : What) → receipt < a → IfSome before (λ n. n < a) → IfSome (call_by receipt before w) (λ n. n < a)
 call_step a receipt before (what.Bids costs) within is = within
 call_step a receipt before other within is = is

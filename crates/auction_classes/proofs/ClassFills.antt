@@ -53,7 +53,7 @@ rights_in_class s class = rights_where (stands_in_class s class) (read s) s.foli
 in_class : (s : Sale) (class : ℕ) (id : RightNo) (entries : List Entry) → (class_of_right s id == class) ≡ true → (is_live entries || recedes (exchanges_of_class s class) id) ≡ true → stands_in_class s class id entries ≡ true
 in_class s class id entries own stands = and_from (class_of_right s id == class) (stands_on_line (exchanges_of_class s class) id entries) own stands
 
--- both rights are of the class
+-- both rights of the exchange are of the class
 abbrev are_exchanged_in : Sale → ℕ → Exchange → Bool
 are_exchanged_in s class x = class_of_right s x.recede == class && class_of_right s x.rise == class
 
@@ -72,7 +72,7 @@ exchanged_in s class y there =
     let parts = and_parts (class_of_right s y.recede == class) (class_of_right s y.rise == class) from.1 in
     record { counted = from.0; recede = parts.0; rise = parts.1 }
 
--- and so is an exercise of the class
+-- an exercise of the class counts, and its rights are of the class
 record IsTiedIn (s : Sale) (class : ℕ) (k : Knot) : Type 0 where
   counted : In k (counted_exercises (read s) s.folio)
   reserved : (class_of_right s k.reserved == class) ≡ true
@@ -84,7 +84,7 @@ tied_in s class k there =
     let parts = and_parts (class_of_right s k.reserved == class) (class_of_right s k.exercised == class) from.1 in
     record { counted = from.0; reserved = parts.0; exercised = parts.1 }
 
--- so these make a line
+-- so the exchanges and exercises of a class make a line
 class_line_is : (journal : List Receipt) (s : Sale) (class : ℕ) → RightsInOrder journal (read s) → IsLine (read s) s.folio (stands_in_class s class) (exchanges_of_class s class) (exercises_of_class s class)
 class_line_is journal s class order =
     let at = read s in

@@ -88,7 +88,7 @@ years_rise a b le in_range =
 
 -- ---- days of interest
 
--- they are never more than from the first day of the range to the last
+-- days of interest are never more than from the first day of the range to the last
 pub days_at_most : (a b : ℕ) → days360 a b ≤ 82830
 days_at_most a b =
     elim (nat_lt b a) as (λ t. nat_lt b a ≡ t → cond t 0 (commercial_day b - commercial_day a) ≤ 82830) [
@@ -108,7 +108,7 @@ days_at_most a b =
           (date_kind b)
     ] refl
 
--- between two days of which the years are no more than two apart they are no more than three years
+-- days of interest between two days whose years are at most two apart are no more than three years
 pub days_of_years : (a b : ℕ) → (a ≤ b → b ≤ last_day → (date_of b).year ≤ (date_of a).year + 2) → days360 a b ≤ 1079
 days_of_years a b years =
     elim (nat_lt b a) as (λ t. nat_lt b a ≡ t → cond t 0 (commercial_day b - commercial_day a) ≤ 1079) [
@@ -152,7 +152,7 @@ no_new_year year before =
           absurd (omega (arith, from, year_is, before))
     ] refl
 
--- from 1 January of the third year before it up to that of the year before it
+-- two days between 1 January of the third year before a year and 1 January of the year before it are of years at most two apart
 years_apart : (a b year : ℕ) → year ≤ 2199 → new_year (year - 3) ≤ a → b ≤ new_year (year - 1) → a ≤ b → b ≤ last_day → (date_of b).year ≤ (date_of a).year + 2
 years_apart a b year most low high up in_range = elim (cases_lt year 1971) [
   | inl early ↦

@@ -1,4 +1,4 @@
--- The rights filed before a receipt, and the exchanges by which one of them rises, are no more than those before a later one.
+-- The rights filed before a receipt, and the exchanges by which one of them rises, are no more than those before a later receipt.
 use Rattle.std.proofs.Common.{◌≡◌, ℕ, zero, suc, ◌≤◌, nat_lt, Bool, true, false, cond, List, [], ◌∷◌, filter, filter_map, flat_map, length, take, Option, Some, None, refl, sym, subst, arith}
 use Rattle.std.specs.List.{cons_option}
 use Rattle.std.proofs.lemmas.Bool.Decides.{nat_tests}
@@ -20,11 +20,11 @@ use Rattle.folio_line.specs.FolioReading.{read_at, where_held}
 use Rattle.folio_line.specs.declared.exchanges.Exchange.{Exchange}
 use Rattle.folio_line.proofs.LineRoom.{filter_few}
 
--- a number below another is below what that is not above
+-- a number below n is below each a that is not below n
 less_on : (n a : ℕ) → n ≤ a → (id : RightNo) → nat_lt id.receipt n ≡ true → nat_lt id.receipt a ≡ true
 less_on n a within id less = grind (arith, nat_tests, within, less)
 
--- a right that was filed before the one receipt was filed before the other
+-- a right that was filed before a receipt was filed before a later one
 pub filed_earlier : (journal : List Receipt) (folio n a : ℕ) → n ≤ a → (id : RightNo) → is_among (rights_filed (Some n) journal folio) id ≡ true → is_among (earlier_rights journal a folio) id ≡ true
 filed_earlier journal folio n a within id among =
     let first = take most_creations (creations_in journal folio) in
@@ -51,7 +51,7 @@ less_made {X} {Y} {Z} p q g h (x ∷ xs) less few =
           ]
     ] refl
 
--- there are no more of them
+-- no more pass a narrower test than a wider one
 filter_less : {X : Type 0} (p q : X → Bool) (xs : List X) → ((x : X) → p x ≡ true → q x ≡ true) → length (filter p xs) ≤ length (filter q xs)
 filter_less p q [] less = omega arith
 filter_less p q (x ∷ xs) less =
@@ -72,7 +72,7 @@ taken_few (suc n) (x ∷ xs) =
     let few = taken_few n xs in
     omega (arith, few)
 
--- and at most as many as a folio has
+-- the rights filed before a receipt are at most as many as a folio has
 pub filed_at_most : (journal : List Receipt) (folio n : ℕ) → length (rights_filed (Some n) journal folio) ≤ most_creations
 filed_at_most journal folio n =
     let first = take most_creations (creations_in journal folio) in
@@ -99,7 +99,7 @@ rises_few holds at folio n id =
       | false ↦ omega arith
     ]
 
--- so room for the exchanges of the ones is enough for those of the others
+-- so room for the exchanges of the rights filed before a receipt is enough for those of the rights filed before an earlier one
 pub rises_fit : (journal : List Receipt) (holds : Key → Bool) (at : Key → List Entry) (folio n a : ℕ) → n ≤ a
     → length (all_rises (read_at (Some n) (where_held holds at)) folio (rights_filed (Some n) journal folio)) ≤ length (all_rises at folio (earlier_rights journal a folio))
 rises_fit journal holds at folio n a within =

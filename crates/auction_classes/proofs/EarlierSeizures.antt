@@ -1,4 +1,4 @@
--- What is seized for personally before a seizure, as it is carried along, is what all before it come to.
+-- What personal creditors seized for before a seizure, as it is carried along, is what all seizures before it come to.
 use Rattle.std.proofs.Common.{◌≡◌, ℕ, ◌+◌, true, false, cond, List, [], ◌∷◌, ◌++◌, filter, length, map, sum_by, take, refl, sym, ap, ◌∙◌, append_assoc, arith}
 use Rattle.std.specs.List.{enumerate_from}
 use Rattle.std.proofs.lemmas.List.{length-append, take_at}
@@ -18,7 +18,7 @@ same_cover : (four : Filled) (earlier : List SeizedFor) (before : ℕ) (b : Basi
 same_cover four earlier before (basis.Personal creditor claim) same = ap (λ n. length (line four) + n) same
 same_cover four earlier before (basis.FromRight right) same = refl
 
--- the covers of those served among the seizures that are left, of the whole
+-- the covers of the served ones among the seizures that are left of the whole
 abbrev covers_left : Filled → List SeizedFor → ℕ → List SeizedFor → List ℕ
 covers_left four whole n zs = map (λ (x : ℕ × SeizedFor). cover_of four (take x.0 whole) x.1.basis) (filter (λ (x : ℕ × SeizedFor). x.1.served) (enumerate_from n zs))
 

@@ -34,19 +34,19 @@ live_from live before [] known is = known is
 live_from live before (e ∷ es) known is =
     live_from (live_by live e.what) (created_by before e.what) es (λ now. live_next live before e.what known now) is
 
--- none is live there
+-- no right is live where none is created
 never_live : (es : List Entry) → created es ≡ None → is_live es ≡ false
 never_live es none =
     ⊎_elim (λ live. absurd (false≢true (sym (ap is_some none) ∙ live_from false None es (λ never. absurd (false≢true never)) live))) (λ gone. gone) (cases_Bool (is_live es))
 
--- no cents stay
+-- no cents stay where no right is created
 none_kept : (es : List Entry) → created es ≡ None → keeps_cents es ≡ false
 none_kept es none = λ i. never_live es none i || (is_some (none i) && list_any (λ (e : Entry). is_cancellation_by_consent e.what) es)
 
 same_kept : (x y : List Entry) → AreAlike x y → keeps_cents x ≡ keeps_cents y
 same_kept x y alike = ⊎_elim (λ same. ap keeps_cents same) (λ none. none_kept x none.0 ∙ sym (none_kept y none.1)) alike
 
--- and no reservation is spent
+-- a right is live and its reservation is spent on this one
 abbrev spends : RightNo → List Entry → Bool
 spends id es = is_live es && list_any (λ (e : Entry). is_spent_on id e.what) es
 

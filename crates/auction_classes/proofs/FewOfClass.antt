@@ -1,4 +1,4 @@
--- No class has more claims than may share: those of rights are of other classes than the others, and of each a right has one at most.
+-- No class has more claims than may share: those of rights are of other classes than the others, and each right has at most one of each class.
 use Rattle.std.proofs.Common.{◌≡◌, ℕ, ◌+◌, ◌≤◌, Bool, true, false, cond, ◌&&◌, ◌||◌, ◌==◌, List, [], ◌∷◌, ◌++◌, count_by, filter, filter_map, flat_map, length, sum_by, refl, sym, subst, arith}
 use Rattle.std.specs.List.{AllByRecursion, cons_option}
 use Rattle.std.proofs.lemmas.Bool.Decides.{nat_tests}
@@ -58,7 +58,7 @@ personal_count late k (z ∷ zs) = step z.basis _ (personal_count late k zs)
     step (basis.Personal creditor claim) rest more = (other_class (are_both late false) 5 k refl, more)
     step (basis.FromRight right) rest more = more
 
--- ---- those of rights
+-- ---- the claims of rights
 
 four_count : (late b : Bool) (k : ℕ) → cond (are_both late false && cond b 4 6 == k) 1 0 + (cond (are_both late false && 8 == k) 1 0 + (cond (are_both late true && 4 == k) 1 0 + cond (are_both late true && 8 == k) 1 0)) ≤ cond (of_rights k) 1 0
 four_count true true k = grind (arith, nat_tests)
@@ -85,7 +85,7 @@ rights_count late k (x ∷ xs) all =
     elim (of_rights k) as (λ b. n ≤ cond b 1 0 → m ≤ cond b (length xs) 0 → n + m ≤ cond b (length (x ∷ xs)) 0) [ true ↦ λ a c. omega (arith, a, c) | false ↦ λ a c. omega (arith, a, c) ] own rest in
     omega (arith, both, sum)
 
--- ---- all of them
+-- ---- all claims
 
 count_few : (late : Bool) (k n : ℕ) (cs : List Claim) → AllByRecursion (λ c. counts late k c ≤ cond (of_rights k) 0 1) cs → length cs ≤ n → sum_by (counts late k) cs ≤ cond (of_rights k) 0 n
 count_few late k n cs all few =

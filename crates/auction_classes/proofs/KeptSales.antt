@@ -42,7 +42,7 @@ use Rattle.auction_classes.specs.inner.Readings.{IsReadAs}
 
 -- ---- the case
 
--- what each entry has, each of the case has
+-- what all entries have, all entries of the case have
 pub all_of_case : (P : Entry → Type 0) (entries : List Entry) → All P entries → All P (case entries)
 all_of_case P entries all = All-drop P _ entries all
 
@@ -60,7 +60,7 @@ by_receipt : (journal : List Receipt) (folio : ℕ) (receipt : ℕ) (w : What) �
 by_receipt journal folio receipt what.Seized stands is = received_by journal folio receipt stands
 by_receipt journal folio receipt other stands is = absurd (false≢true is)
 
--- the first of these entries that seizes does
+-- the first of these entries that seizes has its receipt in the journal
 first_received : (journal : List Receipt) (entries : List Entry) → AllByRecursion (SeizesByReceipt journal) entries
     → IsSome (slice_get (map (λ (e : Entry). e.receipt) (filter (λ e. is_seizure e.what) entries)) 0)
     → IsSomeAnd (slice_get (map (λ (e : Entry). e.receipt) (filter (λ e. is_seizure e.what) entries)) 0) (λ n. IsSome (receipt_at journal n))

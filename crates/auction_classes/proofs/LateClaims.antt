@@ -1,4 +1,4 @@
--- Registrations that are late, as all behind the call to bid, change nothing of the lowest bid.
+-- Registrations that are late, as all after the call to bid are, change nothing of the lowest bid.
 use Rattle.std.proofs.Common.{◌≡◌, ℕ, ◌+◌, ◌-◌, Bool, true, false, not, cond, ◌&&◌, ◌||◌, ◌==◌, List, [], ◌∷◌, ◌++◌, filter, filter_map, find, flat_map, length, map, min, nat_lt, sum_by, Option, Some, None, option_map, refl, sym, ap, ◌∙◌, arith}
 use Rattle.std.specs.List.{AllByRecursion, cons_option, range_with_len}
 use Rattle.std.specs.Option.{option_map_or}
@@ -50,7 +50,7 @@ AllLate rs = AllByRecursion (λ (r : Registered). r.late ≡ true) rs
 abbrev counts : Claim → Bool
 counts c = not c.late && (c.class == 1 || c.class == 3)
 
--- what the claims of a row add there is what those add that count
+-- what the claims of a row add ahead of the rights is what those add that count
 added_up : (before : Option Claim) (cs : List Claim) → sum_by cents_ahead (row_behind before cs) ≡ sum_by (λ (c : Claim). c.capital) (filter counts cs)
 added_up before [] = refl
 added_up before (c ∷ cs) =
@@ -83,7 +83,7 @@ by_classes late cs (k ∷ ks) =
     filter-append counts (of_class late cs k) (flat_map (of_class late cs) ks)
     ∙ (λ j. in_turn counts (λ c. are_both late c.late && c.class == k) cs j ++ by_classes late cs ks j)
 
--- those that count, of all in order
+-- the claims in order that count are those that count, in order
 ordered : (cs : List Claim) → filter counts (in_order cs) ≡ in_order (filter counts cs)
 ordered cs = filter-append counts (by_class false cs) (by_class true cs) ∙ (λ j. by_classes false cs (range_with_len 1 8) j ++ by_classes true cs (range_with_len 1 8) j)
 
@@ -122,7 +122,7 @@ late_none year (r ∷ rs) all = one r.what (late_none year rs all.1)
         (ap (λ b. not b && (class == 1 || class == 3)) all.0) ∙ rest
     one (registration.Arrears right from until) rest = rest
 
--- so those of all claims that count are those of what is registered
+-- so the claims that count are those that are registered and count
 counted : (f : Finding) (rs named : List Registered) (zs : List Seizure) (reads : RightNo → List Entry) (live : List CreatedRight)
     → filter counts (claims_by f.year rs zs (map (λ x. right_with f named x (reads x.id)) live))
     ≡ filter is_claim (filter counts (filter_map (λ (r : Registered). claim_registered f.year r.late r.what) rs))
@@ -152,7 +152,7 @@ ahead_same f rs more zs reads live late =
 
 -- ---- rights
 
--- late arrears are none of the timely ones
+-- where all registrations are late, no arrears are timely
 none_timely : (part : Accrual → ℕ → ℕ → ℕ) (a : Accrual) (id : RightNo) (rs : List Registered) → AllLate rs → arrears_found part false a id rs ≡ 0
 none_timely part a id [] late = refl
 none_timely part a id (r ∷ rs) late =
@@ -165,7 +165,7 @@ timely_same part a id rs more late =
     let none = none_timely part a id more late in
     omega (arith, both, none)
 
--- so the interest of a right in its class is the same
+-- so late registrations change nothing of the interest of a right in its class
 interest_same : (f : Finding) (rs more : List Registered) (x : CreatedRight) (entries : List Entry) → AllLate more
     → (right_with f (rs ++ more) x entries).interest ≡ (right_with f rs x entries).interest
 interest_same f rs more x entries late =
@@ -187,7 +187,7 @@ four_same f rs more reads (x ∷ xs) late =
 
 -- ---- the lowest bid
 
--- by costs, the claims ahead of the rights, the line of class 4, its rights, and the seizures
+-- the lowest bid, by costs, the claims ahead of the rights, the line of class 4, its rights, and the seizures
 abbrev bid_of : ℕ → ℕ → Filled → List RightClaimed → List SeizedFor → Option Lowest
 bid_of costs ahead four rights seizures =
     option_map
@@ -228,7 +228,7 @@ late_add_nothing folio reads f rs more zs late = λ j.
     (four_same f rs more (λ id. reads (Right folio id)) (live_rights reads folio) late j)
     (map (seized_with f.sale (λ id. reads (Right folio id))) zs)
 
--- Two sales of a folio in which the same is read and found, but that one has registrations more that are late, have one lowest bid.
+-- Two sales of a folio have one lowest bid where the same is read and found in both, but the one has more registrations, which are late.
 pub lowest_behind_late : (s0 s1 : Sale) (more : List Registered) → s1.folio ≡ s0.folio → read s1 ≡ read s0 → finding_of s1 ≡ finding_of s0 → seizures_found s1 ≡ seizures_found s0
     → registrations_found s1 ≡ registrations_found s0 ++ more → AllLate more → lowest_bid (claimed_in s1) ≡ lowest_bid (claimed_in s0)
 lowest_behind_late s0 s1 more folio reads finding seizures registrations late =

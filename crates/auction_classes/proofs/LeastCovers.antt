@@ -11,7 +11,7 @@ use Rattle.auction_classes.specs.LowestBid.{least, personal_amount}
 use Rattle.auction_classes.specs.inner.Covers.{covers_from, least_from}
 use Rattle.auction_classes.specs.declared.claim_items.SeizedFor.{SeizedFor}
 
--- what is least so far, with the covers of those that are left, is least of all; and what was seized for personally so far
+-- the least so far, with the covers of the seizures that are left, gives the least of all; and `before` is what personal creditors seized for so far
 pub record CoversLeft (four : Filled) (seizures : List SeizedFor) (index : ℕ) (least : Option ℕ) (before : ℕ) : Type 0 where
   pub covered : least_from least (covers_from four before (drop index seizures)) ≡ least_from None (covers_from four 0 seizures)
   pub amounts : before ≡ sum_by (λ z. personal_amount z.basis) (take index seizures)
@@ -26,7 +26,7 @@ record IsLeast (numbers : List ℕ) (found : Option ℕ) : Type 0 where
   pub there : In item numbers
   pub below : (m : ℕ) → In m numbers → item ≤ m
 
--- what one walk over a and these finds is such a number
+-- one walk over a and these numbers finds such a number
 walked : (a : ℕ) (xs : List ℕ) → IsLeast (a ∷ xs) (least_from (Some a) xs)
 walked a [] = record { item = a; is = refl; there = inl refl; below = λ m there. ⊎_elim (λ same. omega (arith, same)) (λ none. absurd none) there }
 walked a (x ∷ xs) =
@@ -47,7 +47,7 @@ walked a (x ∷ xs) =
           there;
     }
 
--- it passes the test by which the definition searches
+-- such a number passes the test by which the definition searches
 passes : (n : ℕ) (numbers : List ℕ) → ((m : ℕ) → In m numbers → n ≤ m) → list_all (λ m. nat_le n m) numbers ≡ true
 passes n [] below = refl
 passes n (x ∷ xs) below =
@@ -56,7 +56,7 @@ passes n (x ∷ xs) below =
     let rest = passes n xs (λ m there. below m (inr there)) in
     λ j. first j && rest j
 
--- and what passes is at most each
+-- a number that passes is at most each of them
 at_most : (n : ℕ) (numbers : List ℕ) (m : ℕ) → list_all (λ k. nat_le n k) numbers ≡ true → In m numbers → n ≤ m
 at_most n [] m all there = absurd there
 at_most n (x ∷ xs) m all there =

@@ -42,7 +42,7 @@ exercises_few at folio ids all =
 
 -- ---- exchanges in turn
 
--- those of these of each number from one on
+-- the elements of each number from one on
 abbrev numbered : {X : Type 0} → (X → ℕ) → List X → ℕ → ℕ → List X
 numbered number xs from many = flat_map (λ n. filter (λ x. eqb (number x) n) xs) (range_with_len from many)
 
@@ -53,7 +53,7 @@ passed number x xs from (suc many) below =
     let other : eqb (number x) from ≡ false = grind (arith, nat_tests, below) in
     λ i. cond (other i) (x ∷ filter (λ y. eqb (number y) from) xs) (filter (λ y. eqb (number y) from) xs) ++ passed number x xs (from + 1) many (omega (arith, below)) i
 
--- and each adds at most one
+-- each element adds at most one
 one_more : {X : Type 0} (number : X → ℕ) (x : X) (xs : List X) (from many : ℕ) → length (numbered number (x ∷ xs) from many) ≤ 1 + length (numbered number xs from many)
 one_more number x xs from zero = omega arith
 one_more number x xs from (suc many) =
@@ -80,7 +80,7 @@ numbered_few number (x ∷ xs) from many =
     let few = numbered_few number xs from many in
     omega (arith, more, few)
 
--- a filter by two tests is one behind the other
+-- a filter by two tests is a filter by the one and then by the other
 both_filters : {X : Type 0} (p q : X → Bool) (xs : List X) → filter (λ x. p x && q x) xs ≡ filter q (filter p xs)
 both_filters p q [] = refl
 both_filters p q (x ∷ xs) =
@@ -90,7 +90,7 @@ both_filters p q (x ∷ xs) =
       | false ↦ rest
     ]
 
--- as many as each gives
+-- where each element gives no more by one function than by another, all give no more
 all_few : {X Y : Type 0} (f g : X → List Y) (xs : List X) → ((x : X) → length (f x) ≤ length (g x)) → length (flat_map f xs) ≤ length (flat_map g xs)
 all_few f g [] few = omega arith
 all_few f g (x ∷ xs) few =
@@ -142,7 +142,7 @@ line_within at folio ids line rights exchanges all is few rises =
       tied = omega (arith, exercised, exercise_count, few);
     }
 
--- so a class's line that has room for these has room for all of it
+-- so a class's line that has room for these has room for all that stands on the folio's line
 pub line_fits : (line : LineState) (rights exchanges : ℕ) (own : ClassLine) → IsLineWithin rights exchanges line → HasLineRoom rights exchanges own → HasRoomForAll line own
 line_fits line rights exchanges own within room = record {
   places = omega (arith, within.placed, room.places);
@@ -150,7 +150,7 @@ line_fits line rights exchanges own within room = record {
   knots = omega (arith, within.tied, room.knots);
 }
 
--- and the live rights are as few
+-- there are no more live rights than rights among which the line is read
 pub live_few : (at : Key → List Entry) (folio : ℕ) (ids : List RightNo) (line : LineState) → AreAllRights ids at folio → IsLineOf at folio line → length line.live ≤ length ids
 live_few at folio ids line all is =
     let few = rights_few is_live_with at folio ids all in

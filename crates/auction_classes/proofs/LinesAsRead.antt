@@ -1,4 +1,4 @@
--- The line of a class, as it is written of what is read, is that of the sale.
+-- The line of a class, as it is written from what is read, is that of the sale.
 use Rattle.std.proofs.Common.{◌≡◌, ℕ, Bool, true, false, cond, ◌==◌, ◌&&◌, ◌||◌, List, [], ◌∷◌, filter, map, None, refl, sym, ap, ◌∙◌}
 use Rattle.std.specs.List.{AllByRecursion}
 use Rattle.std.proofs.lemmas.Bool.{and_parts}
@@ -40,7 +40,7 @@ recedes_same : (xs : List Exchange) (id : RightNo) → recedes_by (map swap_of x
 recedes_same [] id = refl
 recedes_same (x ∷ xs) id = ap (λ b. same_right x.recede id || b) (recedes_same xs id)
 
--- what recedes in some of these exchanges recedes in these
+-- a right that recedes in some of these exchanges recedes in these
 recedes_more : (p : Exchange → Bool) (xs : List Exchange) (id : RightNo) → recedes (filter p xs) id ≡ true → recedes xs id ≡ true
 recedes_more p [] id is = is
 recedes_more p (x ∷ xs) id is =

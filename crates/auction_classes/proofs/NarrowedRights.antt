@@ -1,4 +1,4 @@
--- The rights of a folio of which a narrower test holds are a filter of those of which a wider one does.
+-- The rights of a folio for which a narrower test holds are a filter of those for which a wider one does.
 use Rattle.std.proofs.Common.{◌≡◌, ℕ, Bool, true, false, cond, List, [], ◌∷◌, ◌++◌, filter, filter_map, flat_map, Option, Some, None, option_map, refl, sym, ap, ◌∙◌}
 use Rattle.std.specs.List.{cons_option, range_with_len}
 use Rattle.std.proofs.lemmas.Bool.{false≢true}
@@ -24,7 +24,7 @@ one_swapped p q x ps qs true false first second rest = rest ∙ (λ i. cond (sym
 one_swapped p q x ps qs false true first second rest = (λ i. cond (first i) (x ∷ filter p qs) (filter p qs)) ∙ rest
 one_swapped p q x ps qs false false first second rest = rest
 
--- two filters, in either order
+-- two filters come to the same in either order
 filters_swap : {X : Type 0} (p q : X → Bool) (xs : List X) → filter p (filter q xs) ≡ filter q (filter p xs)
 filters_swap p q [] = refl
 filters_swap p q (x ∷ xs) = one_swapped p q x (filter p xs) (filter q xs) (p x) (q x) refl refl (filters_swap p q xs)
@@ -33,7 +33,7 @@ filter_in_turn : {X Y : Type 0} (p : Y → Bool) (f : X → List Y) (xs : List X
 filter_in_turn p f [] = refl
 filter_in_turn p f (x ∷ xs) = filter-append p (f x) (flat_map f xs) ∙ ap (λ ys. filter p (f x) ++ ys) (filter_in_turn p f xs)
 
--- rights by group, of which the test holds
+-- a filter of rights by group is the filter of the rights, by group
 grouped_filter : (p : CreatedRight → Bool) (xs : List CreatedRight) → by_group (filter p xs) ≡ filter p (by_group xs)
 grouped_filter p xs = (λ i. flat_map (λ g. filters_swap (has_group g) p xs i) (range_with_len 1 most_groups)) ∙ sym (filter_in_turn p (λ g. filter (has_group g) xs) (range_with_len 1 most_groups))
 
@@ -43,7 +43,7 @@ grouped_filter p xs = (λ i. flat_map (λ g. filters_swap (has_group g) p xs i) 
 abbrev pub holds_of : (RightNo → List Entry → Bool) → (Key → List Entry) → ℕ → CreatedRight → Bool
 holds_of holds at folio x = holds x.id (at (Right folio x.id))
 
--- one of them more
+-- one right more
 one_narrowed : (t : CreatedRight → Bool) (id : RightNo) (a b : Bool) (o : Option Created) (narrow wide : List CreatedRight) → (a ≡ true → b ≡ true) → ((made : Created) → t (the_right id made) ≡ a)
     → narrow ≡ filter t wide → cons_option (option_map (the_right id) (cond a o None)) narrow ≡ filter t (cons_option (option_map (the_right id) (cond b o None)) wide)
 one_narrowed t id true true None narrow wide less is rest = rest

@@ -36,7 +36,7 @@ nothing_payable = record {
   owned = λ some. absurd (omega (arith, some));
 }
 
--- ---- where the lists are emptied, and lines are left
+-- ---- where the lists are emptied, and the lines are left as they are
 
 pub emptied_reckonable : (lists : ClaimLists) (costs : ℕ) (four six : Filled) → AreEmpty lists → costs < most_sum → CanFill four → CanFill six
     → IsReckonable (record { items = lists.items.items; costs = costs; owners = lists.owners.items; seizures = lists.seizures.items; rights = lists.rights.items; line_four = four; line_six = six })

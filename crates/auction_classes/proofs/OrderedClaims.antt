@@ -29,7 +29,7 @@ more_written start whole before here rest after left len₀ len₁ len₂ capaci
   same = same ∙ is.same;
 }
 
--- and there is room for them
+-- there is room for the next claims
 pub room_left : (start whole before here rest : List Claim) (left : List Claim) (len₀ len₁ capacity₀ capacity₁ : ℕ)
     → left ≡ here ++ rest → AreBeingWritten start whole before left len₀ len₁ capacity₀ capacity₁ → len₀ + length whole ≤ capacity₀ → len₁ + length here ≤ capacity₁
 room_left start whole before here rest left len₀ len₁ capacity₀ capacity₁ parts is room =
@@ -46,7 +46,7 @@ none_left start whole list here rest left len₀ len capacity₀ capacity many p
     let same = sym (append-nil list) ∙ ap (λ ys. list ++ ys) (sym none) in
     more_written start whole list here rest list left len₀ len len capacity₀ capacity capacity parts is same (omega (arith, size, is.exact, few, full)) refl
 
--- those of a class in what is left are the next claim, where it is of the class, and those behind it
+-- of what is left, those of a class are the next claim, where it is of the class, and those of the class behind it
 pub claims_left : (late : Bool) (class : ℕ) (xs : List Claim) (index : ℕ) (x : Claim) → index < length xs → x ≡ get_or xs index x
     → of_class late (drop index xs) class ≡ of_class late (x ∷ []) class ++ of_class late (drop (index + 1) xs) class
 claims_left late class xs index x within is =

@@ -23,7 +23,7 @@ use Rattle.auction_classes.proofs.KeptSales.{all_below, all_of_case, below_twice
 
 -- ---- owners
 
--- who was named stays named
+-- where somebody was named, somebody stays named
 still_named : (before : Option (List ℕ)) (w : What) → is_some before ≡ true → is_some (owners_by before w) ≡ true
 still_named before (what.Opened inventory people) some = refl
 still_named before (what.Owner people) some = refl
@@ -38,7 +38,7 @@ opening_names : (before : Option (List ℕ)) (w : What) → is_opening w ≡ tru
 opening_names before (what.Opened inventory people) is = refl
 opening_names before other is = absurd (false≢true is)
 
--- an opening below the number is found there
+-- where an opening stands below the number, somebody is named there
 named_below : (m : ℕ) (before : Option (List ℕ)) (es : List Entry) (k : ℕ) (x : Entry) → k < length es → slice_index_or es k x ≡ x → is_opening x.what ≡ true → nat_lt x.receipt m ≡ true
     → is_some (fold (λ b (e : Entry). owners_by b e.what) before (below m es)) ≡ true
 named_below m before [] k x within is opens early = absurd (omega arith)
@@ -76,7 +76,7 @@ rise_behind zero es up = up
 rise_behind (suc n) [] up = tt
 rise_behind (suc n) (e ∷ es) up = rise_behind n es up.1
 
--- so an award of it is not below its first entry
+-- so an award of the case is not below its first entry
 award_step : (low receipt : ℕ) (before : Option ℕ) (w : What) → low ≤ receipt → IfSome before (λ n. low ≤ n) → IfSome (award_by receipt before w) (λ n. low ≤ n)
 award_step low receipt before (what.Awarded buyer bid) from is = from
 award_step low receipt before other from is = is

@@ -1,4 +1,4 @@
--- What is claimed in a sale are amounts of at least a cent, which together are in the range of sums.
+-- The claims in a sale are amounts of at least a cent, which together are in the range of sums.
 use Rattle.std.proofs.Common.{◌≡◌, ℕ, ◌+◌, ◌*◌, ◌<◌, ◌≤◌, Bool, true, false, cond, not, ◌&&◌, ◌==◌, ◌||◌, List, [], ◌∷◌, ◌++◌, All, filter, filter_map, flat_map, length, sum_by, Option, Some, None, refl, sym, subst, arith}
 use Rattle.std.specs.List.{AllByRecursion, cons_option, range_with_len}
 use Rattle.std.proofs.lemmas.Bool.{true≢false}
@@ -28,7 +28,7 @@ use Rattle.auction_classes.proofs.WeighedClaims.{filter_weighs, order_weighs, ro
 abbrev pub weight : Claim → ℕ
 weight c = c.interest + c.capital
 
--- ---- those registered, and those of personal creditors
+-- ---- the claims that are registered, and those of personal creditors
 
 registered_weigh : (year : ℕ) (rs : List Registered) → AllByRecursion (λ (r : Registered). amount_of r.what ≤ most_cents) rs
     → AllByRecursion (λ c. weight c ≤ most_cents) (filter_map (λ (r : Registered). claim_registered year r.late r.what) rs)
@@ -51,7 +51,7 @@ personal_weigh (z ∷ zs) all = step z.basis all.0 _ (personal_weigh zs all.1)
     step (basis.Personal creditor claim) within rest more = (omega (arith, within), more)
     step (basis.FromRight right) within rest more = more
 
--- ---- those of rights
+-- ---- the claims of rights
 
 -- what a right claims
 abbrev pub right_weight : RightFound → ℕ
@@ -103,7 +103,7 @@ items_weigh cs =
 
 -- ---- each claim
 
--- at least a cent
+-- a claim of at least one cent comes to at least one cent
 some_claimed : (c : Claim) → is_claim c ≡ true → 1 ≤ weight c
 some_claimed c is = grind (arith, nat_tests, is)
 
@@ -143,7 +143,7 @@ items_are_amounts year rs zs found sum =
     subst (All IsAmountClaimed) (sym (row_is (in_order cs)))
     (All-from_recursion IsAmountClaimed (row_behind None (in_order cs)) (row_amounts None (in_order cs) (order_all (λ c. 1 ≤ weight c) cs (claims_some year rs zs found)) (omega (arith, order, sum))))
 
--- ---- interest stands apart only in the timely claims of rights in their classes
+-- ---- interest stands apart from the capital only in the timely claims of rights in their classes
 
 abbrev IsWhole : Claim → Type 0
 IsWhole c = (not c.late && (c.class == 4 || c.class == 6)) ≡ false → c.interest ≡ 0

@@ -37,7 +37,7 @@ part_below money total claim short some =
     absurd (omega (arith, low, high, more)))
     (cases_lt part claim)
 
--- so with one cent more they are at most the claim
+-- so a share is at most its claim
 share_within : (money : ℕ) (claims : List ℕ) (i : ℕ) → 1 ≤ claim_at claims i → share money claims i ≤ claim_at claims i
 share_within money claims i some =
     let claim = claim_at claims i in
@@ -55,7 +55,7 @@ share_within money claims i some =
 
 -- ---- a member of a group
 
--- the claim at the member's place in the group is its own
+-- the claim at the place of the right in its group is its own
 claim_in_place : (right : RightNo) (group : List Place) → claim_at (map (λ p. p.claim) group) (position_or_len (is_of right) group) ≡ claim_of group right
 claim_in_place right [] = refl
 claim_in_place right (p ∷ ps) =
@@ -83,7 +83,7 @@ claim_in_sum right (p ∷ ps) =
       | false ↦ λ other. omega (arith, whole, rest)
     ] refl
 
--- and where rights differ it is the only one
+-- where rights differ, the first place of a right is its only one
 none_in_sum : (right : RightNo) (places : List Place) → list_any (is_of right) places ≡ false → sum_by (own_claim right) places ≡ 0
 none_in_sum right [] none = refl
 none_in_sum right (p ∷ ps) none =
@@ -111,7 +111,7 @@ group_claim : (places : List Place) (right : RightNo) → AreDifferent places �
 group_claim places right differ =
     omega (arith, claim_in_sum right (group_of places right), group_sum (own_claim right) places right, sum_in_claim right places differ)
 
--- and a member of a group that is not one right alone gets no more of the group's cents
+-- and a member of a group of several gets no more of the group's cents than its claim
 member_within : (group : List Place) (right : RightNo) (cents : ℕ) → 1 ≤ claim_of group right → (length group == 1) ≡ false → share_in_group group right cents ≤ claim_of group right
 member_within group right cents some more =
     let claims = map (λ (p : Place). p.claim) group in
@@ -120,7 +120,7 @@ member_within group right cents some more =
     let within : share cents claims place ≤ claim_at claims place = share_within cents claims place (omega (arith, same, some)) in
     subst (λ b. cond b cents (share cents claims place) ≤ claim_of group right) (sym more) (omega (arith, same, within))
 
--- ---- knots apart
+-- ---- knots left aside
 
 plain_within : (filled : Filled) (right : RightNo) (t : ℕ) → ArePlaces filled.places → keeps_place filled.places right ≡ true → plain_pay filled right t ≤ claim_of filled.places right
 plain_within filled right t places kept =

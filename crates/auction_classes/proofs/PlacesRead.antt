@@ -53,11 +53,11 @@ pub record IsFoundOf (at : Key → List Entry) (folio : ℕ) (f : CreatedRight �
   pub right : (f x).right ≡ x
   pub has_capital : (f x).capital ≡ capital_at at folio x.id
 
--- its claim is its interest, where it is live, and its capital
+-- the claim of a right is its interest, where it is live, and its capital
 abbrev pub ClaimsSo : (Key → List Entry) → ℕ → (RightNo → ℕ) → (CreatedRight → RightFound) → CreatedRight → Type 0
 ClaimsSo at folio claims f x = cond (lives at folio x) (f x).interest 0 + capital_at at folio x.id ≡ claims x.id
 
--- none of the others is found as this one
+-- none of the other rights is found as this one
 none_next : (at : Key → List Entry) (folio : ℕ) (f : CreatedRight → RightFound) (x : CreatedRight) (ys : List CreatedRight) → ((y : CreatedRight) → IsFoundOf at folio f y)
     → AllByRecursion (λ y. has_same_number x y ≡ false) ys → is_next (map f (filter (lives at folio) ys)) x.id ≡ false
 none_next at folio f x [] is others = refl

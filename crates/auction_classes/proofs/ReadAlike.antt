@@ -67,7 +67,7 @@ same_standing at other folio alike (basis.FromRight right) =
     ⊎_elim (λ same. ap (λ es. is_live es && is_full es) same)
     (λ none. and_false (is_live x) (is_full x) (never_full x none.0) ∙ sym (and_false (is_live y) (is_full y) (never_full y none.1))) (alike right)
 
--- what is made of each element alike
+-- where two functions make the same of each element they make the same of all
 pub map_alike : {X Y : Type 0} (f g : X → Y) (xs : List X) → AllByRecursion (λ x. f x ≡ g x) xs → map f xs ≡ map g xs
 map_alike f g [] each = refl
 map_alike f g (x ∷ xs) each = λ i. each.0 i ∷ map_alike f g xs each.1 i

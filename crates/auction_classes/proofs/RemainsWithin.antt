@@ -59,13 +59,13 @@ claim_on_line s class id =
 
 -- ---- a right of class 4
 
--- it is one of the folio's live rights, with its interest
+-- the right of class 4 is one of the folio's live rights, with its interest
 record IsOfFour (s : Sale) (x : RightClaimed) : Type 0 where
   right : CreatedRight
   there : In right (rights_of_class s 4)
   is : right_claimed (right_found s right) ≡ x
 
--- whether a right of the folio is of class 4, and one that was found
+-- whether a right of the folio is of class 4
 abbrev is_four : Sale → CreatedRight → Bool
 is_four s x = class_of_right s x.id == 4
 
@@ -89,7 +89,7 @@ one_right s x y first second same =
     let one : Some x.made ≡ Some y.made = sym made ∙ ap (λ id. created (read s (Right s.folio id))) same ∙ also in
     λ i. the_right (same i) (option_map_or (λ (c : Created). c) (one i) x.made)
 
--- its claim is its interest and its capital
+-- the claim of a live right of class 4 is its interest and its capital
 pub four_claims : (s : Sale) (x : CreatedRight) → In x (rights_of_class s 4) → claim_in_class s 4 x.id ≡ interest_of s x + capital_at (read s) s.folio x.id
 four_claims s x there =
     let found = find_complete (λ (y : CreatedRight). same_right y.id x.id) (rights_of_class s 4) x there (right_self x.id) in
@@ -98,7 +98,7 @@ four_claims s x there =
 
 -- ---- what remains
 
--- what is left without the interest
+-- what is left of a right without its interest is at most so much
 left_at_most : (most cover got : ℕ) (line : Filled) (x : RightClaimed) → got ≤ x.interest + most → remaining_by_pay line cover x got ≤ most
 left_at_most most cover got line x within =
     elim (is_paid_enough line x got && (reaches_group line x.right cover && reaches_knot line x.right cover)) as (λ b. cond b (got - x.interest) 0 ≤ most) [

@@ -26,7 +26,7 @@ use Rattle.auction_classes.proofs.OrderedClaims.{in_classes}
 abbrev is_of : Bool → ℕ → Claim → Bool
 is_of late k c = are_both late c.late && c.class == k
 
--- ---- in a row
+-- ---- the claims in a row
 
 row_rights : (late : Bool) (k : ℕ) (before : Option Claim) (cs : List Claim) → map (λ (x : ClaimItem). x.right) (claims_in late k (row_behind before cs)) ≡ map (λ (c : Claim). c.right) (of_class late cs k)
 row_rights late k before [] = refl
@@ -39,7 +39,7 @@ row_rights late k before (c ∷ cs) =
       | false ↦ rest
     ]
 
--- ---- in order
+-- ---- the claims in order
 
 same_class : (late : Bool) (k : ℕ) (cs : List Claim) → of_class late (of_class late cs k) k ≡ of_class late cs k
 same_class late k [] = refl
@@ -50,7 +50,7 @@ same_class late k (c ∷ cs) =
       | false ↦ λ _. same_class late k cs
     ] refl
 
--- none of those of another class, or of the late ones
+-- none of the claims of another class, or of those that are late or timely otherwise
 none_of_class : (late other : Bool) (k j : ℕ) (cs : List Claim) → ((c : Claim) → is_of other j c ≡ true → is_of late k c ≡ false) → of_class late (of_class other cs j) k ≡ []
 none_of_class late other k j [] apart = refl
 none_of_class late other k j (c ∷ cs) apart =
@@ -150,7 +150,7 @@ no_personal four (z ∷ zs) = step z.basis _ (no_personal four zs)
 abbrev IsOne : Bool → RightFound → Type 0
 IsOne four x = map (λ (c : Claim). c.right) (of_class false (filter is_claim (claims_of_right x)) (class_no four)) ≡ map (λ (y : RightFound). Some y.right.id) (filter (λ (y : RightFound). y.class == class_no four) (x ∷ []))
 
--- those behind the first claim of a right are of class 8, or late
+-- the claims behind the first one of a right are of class 8, or late
 none_else : (four : Bool) (x : RightFound)
     → AllByRecursion (λ c. is_of false (class_no four) c ≡ false) (claim_of_right x 8 false 0 x.old_arrears ∷ claim_of_right x 4 true 0 x.late_arrears ∷ claim_of_right x 8 true 0 x.late_old_arrears ∷ [])
 none_else true x = (refl, (refl, (refl, tt)))

@@ -1,4 +1,4 @@
--- The rights of class 4, and those from which a sale is served, stand on the line of class 4.
+-- The rights of class 4, and those from which a served seizure is, stand on the line of class 4.
 use Rattle.std.proofs.Common.{◌≡◌, ℕ, ◌<◌, Bool, true, cond, not, ◌==◌, nat_lt, nat_le, eqb, List, [], ◌∷◌, All, filter, map, slice_get, IfSome, IsTrue, Option, Some, None, is_some, option_and_then, refl, sym, ap, subst, ◌∙◌, ◌+◌, arith}
 use Rattle.std.specs.List.{AllByRecursion}
 use Rattle.std.specs.Option.{option_map_or}
@@ -71,7 +71,7 @@ rights_on_line journal at folio a kept stands =
     subst P claimed.2 (subst (λ (x : RightFound). P (right_claimed x)) own.2 (live_on_line journal at folio a 4 own.0.id kept stands class live)) in
     All-from_recursion P (map right_claimed (filter is_four found)) (all_in P (map right_claimed (filter is_four found)) each)
 
--- ---- those from which is seized
+-- ---- the rights from which is seized
 
 -- the right from which is seized is older than receipt n
 abbrev IsOlder : ℕ → Basis → Type 0
@@ -91,7 +91,7 @@ older_item n (Some i) older = older_basis n i older
 abbrev first_number : List Entry → ℕ
 first_number es = option_map_or (λ n. n) (slice_get (map (λ (e : Entry). e.receipt) (filter (λ e. is_seizure e.what) es)) 0) 0
 
--- which is the first of all
+-- each of these entries seizes from a right that is older than the first of them
 older_than_first : (journal : List Receipt) (es : List Entry) → IfSome (slice_get es 0) (λ e. IsTrue (is_seizure e.what)) → IfSome (slice_get es 0) (λ first. All (SeizesFromOlder journal first.receipt) es)
     → AllByRecursion (SeizesFromOlder journal (first_number es)) es
 older_than_first journal [] begins older = tt
@@ -114,7 +114,7 @@ seized_older journal at folio a z kept there =
     let here : seizes own.0.receipt ≡ Some z = ap seizes own.2 ∙ from.2 in
     subst (λ o. IfSome o (λ (y : Seizure). IsOlder (number_seized s) y.basis)) here (older_item (number_seized s) (item_at journal own.0.receipt) older)
 
--- so where it is served its right stands on the line
+-- so where a seizure is served its right stands on the line
 can_cover : (journal : List Receipt) (at : Key → List Entry) (folio a : ℕ) (b : Basis) → Kept journal at → IsJournal journal → IsOlder (number_seized (sale_at journal at folio a)) b
     → is_basis_standing (at_right (sale_at journal at folio a)) b ≡ true → CanCover (line_of_class (sale_at journal at folio a) 4) b
 can_cover journal at folio a (basis.Personal creditor claim) kept stands older standing = tt

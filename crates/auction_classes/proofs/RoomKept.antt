@@ -1,4 +1,4 @@
--- Lists that have as much room as before have room for as much, and for less.
+-- Lists that have as much room as before have room for as much as before, and for less.
 use Rattle.std.proofs.Common.{◌≡◌, ℕ, ◌+◌, ◌≤◌, arith}
 use Rattle.auction_classes.specs.inner.ClaimLists.{HaveRoomFor, KeepRoom, lists_capacity}
 use Rattle.auction_classes.specs.inner.LinesRead.{HasLineRoom, KeepsLineRoom, line_capacity}
@@ -34,7 +34,7 @@ line_room_kept rights exchanges before now room same = record {
   knots = omega (arith, room.knots, same.knots);
 }
 
--- and as much memory
+-- lists that have as much room as before have as much memory
 pub lists_capacity_kept : (before now : ClaimLists) → KeepRoom before now → lists_capacity now ≡ lists_capacity before
 lists_capacity_kept before now same = λ i. same.items i + same.owners i + same.seizures i + same.rights i + same.found i + same.claims i + same.ordered i
 

@@ -44,7 +44,7 @@ finding_as_read journal at folio a entries case = λ i. finding_of (sale_of_case
 same_at_live : (s : Sale) (reads : Key → List Entry) → ReadAlike s.folio (read s) reads → (x : CreatedRight) → In x (live_rights reads s.folio) → at_right s x.id ≡ reads (Right s.folio x.id)
 same_at_live s reads alike x there = same_right_read _ _ x.made (alike x.id) (of_placed_rights is_live_with reads s.folio x there).made
 
--- so it is found the same
+-- so a right is found the same in the sale
 pub same_rights : (s : Sale) (reads : Key → List Entry) → ReadAlike s.folio (read s) reads
     → rights_with s (λ id. reads (Right s.folio id)) (live_rights reads s.folio) ≡ map (right_found s) (live_rights (read s) s.folio)
 same_rights s reads alike =
@@ -55,7 +55,7 @@ same_rights s reads alike =
     map_alike g (right_found s) live (all_in (λ (x : CreatedRight). g x ≡ right_found s x) live each)
     ∙ ap (map (right_found s)) (sym (same_live (read s) reads s.folio alike))
 
--- and a seizure is served in both or in neither
+-- a seizure is served as it is read just where it is served in the sale
 pub same_seizures : (s : Sale) (reads : Key → List Entry) → ReadAlike s.folio (read s) reads
     → map (seized_with (sale_day s) (λ id. reads (Right s.folio id))) (seizures_found s) ≡ map (seized_for s) (seizures_found s)
 same_seizures s reads alike =
@@ -64,7 +64,7 @@ same_seizures s reads alike =
     λ i. record { basis = z.basis; served = nat_le (z.served + 28) (sale_day s) && sym (same_standing (read s) reads s.folio alike z.basis) i } in
     map_alike g (seized_for s) (seizures_found s) (all_in (λ (z : Seizure). g z ≡ seized_for s z) (seizures_found s) each)
 
--- the lists have what is claimed in it
+-- the lists that are written of what is read have what is claimed in the sale
 pub claimed_as_read : (journal : List Receipt) (at : Key → List Entry) (folio a : ℕ) (entries : List Entry) (reads : Key → List Entry) (title : List Entry) (live : List CreatedRight) (lists : ClaimLists)
     → IsReadFrom journal at folio a entries reads title live → AreClaimedIn (sale_of_case journal entries a) (λ id. reads (Right folio id)) title live lists
     → AreClaimsOf (sale_at journal at folio a) lists

@@ -1,4 +1,4 @@
--- What is written of a sale is what is claimed in it, and can be reckoned with.
+-- What is written of a sale is what is claimed in it, and can be computed with.
 use Rattle.std.proofs.Common.{◌≡◌, ℕ, ◌<◌, ◌≤◌, IsSome, List, length, slice_get, sym, ap, subst, ◌∙◌}
 use Rattle.gb_base.specs.Limits.{most_sum}
 use Rattle.gb_base.specs.declared.keys.Key.{Key}
@@ -59,7 +59,7 @@ pub lists_are : (r : SaleReading) (register : Key → List Entry) (line : LineSt
 lists_are r register line lists is of_line claimed =
     claimed_as_read r.journal register r.folio r.item r.entries (reads_in r) r.title line.live lists (sale_read_from r register line is of_line) claimed
 
--- the line of a class
+-- the line of a class that is written is that of the sale
 line_is : (r : SaleReading) (register : Key → List Entry) (line : LineState) (finding : Finding) (costs : ℕ) (lists : ClaimLists) (four six own : ClassLine) (class : ℕ) → IsSaleRead r register
     → AreWritten r line finding costs lists four six → filled_of own ≡ line_read (record { seized = finding.seized; number = class }) (reads_in r) r.folio lists.found.items line
     → filled_of own ≡ line_of_class (sale_in r register) class
@@ -85,7 +85,7 @@ written_is r register line finding costs lists four six is are =
       line_six = of_six i;
     }
 
--- ---- it can be reckoned with
+-- ---- it can be computed with
 
 pub written_reckonable : (r : SaleReading) (register : Key → List Entry) (line : LineState) (finding : Finding) (costs : ℕ) (lists : ClaimLists) (four six : ClassLine) → IsSaleRead r register → AreWritten r line finding costs lists four six
     → costs < most_sum → KeepWithin lists → IsReckonable (written costs lists four six)

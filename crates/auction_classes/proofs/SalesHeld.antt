@@ -68,7 +68,7 @@ pub can_be_read : (journal : List Receipt) (register : Key → List Entry) (hold
 can_be_read journal register holds at folio None kept stands = tt
 can_be_read journal register holds at folio (Some n) kept stands = λ id held. held_rise journal register holds at (Right folio id) kept stands held
 
--- the rights filed are all that are read
+-- the rights filed are all that are read in the folio
 pub filed_are_read : (journal : List Receipt) (register : Key → List Entry) (holds : Key → Bool) (at : Key → List Entry) (folio n : ℕ) → Kept journal register → StandsFor holds at register
     → AreAllRights (rights_filed (Some n) journal folio) (read_at (Some n) (where_held holds at)) folio
 filed_are_read journal register holds at folio n kept stands =
@@ -134,15 +134,15 @@ sale_is_read r kept received held case awarded owned = record {
   owned = owned;
 }
 
--- in the register the same stands at the case
+-- the parts have the entries at the case that the register has
 pub case_is : (r : SaleReading) (register : Key → List Entry) → IsSaleRead r register → below r.item (register (Case r.folio)) ≡ r.entries
 case_is r register is = sym (is.case ∙ ap (below r.item) (is.stands (Case r.folio) is.held.case))
 
--- so its folio is read as of the same receipt
+-- so the folio is read as of the receipt as of which the sale reads it
 before_is : (r : SaleReading) (register : Key → List Entry) → IsSaleRead r register → r.before ≡ read_before (sale_in r register)
 before_is r register is = is.award ∙ ap (λ es. option_map_or (λ m. m) (award es) r.item) (sym (case_is r register is))
 
--- which is no later than the item
+-- this receipt is no later than the item
 pub before_within : (r : SaleReading) (register : Key → List Entry) → IsSaleRead r register → r.before ≤ r.item
 before_within r register is = subst (λ m. m ≤ r.item) (sym (before_is r register is)) (read_within r.journal register r.folio r.item)
 
@@ -153,7 +153,7 @@ can_find_case r register is runs =
     let can = can_find r.journal register r.folio r.item is.kept (subst (λ es. IsSome (slice_get (seizure_numbers es) 0)) (sym case) runs) in
     subst (λ es. CanFind (sale_of_case r.journal es r.item)) case (record { seized = can.seized; seizures = can.seizures; registrations = can.registrations })
 
--- its rights are read alike
+-- the rights of the sale are read alike
 pub sale_read_alike : (r : SaleReading) (register : Key → List Entry) → IsSaleRead r register → ReadAlike r.folio (read (sale_in r register)) (reads_in r)
 sale_read_alike r register is =
     let within = before_within r register is in
@@ -173,25 +173,25 @@ sale_read_from r register line is of_line =
       living = of_line.live;
     }
 
--- and are as they were filed
+-- the live rights of the sale are as they were filed
 pub sale_live_as_read : (r : SaleReading) (register : Key → List Entry) (line : LineState) → IsSaleRead r register → IsLineOf (reads_in r) r.folio line → All (IsReadAs (λ id. reads_in r (Right r.folio id))) line.live
 sale_live_as_read r register line is of_line =
     live_as_read r.journal register r.folio r.item r.entries (reads_in r) r.title line.live (sale_read_from r register line is of_line) is.kept is.received
 
 -- ---- room
 
--- the rights among which its line is read
+-- the rights among which the line of the sale is read
 abbrev pub ids_in : SaleReading → List RightNo
 ids_in r = rights_filed (Some r.before) r.journal r.folio
 
 pub ids_are_all : (r : SaleReading) (register : Key → List Entry) → IsSaleRead r register → AreAllRights (ids_in r) (reads_in r) r.folio
 ids_are_all r register is = filed_are_read r.journal register r.holds r.at r.folio r.before is.kept is.stands
 
--- they are no more than those that filings before the item create, and at most as many as a folio has
+-- these rights are no more than those that filings before the item create, and at most as many as a folio has
 pub ids_few : (r : SaleReading) (register : Key → List Entry) → IsSaleRead r register → length (ids_in r) ≤ length (earlier_rights r.journal r.item r.folio)
 ids_few r register is = filed_few r.journal r.folio r.before r.item (before_within r register is)
 
--- nor are their exchanges more than those that stand there
+-- the exchanges by which these rights rise are no more than those that stand in the parts
 pub ids_rise : (r : SaleReading) (register : Key → List Entry) → IsSaleRead r register
     → length (all_rises (reads_in r) r.folio (ids_in r)) ≤ length (all_rises r.at r.folio (earlier_rights r.journal r.item r.folio))
 ids_rise r register is = rises_fit r.journal r.holds r.at r.folio r.before r.item (before_within r register is)

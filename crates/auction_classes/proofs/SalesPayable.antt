@@ -60,7 +60,7 @@ older_of s late x r = cond (are_both late r.late) (arrears_named old_arrears (ac
 abbrev HasAmount : Sale → CreatedRight → Type 0
 HasAmount s x = (from until : ℕ) → old_arrears (accrues s x) from until ≤ most_of_term
 
--- a registration of another right claims nothing
+-- a registration for another right claims nothing of this one
 none_older : (s : Sale) (right : RightNo) (from until : ℕ) (xs : List CreatedRight) → AllByRecursion (λ (x : CreatedRight). same_right right x.id ≡ false) xs
     → sum_by (λ (x : CreatedRight). arrears_named old_arrears (accrues s x) x.id (registration.Arrears right from until)) xs ≡ 0
 none_older s right from until [] others = refl
@@ -119,7 +119,7 @@ sum_mapped w f (x ∷ xs) =
     let right = sum_by-cons (λ y. w (f y)) x xs in
     omega (arith, left, right, sum_mapped w f xs)
 
--- one registration, and all of them
+-- one registration claims at most the interest of a term, and all of them so many times as much
 each_older : (s : Sale) (late : Bool) (r : Registered) (xs : List CreatedRight) → IsDistinct has_same_number xs → AllByRecursion (HasAmount s) xs → sum_by (λ (x : CreatedRight). older_of s late x r) xs ≤ most_of_term
 each_older s late r xs differ all =
     elim (are_both late r.late) as (λ b. sum_by (λ (x : CreatedRight). cond b (arrears_named old_arrears (accrues s x) x.id r.what) 0) xs ≤ most_of_term) [
@@ -139,7 +139,7 @@ older_in_all s late (r ∷ rs) xs differ all =
 
 -- ---- what the live rights claim
 
--- what holds of each of them
+-- what holds of each live right
 record IsLiveIn (s : Sale) (x : CreatedRight) : Type 0 where
   some : 1 ≤ (right_found s x).capital
   own : (right_found s x).interest + (right_found s x).capital ≤ 670000000000000
@@ -201,7 +201,7 @@ has_class four x = x.class == class_no four
 abbrev number_of : RightFound → RightNo
 number_of x = x.right.id
 
--- those of the class
+-- the numbers of the rights of the class
 abbrev ids_of : Sale → Bool → List RightNo
 ids_of s four = map number_of (filter (has_class four) (map (right_found s) (rights_found s)))
 
@@ -209,7 +209,7 @@ some_mapped : (xs : List RightFound) → map (λ (y : RightFound). Some y.right.
 some_mapped [] = refl
 some_mapped (x ∷ xs) = ap (λ ys. Some x.right.id ∷ ys) (some_mapped xs)
 
--- numbers of different rights
+-- the numbers of different rights differ
 numbers_differ : (x : CreatedRight) (s : Sale) (four : Bool) (ys : List CreatedRight) → AllByRecursion (λ y. has_same_number x y ≡ false) ys
     → AllByRecursion (λ id. same_right x.id id ≡ false) (map number_of (filter (has_class four) (map (right_found s) ys)))
 numbers_differ x s four [] all = tt
@@ -283,9 +283,9 @@ seizures_few journal at folio a kept =
     let counted = length-filter (λ (e : Entry). is_seizure e.what) entries in
     omega (arith, found, size, counted, kept.case_in_order.seizures folio a)
 
--- ---- all of it
+-- ---- all claims of a sale
 
--- what is claimed in a sale of a kept register, where owners are named
+-- what is claimed in a sale of a kept register can be paid, where owners are named
 pub sale_payable : (journal : List Receipt) (at : Key → List Entry) (folio a : ℕ) → Kept journal at → IsJournal journal → 1 ≤ length (former_owners (sale_at journal at folio a)) → IsPayable (claimed_in (sale_at journal at folio a))
 sale_payable journal at folio a kept stands owned =
     let s = sale_at journal at folio a in

@@ -1,4 +1,4 @@
--- Entries that come to a right and say nothing of it, as the end of a filing's waiting, leave what is claimed in a sale.
+-- Entries that come to a right and say nothing of it, such as the end of a filing's waiting, change nothing of what is claimed in a sale.
 use Rattle.std.proofs.Common.{◌≡◌, ℕ, ◌+◌, Bool, false, cond, not, ◌&&◌, ◌||◌, ◌==◌, nat_le, List, [], ◌∷◌, ◌++◌, filter, filter_map, find, flat_map, fold, map, Option, Some, None, is_some, option_and_then, option_map, refl, ap, subst, sym, ◌∙◌}
 use Rattle.std.specs.List.{AllByRecursion, cons_option, list_any}
 use Rattle.std.specs.Option.{option_map_or, option_or}
@@ -36,7 +36,7 @@ use Rattle.auction_classes.specs.inner.CaseSales.{sale_of_case}
 
 -- ---- contents that say nothing of a right
 
--- neither creates, converts, assigns, cancels, exchanges or exercises it, nor says what is left of it
+-- the content neither creates, converts, assigns, cancels, exchanges or exercises the right, nor says what is left of it
 abbrev pub IsUnread : What → Type 0
 IsUnread (what.Created made) = ⊥
 IsUnread what.Converted = ⊥
@@ -91,7 +91,7 @@ no_rise id n other unread = refl
 abbrev pub AllUnread : List Entry → Type 0
 AllUnread es = AllByRecursion (λ e. IsUnread e.what) es
 
--- a fold stays where it was
+-- such entries change nothing of a fold
 folded : {A : Type 0} (f : A → Entry → A) (start : A) (xs ys : List Entry) → ((before : A) (e : Entry) → IsUnread e.what → f before e ≡ before) → AllUnread ys
     → fold f start (xs ++ ys) ≡ fold f start xs
 folded {A} f start xs ys stays all = fold-append f start xs ys ∙ on (fold f start xs) ys all
@@ -100,13 +100,13 @@ folded {A} f start xs ys stays all = fold-append f start xs ys ∙ on (fold f st
     on before [] unread = refl
     on before (z ∷ zs) unread = ap (λ b. fold f b zs) (stays before z unread.0) ∙ on before zs unread.1
 
--- a test of some entry holds or fails as before
+-- such entries change nothing of whether a test holds of some entry
 tested : (p : Entry → Bool) (xs ys : List Entry) → ((e : Entry) → IsUnread e.what → p e ≡ false) → AllUnread ys → list_any p (xs ++ ys) ≡ list_any p xs
 tested p [] [] fails all = refl
 tested p [] (y ∷ ys) fails all = λ j. fails y all.0 j || tested p [] ys fails all.1 j
 tested p (x ∷ xs) ys fails all = ap (λ b. p x || b) (tested p xs ys fails all)
 
--- and nothing more is found
+-- nothing is found in such entries
 found : {X : Type 0} (f : Entry → Option X) (xs ys : List Entry) → ((e : Entry) → IsUnread e.what → f e ≡ None) → AllUnread ys → filter_map f (xs ++ ys) ≡ filter_map f xs
 found f [] [] none all = refl
 found f [] (y ∷ ys) none all = λ j. cons_option (none y all.0 j) (found f [] ys none all.1 j)
@@ -157,7 +157,7 @@ pub record GrowsUnread (x y : List Entry) : Type 0 where
 pub grown_same : (x y : List Entry) → GrowsUnread x y → IsReadSame x y
 grown_same x y grows = subst (IsReadSame x) (sym grows.is) (read_same x grows.more grows.unread)
 
--- as they stood before a receipt they are too
+-- the entries before a receipt have grown so too
 pub grown_below : (n : ℕ) (x y : List Entry) → GrowsUnread x y → GrowsUnread (below n x) (below n y)
 grown_below n x y grows = record {
   more = below n grows.more;
@@ -235,8 +235,8 @@ module _ (s0 s1 : Sale) (finding : finding_of s1 ≡ finding_of s0) (registratio
     line_six = line_same 6 j;
   }
 
--- So two registers that agree at the case and at the title, and of which the one has only such entries more at the rights, have the same
--- claims in the sale.
+-- So two registers have the same claims in the sale where they agree at the case and at the title, and the one has only such entries more
+-- at the rights.
 pub claimed_grown : (journal : List Receipt) (at0 at1 : Key → List Entry) (folio i : ℕ) → below i (at1 (Case folio)) ≡ below i (at0 (Case folio)) → below i (at1 (Title folio)) ≡ below i (at0 (Title folio))
     → ((id : RightNo) → GrowsUnread (below i (at0 (Right folio id))) (below i (at1 (Right folio id))))
     → claimed_in (sale_at journal at1 folio i) ≡ claimed_in (sale_at journal at0 folio i)

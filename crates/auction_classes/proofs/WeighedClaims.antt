@@ -1,4 +1,4 @@
--- What claims weigh by any measure, as what they come to or how many are of a class, they weigh in their order and in their row.
+-- By any measure, such as what they come to or how many are of a class, claims come to no more in their order, and to the same in their row.
 use Rattle.std.proofs.Common.{◌≡◌, ℕ, zero, suc, ◌+◌, ◌≤◌, Bool, true, false, cond, not, ◌&&◌, ◌==◌, List, [], ◌∷◌, ◌++◌, filter, sum_by, Option, Some, None, refl, sym, ap, subst, ◌∙◌, arith}
 use Rattle.std.proofs.lemmas.Bool.{and_parts, eqb-true}
 use Rattle.std.proofs.lemmas.List.Sums.{sum_by-append, sum_by-cons}

@@ -1,4 +1,4 @@
--- The lowest bid that is reckoned without the line is that of the sale.
+-- The lowest bid that is computed without the line is that of the sale.
 use Rattle.std.proofs.Common.{◌≡◌, ℕ, ◌+◌, ◌-◌, true, List, Some, None, length, map, min, option_map, sum_by, refl, sym, ap, ◌∙◌, arith}
 use Rattle.std.proofs.Math.Nat.{min-eq_right}
 use Rattle.gb_base.specs.declared.keys.Key.{Key}
@@ -16,7 +16,7 @@ use Rattle.auction_classes.specs.inner.WholeBids.{are_personal, before_served, c
 use Rattle.auction_classes.proofs.WholeCovers.{whole_cover}
 use Rattle.auction_classes.proofs.WholeLines.{IsWholeLine, four_kept, four_remain}
 
--- with so much seized for before the base
+-- the bid, where personal creditors seized for so much before the base
 bid_is : (journal : List Receipt) (at : Key → List Entry) (folio a before : ℕ) → Kept journal at → IsJournal journal → IsWholeLine (line_of_class (sale_at journal at folio a) 4)
     → whole_bid_by (costs_found (sale_at journal at folio a)) (claims (sale_at journal at folio a)) (map (right_found (sale_at journal at folio a)) (rights_found (sale_at journal at folio a))) before
     ≡ bid_by (claimed_in (sale_at journal at folio a)) (length (line (line_of_class (sale_at journal at folio a) 4)) + before)

@@ -1,4 +1,4 @@
--- Where each served seizure is a personal creditor's, the first that is served has the least cover: the whole line, and what is seized for before it.
+-- Where each served seizure is a personal creditor's, the first that is served has the least cover: the whole line, and what was seized for before it.
 use Rattle.std.proofs.Common.{◌≡◌, ℕ, ◌+◌, ◌≤◌, Bool, true, false, cond, not, ◌||◌, List, [], ◌∷◌, Some, None, length, min, option_map, refl, sym, ap, ◌∙◌, arith}
 use Rattle.std.proofs.Math.Nat.{min-eq_left}
 use Rattle.std.proofs.lemmas.Bool.{and_parts, false≢true}
@@ -17,12 +17,12 @@ personal_cover : (four : Filled) (before : ℕ) (b : Basis) → is_personal b �
 personal_cover four before (basis.Personal creditor claim) is = refl
 personal_cover four before (basis.FromRight right) is = absurd (false≢true is)
 
--- a served one that passes is a personal creditor's
+-- a served seizure that passes is a personal creditor's
 served_personal : (b : Bool) → (b || not true) ≡ true → b ≡ true
 served_personal true is = refl
 served_personal false is = absurd (false≢true is)
 
--- covers that follow are none below one before them
+-- the covers that follow are none below the one before them
 none_below : (four : Filled) (least before : ℕ) (zs : List SeizedFor) → are_personal zs ≡ true → least ≤ length (line four) + before → least_from (Some least) (covers_from four before zs) ≡ Some least
 none_below four least before [] all within = refl
 none_below four least before (z ∷ zs) all within =
@@ -50,6 +50,6 @@ first_covers four before (z ∷ zs) all =
       | false ↦ λ _. first_covers four (before + personal_amount z.basis) zs both.1
     ] both.0
 
--- so the cover of the base is that of the first
+-- so the cover of the base is that of the first that is served
 pub whole_cover : (four : Filled) (zs : List SeizedFor) → are_personal zs ≡ true → cover_of_base four zs ≡ option_map (λ n. length (line four) + n) (before_served 0 zs)
 whole_cover four zs all = ap least (sym (covers_are four zs)) ∙ sym (least_found (covers_from four 0 zs)) ∙ first_covers four 0 zs all

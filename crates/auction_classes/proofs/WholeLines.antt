@@ -51,7 +51,7 @@ pub record IsWholeLine (filled : Filled) : Type 0 where
 
 -- ---- sums
 
--- a sum of those that pass, and of all where the others give nothing
+-- a sum over those that pass is a sum over all where the others give nothing
 sum_passing : {X Y : Type 0} (f : Y → ℕ) (g : X → ℕ) (p : X → Bool) (h : X → Y) (xs : List X) → AllByRecursion (λ x. f (h x) ≡ cond (p x) (g x) 0) xs → sum_by f (map h xs) ≡ sum_by g (filter p xs)
 sum_passing f g p h [] each = refl
 sum_passing f g p h (x ∷ xs) each =
@@ -63,7 +63,7 @@ sum_passing f g p h (x ∷ xs) each =
       | false ↦ λ is. omega (arith, first, is, rest)
     ] here
 
--- what the places claim that are kept
+-- what the kept ones of these places claim is what their rights claim
 kept_claims : (claims : RightNo → ℕ) (gone : RightNo → Bool) (before : Option CreatedRight) (xs : List CreatedRight)
     → sum_by (λ (p : Place). p.claim) (filter (λ (p : Place). not p.dropped) (places_behind claims gone before xs)) ≡ sum_by (λ (x : CreatedRight). claims x.id) (filter (λ (x : CreatedRight). not (gone x.id)) xs)
 kept_claims claims gone before [] = refl
@@ -113,9 +113,9 @@ live_in_class s class =
     (all_in (λ (x : CreatedRight). (class_of_right s x.id == class) ≡ holds_of narrow at s.folio x) (rights_found s)
     (λ x there. of_live (class_of_right s x.id == class) (is_live (at (Right s.folio x.id))) (of_placed_rights is_live_with at s.folio x there).stands)))
 
--- ---- what they claim
+-- ---- what the live rights of class 4 claim
 
--- what the places of a class claim that are kept
+-- what the kept places of a class claim
 abbrev kept_of : Filled → ℕ
 kept_of filled = sum_by (λ (p : Place). p.claim) (filter (λ (p : Place). not p.dropped) filled.places)
 
@@ -127,7 +127,7 @@ claims_of_line s class =
     ∙ kept_claims claims (is_gone (read s) s.folio) None (rights_in_class s class)
     ∙ ap (sum_by (λ (x : CreatedRight). claims x.id)) (live_in_class s class)
 
--- of one right
+-- what one live right claims in class 4 is its claim on the line, where it is of the class
 one_claims : (s : Sale) (x : CreatedRight) → In x (rights_found s) → claim_in_four (right_found s x) ≡ cond (class_of_right s x.id == 4) (claim_in_class s 4 x.id) 0
 one_claims s x there =
     elim (class_of_right s x.id == 4) as (λ b. (class_of_right s x.id == 4) ≡ b → cond b ((right_found s x).interest + (right_found s x).capital) 0 ≡ cond b (claim_in_class s 4 x.id) 0) [
@@ -135,14 +135,14 @@ one_claims s x there =
       | false ↦ λ _. refl
     ] refl
 
--- What the live rights of class 4 claim is what the places of its line claim that are kept.
+-- What the live rights of class 4 claim is what the kept places of its line claim.
 pub four_kept : (s : Sale) → sum_by claim_in_four (map (right_found s) (rights_found s)) ≡ kept_of (line_of_class s 4)
 four_kept s =
     sum_passing claim_in_four (λ (x : CreatedRight). claim_in_class s 4 x.id) (λ (x : CreatedRight). class_of_right s x.id == 4) (right_found s) (rights_found s)
     (all_in (λ (x : CreatedRight). claim_in_four (right_found s x) ≡ cond (class_of_right s x.id == 4) (claim_in_class s 4 x.id) 0) (rights_found s) (one_claims s))
     ∙ sym (claims_of_line s 4)
 
--- so it is in the range of sums
+-- so what the live rights of class 4 claim is in the range of sums
 pub four_within : (journal : List Receipt) (at : Key → List Entry) (folio a : ℕ) → Kept journal at → IsJournal journal
     → sum_by claim_in_four (map (right_found (sale_at journal at folio a)) (rights_found (sale_at journal at folio a))) < most_sum
 four_within journal at folio a kept stands =
@@ -152,7 +152,7 @@ four_within journal at folio a kept stands =
     let few = (class_can_fill journal at folio a 4 kept stands).places.sum in
     omega (arith, same, less, few)
 
--- ---- what remains of them
+-- ---- what remains of the live rights of class 4
 
 -- a place that is kept claims what its right claims
 claim_is : (claims : RightNo → ℕ) (places : List Place) (id : RightNo) → AllByRecursion (λ (p : Place). p.claim ≡ claims p.right) places → keeps_place places id ≡ true → claim_of places id ≡ claims id
@@ -193,7 +193,7 @@ knot_reached filled right = elim (knot_of filled.knots right) as (λ o. option_m
   | Some k ↦ λ i. reached filled k.reserved i && reached filled k.exercised i
 ]
 
--- so what remains of a right of the whole line is its claim without its interest
+-- so what remains of a right, of the whole line, is its claim without its interest
 whole_remains : (filled : Filled) (x : RightClaimed) → IsWholeLine filled → keeps_place filled.places x.right ≡ true → remaining_of filled (length (line filled)) x ≡ claim_of filled.places x.right - x.interest
 whole_remains filled x whole kept =
     let claim = claim_of filled.places x.right in
@@ -201,7 +201,7 @@ whole_remains filled x whole kept =
     ap (remaining_by_pay filled (length (line filled)) x) (whole.paid x.right kept)
     ∙ (λ i. cond (enough i && (group_reached filled x.right i && knot_reached filled x.right i)) (claim - x.interest) 0)
 
--- of one right of class 4 that is its capital
+-- what remains of one right of class 4 is its capital
 one_remains : (journal : List Receipt) (at : Key → List Entry) (folio a : ℕ) (x : CreatedRight) → Kept journal at → IsJournal journal → IsWholeLine (line_of_class (sale_at journal at folio a) 4) → In x (rights_of_class (sale_at journal at folio a) 4)
     → remaining_of (line_of_class (sale_at journal at folio a) 4) (length (line (line_of_class (sale_at journal at folio a) 4))) (right_claimed (right_found (sale_at journal at folio a) x)) ≡ (right_found (sale_at journal at folio a) x).capital
 one_remains journal at folio a x kept stands whole there =
@@ -215,7 +215,7 @@ one_remains journal at folio a x kept stands whole there =
     let left = whole_remains filled (right_claimed (right_found s x)) whole place in
     omega (arith, left, claim, parts)
 
--- What remains of all of them is their capital.
+-- What remains of all rights of class 4 is their capital.
 pub four_remain : (journal : List Receipt) (at : Key → List Entry) (folio a : ℕ) → Kept journal at → IsJournal journal → IsWholeLine (line_of_class (sale_at journal at folio a) 4)
     → sum_by capital_in_four (map (right_found (sale_at journal at folio a)) (rights_found (sale_at journal at folio a)))
     ≡ sum_by (remaining_of (line_of_class (sale_at journal at folio a) 4) (length (line (line_of_class (sale_at journal at folio a) 4)))) (of_class_four (map (right_found (sale_at journal at folio a)) (rights_found (sale_at journal at folio a))))
@@ -246,7 +246,7 @@ four_remain journal at folio a kept stands whole =
           | false ↦ λ _ sum. omega (arith, sum, rest)
         ] each.0 first
 
--- ---- and that is in range too
+-- ---- the capital is in range too
 
 capital_at_most : (b : Bool) (interest capital : ℕ) → cond b capital 0 ≤ cond b (interest + capital) 0
 capital_at_most true interest capital = omega arith

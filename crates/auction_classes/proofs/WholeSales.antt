@@ -1,4 +1,4 @@
--- A sale of which the live rights are read and no exchange: what is found of it, its sums, and its lowest bid.
+-- A sale whose live rights are read, and no exchange: what is found of it, its sums, and its lowest bid.
 use Rattle.std.proofs.Common.{◌≡◌, ℕ, ◌+◌, ◌*◌, ◌<◌, ◌≤◌, true, List, All, IsSome, length, map, slice_get, sum_by, refl, sym, ap, subst, ◌∙◌, arith}
 use Rattle.gb_base.specs.Limits.{most_sum}
 use Rattle.gb_base.specs.declared.keys.Key.{Key}
@@ -50,7 +50,7 @@ is_line_with at folio live is = record { rights = refl; live = is; exchanges = r
 
 -- ---- the seizures
 
--- as they are read, and whether each is served, they are those of the sale
+-- the seizures as they are read, with whether each is served, are those of the sale
 pub seized_as_read : (r : SaleReading) (register : Key → List Entry) → IsSaleRead r register
     → map (seized_with (sale_day (sale_of_case r.journal r.entries r.item)) (λ id. reads_in r (Right r.folio id))) (seizures_found (sale_of_case r.journal r.entries r.item)) ≡ (claimed_in (sale_in r register)).seizures
 seized_as_read r register is =
@@ -66,7 +66,7 @@ pub record IsFoundWhole (r : SaleReading) (live : List CreatedRight) (finding : 
   pub found : finding ≡ finding_of (sale_of_case r.journal r.entries r.item)
   pub claimed : AreClaimedIn (sale_of_case r.journal r.entries r.item) (λ id. reads_in r (Right r.folio id)) r.title live lists
 
--- its sums are in range
+-- the sums of these lists are in range
 pub whole_sums : (r : SaleReading) (register : Key → List Entry) (live : List CreatedRight) (finding : Finding) (lists : ClaimLists) → IsSaleRead r register → IsFoundWhole r live finding lists
     → IsSome (slice_get (seizure_numbers r.entries) 0) → length lists.items.items ≤ 4 * length live + 40 → All HasLowInterest lists.found.items → HaveWholeBid lists
 whole_sums r register live finding lists is whole runs few low =
@@ -83,7 +83,7 @@ whole_sums r register live finding lists is whole runs few low =
       interest = low;
     }
 
--- and its lowest bid is that of the sale
+-- the lowest bid by these lists is that of the sale
 pub whole_lowest : (r : SaleReading) (register : Key → List Entry) (live : List CreatedRight) (finding : Finding) (costs : ℕ) (lists : ClaimLists) → IsSaleRead r register → IsFoundWhole r live finding lists
     → costs ≡ finding.costs → ((filled : Filled) → CanFill filled → IsWholeLine filled) → are_personal (claimed_in (sale_in r register)).seizures ≡ true
     → whole_bid costs lists.items.items lists.seizures.items lists.found.items ≡ lowest_bid (claimed_in (sale_in r register))

@@ -39,7 +39,7 @@ are_both false late = not late
 abbrev pub class_of_right : Sale → RightNo → ℕ
 class_of_right s id = if nat_lt id.receipt (number_seized s) then 4 else 6
 
--- by what the interest of a right goes
+-- what the interest of a right is computed from
 abbrev pub accrual_of : Sale → CreatedRight → Accrual
 accrual_of s x = record {
   capital = option_map_or (λ c. c) (capital (at_right s x.id)) 0;
@@ -50,21 +50,21 @@ accrual_of s x = record {
   arrears_from = new_year (year_seized s - 3);
 }
 
--- such a part of the arrears that are registered for a right
+-- the given part of the arrears that a registration names for this right; 0 where it names none of them
 abbrev pub arrears_named : (Accrual → ℕ → ℕ → ℕ) → Accrual → RightNo → Registration → ℕ
 arrears_named part x id (registration.Arrears right from until) = if same_right right id then part x from until else 0
 arrears_named part x id other = 0
 
--- such a part of a right's arrears that are registered in time, or late
+-- the given part of all arrears that are registered for a right, in time or late as asked
 abbrev pub arrears_found : (Accrual → ℕ → ℕ → ℕ) → Bool → Accrual → RightNo → List Registered → ℕ
 arrears_found part late x id registrations =
     sum_by (λ r. if are_both late r.late then arrears_named part x id r.what else 0) registrations
 
--- the same of a right in the sale
+-- the given part of the arrears of a right in the sale, timely or late as asked
 abbrev pub arrears_of_right : Sale → CreatedRight → (Accrual → ℕ → ℕ → ℕ) → Bool → ℕ
 arrears_of_right s x part late = arrears_found part late (accrual_of s x) x.id (registrations_found s)
 
--- A right with what is claimed of it. The interest of its class is the current one and the arrears of its class that are timely.
+-- A right with what is claimed of it. The interest in its class is the current interest and the timely arrears of its class.
 abbrev pub right_found : Sale → CreatedRight → RightFound
 right_found s x = record {
   right = x;
@@ -126,7 +126,7 @@ claim_of_right x class late interest amount = record {
 }
 
 -- All that a right claims: interest and capital in its class (ZVG § 12), timely arrears of class 8, and the late ones of both. Late
--- arrears of a right's own class are called those of class 4: a right of class 6 has none, since it was created in the year of the
+-- arrears of a right's own class are given class 4: a right of class 6 has none, since it was created in the year of the
 -- seizure or later.
 abbrev pub claims_of_right : RightFound → List Claim
 claims_of_right x =
@@ -145,7 +145,7 @@ claims_by year registrations seizures rights =
     filter is_claim (filter_map (λ r. claim_registered year r.late r.what) registrations)
     ++ (filter is_claim (filter_map (λ seizure. personal_claim seizure.basis) seizures) ++ filter is_claim (flat_map claims_of_right rights))
 
--- those of a class that are timely, or those that are late
+-- the claims of a class that are timely, or those that are late
 abbrev pub of_class : Bool → List Claim → ℕ → List Claim
 of_class late claims class = filter (λ c. are_both late c.late && c.class == class) claims
 
@@ -171,7 +171,7 @@ ranks_with None c = false
 ranks_with (Some before) c =
     before.class == c.class && (are_both before.late c.late && (are_of_one_filing before.right c.right && before.group == c.group))
 
--- the claim, with what it has to do with the one before it
+-- the claim in its row, with whether it ranks with the one before it
 abbrev pub behind_claim : Option Claim → Claim → ClaimItem
 behind_claim before c = record {
   class = c.class;
@@ -183,7 +183,7 @@ behind_claim before c = record {
   with_previous = ranks_with before c;
 }
 
--- these claims, each with what it has to do with the last of those before it
+-- these claims in their row, each with whether it ranks with the last of those before it
 abbrev pub in_row : List Claim → List ClaimItem
 in_row cs = map (λ numbered. behind_claim (last_or None (take numbered.0 cs)) numbered.1) (enumerate_from 0 cs)
 

@@ -31,7 +31,7 @@ stands_in_class s class id entries = class_of_right s id == class && stands_on_l
 abbrev pub groups_of_class : Sale → ℕ → List (List CreatedRight)
 groups_of_class s class = groups_where (stands_in_class s class) (read s) s.folio
 
--- what a right claims on the line: interest and capital, and one that is gone its capital alone
+-- what a right claims on the line: interest and capital, or its capital alone where it is gone
 abbrev pub claim_in_class : Sale → ℕ → RightNo → ℕ
 claim_in_class s class id =
     option_map_or (interest_of s) (find (λ x. same_right x.id id) (rights_of_class s class)) 0 + capital_at (read s) s.folio id

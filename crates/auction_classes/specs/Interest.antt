@@ -27,15 +27,15 @@ interest_between x from until = interest x.capital x.rate (days360 from until)
 abbrev pub begin_of_current : Accrual → ℕ
 begin_of_current x = max x.current_from x.entered
 
--- current interest, up to the 15th day behind the sale without that day (ZVG § 47)
+-- current interest, up to the 15th day after the sale, without that day (ZVG § 47)
 abbrev pub current_interest : Accrual → ℕ
 current_interest x = interest_between x (begin_of_current x) (x.sale + 15)
 
 -- Of arrears from a day up to another, what the right's own class has: the part from 1 January of the third year before the
--- seizure, and from the right's entry, up to the begin of current interest (ZVG § 10(1) no. 4).
+-- seizure, and from the right's entry, up to the beginning of current interest (ZVG § 10(1) no. 4).
 abbrev pub arrears_in_class : Accrual → ℕ → ℕ → ℕ
 arrears_in_class x from until = interest_between x (max from (max x.arrears_from x.entered)) (min until (begin_of_current x))
 
--- What class 8 has of them: the part before that 1 January (ZVG § 10(1) no. 8).
+-- Of arrears from a day up to another, what class 8 has: the part before 1 January of the third year before the seizure, from the right's entry on (ZVG § 10(1) no. 8).
 abbrev pub old_arrears : Accrual → ℕ → ℕ → ℕ
 old_arrears x from until = interest_between x (max from x.entered) (min until x.arrears_from)

@@ -21,13 +21,13 @@ abbrev pub personal_amount : Basis → ℕ
 personal_amount (basis.Personal creditor claim) = claim
 personal_amount (basis.FromRight right) = 0
 
--- What stands ahead of a seizure from class 4 on (ZVG § 44), where these are earlier: of one from a right the right's threshold on the
--- line of class 4; of a personal creditor's that whole line, and what the earlier ones of personal creditors are for.
+-- What stands ahead of a seizure from class 4 on (ZVG § 44), where these are earlier: ahead of one from a right, the right's threshold
+-- on the line of class 4; ahead of a personal creditor's, that whole line and what the earlier ones of personal creditors are for.
 abbrev pub cover_of : Filled → List SeizedFor → Basis → ℕ
 cover_of four earlier (basis.Personal creditor claim) = length (line four) + sum_by (λ z. personal_amount z.basis) earlier
 cover_of four earlier (basis.FromRight right) = threshold four right
 
--- the covers of those of these seizures that are served, each with all that are before it
+-- the cover of each of these seizures that is served, with all seizures that are before it
 abbrev pub covers_served : Filled → List SeizedFor → List ℕ
 covers_served four seizures =
     map (λ numbered. cover_of four (take numbered.0 seizures) numbered.1.basis) (filter (λ numbered. numbered.1.served) (enumerate_from 0 seizures))
@@ -40,7 +40,7 @@ least numbers = find (λ n. list_all (λ m. nat_le n m) numbers) numbers
 abbrev pub cover_of_base : Filled → List SeizedFor → Option ℕ
 cover_of_base four seizures = least (covers_served four seizures)
 
--- The part of that cover that lies on the line of class 4. ZVG § 44 covers what stands ahead: that this is counted along the line,
+-- The part of the base's cover that lies on the line of class 4. ZVG § 44 covers what stands ahead: that this is counted along the line,
 -- cent by cent, is the office's own rule.
 abbrev pub cover_on_line : SaleClaims → ℕ → ℕ
 cover_on_line c cover = min cover (length (line c.line_four))
@@ -65,7 +65,7 @@ reaches_knot filled right cover =
 abbrev pub is_paid_enough : Filled → RightClaimed → ℕ → Bool
 is_paid_enough filled x got = x.in_division_three || nat_le (claim_of filled.places x.right) got
 
--- what remains of a right that gets so much: that less its interest, which is paid in cash (ZVG §§ 12 no. 2, 49(1), 52(1))
+-- what remains of a right that gets so much: what it gets less its interest, which is paid in cash (ZVG §§ 12 no. 2, 49(1), 52(1))
 abbrev pub remaining_by_pay : Filled → ℕ → RightClaimed → ℕ → ℕ
 remaining_by_pay filled cover x got =
     if is_paid_enough filled x got && (reaches_group filled x.right cover && reaches_knot filled x.right cover) then got - x.interest else 0
@@ -74,13 +74,13 @@ remaining_by_pay filled cover x got =
 abbrev pub remaining_of : Filled → ℕ → RightClaimed → ℕ
 remaining_of filled cover x = remaining_by_pay filled cover x (pay filled x.right cover)
 
--- the same of the right of this number; 0 where it is no live right of class 4
+-- what remains, at this cover, of the right of this number; 0 where it is no live right of class 4
 abbrev pub remaining : SaleClaims → ℕ → RightNo → ℕ
 remaining c cover right = option_map_or (remaining_of c.line_four cover) (find (λ x. same_right x.right right) c.rights) 0
 
 -- ---- the lowest bid
 
--- the cents of a claim that is timely and of class 1 or 3; none of any other
+-- the cents of a claim that is timely and of class 1 or 3; 0 of any other
 abbrev pub cents_ahead : ClaimItem → ℕ
 cents_ahead claim = if not claim.late && (claim.class == 1 || claim.class == 3) then claim.capital else 0
 

@@ -1,4 +1,4 @@
--- What lets claims be paid by a plan: amounts and sums in range, few enough that share, and rights that stand on their lines.
+-- What claims need to be paid by a plan: amounts and sums in range, few enough claims that share, and rights that stand on their lines.
 use Rattle.std.specs.Prelude.{◌≡◌, ℕ, ◌+◌, ◌<◌, ◌≤◌, Bool, true, false, not, ◌==◌, ◌&&◌, ◌||◌, List, All, filter, length, map, sum_by, Some}
 use Rattle.std.specs.List.{IsDistinct}
 use Rattle.gb_base.specs.Limits.{most_sharing, most_sum}
@@ -26,7 +26,7 @@ pub record IsAmountClaimed (c : ClaimItem) : Type 0 where
   pub some : 1 ≤ amount_claimed c
   pub in_range : amount_claimed c < most_sum
 
--- outside the timely classes 4 and 6 no interest stands apart
+-- a claim other than a timely one of class 4 or 6 has no interest apart from its capital
 abbrev pub HasNoInterest : ClaimItem → Type 0
 HasNoInterest c = (not c.late && (c.class == 4 || c.class == 6)) ≡ false → c.interest ≡ 0
 

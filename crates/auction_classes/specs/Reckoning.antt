@@ -1,4 +1,4 @@
--- What lets claims be reckoned with: lines that can be filled, and sums that do not overflow.
+-- What claims need to be computed with: lines that can be filled, and sums that do not overflow.
 use Rattle.std.specs.Prelude.{◌≡◌, ◌<◌, true, List, All, sum_by}
 use Rattle.gb_base.specs.Limits.{most_sum}
 use Rattle.act_model.specs.declared.sales.Basis.{Basis}
@@ -16,7 +16,7 @@ use Rattle.auction_classes.specs.declared.class_lines.ClassLine.{ClassLine}
 abbrev pub filled_of : ClassLine → Filled
 filled_of line = record { places = line.places.items; swaps = line.swaps.items; knots = line.knots.items }
 
--- the line has the right from which is seized
+-- the right from which is seized has a place on the line
 abbrev pub CanCover : Filled → Basis → Type 0
 CanCover filled (basis.Personal creditor claim) = Unit {0}
 CanCover filled (basis.FromRight right) = keeps_place filled.places right ≡ true

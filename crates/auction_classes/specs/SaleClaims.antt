@@ -1,4 +1,4 @@
--- All that a forced sale is reckoned from, put together (ZVG §§ 10 to 13, 43 to 47).
+-- All that a forced sale is computed from, put together (ZVG §§ 10 to 13, 43 to 47).
 use Rattle.std.specs.Prelude.{ℕ, ◌+◌, Bool, true, ◌&&◌, ◌==◌, nat_le, if◌then◌else◌, List, [], filter, map}
 use Rattle.gb_base.specs.RightNo.{RightNo}
 use Rattle.act_model.specs.Acts.{is_in_division_three}

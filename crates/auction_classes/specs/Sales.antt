@@ -36,7 +36,7 @@ abbrev pub costs_named : Item → Option ℕ
 costs_named (item.OpenBids folio costs) = Some costs
 costs_named other = None
 
--- the same of receipt n
+-- the costs that receipt n names, where it calls to bid
 abbrev pub costs_named_by : Sale → ℕ → Option ℕ
 costs_named_by s n = option_and_then costs_named (item_at s.journal n)
 
@@ -66,11 +66,11 @@ seizure_by other = None
 abbrev pub seizures_found : Sale → List Seizure
 seizures_found s = filter_map (λ n. option_and_then seizure_by (item_at s.journal n)) (seizure_numbers (at_case s))
 
--- the number of the first seizure of the case, by which classes go; 0 where there is none
+-- the number of the first seizure of the case, which decides the classes of rights; 0 where there is none
 abbrev pub number_seized : Sale → ℕ
 number_seized s = option_map_or (λ n. n) (slice_get (seizure_numbers (at_case s)) 0) 0
 
--- the year of the first seizure, by which years of interest and of charges go
+-- the year of the first seizure, from which the years of interest and of charges are counted
 abbrev pub year_seized : Sale → ℕ
 year_seized s = (date_of (day_of s.journal (number_seized s))).year
 
@@ -90,7 +90,7 @@ registrations_found s = filter_map (λ n. option_and_then (registered_by (is_lat
 abbrev pub read_before : Sale → ℕ
 read_before s = option_map_or (λ n. n) (award (at_case s)) s.item
 
--- what is then read at each key
+-- what the sale reads at each key: the entries that stood there then
 abbrev pub read : Sale → Key → List Entry
 read s k = below (read_before s) (s.at k)
 
@@ -103,7 +103,7 @@ is_of_sale folio (item.Award f buyer bid) = f == folio
 is_of_sale folio (item.Distribute f) = f == folio
 is_of_sale folio other = false
 
--- By such an item, or behind the whole journal, a sale is found that runs and has a call.
+-- Such an item, or the end of the journal, finds a sale that runs and has a call.
 pub record IsFound (s : Sale) : Type 0 where
   pub item : IsTrue (option_map_or (is_of_sale s.folio) (item_at s.journal s.item) (s.item == length s.journal + 1))
   pub runs : IsSome (slice_get (seizure_numbers (at_case s)) 0)

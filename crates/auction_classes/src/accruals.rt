@@ -8,7 +8,7 @@ use crate::counted_days::CountedDays;
 use act_model::RightKind;
 use gb_base::{Cents, Day, days360, interest};
 
-/// By what the interest of a right goes.
+/// What the interest of a right is computed from.
 #[derive(Clone, Copy)]
 pub(crate) struct Accrual {
     pub capital: Cents,
@@ -20,7 +20,7 @@ pub(crate) struct Accrual {
     pub sale: Day,
     /// 1 January of the year before the first seizure's (ZVG § 13).
     pub current_from: Day,
-    /// 1 January of the third year before it (ZVG § 10(1) no. 4).
+    /// 1 January of the third year before the first seizure's (ZVG § 10(1) no. 4).
     pub arrears_from: Day,
 }
 
@@ -46,7 +46,7 @@ impl Accrual {
         self.interest_between(begin, until.min(self.begin_of_current()))
     }
 
-    /// The part of them that class 8 has, in cents.
+    /// The part of arrears from a day up to another that class 8 has, in cents.
     pub fn old_arrears(&self, from: Day, until: Day) -> u64
         requires rate { self.now.rate ≤ most_rate }
         ensures value { result ≡ old_arrears self.now from until }
@@ -83,7 +83,7 @@ pub(crate) fn rate_of(kind: RightKind) -> u16
     }
 }
 
-/// The 15th day behind a sale, up to which interest runs (ZVG § 47).
+/// The 15th day after a sale, up to which interest runs (ZVG § 47).
 pub(crate) fn end_of_interest(sale: Day) -> Day
     requires { sale ≤ last_stamp_day }
     ensures { result ≡ sale + 15 }

@@ -26,7 +26,7 @@ impl Default for Seizure {
 /// A registration (ZVG § 37).
 #[derive(Clone, Copy, Debug)]
 pub(crate) struct Registered {
-    /// Whether it came behind the call to bid (ZVG § 110).
+    /// Whether it came after the call to bid (ZVG § 110).
     pub late: bool,
     pub what: Registration,
 }

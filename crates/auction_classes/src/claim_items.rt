@@ -8,7 +8,7 @@ use gb_base::{Person, RightId};
 pub struct ClaimItem {
     /// Its class, from 1 to 8 without 2.
     pub class: u8,
-    /// Whether it was registered behind the call to bid (ZVG § 110).
+    /// Whether it was registered after the call to bid (ZVG § 110).
     pub late: bool,
     /// The right that it is of; None for advances, public charges and personal creditors.
     pub right: Option<RightId>,
@@ -23,7 +23,7 @@ pub struct ClaimItem {
     pub with_previous: bool,
 }
 
-/// A seizure as the lowest bid has it (ZVG § 44).
+/// A seizure, as it is needed to compute the lowest bid (ZVG § 44).
 #[derive(Clone, Copy, Debug)]
 pub struct SeizedFor {
     /// What it rests on.
@@ -32,7 +32,7 @@ pub struct SeizedFor {
     pub served: bool,
 }
 
-/// A live right of class 4, as what remains of it has it (ZVG § 52).
+/// A live right of class 4, as it is needed to compute what remains of it (ZVG § 52).
 #[derive(Clone, Copy, Debug)]
 pub struct RightClaimed {
     pub right: RightId,

@@ -36,12 +36,12 @@ pub(crate) struct ClaimLists {
     pub found: Vec<RightFound>,
     /// All claims, before they stand by class.
     claims: Vec<Claim>,
-    /// The same class by class.
+    /// All claims, class by class.
     ordered: Vec<Claim>,
 }
 
 impl ClaimLists {
-    /// Empty lists, with room for the claims of so many rights. Wants memory.
+    /// Empty lists, with room for the claims of so many rights. May run out of memory (`NoMemory`).
     pub fn with_room(alloc: Global, rights: usize) -> Result<ClaimLists, NoMemory>
         ensures room { IfOk result (HaveRoomFor rights) }
         ensures empty { IfOk result AreEmpty }
@@ -58,8 +58,8 @@ impl ClaimLists {
         })
     }
 
-    /// Writes what is claimed in the sale of this case anew, as the item finds it, with the title,
-    /// the rights and their live ones as they are read. Takes no memory.
+    /// Writes what is claimed in the sale of this case, as the item finds it, in place of what stood
+    /// there. The title, the rights and the live ones among them are as they are read. Takes no memory.
     pub fn fill<P: Parts>(
         &mut self,
         journal: &Journal,

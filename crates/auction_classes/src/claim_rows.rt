@@ -8,8 +8,8 @@ use crate::lists::push_copy;
 use crate::rights_found::are_both;
 use gb_base::RightId;
 
-/// Writes these claims in order anew: the timely ones class by class, and then the late ones. Takes
-/// no memory.
+/// Writes these claims in order, in place of what stood there: the timely ones class by class, and
+/// then the late ones. Takes no memory.
 pub(crate) fn write_in_order(ordered: &mut Vec<Claim>, claims: &[Claim])
     requires room { length claims.now ≤ vec_capacity ordered.old }
     ensures claims { ordered.new.items ≡ in_order claims.now }
@@ -21,8 +21,8 @@ pub(crate) fn write_in_order(ordered: &mut Vec<Claim>, claims: &[Claim])
     add_by_class(ordered, claims, true);
 }
 
-/// Adds the timely ones of these claims, or the late ones, class by class. With those of the list they
-/// are no more than these claims.
+/// Adds the timely ones of these claims, or the late ones, class by class. With those that the list
+/// has they are no more than these claims.
 fn add_by_class(ordered: &mut Vec<Claim>, claims: &[Claim], late: bool)
     requires few { vec_len ordered.old + length (by_class late claims.now) ≤ length claims.now }
     requires room { vec_len ordered.old + length (by_class late claims.now) ≤ vec_capacity ordered.old }
@@ -62,8 +62,8 @@ fn add_of_class(ordered: &mut Vec<Claim>, claim: &Claim, late: bool, class: u8)
     }
 }
 
-/// Writes these claims in a row anew, each with what it has to do with the one before it. Takes no
-/// memory.
+/// Writes these claims in their row, in place of what stood there, each with whether it ranks with
+/// the one before it. Takes no memory.
 pub(crate) fn write_row(items: &mut Vec<ClaimItem>, claims: &[Claim])
     requires room { length claims.now ≤ vec_capacity items.old }
     ensures items { items.new.items ≡ in_row claims.now }
@@ -76,7 +76,7 @@ pub(crate) fn write_row(items: &mut Vec<ClaimItem>, claims: &[Claim])
     }
 }
 
-/// A claim with what it has to do with the last of those before it.
+/// A claim in its row, with whether it ranks with the last of those before it.
 fn behind_claims(before: &[Claim], claim: &Claim) -> ClaimItem
     ensures { result ≡ behind_claim (last_or None before.now) claim.now }
 {

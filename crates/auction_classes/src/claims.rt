@@ -37,7 +37,7 @@ pub struct Claims {
     pub(crate) lists: ClaimLists,
     pub(crate) line_four: ClassLine,
     pub(crate) line_six: ClassLine,
-    /// The line of the folio, of which those of the classes are made.
+    /// The line of the folio, from which those of the classes are made.
     pub(crate) line: FolioLine,
 }
 
@@ -88,7 +88,7 @@ impl Model for Claims {
 
 impl Claims {
     /// No claims, with room for those of so many rights of a folio and so many exchanges among
-    /// them. Wants memory, and is the only call that does.
+    /// them. May run out of memory (`NoMemory`); no other call takes any.
     pub fn with_room(alloc: Global, rights: usize, exchanges: usize) -> Result<Claims, NoMemory>
         ensures rights { IfOk result (λ claims. claims.right_room ≡ rights) }
         ensures exchanges { IfOk result (λ claims. claims.exchange_room ≡ exchanges) }
@@ -119,16 +119,17 @@ impl Claims {
         self.exchange_room
     }
 
-    /// Fills the claims anew with what is claimed in the forced sale of a folio, as an item of it, or
-    /// the end of the journal, finds it: by the entries of items below that number. Takes no memory.
+    /// Fills the claims with what is claimed in the forced sale of a folio, in place of what they had:
+    /// as an item of it, or the end of the journal, finds it, by the entries of items below that
+    /// number. Takes no memory.
     ///
     /// Receipt 7 calls to bid, receipt 9 awards, and receipt 10 cancels a right. As of receipt 9 the
-    /// rights are those that stand before it. So they are as of receipt 11, since the folio is read as
-    /// it stood before the award: the right that was cancelled is among them.
+    /// rights are those that stand before it. They are the same as of receipt 11, since the folio is
+    /// read as it stood before the award: the right that was cancelled is among them.
     ///
-    /// The room is for all exchanges that stand in the parts at rights filed before that item, also
-    /// for those entered at it or behind it, of which none is read. `count_exchanges` counts all that
-    /// stand there, each at both of its rights, which is enough.
+    /// There must be room for all exchanges that stand in the parts at rights filed before that item,
+    /// also for those entered by it or after it, though none of these is read. `count_exchanges` counts
+    /// all that stand there, each at both of its rights, which is enough.
     pub fn fill<P: Parts>(&mut self, parts: &P, journal: &Journal, folio: FolioId, as_of: ReceiptNo)
         requires held { (k : Key) → Contains (keys_of_sale journal.now.receipts as_of folio) k → IsTrue (P.holds parts.now k) }
         requires kept { StandsForKept journal.now.receipts (P.holds parts.now) (P.at parts.now) }

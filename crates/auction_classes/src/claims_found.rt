@@ -9,8 +9,8 @@ use crate::rights_found::RightFound;
 use act_model::{Basis, Registration};
 use gb_base::{Cents, Day, Person};
 
-/// Writes all claims of at least one cent anew: those registered, those of personal creditors and
-/// those of these rights. The first seizure is of this year. Takes no memory.
+/// Writes all claims of at least one cent, in place of what stood there: those registered, those of
+/// personal creditors and those of these rights. The first seizure is of this year. Takes no memory.
 pub(crate) fn write_claims(
     claims: &mut Vec<Claim>,
     year: u16,

@@ -23,7 +23,8 @@ pub(crate) struct ClassLine {
 }
 
 impl ClassLine {
-    /// An empty line, with room for so many rights and so many exchanges. Wants memory.
+    /// An empty line, with room for so many rights and so many exchanges. May run out of memory
+    /// (`NoMemory`).
     pub fn with_room(alloc: Global, rights: usize, exchanges: usize) -> Result<ClassLine, NoMemory>
         ensures empty { IfOk result (λ line. filled_of line ≡ empty) }
         ensures room { IfOk result (HasLineRoom rights exchanges) }
@@ -35,8 +36,8 @@ impl ClassLine {
         })
     }
 
-    /// Writes the line of a class anew, of the folio's line as it is read, and of what is found of
-    /// its live rights in their order. Takes no memory.
+    /// Writes the line of a class from the folio's line as it is read, and from what is found of its
+    /// live rights in their order, in place of what stood there. Takes no memory.
     pub fn fill<P: Parts>(
         &mut self,
         reading: &FolioReading<P>,
@@ -65,7 +66,8 @@ impl ClassLine {
     }
 }
 
-/// Writes those of these exchanges anew both of whose rights are of the class (BGB § 880).
+/// Writes those of these exchanges both of whose rights are of the class, in place of what stood
+/// there (BGB § 880).
 fn write_swaps(swaps: &mut Vec<Swap>, class: &RightClass, exchanges: &[Exchange])
     requires room { length exchanges.now ≤ vec_capacity swaps.old }
     ensures items { swaps.new.items ≡ swaps_read class.now exchanges.now }
@@ -83,8 +85,8 @@ fn write_swaps(swaps: &mut Vec<Swap>, class: &RightClass, exchanges: &[Exchange]
     }
 }
 
-/// Writes those of these exercised reservations anew both of whose rights are of the class (BGB
-/// § 881).
+/// Writes those of these exercised reservations both of whose rights are of the class, in place of
+/// what stood there (BGB § 881).
 fn write_knots(knots: &mut Vec<Knot>, class: &RightClass, exercises: &[Knot])
     requires room { length exercises.now ≤ vec_capacity knots.old }
     ensures items { knots.new.items ≡ exercises_within class.now exercises.now }

@@ -10,10 +10,10 @@ use folio_sections::Parts;
 use gb_base::RightId;
 use rank_slots::{Place, Swap};
 
-/// Writes the places of those of these rights anew that stand on the line of the class, where these
-/// are its exchanges. Of the live ones these are found, in their order: so which are live, and what
-/// they claim, is read of those, and of the folio only the capital of a right that is gone. Takes no
-/// memory.
+/// Writes the places of those of these rights that stand on the line of the class, in place of what
+/// stood there; `swaps` are its exchanges. `found` has the live ones in their order: so which are
+/// live, and what they claim, is read there, and of the folio only the capital of a right that is
+/// gone. Takes no memory.
 pub(crate) fn write_places<P: Parts>(
     places: &mut Vec<Place>,
     reading: &FolioReading<P>,
@@ -66,7 +66,7 @@ fn recedes_by(swaps: &[Swap], right: RightId) -> bool
     swaps.iter().any(|swap| swap.recede == right)
 }
 
-/// The place of a right behind another.
+/// The place of a right, with the right before it on the line, if there is one.
 fn place_read<P: Parts>(
     reading: &FolioReading<P>,
     before: Option<CreatedRight>,
@@ -85,7 +85,7 @@ fn place_read<P: Parts>(
     }
 }
 
-/// What a right claims, in cents: interest and capital, and one that is gone its capital alone.
+/// What a right claims, in cents: interest and capital, or its capital alone where it is gone.
 fn claim_read<P: Parts>(reading: &FolioReading<P>, found: &[RightFound], right: RightId) -> u64
     requires read { CanBeRead P.holds P.at reading.now }
     requires interest { All HasLowInterest found.now }

@@ -28,7 +28,7 @@ impl Model for CountedDays {
 }
 
 impl CountedDays {
-    /// Those from a day up to another.
+    /// The days from a day up to another.
     pub fn of(from: Day, until: Day) -> CountedDays {
         CountedDays {
             from,

@@ -9,8 +9,8 @@ use crate::SeizedFor;
 use act_model::Basis;
 use rank_slots::Slots;
 
-/// The least cover of one of these seizures that is served, in cents, on the line of class 4; None
-/// where none is served.
+/// The least cover, in cents, of those of these seizures that are served, on the line of class 4;
+/// None where none is served.
 pub(crate) fn cover_of_base(slots: &Slots, seizures: &[SeizedFor]) -> Option<u64>
     requires amounts { sum_by (λ z. personal_amount z.basis) seizures.now < most_sum }
     requires kept { CanCoverServed slots.now.filled seizures.now }
@@ -54,7 +54,8 @@ fn lesser(least: Option<u64>, cover: u64) -> Option<u64>
     }
 }
 
-/// What stands ahead of a seizure from class 4 on, with so much seized for personally before it.
+/// What stands ahead of a seizure from class 4 on, where personal creditors seized for so much
+/// before it.
 fn cover_by(slots: &Slots, before: u64, basis: Basis) -> u64
     requires before { before < most_sum }
     requires kept { CanCover slots.now.filled basis }

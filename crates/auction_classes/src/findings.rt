@@ -24,19 +24,19 @@ pub(crate) struct Finding {
     pub costs: Cents,
     /// The day of the sale.
     pub sale: Day,
-    /// The receipt of the first seizure, by which classes go.
+    /// The receipt of the first seizure, which decides the classes of rights.
     pub seized: ReceiptNo,
-    /// The year of the first seizure, by which years of interest and of charges go.
+    /// The year of the first seizure, from which the years of interest and of charges are counted.
     pub year: u16,
-    /// 1 January of the year before it (ZVG § 13).
+    /// 1 January of the year before the first seizure's (ZVG § 13).
     pub current_from: Day,
-    /// 1 January of the third year before it (ZVG § 10(1) no. 4).
+    /// 1 January of the third year before the first seizure's (ZVG § 10(1) no. 4).
     pub arrears_from: Day,
     /// Rights and owners are read as they stood before this receipt (ZVG § 81).
     pub before: ReceiptNo,
 }
 
-/// What is found of the sale of this case by an item. Takes no memory.
+/// What an item finds of the sale of this case. Takes no memory.
 pub(crate) fn find_sale(journal: &Journal, case: &CaseFront, item: ReceiptNo) -> Finding
     requires { CanFind (sale_of_case journal.now.receipts case.now item) }
     ensures value { result ≡ finding_of (sale_of_case journal.now.receipts case.now item) }
@@ -196,7 +196,7 @@ fn seizures_among(journal: &Journal, numbers: &[ReceiptNo]) -> ArrayVec<Seizure,
     seizures
 }
 
-/// Puts the seizure of receipt n behind the others, where it is one.
+/// Adds the seizure of receipt n, where it is one.
 fn add_seizure(seizures: &mut ArrayVec<Seizure, 8>, journal: &Journal, n: ReceiptNo)
     requires { length seizures.old.items < most_seizures }
     ensures { seizures.new.items ≡ seizures.old.items ++ filter_map (λ m. option_and_then seizure_by (item_at journal.now.receipts m)) (n ∷ []) }
@@ -237,7 +237,7 @@ fn is_late_by(called: &Option<ReceiptNo>, n: ReceiptNo) -> bool
     }
 }
 
-/// Puts the registration of receipt n, where it is one, behind the others.
+/// Adds the registration of receipt n, where it is one.
 fn add_registration(
     registrations: &mut ArrayVec<Registered, 32>,
     journal: &Journal,

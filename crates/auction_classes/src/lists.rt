@@ -1,7 +1,7 @@
 //! Lists with room.
 ghost use Rattle.std.specs.Prelude.{◌≡◌, ◌+◌, ◌<◌, ◌≤◌, ◌++◌, ◌∷◌, [], length, vec_capacity, vec_len};
 
-/// Puts a copy of a value behind the others.
+/// Adds a copy of a value at the end.
 pub(crate) fn push_copy<T: Copy>(list: &mut Vec<T>, value: &T)
     requires { vec_len list.old < vec_capacity list.old }
     ensures items { list.new.items ≡ list.old.items ++ value.now ∷ [] }
@@ -11,7 +11,7 @@ pub(crate) fn push_copy<T: Copy>(list: &mut Vec<T>, value: &T)
     list.push_reserved(*value);
 }
 
-/// Fills a list that has room for it anew.
+/// Fills a list that has room for these values with them, in place of its own.
 pub(crate) fn copy_into<T: Copy>(list: &mut Vec<T>, from: &[T])
     requires { length from.now ≤ vec_capacity list.old }
     ensures items { list.new.items ≡ from.now }

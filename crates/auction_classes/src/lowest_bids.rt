@@ -20,8 +20,8 @@ pub struct Lowest {
     pub cover: u64,
 }
 
-/// No seizure is served: none was in time that is a personal creditor's, or from a right that still
-/// stands (ZVG § 43).
+/// No seizure is served: none of a personal creditor was in time, and none in time is from a right
+/// that still stands (ZVG § 43).
 #[derive(Clone, Copy, Debug, PartialEq, Eq)]
 pub struct NoServedCreditor;
 

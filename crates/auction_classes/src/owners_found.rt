@@ -8,8 +8,8 @@ use crate::lists::copy_into;
 use folio_sections::TitleFront;
 use gb_base::Person;
 
-/// Writes the owners whom a title names, anew and in their order; none where it names nobody. Where
-/// owners are named there is at least one. Takes no memory.
+/// Writes the owners whom a title names, in their order, in place of those that stood there; none
+/// where it names nobody. Where owners are named there is at least one. Takes no memory.
 pub(crate) fn write_owners(list: &mut Vec<Person>, title: &TitleFront)
     requires room { most_owners ≤ vec_capacity list.old }
     ensures items { list.new.items ≡ owners_named title.now }

@@ -1,4 +1,4 @@
-//! The lowest bid of a sale as an item of it finds it, reckoned at once (ZVG §§ 44, 49).
+//! The lowest bid of a sale as an item of it finds it, computed at once (ZVG §§ 44, 49).
 //! Why so: docs/DECISIONS.md, "A call to bid of personal creditors reads no exchange".
 ghost use Rattle.std.specs.Prelude.{◌≡◌, ◌≤◌, true, Contains, IsTrue, List, length};
 ghost use Rattle.std.specs.Result.{result_ok};
@@ -28,8 +28,8 @@ impl Claims {
     /// `lowest_bid` give it; NoServedCreditor where no seizure is served. Takes no memory.
     ///
     /// Where each served seizure is a personal creditor's, the cover reaches the end of the line of
-    /// class 4, so each right gets its whole claim, and no exchange is read. Of what is claimed nothing
-    /// is said behind it.
+    /// class 4, so each right gets its whole claim, and no exchange is read. After it nothing is said
+    /// of what is claimed.
     pub fn reckon_lowest<P: Parts>(
         &mut self,
         slots: &mut Slots,
@@ -62,7 +62,8 @@ impl Claims {
         }
     }
 
-    /// The same where each served seizure is a personal creditor's.
+    /// The lowest bid of the forced sale of a folio as an item of it finds it, where each served
+    /// seizure is a personal creditor's.
     fn reckon_whole<P: Parts>(
         &mut self,
         parts: &P,

@@ -83,14 +83,15 @@ fn remaining_by_pay(slots: &Slots, cover: u64, claimed: &RightClaimed, got: u64)
     }
 }
 
-/// Whether a right that gets so much may remain: one of division II gets its whole claim.
+/// Whether a right that gets so much may remain: one of division II only where it gets its whole
+/// claim.
 fn is_paid_enough(slots: &Slots, claimed: &RightClaimed, got: u64) -> bool
     ensures { result ≡ is_paid_enough slots.now.filled claimed.now got }
 {
     claimed.in_division_three || slots.claim_of(claimed.right) <= got
 }
 
-/// Whether the cover reaches the end of the right's group, where it is of one with others.
+/// Whether the cover reaches the end of the right's group, where others are of it too.
 fn reaches_group(slots: &Slots, right: RightId, cover: u64) -> bool
     ensures { result ≡ reaches_group slots.now.filled right cover }
 {

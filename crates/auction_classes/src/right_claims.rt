@@ -1,4 +1,4 @@
-//! The rights of class 4, as what remains of them has them (ZVG § 52).
+//! The rights of class 4, as they are needed to compute what remains of them (ZVG § 52).
 ghost use Rattle.std.specs.Prelude.{◌≡◌, ◌+◌, ◌<◌, ◌≤◌, ◌++◌, ◌∷◌, ◌==◌, [], filter, length, map, vec_capacity, vec_len};
 ghost use Rattle.auction_classes.specs.SaleClaims.{of_class_four, right_claimed};
 
@@ -6,7 +6,7 @@ use crate::RightClaimed;
 use crate::lists::push_copy;
 use crate::rights_found::RightFound;
 
-/// Writes those of these rights anew that are of class 4. Takes no memory.
+/// Writes those of these rights that are of class 4, in place of what stood there. Takes no memory.
 pub(crate) fn write_right_claims(list: &mut Vec<RightClaimed>, rights: &[RightFound])
     requires room { length rights.now ≤ vec_capacity list.old }
     ensures items { list.new.items ≡ of_class_four rights.now }
@@ -30,7 +30,7 @@ fn add_right_claimed(list: &mut Vec<RightClaimed>, right: &RightFound)
     }
 }
 
-/// A right, as what remains of it has it.
+/// A right, as it is needed to compute what remains of it.
 fn right_claimed(right: &RightFound) -> RightClaimed
     ensures { result ≡ right_claimed right.now }
 {

@@ -8,7 +8,7 @@ use gb_base::{ReceiptNo, RightId};
 /// Class 4 or 6 of a sale.
 #[derive(Drop)]
 pub(crate) struct RightClass {
-    /// The receipt of the first seizure, by which the rights are of the one or the other.
+    /// The receipt of the first seizure, which decides of which of the two classes a right is.
     pub seized: ReceiptNo,
     pub number: u8,
 }

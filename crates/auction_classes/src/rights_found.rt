@@ -26,7 +26,7 @@ use gb_base::{Cents, Day, Person, RightId};
 #[derive(Clone, Copy)]
 pub(crate) struct RightFound {
     pub right: CreatedRight,
-    /// 4, or 6 where its filing was received behind the first seizure (ZVG § 10(1)).
+    /// 4, or 6 where its filing was received after the first seizure (ZVG § 10(1)).
     pub class: u8,
     pub holder: Person,
     pub capital: Cents,
@@ -54,11 +54,12 @@ struct Arrears {
 struct ArrearsFound {
     /// In time.
     timely: Arrears,
-    /// Behind the call to bid (ZVG § 110).
+    /// After the call to bid (ZVG § 110).
     late: Arrears,
 }
 
-/// Writes the live rights of a folio with what is claimed of them anew. Takes no memory.
+/// Writes the live rights of a folio with what is claimed of them, in place of what stood there.
+/// Takes no memory.
 pub(crate) fn write_rights<P: Parts>(
     found: &mut Vec<RightFound>,
     reading: &FolioReading<P>,
@@ -141,7 +142,7 @@ fn holder_of(front: &RightFront) -> Person
     front.holder().unwrap()
 }
 
-/// By what the interest of a right goes.
+/// What the interest of a right is computed from.
 fn accrual_by(finding: &Finding, right: &CreatedRight, front: &RightFront) -> Accrual
     ensures { result ≡ accrual_by finding.now right.now front.now }
 {
@@ -202,7 +203,7 @@ fn arrears_found(accrual: &Accrual, right: RightId, registrations: &[Registered]
 }
 
 impl ArrearsFound {
-    /// Adds the arrears that a registration names for a right. Most name another one.
+    /// Adds the arrears that a registration names for a right. Most name another right.
     fn add(&mut self, accrual: &Accrual, right: RightId, registered: &Registered)
         requires rate { accrual.now.rate ≤ most_rate }
         requires few { self.old.timely.in_class + self.old.late.in_class ≤ 31 * most_of_term }
@@ -232,7 +233,7 @@ impl ArrearsFound {
 }
 
 impl Arrears {
-    /// Adds those from a day up to another.
+    /// Adds the arrears from a day up to another.
     fn add(&mut self, accrual: &Accrual, from: Day, until: Day)
         requires rate { accrual.now.rate ≤ most_rate }
         requires few { self.old.in_class ≤ 31 * most_of_term }

@@ -15,7 +15,8 @@ use folio_line::{FolioReading, right_front};
 use folio_sections::Parts;
 use gb_base::{Day, RightId};
 
-/// Writes the seizures of a case anew, in order, where the sale is on this day. Takes no memory.
+/// Writes the seizures of a case in order, in place of what stood there; the sale is on this day.
+/// Takes no memory.
 pub(crate) fn write_seizures<P: Parts>(
     list: &mut Vec<SeizedFor>,
     reading: &FolioReading<P>,
@@ -81,8 +82,8 @@ fn is_served<P: Parts>(reading: &FolioReading<P>, sale: Day, seizure: &Seizure) 
     seizure.served.number() + 28 <= sale.number() && is_basis_standing(reading, &seizure.basis)
 }
 
-/// Whether the right from which is seized is live, and no mere priority notice. A personal
-/// creditor's claim stands.
+/// Whether the right from which is seized is live, and no mere priority notice; a personal
+/// creditor's claim always stands.
 fn is_basis_standing<P: Parts>(reading: &FolioReading<P>, basis: &Basis) -> bool
     requires read { CanBeRead P.holds P.at reading.now }
     ensures { result ≡ is_basis_standing (rights_read P.holds P.at reading.now) basis.now }

@@ -1,5 +1,5 @@
 //! The lowest bid where each seizure that is served is a personal creditor's (ZVG §§ 44, 49): the
-//! cover is then the whole line of class 4 and what is seized for before the base, so that each
+//! cover is then the whole line of class 4 and what was seized for before the base, so that each
 //! right of the class gets its whole claim, whatever exchanges there are.
 //! Why so: docs/DECISIONS.md, "A call to bid of personal creditors reads no exchange".
 ghost use Rattle.std.specs.Prelude.{◌≡◌, ◌<◌, ◌≤◌, All, IfSome, sum_by};
@@ -30,7 +30,7 @@ impl ClaimLists {
     }
 }
 
-/// The lowest bid with so much seized for personally before the base.
+/// The lowest bid where personal creditors seized for so much before the base.
 fn whole_bid_by(costs: u64, items: &[ClaimItem], found: &[RightFound], before: u64) -> Lowest
     requires costs { costs < most_sum }
     requires ahead { sum_by cents_ahead items.now < most_sum }
@@ -48,9 +48,9 @@ fn whole_bid_by(costs: u64, items: &[ClaimItem], found: &[RightFound], before: u
     }
 }
 
-/// What is seized for personally before the first of these seizures that is served, in cents; None
-/// where none is served. Covers never fall from one personal creditor's seizure to the next, so that
-/// first one is the base (ZVG § 44(2)).
+/// What personal creditors seized for before the first of these seizures that is served, in cents;
+/// None where none is served. Covers never fall from one personal creditor's seizure to the next, so
+/// that first one is the base (ZVG § 44(2)).
 fn before_served(seizures: &[SeizedFor]) -> Option<u64>
     requires { sum_by (λ z. personal_amount z.basis) seizures.now < most_sum }
     ensures value { result ≡ before_served 0 seizures.now }

@@ -30,7 +30,7 @@ pub struct Exchange {
     pub rise: RightId,
 }
 
-/// Writes the exchanges that count into a list that has room, in the order of `live`, the rights that
+/// Writes the exchanges that count into a list that has room, in the order of `live`, whose rights
 /// rise by them. An exchange stands at both of its rights, and is read at the one that rises. It
 /// counts where the cents of the one that recedes stay.
 pub(crate) fn write_counted<P: Parts>(

@@ -27,7 +27,7 @@ lists_capacity lists =
     vec_capacity lists.items + vec_capacity lists.owners + vec_capacity lists.seizures + vec_capacity lists.rights + vec_capacity lists.found
     + vec_capacity lists.claims + vec_capacity lists.ordered
 
--- they have as much room as before
+-- the lists have as much room as before
 pub record KeepRoom (before now : ClaimLists) : Type 0 where
   pub items : vec_capacity now.items ≡ vec_capacity before.items
   pub owners : vec_capacity now.owners ≡ vec_capacity before.owners

@@ -4,7 +4,7 @@ use Rattle.auction_classes.specs.Claims.{behind_claim}
 use Rattle.auction_classes.specs.declared.claim_items.Claim.{Claim}
 use Rattle.auction_classes.specs.declared.claim_items.ClaimItem.{ClaimItem}
 
--- these claims behind another, each with what it has to do with the one before it
+-- these claims in their row behind another claim, each with whether it ranks with the one before it
 abbrev pub row_behind : Option Claim → List Claim → List ClaimItem
 row_behind before [] = []
 row_behind before (c ∷ cs) = behind_claim before c ∷ row_behind (Some c) cs

@@ -7,12 +7,12 @@ use Rattle.rank_slots.specs.Payments.{threshold}
 use Rattle.auction_classes.specs.LowestBid.{personal_amount}
 use Rattle.auction_classes.specs.declared.claim_items.SeizedFor.{SeizedFor}
 
--- what stands ahead of a seizure from class 4 on, with so much seized for personally before it
+-- what stands ahead of a seizure from class 4 on, where personal creditors seized for so much before it
 abbrev pub cover_by : Filled → ℕ → Basis → ℕ
 cover_by four before (basis.Personal creditor claim) = length (line four) + before
 cover_by four before (basis.FromRight right) = threshold four right
 
--- the covers of those of these seizures that are served, with so much seized for personally before them
+-- the cover of each of these seizures that is served, where personal creditors seized for so much before them
 abbrev pub covers_from : Filled → ℕ → List SeizedFor → List ℕ
 covers_from four before [] = []
 covers_from four before (z ∷ zs) =

@@ -1,4 +1,4 @@
--- What is found of a sale ahead of its claims, and what is claimed of a right or a seizure with entries that are at hand.
+-- What is found of a sale before its claims, and what is claimed of a right or a seizure with entries that are at hand.
 use Rattle.std.specs.Prelude.{ℕ, ◌+◌, ◌-◌, Bool, true, false, nat_le, nat_lt, if◌then◌else◌, List, Option}
 use Rattle.std.specs.Option.{option_map_or}
 use Rattle.gb_base.specs.RightNo.{RightNo}
@@ -36,7 +36,7 @@ is_late_by called n = option_map_or (λ call. nat_le call n) called true
 abbrev pub class_by : ℕ → RightNo → ℕ
 class_by seized id = if nat_lt id.receipt seized then 4 else 6
 
--- by what the interest of a right with these entries goes
+-- what the interest of a right with these entries is computed from
 abbrev pub accrual_by : Finding → CreatedRight → List Entry → Accrual
 accrual_by f x entries = record {
   capital = option_map_or (λ c. c) (capital entries) 0;
@@ -60,7 +60,7 @@ right_by a class holder registrations x = record {
   late_old_arrears = arrears_found old_arrears true a x.id registrations;
 }
 
--- the same of a right with these entries
+-- a right with these entries, and what is claimed of it
 abbrev pub right_with : Finding → List Registered → CreatedRight → List Entry → RightFound
 right_with f registrations x entries =
     right_by (accrual_by f x entries) (class_by f.seized x.id) (option_map_or (λ p. p) (holder entries) 0) registrations x

@@ -1,4 +1,4 @@
--- The line of a class, as it is written of the folio's line and of what is found of the live rights.
+-- The line of a class, as it is written from the folio's line and from what is found of the live rights.
 use Rattle.std.specs.Prelude.{◌≡◌, ℕ, ◌+◌, ◌*◌, ◌≤◌, Bool, false, not, ◌&&◌, ◌||◌, ◌==◌, if◌then◌else◌, List, [], ◌∷◌, filter, length, map, Option, Some, None, vec_capacity}
 use Rattle.std.specs.List.{list_any}
 use Rattle.gb_base.specs.RightNo.{RightNo, same_right}
@@ -43,7 +43,7 @@ pub record IsLineWithin (rights exchanges : ℕ) (line : LineState) : Type 0 whe
   pub swapped : length line.exchanges ≤ exchanges
   pub tied : length line.exercises ≤ rights
 
--- it has as much room as before
+-- the line has as much room as before
 pub record KeepsLineRoom (before now : ClassLine) : Type 0 where
   pub places : vec_capacity now.places ≡ vec_capacity before.places
   pub swaps : vec_capacity now.swaps ≡ vec_capacity before.swaps
@@ -82,12 +82,12 @@ abbrev pub first_claim : List RightFound → ℕ
 first_claim [] = 0
 first_claim (x ∷ xs) = x.interest + x.capital
 
--- those behind it
+-- what is found behind the first
 abbrev pub behind_first : List RightFound → List RightFound
 behind_first [] = []
 behind_first (x ∷ xs) = xs
 
--- what a right claims: interest and capital, and one that is gone its capital alone
+-- what a right claims: interest and capital, or its capital alone where it is gone
 abbrev pub claim_read : (Key → List Entry) → ℕ → List RightFound → RightNo → ℕ
 claim_read at folio found id = if is_next found id then first_claim found else capital_at at folio id
 
@@ -95,7 +95,7 @@ claim_read at folio found id = if is_next found id then first_claim found else c
 abbrev pub found_behind : List RightFound → RightNo → List RightFound
 found_behind found id = if is_next found id then behind_first found else found
 
--- the place of a right behind another
+-- the place of a right, with the right before it on the line, if there is one
 abbrev pub place_read : (Key → List Entry) → ℕ → Option CreatedRight → List RightFound → CreatedRight → Place
 place_read at folio before found x = record {
   right = x.id;
@@ -104,7 +104,7 @@ place_read at folio before found x = record {
   dropped = not (is_next found x.id);
 }
 
--- the places of those of these rights that stand on the line, behind another right, with what is found of the live ones
+-- the places of those of these rights that stand on the line, with the right before them and with what is found of the live ones
 abbrev pub places_read : RightClass → List Swap → (Key → List Entry) → ℕ → Option CreatedRight → List RightFound → List CreatedRight → List Place
 places_read class swaps at folio before found [] = []
 places_read class swaps at folio before found (x ∷ xs) =
@@ -117,7 +117,7 @@ places_read class swaps at folio before found (x ∷ xs) =
 abbrev pub swaps_read : RightClass → List Exchange → List Swap
 swaps_read class exchanges = map swap_of (exchanges_within class exchanges)
 
--- the line of a class, of the folio's line and of what is found of the live rights
+-- the line of a class, from the folio's line and from what is found of the live rights
 abbrev pub line_read : RightClass → (Key → List Entry) → ℕ → List RightFound → LineState → Filled
 line_read class at folio found line = record {
   places = places_read class (swaps_read class line.exchanges) at folio None found line.rights;

@@ -1,4 +1,4 @@
--- The lowest bid where each seizure that is served is a personal creditor's (ZVG §§ 44, 49, 52): it is reckoned from what is claimed, without the line.
+-- The lowest bid where each seizure that is served is a personal creditor's (ZVG §§ 44, 49, 52): it is computed from what is claimed, without the line.
 use Rattle.std.specs.Prelude.{ℕ, ◌+◌, ◌-◌, ◌<◌, Bool, true, false, not, ◌==◌, ◌||◌, if◌then◌else◌, List, [], ◌∷◌, All, sum_by, Option, Some, None, option_map}
 use Rattle.std.specs.List.{list_all}
 use Rattle.gb_base.specs.Limits.{most_sum}
@@ -23,7 +23,7 @@ is_personal (basis.FromRight right) = false
 abbrev pub are_personal : List SeizedFor → Bool
 are_personal seizures = list_all (λ z. is_personal z.basis || not z.served) seizures
 
--- what is seized for personally before the first of these seizures that is served, with so much before them; none where none is served
+-- what personal creditors seized for before the first of these seizures that is served, with so much before them all; none where none is served
 abbrev pub before_served : ℕ → List SeizedFor → Option ℕ
 before_served before [] = None
 before_served before (z ∷ zs) = if z.served then Some before else before_served (before + personal_amount z.basis) zs
@@ -34,13 +34,13 @@ before_served before (z ∷ zs) = if z.served then Some before else before_serve
 abbrev pub claim_in_four : RightFound → ℕ
 claim_in_four x = if x.class == 4 then x.interest + x.capital else 0
 
--- the capital of it, which remains
+-- the capital of a right of class 4, which remains; nothing where it is of class 6
 abbrev pub capital_in_four : RightFound → ℕ
 capital_in_four x = if x.class == 4 then x.capital else 0
 
 -- ---- the bid
 
--- with so much seized for personally before the base: all that rights of class 4 claim is covered, and their capital remains
+-- the lowest bid where personal creditors seized for so much before the base: all that rights of class 4 claim is covered, and their capital remains
 abbrev pub whole_bid_by : ℕ → List ClaimItem → List RightFound → ℕ → Lowest
 whole_bid_by costs items found before = record {
   total = costs + (sum_by cents_ahead items + (sum_by claim_in_four found + before));

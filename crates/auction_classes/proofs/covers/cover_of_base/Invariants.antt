@@ -1,4 +1,4 @@
--- What is left is covered as in the whole.
+-- The covers of the seizures that are left are those that the whole has of them.
 use Rattle.auction_classes.proofs.LeastCovers.{CoversLeft}
 use Rattle.auction_classes.proofs.covers.cover_of_base.Given as goal
 

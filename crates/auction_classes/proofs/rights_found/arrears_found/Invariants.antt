@@ -7,7 +7,7 @@ use Rattle.auction_classes.specs.declared.accruals.Accrual.{Accrual}
 use Rattle.auction_classes.specs.declared.rights_found.ArrearsFound.{ArrearsFound}
 use Rattle.auction_classes.proofs.rights_found.arrears_found.Given as goal
 
--- all four, of as many registrations as are read, where a part of those that are timely, or late, comes to so much
+-- all four sums, of as many registrations as are read, where a part of those that are timely, or late, comes to so much
 pub record AreSums (read : (Accrual → ℕ → ℕ → ℕ) → Bool → ℕ) (index : ℕ) (found : ArrearsFound) : Type 0 where
   pub timely : found.timely.in_class ≡ read arrears_in_class false
   pub timely_older : found.timely.older ≡ read old_arrears false

@@ -1,4 +1,4 @@
--- What is left passes as the whole does.
+-- What is left passes just where the whole does.
 use Rattle.std.proofs.Common.{◌≡◌, drop, map}
 use Rattle.auction_classes.specs.inner.Findings.{seized_with}
 use Rattle.auction_classes.specs.inner.Readings.{rights_read}

@@ -1,4 +1,4 @@
--- What is left is found as in the whole, and what was seized for so far.
+-- What is left gives what the whole gives, with what was seized for so far.
 use Rattle.std.proofs.Common.{◌≡◌, drop, sum_by, take}
 use Rattle.auction_classes.specs.LowestBid.{personal_amount}
 use Rattle.auction_classes.specs.inner.WholeBids.{before_served}

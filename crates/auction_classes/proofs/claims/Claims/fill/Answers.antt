@@ -1,4 +1,4 @@
--- What is read of the sale, and what is written of it.
+-- What is read of the sale, and what is written from it.
 use Rattle.std.proofs.Common.{◌≡◌, List, All, IsSome, Some, length, slice_get, ◌+◌, sym, ap, subst, ◌∙◌, arith}
 use Rattle.gb_base.specs.declared.keys.Key.{Key}
 use Rattle.gb_base.specs.declared.keys.Key.TheVariants.{Right, Title}
@@ -107,13 +107,13 @@ fill-requires-2-clause-room g c =
 abbrev read_so : (g : _) (c : goal.After-fill-2 g) → SaleReading
 read_so g c = reading_of c.args.journal.now.receipts (g.P.Parts.holds c.args.parts.now) (g.P.Parts.at c.args.parts.now) c.args.folio c.args.as_of c.case_below-case.result c.read_before-before.result c.title_below-title.result
 
--- of any kept register for which the parts stand
+-- the sale is read of any kept register for which the parts stand
 is_read : (g : _) (c : goal.After-fill-2 g) (register : Key → List Entry) → StandsFor (g.P.Parts.holds c.args.parts.now) (g.P.Parts.at c.args.parts.now) register → Kept c.args.journal.now.receipts register
     → IsSaleRead (read_so g c) register
 is_read g c register stands kept =
     sale_is_read (read_so g c) (record { register = register; stands = stands; kept = kept }) c.len-receipts.ensures.journal c.requires.held c.case_below-case.ensures c.read_before-before.ensures c.title_below-title.ensures
 
--- what was written of it
+-- what was written from the sale
 are_written : (g : _) (c : goal.After-fill-2 g) → AreWritten (read_so g c) c.read.new.self c.fill-finding.result c.get-self-inside.result c.fill-finding.new.self c.fill.new.self c.fill-2.new.self
 are_written g c =
     let r = read_so g c in
@@ -133,7 +133,7 @@ returns-clause-claimed g c register stands kept =
 
 -- ---- the lines are no more than there is room for
 
--- as the folio's line is
+-- the folio's line is no more than there is room for
 line_is_within : (g : _) (c : goal.After-fill-2 g) → IsLineWithin c.self.inside.right_room c.self.inside.exchange_room c.read.new.self
 line_is_within g c =
     let right_room = ap (λ (s : ClaimsState). s.right_room) c.self.view_is in

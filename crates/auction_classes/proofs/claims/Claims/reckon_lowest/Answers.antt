@@ -1,4 +1,4 @@
--- What the item finds is reckoned with the exchanges or without them.
+-- The lowest bid is computed with the exchanges or without them.
 use Rattle.std.proofs.Common.{sym, ◌∙◌}
 use Rattle.auction_classes.proofs.claims.Claims.reckon_lowest.Goals as goal
 
