@@ -17,7 +17,7 @@ joins claim = claim.with_previous
 abbrev groups_from : List ClaimItem → ℕ → List ClaimItem → List (List ClaimItem)
 groups_from whole n claims = map (group_from whole) (filter begins_group (enumerate_from n claims))
 
--- The run that was begun goes on as far as claims join it; behind it come the groups that begin later.
+-- The run that was begun goes on as far as claims join it, and behind it come the groups that begin later.
 runs_left : (whole done run claims : List ClaimItem) (n : ℕ) → whole ≡ done ++ claims → length done ≡ n → 0 < n
     → runs_behind run claims ≡ (run ++ take_while joins claims) ∷ groups_from whole n claims
 runs_left whole done run [] n is at some = ap (λ xs. xs ∷ []) (sym (append-nil run))

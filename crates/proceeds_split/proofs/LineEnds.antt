@@ -63,7 +63,7 @@ claim_within (p ∷ ps) r =
     let rest = claim_within ps r in
     elim (same_right p.right r) as (λ b. option_map_or (λ (q : Place). q.claim) (cond b (Some p) (find (is_of r) ps)) 0 ≤ sum_by (λ q. q.claim) (p ∷ ps)) [ true ↦ omega (arith, whole) | false ↦ omega (arith, whole, rest) ]
 
--- ---- what a right gets beyond it
+-- ---- what a right gets beyond the end of the line
 
 plain_beyond : (filled : Filled) (r : RightNo) (t u : ℕ) → length (line filled) ≤ t → length (line filled) ≤ u → plain_pay filled r t ≡ plain_pay filled r u
 plain_beyond filled r t u far further =

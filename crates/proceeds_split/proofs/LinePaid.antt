@@ -65,7 +65,7 @@ filter_less w p (x ∷ xs) =
 
 -- ---- different rights and their places
 
--- of different rights one at most is this one
+-- of different rights at most one is this one
 none_equal : (f : RightNo → ℕ) (r : RightNo) (ids : List RightNo) → AllByRecursion (λ id. same_right r id ≡ false) ids → sum_by (λ id. cond (same_right r id) (f id) 0) ids ≡ 0
 none_equal f r [] others = refl
 none_equal f r (id ∷ ids) others =
@@ -156,7 +156,7 @@ members_are (p ∷ ps) =
 abbrev part_of : List RightNo → List Place → RightNo → ℕ
 part_of cs group right = share_in_group group right (count_by (is_of_group group) cs)
 
--- the members of a group get its cents together at most
+-- the members of a group get together no more than its cents
 group_part : (cs : List RightNo) (g : List Place) → AreOnce g → sum_by (λ p. part_of cs g p.right) g ≤ counted (is_of_group g) cs
 group_part cs g once =
     let count = counted_is (is_of_group g) cs in
@@ -168,7 +168,7 @@ any_of_place p [] there = absurd there
 any_of_place p (q ∷ qs) (inl here) = or_left (same_right q.right p.right) (list_any (is_of p.right) qs) (ap (λ (x : Place). same_right x.right p.right) here ∙ right_self p.right)
 any_of_place p (q ∷ qs) (inr there) = or_right (same_right q.right p.right) (list_any (is_of p.right) qs) (any_of_place p qs there)
 
--- a member of these groups is in the first that has it
+-- a right that is in one of these groups is not in the one before them
 apart_groups : (g : List Place) (gs : List (List Place)) (a : RightNo) → AreOnce (g ++ members gs) → list_any (is_of a) (members gs) ≡ true → list_any (is_of a) g ≡ false
 apart_groups g gs a once there =
     let both = counted_both (is_of a) g (members gs) in
@@ -244,7 +244,7 @@ paid_within filled t fits =
     let plain = plain_within filled t fits.places.distinct in
     omega (arith, out, less, plain)
 
--- different rights that keep their places get no more than the sum
+-- different rights that keep their places get no more than the sum together
 pub rights_paid : (filled : Filled) (ids : List RightNo) (t : ℕ) → CanFill filled → IsDistinct same_right ids → All (λ id. keeps_place filled.places id ≡ true) ids → sum_by (λ id. pay filled id t) ids ≤ t
 rights_paid filled ids t fits differ kept =
     let among = rights_within (λ id. pay filled id t) ids filled.places differ (recursion_from_All (λ id. keeps_place filled.places id ≡ true) ids kept) in

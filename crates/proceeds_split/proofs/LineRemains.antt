@@ -1,4 +1,4 @@
--- A right whose end, with that of its group and of its knot, a sum reaches gets no less of a greater sum.
+-- A right gets no less of a greater sum where the smaller sum reaches its end, that of its group and that of its knot.
 use Rattle.std.proofs.Common.{◌≡◌, ℕ, ◌-◌, ◌≤◌, ◌==◌, ◌&&◌, ◌||◌, Bool, true, false, not, List, [], ◌∷◌, Some, None, count_by, drop, length, take, refl, sym, ap, ◌∙◌, arith}
 use Rattle.std.specs.List.{list_all, list_any}
 use Rattle.std.specs.Option.{option_map_or}
@@ -17,7 +17,7 @@ use Rattle.rank_slots.proofs.KnotTies.{AreTied, are_tied, exercised_within, rese
 use Rattle.rank_slots.proofs.LineCounts.{counted, counted_both, counted_front, counted_is, counted_longer, none_counted, none_from_count}
 use Rattle.rank_slots.proofs.LonePay.{lone_pay}
 
--- of what no longer stands behind a sum, a greater sum has no more
+-- where none passes behind a sum, a greater sum has no more that pass
 no_more : {X : Type 0} (p : X → Bool) (s t : ℕ) (xs : List X) → s ≤ t → list_any p (drop s xs) ≡ false → (counted p (take t xs) ≡ counted p (take s xs)) × (counted p (take s xs) ≡ counted p xs)
 no_more p s t xs more none =
     let behind = none_counted p (drop s xs) none in
@@ -27,7 +27,7 @@ no_more p s t xs more none =
     let front = counted_front p t xs in
     (omega (arith, behind, both, whole, longer, front), omega (arith, behind, both, whole))
 
--- where none of several tests passes behind a sum, neither does the test of any of them
+-- where neither of two tests holds for any of these places, each of them holds for none
 none_of_them : (g : List Place) (f h : Place → Bool) → list_all (λ p. not (f p || h p)) g ≡ true → (list_any f g ≡ false) × (list_all (λ p. not (h p)) g ≡ true)
 none_of_them [] f h none = (refl, refl)
 none_of_them (p ∷ ps) f h none =
@@ -45,7 +45,7 @@ none_of_group g (c ∷ cs) none =
     let parts = none_of_them g (is_of c) (λ p. list_any (same_right p.right) cs) none in
     λ i. parts.0 i || none_of_group g cs parts.1 i
 
--- ---- knots apart
+-- ---- knots left aside
 
 plain_kept : (filled : Filled) (r : RightNo) (s t : ℕ) → s ≤ t
     → (length (group_of filled.places r) == 1 || list_all (λ p. reaches_end filled p.right s) (group_of filled.places r)) ≡ true → plain_pay filled r s ≤ plain_pay filled r t
@@ -67,9 +67,9 @@ plain_kept filled r s t more reached =
           omega (arith, pays)
     ] refl reached
 
--- ---- of a knot
+-- ---- the rights of a knot
 
--- the exercised right gets its whole claim
+-- the exercised right gets its whole claim of a sum that reaches both ends
 exercised_whole : (filled : Filled) (k : Knot) (t : ℕ) → AreTied filled k → reaches_end filled k.reserved t ≡ true → reaches_end filled k.exercised t ≡ true → claim_of filled.places k.exercised ≤ pay_exercised filled k t
 exercised_whole filled k t tied first last =
     let away : (b : Bool) → not b ≡ true → b ≡ false = λ b. elim b as (λ x. not x ≡ true → x ≡ false) [ true ↦ λ fails. absurd (false≢true fails) | false ↦ λ _. refl ] in
@@ -82,7 +82,7 @@ exercised_whole filled k t tied first last =
     let claim = tied.claim in
     omega (arith, one, two, here, there, below, front, claim)
 
--- a greater sum reaches the end as well
+-- a greater sum reaches the end of a right as well
 reaches_more : (filled : Filled) (r : RightNo) (s t : ℕ) → s ≤ t → reaches_end filled r s ≡ true → reaches_end filled r t ≡ true
 reaches_more filled r s t more reached = ap not (none_later (same_right r) s t (line filled) more (away _ reached))
   where

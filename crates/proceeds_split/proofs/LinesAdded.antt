@@ -9,7 +9,7 @@ use Rattle.proceeds_split.specs.inner.Payments.{AddsLines, Pays}
 
 -- ---- one after the other
 
--- what is left to add, with what was added, is all; so many lines are left of so many
+-- what was added and what is left to add are together all lines; `more` of the `many` lines are left
 pub record AreToAdd (all rest : List PlanLine) (many more : ℕ) (before now : Payments) : Type 0 where
   pub lines : now.lines.items ++ rest ≡ before.lines.items ++ all
   pub left : now.left - sum_by paid rest ≡ before.left - sum_by paid all
@@ -31,7 +31,7 @@ next_added all here later rest many more n less before now after parts fewer is 
       capacity = adds.capacity ∙ is.capacity;
     }
 
--- none is left
+-- no line is left to add
 pub all_added : (all rest : List PlanLine) (many more : ℕ) (before now : Payments) → rest ≡ [] → more ≡ 0 → AreToAdd all rest many more before now → AddsLines many all before now
 all_added all rest many more before now none no_more is =
     let sum = ap (sum_by paid) none in

@@ -52,11 +52,11 @@ member_shares cents group once =
     ∙ by_place (share cents claims) 0 group once
     ∙ ap (λ n. sum (map (share cents claims) (range_with_len 0 n))) (sym (length-map group (λ (q : Place). q.claim)))
 
--- one that does not stand alone gets its share
+-- a member that does not stand alone gets its share
 shared : (group : List Place) (r : RightNo) (cents : ℕ) → (length group == 1) ≡ false → share_in_group group r cents ≡ share cents (map (λ p. p.claim) group) (position_or_len (is_of r) group)
 shared group r cents more = λ i. if more i then cents else share cents (map (λ (p : Place). p.claim) group) (position_or_len (is_of r) group)
 
--- all members together
+-- all members get no more together than the group's cents
 pub members_share : (cents : ℕ) (group : List Place) → AreOnce group → sum_by (λ p. share_in_group group p.right cents) group ≤ cents
 members_share cents group once =
     elim (length group == 1) as (λ b. (length group == 1) ≡ b → sum_by (λ p. share_in_group group p.right cents) group ≤ cents) [

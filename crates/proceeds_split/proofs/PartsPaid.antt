@@ -1,4 +1,4 @@
--- What the parts of a plan take is no more than they find, and the owners take all of it.
+-- What the parts of a plan take is no more than they find, and the owners take all that they find.
 use Rattle.std.proofs.Common.{◌≡◌, ℕ, zero, suc, ◌+◌, ◌-◌, ◌*◌, ◌/◌, ◌≤◌, List, [], ◌∷◌, ◌++◌, length, map, refl, sym, ap, arith, if◌then◌else◌}
 use Rattle.std.specs.Prelude.{min, nat_lt, sum, sum_by}
 use Rattle.std.specs.List.{AllByRecursion, enumerate_from, range_with_len}
@@ -24,7 +24,7 @@ SpendsAll part = (money : ℕ) → sum_by paid (part money) ≡ money
 
 -- ---- in turn
 
--- what the first part takes, and what the others take of the rest
+-- parts in turn take what the first part takes, and what the others take of the rest
 pub turn_sum : (first : ℕ → List PlanLine) (others : List (ℕ → List PlanLine)) (money : ℕ)
     → sum_by paid (in_turn (first ∷ others) money) ≡ sum_by paid (first money) + sum_by paid (in_turn others (money - sum_by paid (first money)))
 turn_sum first others money = sum_by-append paid (first money) (in_turn others (money - sum_by paid (first money)))
@@ -53,7 +53,7 @@ last_spends (first ∷ others) last all spends money =
 pub costs_take : (costs money : ℕ) → sum_by paid (costs_lines costs money) ≡ min money costs
 costs_take costs money = omega arith
 
--- a claim is paid what it gets
+-- the line of a claim pays what the claim gets
 pub line_pays : (part : PlanPart) (claim : ClaimItem) (got remains : ℕ) → paid (line_of part claim got remains) ≡ got
 line_pays part claim got remains = omega arith
 

@@ -27,7 +27,7 @@ use Rattle.proceeds_split.proofs.RightsSum.{four_within, remaining_within, six_w
 
 -- ---- the lowest bid
 
--- the cover of the base, of which a lowest bid is made
+-- a lowest bid goes by the cover of the base
 record IsOfCover (c : SaleClaims) (lowest : Lowest) : Type 0 where
   base : ℕ
   found : cover_of_base c.line_four c.seizures ≡ Some base
@@ -40,7 +40,7 @@ of_cover c lowest is =
       | Some base ↦ λ found h. record { base = base; found = found; is = same_Some (bid_by c base) lowest h }
     ] refl is
 
--- where there is one, a seizure stands
+-- where there is a cover of the base, a seizure stands
 some_seizure : (c : SaleClaims) (base : ℕ) → cover_of_base c.line_four c.seizures ≡ Some base → 1 ≤ length c.seizures
 some_seizure c base found =
     elim c.seizures as (λ (zs : List SeizedFor). cover_of_base c.line_four zs ≡ Some base → 1 ≤ length zs) [
@@ -48,7 +48,7 @@ some_seizure c base found =
       | z ∷ zs ↦ λ _. omega arith
     ] found
 
--- what remains is taken out of it
+-- what remains is taken out of the part in cash of the lowest bid
 pub taken_out : (c : SaleClaims) (lowest : Lowest) → IsPayable c → IsReckonable c → lowest_bid c ≡ Some lowest → IsTakenOut c lowest
 taken_out c lowest can fits is =
     let of = of_cover c lowest is in
@@ -126,7 +126,7 @@ others_within c can fits = (
   ),
 )
 
--- four parts in turn, each of which takes no more than it finds, and the rest takes all
+-- where each of four parts in turn takes no more than it finds, and the rest takes all, they come to the money
 four_parts : (a b c d : ℕ → List PlanLine) (rest : List (ℕ → List PlanLine)) (money : ℕ) → IsWithin a → IsWithin b → IsWithin c
     → sum_by paid (d (money - sum_by paid (a money) - sum_by paid (b (money - sum_by paid (a money))) - sum_by paid (c (money - sum_by paid (a money) - sum_by paid (b (money - sum_by paid (a money)))))))
     ≤ money - sum_by paid (a money) - sum_by paid (b (money - sum_by paid (a money))) - sum_by paid (c (money - sum_by paid (a money) - sum_by paid (b (money - sum_by paid (a money)))))
@@ -171,7 +171,7 @@ plan_sum c lowest money can fits is enough =
         four_parts a b d (class_four c cover) (others c ++ to_owners c.owners ∷ []) money (λ m. let t = costs_take c.costs m in omega (arith, t)) (proportion_within (plan_part.Class 1) (claims_in false 1 c.items)) (proportion_within (plan_part.Class 3) (claims_in false 3 c.items))
         four (last_spends (others c) (to_owners c.owners) (others_within c can fits) (owners_spend c.owners owned))
 
--- what is written of it
+-- the plan that is written is that of the definition
 pub plan_written : (c : SaleClaims) (lowest : Lowest) (many lines money : ℕ) (start end : Payments) → IsBegun lines money start → Pays many (in_turn (parts c lowest.cover)) start end → end.lines.items ≡ plan_of c lowest money
 unfolding plan_of
 plan_written c lowest many lines money start end begun pays = pays.lines ∙ (λ i. begun.none i ++ in_turn (parts c lowest.cover) (begun.left i))

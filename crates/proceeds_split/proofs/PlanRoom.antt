@@ -21,7 +21,7 @@ many items late class = length (claims_in late class items)
 one_more : (late : Bool) (class : ℕ) (x : ClaimItem) (xs : List ClaimItem) → many (x ∷ xs) late class ≡ tally (is_in_class late class x) + many xs late class
 one_more late class x xs = elim (is_in_class late class x) as (λ b. length (cond b (x ∷ claims_in late class xs) (claims_in late class xs)) ≡ tally b + many xs late class) [ true ↦ omega arith | false ↦ omega arith ]
 
--- the timely ones, and the late ones
+-- how many timely claims there are, and how many late ones
 abbrev timely : List ClaimItem → ℕ
 timely xs = many xs false 1 + (many xs false 3 + (many xs false 4 + (many xs false 5 + (many xs false 6 + (many xs false 7 + many xs false 8)))))
 

@@ -1,4 +1,4 @@
--- What the rights of classes 4 and 6 take: no more than is left, where with what remains the money reaches the cover.
+-- What the rights of classes 4 and 6 take: no more than is left, where the money and what remains together reach the cover.
 use Rattle.std.proofs.Common.{◌≡◌, ℕ, ◌+◌, ◌-◌, ◌≤◌, ◌&&◌, Bool, true, false, cond, List, [], ◌∷◌, All, IfSome, Some, None, find, map, refl, sym, ap, ◌∙◌, subst, arith}
 use Rattle.std.specs.Prelude.{sum_by}
 use Rattle.std.specs.List.{AllByRecursion, IsDistinct}
@@ -106,7 +106,7 @@ sum_less f g (id ∷ ids) less =
     let here = less id in
     omega (arith, left, right, here, sum_less f g ids less)
 
--- is no more than the cover
+-- all that remains is no more than the cover
 pub remaining_within : (c : SaleClaims) (cover : ℕ) → CanFill c.line_four → AreOfRights c.line_four (claims_in false 4 c.items) (map (λ x. x.right) c.rights) → remaining_in_all c cover ≤ cover
 remaining_within c cover fits four =
     let ids = map (λ (x : RightClaimed). x.right) c.rights in
@@ -115,7 +115,7 @@ remaining_within c cover fits four =
     let most = rights_paid c.line_four ids cover fits four.differ four.kept in
     omega (arith, all, less, most)
 
--- ---- what they take
+-- ---- what the rights take
 
 lines_pay : (f : ClaimItem → PlanLine) (g : ClaimItem → ℕ) (claims : List ClaimItem) → ((claim : ClaimItem) → paid (f claim) ≡ g claim) → sum_by paid (map f claims) ≡ sum_by g claims
 lines_pay f g [] same = refl
@@ -125,7 +125,7 @@ lines_pay f g (c ∷ cs) same =
     let here = same c in
     omega (arith, left, right, here, lines_pay f g cs same)
 
--- what is taken off is there
+-- what is taken off and what is left are together what there was
 taken_off : (f g : RightNo → ℕ) (ids : List RightNo) → ((id : RightNo) → g id ≤ f id) → sum_by (λ id. f id - g id) ids + sum_by g ids ≡ sum_by f ids
 taken_off f g [] less = refl
 taken_off f g (id ∷ ids) less =

@@ -54,7 +54,7 @@ between_length claims start i within =
 left_from : (claims : List ClaimItem) (i : ℕ) (x : ClaimItem) → i < length claims → x ≡ get_or claims i x → drop i claims ≡ x ∷ drop (i + 1) claims
 left_from claims i x within is = drop_more claims i x within ∙ ap (λ y. y ∷ drop (i + 1) claims) (sym is)
 
--- claim i begins a run: the one before it is paid
+-- claim i begins a run, and the run before it is paid
 pub run_paid : (part : PlanPart) (claims : List ClaimItem) (start i : ℕ) (x : ClaimItem) (before now after : Payments) → AreRunsLeft part claims start i before now → i < length claims → x ≡ get_or claims i x
     → (get_or claims i x).with_previous ≡ false → Pays (length (between claims start i)) (in_proportion part (between claims start i)) now after → AreRunsLeft part claims i (i + 1) before after
 run_paid part claims start i x before now after runs within is first pays =
@@ -78,7 +78,7 @@ run_paid part claims start i x before now after runs within is first pays =
           parts (omega (arith, size, begun, within)) runs.to_pay pays;
     }
 
--- or it joins the run
+-- claim i joins the run
 pub run_goes_on : (part : PlanPart) (claims : List ClaimItem) (start i : ℕ) (x : ClaimItem) (before now : Payments) → AreRunsLeft part claims start i before now → i < length claims → x ≡ get_or claims i x
     → (get_or claims i x).with_previous ≡ true → AreRunsLeft part claims start (i + 1) before now
 run_goes_on part claims start i x before now runs within is joins =
@@ -102,7 +102,7 @@ run_goes_on part claims start i x before now runs within is joins =
       to_pay = subst (λ ls. AreToAdd (runs_in_turn part claims before.left) ls (length claims) (length claims - start) before now) lines runs.to_pay;
     }
 
--- the last run
+-- the last run is paid
 pub run_ends : (part : PlanPart) (claims : List ClaimItem) (start i : ℕ) (before now after : Payments) → AreRunsLeft part claims start i before now → length claims ≤ i
     → Pays (length (between claims start (length claims))) (in_proportion part (between claims start (length claims))) now after → Pays (length claims) (in_rank part claims) before after
 run_ends part claims start i before now after runs over pays =

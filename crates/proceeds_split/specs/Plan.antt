@@ -55,7 +55,7 @@ abbrev pub in_proportion : PlanPart → List ClaimItem → ℕ → List PlanLine
 in_proportion part claims money =
     map (λ numbered. line_of part numbered.1 (share money (map amount_claimed claims) numbered.0) 0) (enumerate_from 0 claims)
 
--- claims of which each is paid before the next, as those of personal creditors in order of seizure (ZVG § 11(2))
+-- claims each of which is paid before the next, as those of personal creditors in order of seizure (ZVG § 11(2))
 abbrev pub first_come : PlanPart → List ClaimItem → ℕ → List PlanLine
 first_come part claims money = in_turn (map (λ claim left. line_of part claim (min left (amount_claimed claim)) 0 ∷ []) claims) money
 
@@ -63,7 +63,7 @@ first_come part claims money = in_turn (map (λ claim left. line_of part claim (
 abbrev pub begins_group : ℕ × ClaimItem → Bool
 begins_group numbered = numbered.0 == 0 || not numbered.1.with_previous
 
--- the group that it begins: that claim, and those behind it while each ranks equally with the one before it (GBO § 45(1), (3))
+-- the group that a claim begins: that claim, and those behind it while each ranks equally with the one before it (GBO § 45(1), (3))
 abbrev pub group_from : List ClaimItem → ℕ × ClaimItem → List ClaimItem
 group_from claims numbered = numbered.1 ∷ take_while (λ claim. claim.with_previous) (drop (numbered.0 + 1) claims)
 
@@ -130,7 +130,7 @@ class_in_rank c class = in_rank (plan_part.Class class) (claims_in false class c
 abbrev pub class_five : SaleClaims → ℕ → List PlanLine
 class_five c = first_come (plan_part.Class 5) (claims_in false 5 c.items)
 
--- the late ones, in proportion, or by rank
+-- the late claims of a class in proportion, or by rank
 abbrev pub late_in_proportion : SaleClaims → ℕ → ℕ → List PlanLine
 late_in_proportion c class = in_proportion (plan_part.Late class) (claims_in true class c.items)
 
@@ -157,6 +157,6 @@ parts c cover =
     ∷ to_owners c.owners
     ∷ []
 
--- the plan for so much money, where this is the lowest bid
+-- the plan for so much money, where the lowest bid is this one
 unfoldable pub plan_of : SaleClaims → Lowest → ℕ → List PlanLine
 plan_of c lowest money = in_turn (parts c lowest.cover) money

@@ -51,7 +51,7 @@ fn are_both(late: bool, other: bool) -> bool
     if late { other } else { !other }
 }
 
-/// What these claims come to, one by one.
+/// What each of these claims comes to.
 pub(crate) fn amounts_of(claims: &[ClaimItem]) -> ArrayVec<u64, MOST_SHARING>
     requires few { length claims.now ≤ most_sharing }
     requires each { All IsAmountClaimed claims.now }

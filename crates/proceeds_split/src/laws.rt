@@ -8,7 +8,7 @@ ghost use Rattle.auction_classes.specs.declared.lowest_bids.Lowest.{Lowest};
 ghost use Rattle.auction_classes.specs.Reckoning.{IsReckonable};
 ghost use Rattle.proceeds_split.specs.Plan.{paid, plan_of};
 
-/// A plan pays out just the money, of whatever claims it is that can be reckoned with and paid,
+/// A plan pays out just the money, whatever the claims are that can be computed with and paid,
 /// where the money reaches the part in cash of the lowest bid (ZVG §§ 49, 109).
 pub fn whole()
     ensures { (c : SaleClaims) (lowest : Lowest) (money : ℕ) → IsPayable c → IsReckonable c

@@ -1,7 +1,7 @@
 //! Lists with room.
 ghost use Rattle.std.specs.Prelude.{◌≡◌, ◌+◌, ◌<◌, ◌++◌, ◌∷◌, [], vec_capacity, vec_len};
 
-/// Puts a copy of a value behind the others.
+/// Adds a copy of a value at the end.
 pub(crate) fn push_copy<T: Copy>(list: &mut Vec<T>, value: &T)
     requires { vec_len list.old < vec_capacity list.old }
     ensures items { list.new.items ≡ list.old.items ++ value.now ∷ [] }

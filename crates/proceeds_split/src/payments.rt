@@ -21,7 +21,8 @@ pub(crate) struct Payments {
 }
 
 impl Payments {
-    /// Nothing is paid of the money yet, with room for so many lines. Wants memory.
+    /// Nothing is paid of the money yet, with room for so many lines. May run out of memory
+    /// (`NoMemory`).
     pub fn with_room(alloc: Global, lines: usize, money: u64) -> Result<Payments, NoMemory>
         ensures { IfOk result (IsBegun lines money) }
     {
@@ -108,8 +109,8 @@ impl Payments {
         self.pay_in_proportion(part, &claims[start..]);
     }
 
-    /// Pays what is left to the former owners in equal parts, each of the first a cent more until
-    /// nothing is left.
+    /// Pays what is left to the former owners in equal parts, and one cent more to each of the first
+    /// until nothing is left.
     pub fn pay_owners(&mut self, owners: &[Person])
         requires room { vec_len self.old.lines + length owners.now ≤ vec_capacity self.old.lines }
         ensures { Pays (length owners.now) (to_owners owners.now) self.old self.new }

@@ -5,7 +5,7 @@ ghost use Rattle.proceeds_split.specs.Plan.{line_of, owner_line, paid};
 use auction_classes::ClaimItem;
 use gb_base::{Person, RightId};
 
-/// Of what a line of a plan is.
+/// What a line of a plan is for.
 #[derive(Clone, Copy, Debug, PartialEq, Eq)]
 pub enum PlanPart {
     /// The costs of the proceedings (ZVG § 109).
@@ -22,8 +22,8 @@ pub enum PlanPart {
 #[derive(Clone, Copy, Debug, PartialEq, Eq)]
 pub struct PlanLine {
     pub part: PlanPart,
-    /// The right that the claim is of; None for costs, advances, public charges, personal creditors
-    /// and owners.
+    /// The right to which the claim belongs; None for costs, advances, public charges, personal
+    /// creditors and owners.
     pub right: Option<RightId>,
     /// Who is paid; None for the costs.
     pub person: Option<Person>,

@@ -15,8 +15,8 @@ use auction_classes::{ClaimItem, Claims, Lowest};
 use gb_base::RightId;
 use rank_slots::Slots;
 
-/// Pays the rights of class 4: each its part of what is left and of what remains, along the line,
-/// less what remains of it.
+/// Pays the rights of class 4: each gets its part of what is left and of all that remains, along
+/// the line, less what remains of it.
 pub(crate) fn pay_class_four(
     payments: &mut Payments,
     claims: &Claims,
@@ -79,8 +79,8 @@ fn four_line(
     }
 }
 
-/// What a right of class 4 gets in cash, where so much money is left. From the end of the line on,
-/// more money gives no right more, so that the sum may stop at the greatest number.
+/// What a right of class 4 gets in cash, where so much money is left. Beyond the end of the line
+/// more money gives no right more, so the sum may stop at the greatest number.
 fn cash_of(claims: &Claims, slots: &Slots, lowest: Lowest, money: u64, right: RightId) -> u64
     requires filled { slots.now.filled ≡ claims.now.claimed.line_four }
     requires fits { CanFill claims.now.claimed.line_four }

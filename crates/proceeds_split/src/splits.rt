@@ -19,8 +19,8 @@ use std::alloc::Global;
 /// The plan by which so much money is distributed among the claims of a sale whose lowest bid is
 /// this: costs, classes 1 and 3, the rights of class 4 in cash as far as they do not remain, classes
 /// 5 to 8, late claims, and the former owners, each from what those before it left (ZVG §§ 10 to 12,
-/// 52, 109, 110). All of the money is paid. NoMemory where there is no room for the lines; the slots
-/// are then filled with any line.
+/// 52, 109, 110). All of the money is paid. NoMemory where memory for the lines runs out. Nothing is
+/// said of the line that the slots have afterwards.
 pub fn split(
     alloc: Global,
     claims: &Claims,

@@ -1,4 +1,4 @@
--- The parts of a plan by what stands ahead of the rights, behind them, and late, and how many lines they have.
+-- The parts of a plan that stand ahead of the rights, those that stand behind them, the late ones, and how many lines they have.
 use Rattle.std.specs.Prelude.{ℕ, ◌+◌, false, true, List, [], ◌∷◌, length}
 use Rattle.auction_classes.specs.PayableClaims.{claims_in}
 use Rattle.auction_classes.specs.SaleClaims.{SaleClaims}
@@ -15,7 +15,7 @@ abbrev pub late : SaleClaims → List (ℕ → List PlanLine)
 late c =
     late_in_proportion c 1 ∷ late_in_proportion c 3 ∷ late_in_rank c 4 ∷ late_in_proportion c 7 ∷ late_in_rank c 8 ∷ []
 
--- ---- how many lines they have
+-- ---- how many lines the parts have
 
 -- how many timely claims of a class there are, and how many late ones
 abbrev pub timely_len : SaleClaims → ℕ → ℕ
@@ -33,7 +33,7 @@ behind_len c = timely_len c 7 + timely_len c 8
 abbrev pub late_len : SaleClaims → ℕ
 late_len c = late_class_len c 1 + (late_class_len c 3 + (late_class_len c 4 + (late_class_len c 7 + late_class_len c 8)))
 
--- all of them
+-- how many lines the whole plan has
 abbrev pub plan_len : SaleClaims → ℕ
 plan_len c =
     ahead_len c + (timely_len c 4 + (timely_len c 5 + (timely_len c 6 + (behind_len c + (late_len c + length c.owners)))))

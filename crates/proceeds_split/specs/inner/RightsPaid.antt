@@ -1,4 +1,4 @@
--- What lets the rights of a class be paid along its line.
+-- What the rights of a class need to be paid along its line.
 use Rattle.std.specs.Prelude.{◌≡◌, ◌-◌, ◌≤◌, true, IfSome}
 use Rattle.rank_slots.specs.Filled.{Filled}
 use Rattle.rank_slots.specs.Groups.{keeps_place}
@@ -11,7 +11,7 @@ use Rattle.proceeds_split.specs.Plan.{remaining_in_all}
 abbrev pub IsOnLine : Filled → ClaimItem → Type 0
 IsOnLine line claim = IfSome claim.right (λ id. keeps_place line.places id ≡ true)
 
--- the lowest bid has all that remains of rights taken out of its total
+-- what the lowest bid leaves out of its part in cash is all that remains of rights
 pub record IsTakenOut (c : SaleClaims) (lowest : Lowest) : Type 0 where
   pub less : lowest.cash ≤ lowest.total
   pub taken : lowest.total - lowest.cash ≡ remaining_in_all c lowest.cover

@@ -5,7 +5,7 @@ use Rattle.proceeds_split.specs.Plan.{in_proportion, in_turn}
 use Rattle.proceeds_split.specs.declared.plan_lines.PlanLine.{PlanLine}
 use Rattle.proceeds_split.specs.declared.plan_lines.PlanPart.{PlanPart}
 
--- claims behind the run of those of equal rank that they may join, in such runs
+-- the run of claims of equal rank that was begun, with those of these claims that join it, and behind it the runs of the others
 abbrev pub runs_behind : List ClaimItem → List ClaimItem → List (List ClaimItem)
 runs_behind run [] = run ∷ []
 runs_behind run (claim ∷ claims) =

@@ -1,4 +1,4 @@
--- The parts in turn.
+-- All parts are paid in turn.
 use Rattle.std.proofs.Common.{ℕ, ◌+◌, [], ◌∷◌, ◌++◌, length, subst, arith}
 use Rattle.proceeds_split.specs.Plan.{class_five, class_four, class_six, to_owners}
 use Rattle.proceeds_split.specs.inner.Parts.{ahead, ahead_len, behind, behind_len, late, late_len, plan_len, timely_len}

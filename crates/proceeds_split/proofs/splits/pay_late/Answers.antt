@@ -1,4 +1,4 @@
--- The parts in turn.
+-- The parts of the late claims are paid in turn.
 use Rattle.std.proofs.Common.{ℕ, ◌+◌, [], ◌∷◌, arith}
 use Rattle.proceeds_split.specs.Plan.{late_in_proportion, late_in_rank}
 use Rattle.proceeds_split.specs.inner.Parts.{late_class_len, late_len}
