@@ -1,4 +1,4 @@
--- The date that lies a day's number after the first day.
+-- The date that lies as many days after the first day as the number of a day says.
 use Rattle.std.proofs.Common.{◌≡◌, ℕ, ◌≤◌, ◌∙◌, ap, ℤ, pos, to_z, of_z, w64, arith}
 use Rattle.jiff.specs.Words.{epoch_day, IsYmd, date_add, CanAddToDate}
 use Rattle.jiff.proofs.SpanFacts.{signed_arith, date_add-days, can_add-days}
@@ -29,7 +29,7 @@ after_first first d s r inside n h same few is only e =
     let days : IsOnly Day (pos n) s = rw (← number n inside r same few is) only in
     omega (arith, signed_arith, e, first_day first h, date_add-days first (pos n) s days)
 
--- and there is one
+-- the date after that many days can be reached
 pub can_reach : (first : Date) (s : Span) (r : ℤ) (inside n : ℕ) → IsYmd (pos 1970) (pos 1) (pos 1) first → inside ≡ n → n ≤ 84005
     → r ≡ pos inside → IsOnly Day (to_z w64 (of_z w64 r)) s → CanAddToDate first s
 can_reach first s r inside n h same few is only =

@@ -27,7 +27,7 @@ parted_below f a b xs up = λ i j d order within passes.
     let less = ascends_between f a xs i j d up order within in
     grind (arith, nat_tests, passes, less)
 
--- and those up to a number
+-- those up to a number stand ahead of the others
 pub parted_to : {X : Type 0} (f : X → ℕ) (a b : ℕ) (xs : List X) → AscendsBy f a xs → IsPartitionedBy (λ x. nat_le (f x) b) xs
 parted_to f a b xs up = λ i j d order within passes.
     let less = ascends_between f a xs i j d up order within in

@@ -51,7 +51,7 @@ listed year month day h =
     (in_flat_map (dates_of_month year) (range_with_len 1 12) month (dated year month day) (in_range 1 12 month h.date.1.0 (omega (arith, h.date.1.1)))
     (in_map (dated year month) (range_with_len 1 (days_in_month (pos year) month)) day (in_range 1 (days_in_month (pos year) month) day h.date.2.0 (omega (arith, h.date.2.1)))))
 
--- and each in the list is one
+-- each date in the list is one of the range
 of_listed : (date : CivilDate) → In date dates_of_range → IsDateOfRange date.year date.month date.day
 unfolding dates_of_range
 of_listed date there =
@@ -85,7 +85,7 @@ pub date_in_range : (n : ℕ) → n ≤ 84005 → IsDateOfRange (date_of n).year
 date_in_range n h =
     subst (λ d. IsDateOfRange d.year d.month d.day) (sym (date_found n h)) (of_listed (found n h).item (found n h).there)
 
--- and has its number
+-- a day's date has the number of the day
 pub date_numbered : (n : ℕ) → n ≤ 84005 → IsCivilDay (date_of n).year (date_of n).month (date_of n).day n
 date_numbered n h =
     let f = found n h in

@@ -36,14 +36,14 @@ month_of n = (in_month n).span
 unfoldable pub day_of : ℕ → ℕ
 day_of n = (in_month n).before + 1
 
--- The place of a day among spans: where each span begins at the sum of those before, the day's number is the beginning of its span and the days before it there.
+-- The place of a day among spans: each span begins at the sum of those before it, and the day's number is the beginning of its span and the days before it there.
 pub record IsPlaced (length start : ℕ → ℕ) (most first days : ℕ) (place : DayInSpan) : Type 0 where
   pub number : start place.span + place.before ≡ start first + days
   pub inside : place.before < length place.span
   pub from : first ≤ place.span
   pub to : place.span ≤ first + most
 
--- counting off places a day that does not lie behind the last of the spans
+-- counting off places a day that does not lie after the last of the spans
 pub counted_off-placed : (length start : ℕ → ℕ) (low : ℕ) → ((k : ℕ) → low ≤ k → start (k + 1) ≡ start k + length k)
     → (most first days : ℕ) → low ≤ first → start first + days < start (first + most + 1)
     → IsPlaced length start most first days (counted_off length most first days)
@@ -76,7 +76,7 @@ in_year-placed n h =
     (λ k low. day_count-next_year (pos k) (pos (k + 1)) (omega (arith, signed_arith)) refl)
     229 1970 n (omega arith) (omega (arith, day_count-epoch, day_count-2200))
 
--- and so does its month, in the year
+-- a day's month in its year holds it
 in_month-placed : (n : ℕ) → n ≤ 84005
     → IsPlaced (λ month. days_in_month (pos (year_of n)) month) (λ month. days_of_months (pos (year_of n)) (month - 1)) 11 1 (in_year n).before (in_month n)
 unfolding in_month year_of
@@ -99,7 +99,7 @@ civil_day_of n h =
       number = omega (arith, signed_arith, days_from_civil-day_count y (month_of n) (day_of n), day_count-day_of_year y (month_of n) (day_of n) (omega arith), year.number, month.number, day_count-epoch, days_of_months-zero y);
     }
 
--- and that date is of the range
+-- the date of a day's year, month and day is of the range
 pub date_of_number : (n : ℕ) → n ≤ 84005 → IsDateOfRange (year_of n) (month_of n) (day_of n)
 unfolding year_of
 date_of_number n h =

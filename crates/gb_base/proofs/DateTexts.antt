@@ -35,7 +35,7 @@ pub record AreDigits (tens ones n : ℕ) : Type 0 where
 two_digits_read : (tens ones n : ℕ) → digits_read tens ones ≡ Some n → AreDigits tens ones n
 two_digits_read tens ones n e = grind (arith, nat_tests)
 
--- their text is those bytes
+-- the text of the number of two digits is their bytes
 two_text : (tens ones n : ℕ) → AreDigits tens ones n → two_digits n ≡ tens ∷ ones ∷ []
 two_text tens ones n h =
     let low = h.tens_low in
@@ -89,7 +89,7 @@ pub record IsDayOf (year month day n : ℕ) : Type 0 where
   pub few : n ≤ 84005
   pub civil : IsCivilDay year month day n
 
--- and has that number
+-- where a date is numbered, the day of this number has its year, month and day
 numbered_day : (year month day n : ℕ) → day_numbered year month day ≡ Some n → IsDayOf year month day n
 numbered_day year month day n e =
     let range = numbered_date year month day n e in
@@ -100,7 +100,7 @@ numbered_day year month day n e =
 
 -- ---- dates by their bytes
 
--- what a value was found with
+-- a value that is found in two steps is found by the first and then by the second
 bound : {A B : Type 0} (o : Option A) (next : A → Option B) (y : B) → (o >>= next) ≡ Some y → (x : A) × (o ≡ Some x) × (next x ≡ Some y)
 bound (Some x) next y e = (x, refl, e)
 bound None next y e = absurd (grind arith)

@@ -26,7 +26,7 @@ find_complete {X} p (x ∷ xs) y there passes =
     record { item = later.item; is = rw no later.is; there = inr later.there; passes = later.passes })
     (cases_Bool (p x))
 
--- and what it finds is an element that passes
+-- what a search finds is an element that passes
 pub find_sound : {X : Type 0} (p : X → Bool) (xs : List X) (y : X) → find p xs ≡ Some y → In y xs × (p y ≡ true)
 find_sound p [] y e = absurd (grind arith)
 find_sound {X} p (x ∷ xs) y e =

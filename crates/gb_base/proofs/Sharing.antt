@@ -10,7 +10,7 @@ use Rattle.std.proofs.lemmas.List.Sums.{sum_by-cons, sum_by_more, sum_by_more_le
 use Rattle.std.proofs.lemmas.List.FromFn.{fill_by_all}
 use Rattle.gb_base.specs.Shares.{claim_at, whole_part, left_over, share, shares}
 
--- the whole quotients of products come to no more than the quotient of their sum, and to less than one each below it
+-- the whole quotients of products come together to no more than the quotient of their sum, and to less than one each below it
 record AreQuotients (m s : ℕ) (xs : List ℕ) : Type 0 where
   pub within : s * sum_by (λ c. m * c / s) xs ≤ m * sum xs
   pub near : m * sum xs + length xs ≤ s * sum_by (λ c. m * c / s) xs + s * length xs
@@ -39,7 +39,7 @@ parts_within money claims short =
     let q = quotients money (sum claims) (omega arith) claims in
     smaller (sum claims) _ _ (omega (arith, q.within)) (omega arith)
 
--- and what it leaves over is less than a cent a claim
+-- money that does not reach the sum leaves over less than a cent a claim
 left_over_few : (money : ℕ) (claims : List ℕ) → money < sum claims → left_over money claims < length claims
 left_over_few money [] short = absurd (omega arith)
 left_over_few money (x ∷ xs) short =
@@ -53,7 +53,7 @@ left_over_few money (x ∷ xs) short =
     absurd (omega (arith, q.near, more)))
     (cases_lt money (parts + length claims))
 
--- what is left of the money has the next claim's part, and what is left behind it is the rest
+-- what is left of the money is enough for the next claim's part, and what is left after that is the rest
 pub record TakesPart (money left part i : ℕ) (claims : List ℕ) : Type 0 where
   pub enough : part ≤ left
   pub rest : left - part + sum_by (whole_part money claims) (take (i + 1) claims) ≡ money
@@ -85,20 +85,20 @@ ones_below f bound a (suc n) =
     let here : min a bound + (if nat_lt a bound then 1 else 0) ≡ min (a + 1) bound = grind (arith, nat_tests) in
     rw (all, parts) (omega (arith, later, here))
 
--- a list by its places
+-- a list that is made by index
 by_place : (f g : ℕ → ℕ) (xs : List ℕ) → ((k : ℕ) → k < length xs → f k ≡ g (get_or xs k 0)) → map f (range_with_len 0 (length xs)) ≡ map g xs
 by_place f g xs each = sym (fill_by_all f (map g xs) (length xs) 0 (length-map xs g) (λ k h. get_or-map g xs k 0 0 h ∙ sym (each k h)))
 
--- the money reaches the sum, and each gets its claim
+-- where the money reaches the sum, each claim gets itself
 reached : (money : ℕ) (claims : List ℕ) → nat_le (sum claims) money ≡ true → shares money claims ≡ claims
 reached money claims passes = by_place (share money claims) (λ c. c) claims (λ k h. rw (passes, claim_at_is claims k) refl) ∙ map-id claims
 
--- it does not, and each gets its part, the first ones a cent more
+-- where the money does not reach the sum, each claim gets its part, and the first ones a cent more
 short_share : (money : ℕ) (claims : List ℕ) → nat_le (sum claims) money ≡ false → (i : ℕ)
     → share money claims i ≡ whole_part money claims (claim_at claims i) + (if nat_lt i (left_over money claims) then 1 else 0)
 short_share money claims fails i = rw fails refl
 
--- which come to the money
+-- where the money does not reach the sum, the shares come to the money
 short_sum : (money : ℕ) (claims : List ℕ) → money < sum claims → nat_le (sum claims) money ≡ false → sum (shares money claims) ≡ money
 short_sum money claims short fails =
     let f : ℕ → ℕ = λ i. whole_part money claims (claim_at claims i) in

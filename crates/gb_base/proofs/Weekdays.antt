@@ -8,11 +8,11 @@ use Rattle.jiff_core.proofs.SignedLemmas.{signed_arith}
 use Rattle.gb_base.specs.Calendar.{IsCivilDay}
 use Rattle.gb_base.specs.Deadlines.{weekday}
 
--- of a number that is not negative
+-- the weekday of a number that is not negative
 weekday_of_number : (n : ℕ) → weekday_number (pos n) ≡ weekday n
 weekday_of_number n = omega (arith, signed_arith, weekday_number-parts (pos n))
 
--- of a date with the year, month and day of a day
+-- the weekday of a date with the year, month and day of a day
 pub weekday_of_date : (d : Date) (year month day n : ℕ) → d.year ≡ pos year → d.month ≡ month → d.day ≡ day
     → IsCivilDay year month day n → weekday_of d ≡ weekday n
 weekday_of_date d year month day n same_year same_month same_day civil =

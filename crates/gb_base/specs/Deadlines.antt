@@ -1,7 +1,7 @@
--- Deadlines: the days behind which a lapse ends the waiting of a filing (GBO § 18).
+-- Deadlines: the days after which a lapse ends the waiting of a filing (GBO § 18).
 use Rattle.std.specs.Prelude.{ℕ, ◌+◌, ◌%◌, ◌==◌, if◌then◌else◌}
 
--- how many days a day is behind a Monday: day 0, 1970-01-01, was a Thursday
+-- how many days a day is after a Monday: day 0, 1970-01-01, was a Thursday
 abbrev pub weekday : ℕ → ℕ
 weekday day = (day + 3) % 7
 
@@ -9,6 +9,6 @@ weekday day = (day + 3) % 7
 abbrev pub working_day : ℕ → ℕ
 working_day day = if weekday day == 5 then day + 2 else (if weekday day == 6 then day + 1 else day)
 
--- the deadline of a filing of this day: 30 days behind it, or the next Monday
+-- the deadline of a filing of this day: 30 days after it, or the next Monday where that is a Saturday or a Sunday
 abbrev pub deadline : ℕ → ℕ
 deadline day = working_day (day + 30)

@@ -1,4 +1,4 @@
-//! Deadlines: the days behind which a lapse ends the waiting of a filing (GBO § 18).
+//! Deadlines: the days after which a lapse ends the waiting of a filing (GBO § 18).
 ghost use Rattle.std.specs.Prelude.{◌≡◌, ◌≤◌, ◌+◌};
 ghost use Rattle.jiff_core.specs.Weekday.{monday_zero};
 ghost use Rattle.gb_base.specs.DayMinute.{IsStampDay};
@@ -8,7 +8,7 @@ ghost use Rattle.gb_base.specs.Limits.{last_day};
 use crate::Day;
 use jiff::civil::Weekday;
 
-/// The deadline of a filing of this day, behind which a lapse ends the waiting: 30 days later, and
+/// The deadline of a filing of this day, after which a lapse ends the waiting: 30 days later, and
 /// the next Monday where that is a Saturday or Sunday (GBO § 18(1), BGB § 193).
 pub fn deadline(day: Day) -> Day
     requires { IsStampDay day }

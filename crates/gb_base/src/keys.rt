@@ -1,4 +1,4 @@
-//! What items touch, and what entries stand at.
+//! What items touch, and where entries stand.
 //! Why so: docs/DECISIONS.md, "Keys are equal as their order reads them".
 ghost use Rattle.std.specs.Prelude.{◌≡◌};
 ghost use Rattle.std.proofs.Common.{rules};
@@ -9,7 +9,7 @@ ghost use Rattle.std.specs.Ordering.{as_partial_cmp};
 use crate::{FolioId, RightId};
 use std::cmp::Ordering;
 
-/// What items touch and entries stand at: the title of a folio, one of its rights, or its forced sale.
+/// What items touch, and where entries stand: the title of a folio, one of its rights, or its forced sale.
 /// Keys are ordered by folio, then title, rights by number, sale.
 #[derive(Clone, Copy, Debug)]
 pub enum Key {
@@ -100,7 +100,7 @@ impl Ord for Key {
     ghost matches_eq = { Prim.search (comparing, rules) };
 
     fn cmp(&self, other: &Key) -> Ordering {
-        // Of two keys that are compared in a search most are of different folios.
+        // Most keys that a search compares are of different folios.
         match self.folio().cmp(&other.folio()) {
             Ordering::Equal => self
                 .part()
