@@ -1,4 +1,4 @@
--- One call more on a disk in memory.
+-- One more call on a disk in memory.
 use Rattle.std.proofs.Common.{◌≡◌, ℕ, ◌<◌, ◌≤◌, false, List, [], ◌∷◌, ◌++◌, length, nat_le, if◌then◌else◌, sym, ap, ◌∙◌, arith, length-append}
 use Rattle.std.proofs.lemmas.Bool.{leb-false}
 use Rattle.gb_outside.specs.Images.{Torn, Follows}

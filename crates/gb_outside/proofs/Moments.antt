@@ -1,4 +1,4 @@
--- How what a stop leaves goes on from call to call of a disk.
+-- What a stop leaves, from one call of a disk to the next.
 use Rattle.std.proofs.Common.{inl, inr, ⊎_elim, ℕ, List, arith}
 use Rattle.gb_outside.specs.Images.{Elapses, LeavesOnly}
 
@@ -7,7 +7,7 @@ module _ {D : Type 0} (moment : D → ℕ) (since : D → ℕ → List ℕ → T
   pub started : (old : D) (P : List ℕ → Type 0) → ((c : List ℕ) → since old (moment old) c → P c) → LeavesOnly moment since old old P
   started old P here = record { later = omega arith; each = here; before = λ t c le left. inl left }
 
-  -- one call more, after which each image has P
+  -- after one more call, after which each image has P
   pub goes_on : (old mid new : D) (P images : List ℕ → Type 0) → LeavesOnly moment since old mid P → Elapses (moment mid) (moment new) (since mid) (since new) images
       → ((c : List ℕ) → images c → P c) → LeavesOnly moment since old new P
   goes_on old mid new P images so_far time here = record {
@@ -16,7 +16,7 @@ module _ {D : Type 0} (moment : D → ℕ) (since : D → ℕ → List ℕ → T
     before = λ t c le left. ⊎_elim (so_far.before t c le) (λ now. inr (here c now)) (time.nothing_else t c (omega (arith, le, so_far.later)) left);
   }
 
-  -- a run after another
+  -- one run after another
   pub followed : (old mid new : D) (P : List ℕ → Type 0) → LeavesOnly moment since old mid P → LeavesOnly moment since mid new P → LeavesOnly moment since old new P
   followed old mid new P first second = record {
     later = omega (arith, first.later, second.later);
@@ -24,7 +24,7 @@ module _ {D : Type 0} (moment : D → ℕ) (since : D → ℕ → List ℕ → T
     before = λ t c le left. ⊎_elim (first.before t c le) (λ has. inr has) (second.before t c (omega (arith, le, first.later)) left);
   }
 
-  -- what has P has Q
+  -- where all files that have P have Q
   pub weakened : (old new : D) (P Q : List ℕ → Type 0) → ((c : List ℕ) → P c → Q c) → LeavesOnly moment since old new P → LeavesOnly moment since old new Q
   weakened old new P Q weaker run = record {
     later = run.later;

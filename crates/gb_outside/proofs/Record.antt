@@ -1,4 +1,4 @@
--- One call more in the record of a disk in memory.
+-- One more call in the record of a disk in memory.
 use Rattle.std.proofs.Common.{◌≡◌, inl, inr, ⊎_elim, ℕ, ◌+◌, ◌-◌, ◌≤◌, List, [], ◌∷◌, ◌++◌, length, take, drop, refl, sym, ◌∙◌, ap, subst, arith, length-append, length-drop, append_assoc, length-take-le, take_at, drop_at, drop-drop}
 use Rattle.std.proofs.lemmas.List.{take-append-le, drop-append-le, take_all}
 use Rattle.gb_outside.specs.Images.{Torn, Follows, Elapses}

@@ -11,7 +11,7 @@ pub record Counts (before now : ℕ) (failed : Bool) : Type 0 where
   pub failed_rose : failed ≡ true → Rose before now
   pub else_same : failed ≡ false → now ≡ before
 
--- the count of faults behind a call: one more where it failed, up to the type's end
+-- the count of faults after a call: one more where it failed, up to the type's end
 abbrev pub faults_after : ℕ → Bool → ℕ
 faults_after before false = before
 faults_after before true = min (before + 1) (2 ^ 64 - 1)

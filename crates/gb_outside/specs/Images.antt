@@ -16,7 +16,7 @@ pub record Torn (at n : ℕ) (old new : List ℕ) : Type 0 where
 abbrev pub Follows : (List ℕ → List ℕ → Type 0) → (List ℕ → Type 0) → (List ℕ → Type 0) → Type 0
 Follows step old new = (c : List ℕ) → new c → (d : List ℕ) × old d × step d c
 
--- no image that was none
+-- there is no image that was none before
 abbrev pub NoneNew : (List ℕ → Type 0) → (List ℕ → Type 0) → Type 0
 NoneNew old new = (c : List ℕ) → new c → old c
 

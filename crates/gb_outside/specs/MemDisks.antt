@@ -35,7 +35,7 @@ moment_of disk = length disk.done
 abbrev pub since_of : DiskInMemory → ℕ → List ℕ → Type 0
 since_of disk t c = IsImageSince disk.first disk.done t c
 
--- no call more has room
+-- there is no room for another call
 abbrev pub is_full : DiskInMemory → Bool
 is_full disk = nat_le disk.most_calls (length disk.done)
 

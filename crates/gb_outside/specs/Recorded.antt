@@ -20,7 +20,7 @@ file_after first (idle ∷ before) = file_after first before
 file_after first (wrote at size kept ∷ before) = overwritten at kept (file_after first before)
 file_after first (synced ∷ before) = file_after first before
 
--- what a stop may leave but the file as it reads: what it might have left before a write, torn by that
+-- what a stop may leave besides the file as it reads: what it might have left before a write, torn by that write
 abbrev pub IsTornAfter : List ℕ → List Event → List ℕ → Type 0
 IsTornAfter first [] c = ⊥
 IsTornAfter first (idle ∷ before) c = IsTornAfter first before c

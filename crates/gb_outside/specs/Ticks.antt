@@ -2,7 +2,7 @@
 use Rattle.std.specs.Prelude.{◌≡◌, List, [], ◌∷◌, Option, Some, None}
 use Rattle.gb_base.specs.DayMinute.{DayMinute}
 
--- a clock gives the stamps that it will still give one after the other, and the last one again and again
+-- a clock gives its stamps one after another, and the last one again and again
 abbrev pub Ticks : Option (List DayMinute) → Option (List DayMinute) → DayMinute → Type 0
 Ticks None new stamp = Unit {0}
 Ticks (Some []) new stamp = ⊥

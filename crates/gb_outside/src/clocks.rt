@@ -7,7 +7,7 @@ pub trait Clock {
     ghost use Rattle.gb_base.specs.DayMinute.{DayMinute};
     ghost use Rattle.gb_outside.specs.Ticks.{Ticks};
 
-    /// The stamps that the clock will still give, the last one again and again, where it tells them.
+    /// Where the clock tells them, the stamps that it will still give, the last one again and again.
     ghost ticks: { Self → Option (List DayMinute) };
 
     /// The stamp of now.

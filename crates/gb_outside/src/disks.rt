@@ -66,7 +66,7 @@ pub trait Disk {
             → Elapses (moment self.old) (moment self.new) (since self.old) (since self.new) (images self.new) }
         ensures cause { Counts (faults self.old) (faults self.new) (is_err result) };
 
-    /// A disk as it reads is one of its images.
+    /// What a read gives is one of the disk's images.
     ghost reads_is_image: { (disk : Self) → IsTrue tells → images disk (reads disk) };
 
     /// No image is longer than what a read gives. (None is shorter than the file at the last
@@ -76,6 +76,6 @@ pub trait Disk {
     /// The images of now are among those since an earlier moment.
     ghost counts_now: { (disk : Self) (t : ℕ) (c : List ℕ) → IsTrue tells → t ≤ moment disk → images disk c → since disk t c };
 
-    /// Since this moment there is no other.
+    /// Since this moment there is no image but those of now.
     ghost only_now: { (disk : Self) (c : List ℕ) → IsTrue tells → since disk (moment disk) c → images disk c };
 }

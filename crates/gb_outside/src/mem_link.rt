@@ -9,8 +9,8 @@ use std::alloc::Global;
 use std::marker::Model;
 
 /// A connection that gives the bytes of a slice and keeps the bytes that are written, up to a room
-/// that is taken at first. Calls of chosen numbers fail, reads and writes counted together, and so
-/// does a write that finds no room.
+/// that is taken when it is made. Calls of chosen numbers fail, reads and writes counted together,
+/// and so does a write that finds no room.
 #[derive(Debug, Drop)]
 pub struct MemLink<'a> {
     bytes: &'a [u8],

@@ -7,7 +7,7 @@ use gb_base::NoMemory;
 use std::alloc::Global;
 use std::marker::Model;
 
-/// Keeps the bytes that are written, up to a room that is taken at first. Writes of chosen
+/// Keeps the bytes that are written, up to a room that is taken when it is made. Writes of chosen
 /// numbers fail, and so does one that finds no room.
 #[derive(Debug, Drop)]
 pub struct MemSink<'a> {

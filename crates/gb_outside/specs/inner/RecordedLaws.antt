@@ -19,7 +19,7 @@ pub since_counts_now : (first : List ℕ) (done : List Event) (t : ℕ) (c : Lis
 since_counts_now first [] t c image = image
 since_counts_now first (event ∷ before) t c image = inl image
 
--- since this moment there is no other
+-- since this moment there is no image but those of now
 pub since_only_now : (first : List ℕ) (done : List Event) (c : List ℕ) → IsImageSince first done (length done) c → IsImageAfter first done c
 since_only_now first [] c image = image
 since_only_now first (event ∷ before) c (inl image) = image
