@@ -11,7 +11,7 @@ use Rattle.csv.specs.declared.parser.Config.{Config}
 use Rattle.csv.specs.declared.parser.State.{State}
 use Rattle.csv.specs.declared.parser.State.TheVariants as st
 
--- A record takes bytes, but for one that the end of the text ends.
+-- A record takes bytes, except one that the end of the text ends.
 data Takes (read : Read) (bytes : List ℕ) : Type 0 where
   some_bytes : length read.2 < length bytes → Takes read bytes
   the_end : read.1 ≡ st.StartRecord → read.2 ≡ [] → bytes ≡ [] → Takes read bytes
@@ -45,7 +45,7 @@ unfolding next_record records_from
 nothing_left cfg zero = refl
 nothing_left cfg (suc n) = refl
 
--- turns enough give all records
+-- any number of turns above the number of bytes gives all records
 enough : (cfg : Config) (n m : ℕ) (s : State) (bytes : List ℕ) → length bytes < n → length bytes < m → records_from cfg n s bytes ≡ records_from cfg m s bytes
 unfolding records_from
 enough cfg zero m s bytes few more = absurd (omega arith)
@@ -62,7 +62,7 @@ enough cfg (suc n) (suc m) s bytes few more = by (next_record cfg s [] [] bytes)
         of_rest read (some_bytes fewer) later = later read fewer
         of_rest read (the_end start none empty) later = rw (start, none) (nothing_left cfg n ∙ sym (nothing_left cfg m))
 
--- one turn
+-- one turn of reading
 turn : (n m : ℕ) (s : State) (bytes : List ℕ) → n ≡ suc m → records_from default_config n s bytes ≡ records_next (records_from default_config m) (next_record default_config s [] [] bytes)
 unfolding records_from
 turn n m s bytes is = rw is refl
@@ -79,7 +79,7 @@ left_after s bytes read is =
     rest (some_bytes fewer) = enough default_config (length bytes) (length read.2 + 1) read.1 read.2 fewer (omega arith)
     rest (the_end start none empty) = rw (start, none) (nothing_left default_config (length bytes) ∙ sym (nothing_left default_config 1))
 
--- where no record is read there is none
+-- where no record is read, there is none
 none_after : (s : State) (bytes : List ℕ) → next_record default_config s [] [] bytes ≡ None → records_at s (Some bytes) ≡ []
 none_after s bytes is = turn (length bytes + 1) (length bytes) s bytes (omega arith) ∙ ap (records_next (records_from default_config (length bytes))) is
 
@@ -94,7 +94,7 @@ bytes_known reader works = by (not reader.bom_checked && (reader.at == 0) && (re
     by true e = (strip_bom reader.rdr.now, rw (works, e) refl)
     by false e = (drop reader.at (take reader.filled reader.buffer) ++ reader.rdr.now, rw (works, e) refl)
 
--- the first of the records, by its parts
+-- the first of the records, given by its parts
 first_of : (s later : State) (bytes rest : List ℕ) (first : Read) (fields : List (List ℕ)) → next_record default_config s [] [] bytes ≡ Some first
     → fields ≡ first.0 → first.1 ≡ later → first.2 ≡ rest → records_at s (Some bytes) ≡ fields ∷ records_at later (Some rest)
 first_of s later bytes rest first fields is same state left = rw (same, ← state, ← left) (left_after s bytes first is)

@@ -39,8 +39,8 @@ impl<'a> Records<'a> {
         Records { reader }
     }
 
-    /// Reads the next record, and says whether there was one. Where memory is wanting no record
-    /// comes any more.
+    /// Reads the next record, and says whether there was one. Once memory has run out (`NoMemory`) no
+    /// record comes any more.
     pub fn read(&mut self, row: &mut ByteRecord) -> Result<bool, NoMemory>
         ensures next { IfOk result (λ found. found ≡ true → self.old ≡ fields_of row.new ∷ self.new) }
         ensures end { IfOk result (λ found. found ≡ false → self.old ≡ []) }

@@ -48,7 +48,7 @@ impl<'a> OpeningList<'a> {
     ghost use Rattle.opening_lists.specs.OpeningLists.{row_requests};
     ghost use Rattle.intake_requests.specs.Asking.{asks_well};
 
-    /// The list of these bytes, from this sender. It may want memory, as each call of `next` may.
+    /// The list of these bytes, from this sender. May run out of memory (`NoMemory`), as may `next`.
     #[tactic(auto, unfolding(crate::specs::OpeningLists::row_requests))]
     pub fn new(alloc: Global, sender: u32, bytes: &'a [u8]) -> Result<OpeningList<'a>, NoMemory>
         ensures { IfOk result (λ list. list ≡ row_requests sender bytes.now) }
