@@ -11,12 +11,12 @@ asks_well Nothing = true
 asks_well (Refused text) = true
 asks_well (Receive stamp from item) = well_formed item
 
--- the clock is to stamp it
+-- the item has no stamp, so the clock is to stamp it
 abbrev pub has_no_stamp : Option DayMinute → Bool
 has_no_stamp None = true
 has_no_stamp (Some stamp) = false
 
--- the clock is asked for it
+-- the request asks that an item be received which the clock is to stamp
 abbrev pub asks_clock : Request → Bool
 asks_clock Nothing = false
 asks_clock (Refused text) = false

@@ -64,7 +64,7 @@ impl Request {
     ghost use Rattle.std.specs.Prelude.{◌≡◌, IfOk};
     ghost use Rattle.intake_requests.specs.declared.requests.Request.TheVariants.{Refused};
 
-    /// A text that is refused with these bytes. It may want memory.
+    /// A text that is refused with these bytes. It may run out of memory (`NoMemory`).
     pub fn refused(alloc: Global, text: &[u8]) -> Result<Request, NoMemory>
         ensures { IfOk result (λ request. request ≡ Refused text.now) }
     {
