@@ -88,7 +88,7 @@ put_new before p words rest f g e d new is same_f same_e (inr r) = inr (record {
     later None h = refl
     later (Some ps) h = rw (new, h) refl
 
--- a piece whose name is not
+-- a piece whose name is not new
 put_again : (before : List Piece) (p : Piece) (words rest : List Text) (f : Kinds) (e : List Row) → has_name p.0 before ≡ true
     → pieces_of (forms words) ≡ put p (pieces_of (forms rest)) → (f ≡ [] → ⊥) → Agrees before words f e
 put_again before p words rest f e old is failed = inr (record {
@@ -166,7 +166,7 @@ one_or_two place before at = go (has_name (codes "command") before) refl
     go true e = inr (at ∙ rw e refl)
     go false e = inl (at ∙ rw e refl)
 
--- what waits fails, and so does all that follows
+-- where what waits fails, all that follows fails too
 stuck : (rows : List Row) (p : Waits) (place : ℕ) → (place ≡ 1) ⊎ (place ≡ 2) → (settle_fault rules false (held rows p) ≡ [] → ⊥)
     → (words : List Text) → list_all is_formed words ≡ true → fails (between rows p place) words ≡ [] → ⊥
 stuck rows p place at bad [] formed = λ clear. bad (sym (fails_end (between rows p place)) ∙ clear)
@@ -259,7 +259,7 @@ assigned_step word name value rest form long end_no known next rows p place befo
           place_is = stays_at before (name, value) place (no_command name known) s.place_is;
         }))
 
--- the name of an option ahead of its value
+-- the name of an option, before its value
 record IsNamed (word name : Text) : Type 0 where
   form : form_of word ≡ named name
   long : long_of word ≡ Some (name, None)

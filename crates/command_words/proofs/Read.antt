@@ -27,7 +27,7 @@ use Rattle.command_words.proofs.Parsed.{Accepted, Agrees, forms, main, passes}
 use Rattle.command_words.proofs.Rules.{appends, is_built, is_simple}
 use Rattle.command_words.proofs.Walking.{between, ends, fails}
 
--- ---- behind the walk nothing fails
+-- ---- after the walk nothing fails
 
 quiet : List Rule → Type 0
 quiet [] = Unit {0}
@@ -196,7 +196,7 @@ refused_is_none : (o : Option (List Piece)) → passes [] o ≡ false → option
 refused_is_none None h = refl
 refused_is_none (Some ps) h = rw h refl
 
--- words at which it fails are no command
+-- words at which the parse fails are no command
 pub no_command_there : (words : List Text) → list_all is_formed words ≡ true → (fault_of grundbuch words ≡ [] → ⊥) → command_of words ≡ None
 unfolding command_of
 no_command_there words formed failing = go (start words formed)

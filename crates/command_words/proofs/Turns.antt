@@ -11,7 +11,7 @@ use Rattle.command_words.proofs.Rules.{by_id, by_long, first_place, lines_by_lon
 use Rattle.command_words.proofs.Walking.{Waits, behind_name, between, held}
 use Rattle.command_words.proofs.WordForms.{IsPlain}
 
--- what a turn does: it fails not, and the parse stands there then
+-- a turn does not fail, and the parse stands at `after` then
 pub record Turns (w : Walk) (word : Text) (after : Walk) : Type 0 where
   pub clear : turn_fault shape [] w word ≡ []
   pub there : walked rules [] w word ≡ after

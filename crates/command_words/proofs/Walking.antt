@@ -17,7 +17,7 @@ held rows p = record { rows = rows; pending = p; skip = 0 }
 abbrev pub between : List Row → Waits → ℕ → Walk
 between rows p place = record { held = held rows p; waiting = idle; position = place; is_trailing = false; stopped = None }
 
--- the parse behind the name of an option
+-- the parse after the name of an option
 abbrev pub behind_name : List Row → Text → ℕ → Walk
 behind_name rows name place =
     record { held = held rows (Some (name, [])); waiting = option name; position = place; is_trailing = false; stopped = None }
@@ -26,7 +26,7 @@ behind_name rows name place =
 unfoldable pub fails : Walk → List Text → Kinds
 fails w words = or_else (walk_fault shape [] w words) (settle_fault rules false (fold (walked rules []) w words).held)
 
--- the entries behind it
+-- the entries that the walk leaves
 unfoldable pub ends : Walk → List Text → List Row
 ends w words = (settled rules (fold (walked rules []) w words).held).rows
 

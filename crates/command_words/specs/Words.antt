@@ -80,16 +80,16 @@ once_each before (piece ∷ rest) = not (has_name piece.0 before) && once_each (
 abbrev pub value_of : List ℕ → List Piece → Option (List ℕ)
 value_of name pieces = option_map (λ piece. piece.1) (find (λ piece. bytes_eq piece.0 name) pieces)
 
--- What the options give, in this order: whether `--lines` stands there, and the values of `--desks`,
+-- What the options give, in this order: whether `--lines` is given, and the values of `--desks`,
 -- `--requests`, `--seed`, `--size` and `--sender`. Each command takes just its own.
 abbrev pub Reader : Type 0
 Reader = Bool → Option (List ℕ) → Option (List ℕ) → Option (List ℕ) → Option (List ℕ) → Option (List ℕ) → Option Command
 
--- the option does not stand there
+-- the option is not given
 abbrev pub absent : Option (List ℕ) → Bool
 absent value = not (is_some value)
 
--- the number that the value writes, where it stands there and is in the range
+-- the number that the value writes, where it is given and in the range
 abbrev pub number : ℕ → ℕ → Option (List ℕ) → Option ℕ
 number low high value = option_and_then (number_in low high) value
 
@@ -99,7 +99,7 @@ take_by lines desks requests seed size sender =
     if not lines && (absent desks && (absent requests && (absent seed && (absent size && absent sender))))
     then Some (Receive Lines) else None
 
--- `settle --desks N`, and the same with `--lines`
+-- `settle --desks N`, with `--lines` or without
 abbrev pub settle_of : Bool → Option ℕ → Option Command
 settle_of lines None = None
 settle_of lines (Some desks) = if lines then Some (SettleLines desks) else Some (Settle desks)
@@ -166,7 +166,7 @@ command_with under = option_and_then (λ word. reader_of word (is_true (under (c
     (under (codes "desks")) (under (codes "requests")) (under (codes "seed")) (under (codes "size"))
     (under (codes "sender"))) (under (codes "command"))
 
--- the command of pieces, of which each stands under a name of its own
+-- the command of pieces, each of which stands under a name of its own
 abbrev pub command_once : List Piece → Option Command
 command_once pieces = if once_each [] pieces then command_with (λ name. value_of name pieces) else None
 

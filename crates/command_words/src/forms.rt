@@ -16,7 +16,7 @@ pub(crate) fn are_formed(words: &[RcStr]) -> bool
     words.iter().all(|word| is_formed(word.as_bytes()))
 }
 
-/// Whether no hyphen begins the word, or two with more behind them.
+/// Whether the word begins with no hyphen, or with two hyphens and more behind them.
 fn is_formed(word: &[u8]) -> bool
     ensures { result ≡ is_formed word.now }
 {

@@ -58,7 +58,7 @@ fn option<'a>(alloc: Global, name: &'a str) -> Arg<'a>
     Arg::new(alloc, name).long(name)
 }
 
-/// `--lines`, with none.
+/// `--lines`, without a value.
 fn lines<'a>(alloc: Global) -> Arg<'a>
     ensures rule { rule_of result ≡ lines_rule }
     ensures local { result.global ≡ false }

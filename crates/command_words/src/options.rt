@@ -41,7 +41,7 @@ pub(crate) fn read_command(word: &str, given: &Given<'_>) -> Option<Command>
     }
 }
 
-/// `take`, where no option stands there.
+/// `take`, where no option is given.
 fn take(given: &Given<'_>) -> Option<Command>
     ensures command { result ≡ by_given take_by given.now }
     ensures desks { IfSome result HasDesks }
@@ -57,7 +57,7 @@ fn take(given: &Given<'_>) -> Option<Command>
     }
 }
 
-/// `settle`, where no option stands there but its own two.
+/// `settle`, where no option is given but its own two.
 fn settle(given: &Given<'_>) -> Option<Command>
     ensures command { result ≡ by_given settle_by given.now }
     ensures desks { IfSome result HasDesks }
@@ -86,7 +86,7 @@ fn settle_at(lines: bool, desks: Option<&str>) -> Option<Command>
     }
 }
 
-/// `serve`, where no option stands there but its own two.
+/// `serve`, where no option is given but its own two.
 fn serve(given: &Given<'_>) -> Option<Command>
     ensures command { result ≡ by_given serve_by given.now }
     ensures desks { IfSome result HasDesks }
@@ -113,7 +113,7 @@ fn serve_at(desks: Option<&str>, requests: Option<&str>) -> Option<Command>
     })
 }
 
-/// `sample`, where no option stands there but its own three.
+/// `sample`, where no option is given but its own three.
 fn sample(given: &Given<'_>) -> Option<Command>
     ensures command { result ≡ by_given sample_by given.now }
     ensures desks { IfSome result HasDesks }
@@ -141,7 +141,7 @@ fn sample_at(seed: Option<&str>, size: Option<&str>, desks: Option<&str>) -> Opt
     })
 }
 
-/// `opening`, where no option stands there but its own.
+/// `opening`, where no option is given but its own.
 fn opening(given: &Given<'_>) -> Option<Command>
     ensures command { result ≡ by_given opening_by given.now }
     ensures desks { IfSome result HasDesks }
@@ -170,7 +170,7 @@ fn open_from(sender: Option<&str>) -> Option<Command>
     })
 }
 
-/// Whether no option stands there.
+/// Whether no option is given.
 fn has_none(given: &Given<'_>) -> bool
     ensures { result ≡ (not given.now.lines && (absent (text_of given.now.desks) && (absent (text_of given.now.requests)
         && (absent (text_of given.now.seed) && (absent (text_of given.now.size) && absent (text_of given.now.sender)))))) }
@@ -183,7 +183,7 @@ fn has_none(given: &Given<'_>) -> bool
         && absent(given.sender)
 }
 
-/// Whether no option stands there but `--desks` and `--lines`.
+/// Whether no option is given but `--desks` and `--lines`.
 fn has_desks_and_lines_alone(given: &Given<'_>) -> bool
     ensures { result ≡ (absent (text_of given.now.requests) && (absent (text_of given.now.seed)
         && (absent (text_of given.now.size) && absent (text_of given.now.sender)))) }
@@ -191,7 +191,7 @@ fn has_desks_and_lines_alone(given: &Given<'_>) -> bool
     absent(given.requests) && absent(given.seed) && absent(given.size) && absent(given.sender)
 }
 
-/// Whether no option stands there but `--desks` and `--requests`.
+/// Whether no option is given but `--desks` and `--requests`.
 fn has_desks_and_requests_alone(given: &Given<'_>) -> bool
     ensures { result ≡ (not given.now.lines && (absent (text_of given.now.seed)
         && (absent (text_of given.now.size) && absent (text_of given.now.sender)))) }
@@ -199,14 +199,14 @@ fn has_desks_and_requests_alone(given: &Given<'_>) -> bool
     !given.lines && absent(given.seed) && absent(given.size) && absent(given.sender)
 }
 
-/// Whether no option stands there but `--seed`, `--size` and `--desks`.
+/// Whether no option is given but `--seed`, `--size` and `--desks`.
 fn has_no_requests_and_sender(given: &Given<'_>) -> bool
     ensures { result ≡ (not given.now.lines && (absent (text_of given.now.requests) && absent (text_of given.now.sender))) }
 {
     !given.lines && absent(given.requests) && absent(given.sender)
 }
 
-/// Whether no option stands there but `--sender`.
+/// Whether no option is given but `--sender`.
 fn has_sender_alone(given: &Given<'_>) -> bool
     ensures { result ≡ (not given.now.lines && (absent (text_of given.now.desks) && (absent (text_of given.now.requests)
         && (absent (text_of given.now.seed) && absent (text_of given.now.size))))) }
@@ -218,7 +218,7 @@ fn has_sender_alone(given: &Given<'_>) -> bool
         && absent(given.size)
 }
 
-/// Whether the option does not stand there.
+/// Whether the option is not given.
 fn absent(value: Option<&str>) -> bool
     ensures { result ≡ absent (text_of value.entry) }
 {
@@ -252,7 +252,7 @@ fn number_of_receipts(value: Option<&str>) -> Option<u32>
     Some(size as u32)
 }
 
-/// The number that the value writes, where it stands there and is in the range.
+/// The number that the value writes, where it is given and in the range.
 fn number(value: Option<&str>, low: u64, high: u64) -> Option<u64>
     ensures value { result ≡ number low high (text_of value.entry) }
     ensures range { IfSome result (λ n. (low ≤ n) × (n ≤ high)) }

@@ -25,7 +25,7 @@ pub enum WordsFault {
 
 /// The command of these words.
 ///
-/// One word says the command. Its options stand in any order, before that word or behind it, each
+/// One word says the command. Its options stand in any order, before that word or after it, each
 /// once, as `--name value` or `--name=value`.
 pub fn read_words(alloc: Global, words: &[RcStr]) -> Result<Command, WordsFault>
     ensures command { IfOk result (λ command. commanded rc_str_bytes words.now ≡ Some command) }
@@ -46,7 +46,7 @@ pub fn read_words(alloc: Global, words: &[RcStr]) -> Result<Command, WordsFault>
     }
 }
 
-/// Why words that `clap` refuses are no command: memory was wanting, or they are not in the grammar.
+/// Why words that `clap` refuses are no command: memory ran out, or they are not in the grammar.
 fn fault_from(kind: ErrorKind) -> WordsFault
     ensures { result ≡ WordsFault.Usage → kind ≡ ErrorKind.OutOfMemory → ⊥ }
 {
@@ -99,7 +99,7 @@ fn given_in<'a>(matches: &ArgMatches<'a>) -> Given<'a>
     }
 }
 
-/// Whether `--lines` stands there.
+/// Whether `--lines` is given.
 fn is_set(matches: &ArgMatches<'_>) -> bool
     ensures { result ≡ is_true (first_value (found_of matches.now) (codes "lines")) }
 {

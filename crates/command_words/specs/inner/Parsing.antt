@@ -18,7 +18,7 @@ is_long [] = false
 is_long (b ∷ []) = false
 is_long (b ∷ c ∷ text) = b == 45
 
--- no hyphen begins the word, or two with more behind them
+-- the word begins with no hyphen, or with two hyphens and more behind them
 abbrev pub is_formed : List ℕ → Bool
 is_formed [] = true
 is_formed (b ∷ text) = not (b == 45) || is_long text
