@@ -17,7 +17,7 @@ pub none_known : (k : ℕ) (fs : List ℕ) → All (AreBefore k) (map first_note
 none_known k [] = All-nil (AreBefore k)
 none_known k (f ∷ fs) = All-cons (AreBefore k) (first_notes f) (map first_notes fs) (record { newest = tt; second = tt; in_order = tt }) (none_known k fs)
 
--- one folio more is opened
+-- one more folio is opened
 pub opens_on :
     (n k folio : ℕ) (before after : List Receipt) (old new : List FolioNotes) (item : Item)
     → before ≡ map opening_receipt (range_with_len 1 n) → old ≡ map first_notes (range_with_len 1 n)
@@ -59,7 +59,7 @@ drawn_first size n k g h =
     let one_less : size - n ≡ suc (size - (n + 1)) = omega arith in
     ap (λ m. drawn_receipts m k g) one_less
 
--- one receipt more is drawn
+-- one more receipt is drawn
 pub draws_on :
     (seed size n k : ℕ) (before after : List Receipt) (g h : GeneratorState) (item : Item)
     → HasDrawn seed size n before g → n < size → k ≡ n + 1 → item ≡ (turn_of k g).item → h ≡ generator_after k g

@@ -28,7 +28,7 @@ uncalled n k (r ∷ rs) called =
     let other : is_sent_as 1 k r ≡ false = grind (arith, nat_tests, first.0) in
     cond-false (is_sent_as 1 k r) (Some n) (number_from (n + 1) 1 k rs) other ∙ uncalled (n + 1) k rs (All-tail (IsCalledBefore k) r rs called)
 
--- so it gets its number
+-- so receipt k is accepted under its number
 pub accepted : (k : ℕ) (item : Item) (rs : List Receipt) → k ≤ most_receipts → AreFirst k rs → answer_to rs 1 k item ≡ added.Accepted k
 accepted k item rs few first =
     ap (answer_by rs item) (uncalled 1 k rs first.called)
@@ -39,7 +39,7 @@ not_before_it k r called =
     cond-false (is_before (stamp_of_receipt k) r.stamp) _ _
     (ap (is_before (stamp_of_receipt k)) called.1 ∙ stamps_rise r.reference k called.0)
 
--- and its own stamp
+-- receipt k keeps its own stamp
 own_stamp : (k : ℕ) (rs : List Receipt) → All (IsCalledBefore k) rs → stamp_after rs (stamp_of_receipt k) ≡ stamp_of_receipt k
 own_stamp k [] called = refl
 own_stamp k (r ∷ rs) called =
@@ -52,14 +52,14 @@ own_stamp k (r ∷ rs) called =
 called_later : (k : ℕ) (rs : List Receipt) → All (IsCalledBefore k) rs → All (IsCalledBefore (k + 1)) rs
 called_later k rs called j d h = let this = called j d h in (omega (arith, this.0), this.1)
 
--- the receipts before the one behind receipt k
+-- the receipts up to receipt k are those before the next receipt
 pub one_more : (k : ℕ) (item : Item) (rs : List Receipt) → AreFirst k rs → AreFirst (k + 1) (rs ++ receipt_of k item ∷ [])
 one_more k item rs first = record {
   count = grind (arith, common_steps, first.count);
   called = All-push (IsCalledBefore (k + 1)) rs (receipt_of k item) (called_later k rs first.called) (omega arith, refl);
 }
 
--- what the journal answers to the item of receipt k, and what it has behind it
+-- what the journal answers to the item of receipt k, and what it has after it
 pub record IsReceived (k : ℕ) (item : Item) (before after : List Receipt) (answer : Added) : Type 0 where
   pub accepts : answer ≡ added.Accepted k
   pub receipts : after ≡ before ++ receipt_of k item ∷ []

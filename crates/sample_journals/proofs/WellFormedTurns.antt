@@ -19,7 +19,7 @@ use Rattle.sample_journals.specs.SampleFilings.{charge_drawn, creation, exchange
 use Rattle.sample_journals.specs.Turns.{Turn, cancels, creates, creates_in_plain_form, cures, exchanges, notes_after_sale, right_created_by, sale_item, sells, transfers, turn}
 use Rattle.sample_journals.specs.inner.KnownBefore.{AreBefore, AreInOrder, IsBefore}
 
--- the item of receipt k is well formed, and the rights kept behind it were created before the next receipt
+-- the item of receipt k is well formed, and the rights kept after it were created before the next receipt
 pub record GoesOn (k : ℕ) (made : Turn) : Type 0 where
   pub well : IsTrue (well_formed made.item)
   pub before : AreBefore (k + 1) made.notes
@@ -121,7 +121,7 @@ turn_goes_on op k folio notes x h =
     (either k (op == 9) _ _ (cancels_on notes.newest k folio notes x h)
     (either k (op == 10) _ _ (sells_on k folio notes x h) (creates_on k folio notes x h))))))
 
--- so does a turn in one of the folios
+-- a turn in one of the folios makes a well-formed item too, and keeps what it says of its rights
 pub folio_goes_on :
     (op k folio x index : ℕ) (seen folios : List FolioNotes) (old new d : FolioNotes) (item : Item)
     → All (AreBefore k) seen → folios ≡ seen → index < length folios → old ≡ get_or folios index d

@@ -40,7 +40,7 @@ abbrev pub turn_of : ℕ → GeneratorState → Turn
 turn_of k g =
     turn (drawn (state_after g.state) 11) k (folio_drawn g) (notes_of g.folios (folio_drawn g)) (state_after (state_after g.state))
 
--- the generator behind receipt k
+-- the generator after receipt k
 abbrev pub generator_after : ℕ → GeneratorState → GeneratorState
 generator_after k g = record { state = (turn_of k g).state; folios = set g.folios (folio_drawn g - 1) (turn_of k g).notes }
 

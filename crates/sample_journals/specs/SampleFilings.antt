@@ -1,4 +1,4 @@
--- The filings of the generated journal: each of one act, with the documents that the act wants.
+-- The filings of the generated journal: each of one act, with the documents that the act needs.
 use Rattle.std.specs.Prelude.{ℕ, ◌+◌, ◌*◌, false, List, [], ◌∷◌, None}
 use Rattle.gb_base.specs.RightNo.{RightNo}
 use Rattle.act_model.specs.declared.documents.Doc.{Doc}

@@ -1,5 +1,5 @@
--- What a receipt behind the openings becomes in the folio that is drawn for it, by the kind that is drawn: its item, and
--- what the generator keeps of the folio behind it.
+-- What a receipt after the openings becomes in the folio that is drawn for it, by the kind that is drawn: its item, and
+-- what the generator keeps of the folio after it.
 use Rattle.std.specs.Prelude.{ℕ, ◌+◌, ◌-◌, ◌/◌, ◌==◌, if◌then◌else◌, [], ◌∷◌, Option, Some, None}
 use Rattle.act_model.specs.declared.documents.Form.TheVariants as form
 use Rattle.act_model.specs.declared.items.Item.{Item}
@@ -20,7 +20,7 @@ day_of_receipt k = 19723 + k / 64
 abbrev pub first_notes : ℕ → FolioNotes
 first_notes f = record { owner = f; newest = None; second = None; uncertified = None; next = sale.Seizure }
 
--- a turn of the generator: the item, what is kept of the folio behind it, and the state of the draws behind it
+-- a turn of the generator: the item, what is kept of the folio after it, and the state of the draws after it
 pub record Turn : Type 0 where
   pub item : Item
   pub notes : FolioNotes
@@ -30,7 +30,7 @@ pub record Turn : Type 0 where
 abbrev pub right_created_by : ℕ → ℕ → KnownRight
 right_created_by k holder = record { right = record { receipt = k; act = 1 }; holder = holder }
 
--- a land charge is created, with the certified consent of the owner; it is the newest right then, and the newest one so far the second
+-- a land charge is created, with the certified consent of the owner; it is then the newest right, and the one that was the newest is the second
 abbrev pub creates : ℕ → ℕ → FolioNotes → ℕ → Turn
 creates k folio notes x = record {
   item = creation folio notes.owner form.Certified (charge_drawn x);
@@ -38,7 +38,7 @@ creates k folio notes x = record {
   state = state_after (state_after x);
 }
 
--- the same with a consent in plain form, which does not suffice, so that the filing waits
+-- a land charge is created with a consent in plain form, which does not suffice, so that the filing waits
 abbrev pub creates_in_plain_form : ℕ → ℕ → FolioNotes → ℕ → Turn
 creates_in_plain_form k folio notes x = record {
   item = creation folio notes.owner form.Plain (charge_drawn x);
@@ -64,7 +64,7 @@ exchanges (Some second) (Some newest) k folio notes x =
 exchanges (Some second) None k folio notes x = creates k folio notes x
 exchanges None newest k folio notes x = creates k folio notes x
 
--- the newest right is cancelled, and the second is the newest then; where there is none, a land charge is created
+-- the newest right is cancelled, and the second is then the newest; where there is none, a land charge is created
 abbrev pub cancels : Option KnownRight → ℕ → ℕ → FolioNotes → ℕ → Turn
 cancels (Some newest) k folio notes x = record {
   item = cancellation folio notes.owner newest.right newest.holder;
@@ -81,7 +81,7 @@ sale_item sale.Call k folio = item.OpenBids folio 10000
 sale_item sale.Award k folio = item.Award folio (3000000 + k) 1000000000
 sale_item sale.Distribution k folio = item.Distribute folio
 
--- what is kept behind it: the step that is next, and behind an award its buyer as the owner
+-- what is kept after a step of the sale: the step that is next, and after an award its buyer as the owner
 abbrev pub notes_after_sale : SaleStep → ℕ → FolioNotes → FolioNotes
 notes_after_sale sale.Seizure k notes = record notes { next = sale.Call }
 notes_after_sale sale.Call k notes = record notes { next = sale.Award }
@@ -93,7 +93,7 @@ abbrev pub sells : ℕ → ℕ → FolioNotes → ℕ → Turn
 sells k folio notes x =
     record { item = sale_item notes.next k folio; notes = notes_after_sale notes.next k notes; state = x }
 
--- kind 0 to 10 for receipt k: a creation for five of them, and one other each
+-- the turn of kind 0 to 10 for receipt k: kinds 0 to 4 create a land charge, and each other kind has a turn of its own
 unfoldable pub turn : ℕ → ℕ → ℕ → FolioNotes → ℕ → Turn
 turn op k folio notes x =
     if op == 5 then transfers k folio notes x

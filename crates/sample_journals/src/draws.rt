@@ -21,7 +21,7 @@ impl Draws {
     }
 }
 
-/// The state behind a draw.
+/// The state after a draw.
 fn next_state(state: u64) -> u64
     ensures { result ≡ state_after state }
 {

@@ -1,4 +1,4 @@
-//! What a receipt behind the openings becomes, by the kind that is drawn.
+//! What a receipt after the openings becomes, by the kind that is drawn.
 ghost use Rattle.std.specs.Prelude.{◌≡◌, ◌+◌, ◌≤◌};
 ghost use Rattle.act_model.specs.Limits.{most_receipts};
 ghost use Rattle.sample_journals.specs.SampleFilings.{transfer};

@@ -1,4 +1,4 @@
--- One folio more is opened.
+-- One more folio is opened.
 use Rattle.std.proofs.Common.{◌≡◌, ◌+◌, IfSome, subst}
 use Rattle.sample_journals.proofs.Drawing.{opens_on}
 use Rattle.sample_journals.proofs.generated.open_folios.Goals as goal

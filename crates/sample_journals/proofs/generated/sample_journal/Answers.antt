@@ -1,4 +1,4 @@
--- All folios are opened, and then one receipt more is drawn at a time.
+-- All folios are opened, and then one more receipt is drawn at a time.
 use Rattle.std.proofs.Common.{◌≡◌, ◌+◌, IfSome, refl, subst, arith}
 use Rattle.sample_journals.proofs.Drawing.{draws_on, opened}
 use Rattle.sample_journals.proofs.generated.sample_journal.Goals as goal
