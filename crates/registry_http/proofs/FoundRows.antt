@@ -207,6 +207,6 @@ row_fits route path seen taken table m table_is seen_is taken_is is same there =
     subst (λ (x : RouteOf Row). FitsRoute route x.value (walk x.pattern x.text taken x.names 0 0)) one
     (subst (λ p. FitsRoute route found.found.value (walk found.found.pattern found.found.text p found.found.names 0 0)) (sym (taken_is ∙ seen_is ∙ same)) found.fits)
 
--- a text that is the path is found to be it
+-- a text that is the path is found to be equal to it
 pub spelled_so : (spelled path : List ℕ) (r : Bool) → r ≡ bytes_eq spelled path → r ≡ false → spelled ≡ path → ⊥
 spelled_so spelled path r is other same = false≢true (sym other ∙ is ∙ (bytes_eq-Decides spelled path).1 same)
