@@ -17,7 +17,7 @@ at_once : (test : RightNo → Bool) (n : ℕ) (c : RightNo) (cs : List RightNo) 
 at_once test zero c cs some this = absurd (omega arith)
 at_once test (suc n) c cs some this = λ i. cond (not (this i)) (1 + position_or_len test (replicate n c ++ cs)) 0
 
--- one piece more at the front, where it passes, and where it does not
+-- one more piece at the front, where it passes, and where it does not
 with_piece : (b : Bool) (test : RightNo → Bool) (p : Piece) (ps : List Piece) → test p.right ≡ b → 1 ≤ p.cents
     → position_or_len test (line_of ps) ≡ length (line_of (take (position_or_len (λ q. test q.right) ps) ps))
     → position_or_len test (line_of (p ∷ ps)) ≡ length (line_of (take (position_or_len (λ q. test q.right) (p ∷ ps)) (p ∷ ps)))

@@ -174,7 +174,7 @@ nearer_step a b s recede rise number left start cents next link whole as_many so
     (nearer a b s recede rise number left 0 start cents link whole here linked
     (λ test passes xs none chain. subst (λ (c : SpanLists). Linked c.spans c.links link xs) (sym becomes) (dealt_leaves test a s recede rise number left as_many passes link xs none chain)))
 
--- one span more at most: while cents are left to rise, none was split
+-- at most one more span: while cents are left to rise, none was split
 pub few_step : (left old new start : ℕ) → old ≤ start + 1 → (0 < left → old ≡ start) → new ≤ old + 1 → (left ≡ 0 → new ≡ old) → new ≤ start + 1
 few_step left old new start few unsplit more same = elim (cases_eq left 0) [
   | inl none ↦ let kept = same none in omega (arith, kept, few)

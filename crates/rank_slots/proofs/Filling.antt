@@ -23,7 +23,7 @@ pub no_cents : line_of [] ≡ line empty
 unfolding cent_line
 no_cents = refl
 
--- and it can be filled in
+-- a line without places can be filled in
 pub nothing_fits : CanFill empty
 unfolding IsDistinct
 nothing_fits = record {

@@ -126,7 +126,7 @@ group_next filled r fits kept more =
     ∙ one_shared group r (λ a. group_few filled.places a r fits.places.distinct) (group_all (λ (p : Place). 1 ≤ p.claim) filled.places r fits.places.claims)
     (group_holds filled.places r (kept_listed r filled.places kept)) more
 
--- one that stands alone is all of its group
+-- a right that stands alone is all of its group
 lone_next : (filled : Filled) (r : RightNo) → CanFill filled → keeps_place filled.places r ≡ true → StandsAlone filled.places r
     → sum_by (λ p. pay filled p.right (threshold filled r + 1)) (group_of filled.places r) ≡ 1
 lone_next filled r fits kept alone =

@@ -37,7 +37,7 @@ members_are (p ∷ ps) =
 
 -- ---- what holds of the group that is found
 
--- it has the right where some group has it
+-- the group that is found has the right where some group has it
 in_holds : (gs : List (List Place)) (r : RightNo) → list_any (is_of r) (members gs) ≡ true → list_any (is_of r) (group_in gs r) ≡ true
 in_holds [] r there = there
 in_holds (g ∷ gs) r there =
@@ -137,7 +137,7 @@ in_alone (g ∷ gs) a one =
       | false ↦ λ no h. in_alone gs a h
     ] refl one
 
--- it is in no other right's group
+-- a right that stands alone is in no other right's group
 in_apart : (gs : List (List Place)) (a r : RightNo) → counted (is_of a) (members gs) ≤ 1 → length (group_in gs a) ≡ 1 → same_right a r ≡ false → list_any (is_of a) (group_in gs r) ≡ false
 in_apart [] a r few one other = refl
 in_apart (g ∷ gs) a r few one other =
@@ -162,7 +162,7 @@ in_apart (g ∷ gs) a r few one other =
 
 -- ---- members of one group
 
--- the group of a member is the same
+-- the group of a member of a right's group is that group
 in_same : (gs : List (List Place)) (a r : RightNo) → counted (is_of a) (members gs) ≤ 1 → list_any (is_of a) (group_in gs r) ≡ true → group_in gs a ≡ group_in gs r
 in_same [] a r few there = refl
 in_same (g ∷ gs) a r few there =

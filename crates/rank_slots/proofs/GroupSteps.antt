@@ -10,7 +10,7 @@ use Rattle.rank_slots.specs.declared.places.Place.{Place}
 abbrev joining : List Place → ℕ
 joining ps = prefix_len (λ p. p.with_previous) ps
 
--- one place more, where it joins the ones behind it, and where it does not
+-- one more place, where it joins the ones behind it, and where it does not
 longer : (b : Bool) (p q : Place) (qs : List Place) → q.with_previous ≡ b
     → groups (q ∷ qs) ≡ (q ∷ take (joining qs) qs) ∷ groups (drop (joining qs) qs)
     → groups (p ∷ q ∷ qs) ≡ (p ∷ take (joining (q ∷ qs)) (q ∷ qs)) ∷ groups (drop (joining (q ∷ qs)) (q ∷ qs))

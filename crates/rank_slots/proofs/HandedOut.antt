@@ -83,7 +83,7 @@ kept_some r (p ∷ ps) kept =
           ] h
     ] kept
 
--- a right that keeps its place has one among these
+-- a right that keeps its place has one place among those that are not dropped
 kept_once : (r : RightNo) (places : List Place) → AreDifferent places → keeps_place places r ≡ true → counted (is_of r) (filter (λ p. not p.dropped) places) ≡ 1
 kept_once r places differ kept =
     let few = places_few r places differ in

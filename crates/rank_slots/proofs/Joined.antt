@@ -61,7 +61,7 @@ ends_elsewhere right [] p other = other
 ends_elsewhere right (x ∷ []) p other = other
 ends_elsewhere right (x ∷ y ∷ ys) p other = ends_elsewhere right (y ∷ ys) p other
 
--- a piece more behind one of another right, or behind none
+-- one more piece behind one of another right, or behind none
 joined_push : (ps : List Piece) (p : Piece) → 1 ≤ p.cents → EndsElsewhere p.right ps → AreJoined ps → AreJoined (ps ++ p ∷ [])
 joined_push [] p some other joined = (some, (tt, tt))
 joined_push (x ∷ []) p some other joined = (joined.0, (other, (some, (tt, tt))))

@@ -170,7 +170,7 @@ nearer_of spans links first second joined whole n pair link as_many is some join
     let here = ap (reach spans) some in
     omega (arith, less, all, here, own)
 
--- chains of which no span passes a test that all spans of the whole pass are as they were
+-- chains none of whose spans passes a test that all spans of the whole pass are as they were
 pub others_of : (spans : List Span) (links : List (Option ℕ)) (first second joined : Option ℕ) (whole : List Span) (n : ℕ) (pair : Option ℕ × Option ℕ) → length links ≡ length spans
     → pair ≡ later_first spans first second → pair.0 ≡ Some n → AreToJoin spans links first second joined whole
     → (test : Span → Bool) (head : Option ℕ) (xs : List Span) → AllByRecursion (λ x. test x ≡ true) whole → AllByRecursion (λ x. test x ≡ false) xs

@@ -23,7 +23,7 @@ use Rattle.rank_slots.proofs.SpanRows.{last_first_append}
 
 -- ---- the pieces of a row
 
--- no place drops no cent
+-- where there are no places, no cent is dropped
 none_dropped : (cs : List RightNo) → filter (λ c. not (is_dropped [] c)) cs ≡ cs
 none_dropped [] = refl
 none_dropped (c ∷ cs) = ap (λ t. c ∷ t) (none_dropped cs)
@@ -110,7 +110,7 @@ stand_in_order a b places row ps cut joined sum line spans links heads chains =
 
 -- ---- the chains of pieces
 
--- a span more, at the place of its right
+-- one more span, at the place of its right
 pub chained_push : (a : SpanLists) (places : List Place) (x : Span) (place : ℕ) → AreDifferent places → list_any (is_of x.right) places ≡ true → place ≡ position_or_len (is_of x.right) places
     → length a.links ≡ length a.spans → length a.heads ≡ length places → AreChained a places → AreChained (pushed a place x) places
 chained_push a places x place differ there at as_many as_many_heads chains = λ n p within here.

@@ -36,7 +36,7 @@ counted_either p q apart (x ∷ xs) =
 
 -- ---- one exchange
 
--- the two rights have as many cents together
+-- the two rights have as many cents together as before
 both_kept : (s : Swap) (left : ℕ) (cs : List RightNo) → counted (is_of_either s) (exchanged s left cs) ≡ counted (is_of_either s) cs
 both_kept s left [] = refl
 both_kept s left (c ∷ cs) =
@@ -52,7 +52,7 @@ both_kept s left (c ∷ cs) =
       | false ↦ λ other. omega (arith, ap tally other, both_kept s left cs)
     ] refl
 
--- the rising one has the first of these, as many as were left to rise
+-- the rising right has the first of these cents, as many as were left to rise
 risen : (s : Swap) → same_right s.recede s.rise ≡ false → (left : ℕ) (cs : List RightNo) → counted (same_right s.rise) (exchanged s left cs) ≡ min left (counted (is_of_either s) cs)
 risen s two left [] = omega arith
 risen s two left (c ∷ cs) =
@@ -71,7 +71,7 @@ risen s two left (c ∷ cs) =
           omega (arith, own, risen s two left cs)
     ] refl
 
--- of two rights that differ each has as many as before
+-- after an exchange of two rights that differ each right has as many cents as before
 two_kept : (s : Swap) (r : RightNo) (cs : List RightNo) → same_right s.recede s.rise ≡ false → counted (same_right r) (exchange cs s) ≡ counted (same_right r) cs
 two_kept s r cs two =
     let left = cents_of s.rise cs in

@@ -4,7 +4,7 @@ use Rattle.std.specs.List.{list_any, position_or_len}
 use Rattle.std.proofs.lemmas.Bool.{both_ways, false≢true, true≢false}
 use Rattle.std.proofs.lemmas.List.Sums.{sum_by-cons}
 
--- 1 where it holds
+-- 1 where a test holds, and 0 where it fails
 abbrev pub tally : Bool → ℕ
 tally b = cond b 1 0
 
@@ -79,7 +79,7 @@ counted_kept k p keeps (x ∷ xs) =
           ] refl
     ] refl
 
--- ---- where any passes
+-- ---- whether any passes
 
 pub none_counted : {X : Type 0} (p : X → Bool) (xs : List X) → list_any p xs ≡ false → counted p xs ≡ 0
 none_counted p [] none = refl

@@ -13,7 +13,7 @@ use Rattle.gb_base.specs.RightNo.{RightNo}
 use Rattle.rank_slots.specs.declared.places.Piece.{Piece}
 use Rattle.rank_slots.specs.inner.Pieces.{line_of}
 
--- the line with one piece more
+-- the line with one more piece
 pub line_push : (ps : List Piece) (p : Piece) → line_of (ps ++ p ∷ []) ≡ line_of ps ++ replicate p.cents p.right
 line_push ps p = flat_map-append (λ q. replicate q.cents q.right) ps (p ∷ []) ∙ ap (λ t. line_of ps ++ t) (append-nil (replicate p.cents p.right))
 

@@ -48,7 +48,7 @@ first_begins q qs =
 one_at : (q : Place) (g places : List Place) (n : ℕ) → q ∷ g ≡ take 1 (drop n places) → q ≡ get_or places n q
 one_at q g places n is = ap (λ qs. get_or qs 0 q) is ∙ get_or-take 1 (drop n places) 0 q (omega arith) ∙ get_or-drop n places 0 q ∙ ap (λ k. get_or places k q) (omega arith)
 
--- one place more, which the first of the others joins
+-- one more place, which the first of the others joins
 joined_at : (p q : Place) (qs : List Place) (r : RightNo) (n : ℕ) → same_right p.right r ≡ false → q.with_previous ≡ true → n < length (q ∷ qs) → n ≡ position_or_len (is_of r) (q ∷ qs) → joins (drop n (q ∷ qs)) ≡ false
     → group_of (q ∷ qs) r ≡ take 1 (drop n (q ∷ qs)) → group_in (with_first p (groups (q ∷ qs))) r ≡ take 1 (drop n (q ∷ qs))
 joined_at p q qs r n other joined within at own rest =

@@ -31,7 +31,7 @@ own_claims (p ∷ ps) differ = (
   passed p ps ps (IsDistinct-head (λ (x y : Place). same_right x.right y.right) p ps differ) (own_claims ps (different_behind p ps differ)),
 )
 
--- of a list of claims it is the one at its place
+-- the claim of a right is, in a list of claims, the one at the number of its place
 pub claim_at_place : (group : List Place) (r : RightNo) → claim_at (map (λ p. p.claim) group) (position_or_len (is_of r) group) ≡ claim_of group r
 claim_at_place [] r = refl
 claim_at_place (p ∷ ps) r =

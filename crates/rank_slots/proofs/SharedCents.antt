@@ -49,7 +49,7 @@ no_part group r =
 abbrev pub AreOnce : List Place → Type 0
 AreOnce group = (a : RightNo) → counted (is_of a) group ≤ 1
 
--- the places of others, seen with one place more ahead
+-- the places of others, seen with one more place ahead
 shifted : (f : ℕ → ℕ) (a : ℕ) (p : Place) (ps qs : List Place) → list_any (is_of p.right) qs ≡ false
     → sum_by (λ q. f (a + position_or_len (is_of q.right) (p ∷ ps))) qs ≡ sum_by (λ q. f (a + 1 + position_or_len (is_of q.right) ps)) qs
 shifted f a p ps [] none = refl
@@ -86,7 +86,7 @@ member_shares cents group once =
     ∙ by_place (share cents claims) 0 group once
     ∙ ap (λ n. sum (map (share cents claims) (range_with_len 0 n))) (sym (length-map group (λ (q : Place). q.claim)))
 
--- one that does not stand alone gets its share
+-- a member that does not stand alone gets its share
 pub shared : (group : List Place) (r : RightNo) (cents : ℕ) → (length group == 1) ≡ false → share_in_group group r cents ≡ share cents (map (λ p. p.claim) group) (position_or_len (is_of r) group)
 shared group r cents more = λ i. if more i then cents else share cents (map (λ (p : Place). p.claim) group) (position_or_len (is_of r) group)
 

@@ -69,7 +69,7 @@ row_in a places row cut =
 
 -- ---- a list that rises, and has the spans of a row
 
--- none begins ahead of one before it
+-- no span begins ahead of one that stands before it
 Rise : List Span → Type 0
 Rise [] = Unit {0}
 Rise (x ∷ xs) = AllByRecursion (λ y. x.from ≤ y.from) xs × Rise xs

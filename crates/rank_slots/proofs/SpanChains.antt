@@ -25,7 +25,7 @@ carried test spans links new_spans new_links leaves (Some n) (x ∷ xs) none cha
       (kept.1.0 ∙ chain.1.0, subst (λ head. Linked new_spans new_links head xs) (sym kept.1.1) (carried test spans links new_spans new_links leaves (link_at links n) xs none.1 chain.1.1)),
     )
 
--- a write at the number of a span that passes
+-- a write at the number of a span that passes leaves the others
 pub write_leaves : (test : Span → Bool) (spans : List Span) (links : List (Option ℕ)) (n : ℕ) (x : Span) (link : Option ℕ) → test (span_at spans n) ≡ true
     → LeavesOthers test spans links (set spans n x) (set links n link)
 write_leaves test spans links n x link passes =
@@ -39,7 +39,7 @@ link_leaves test spans links n link passes =
     let other : m ≢ n = λ same. false≢true (sym fails ∙ ap (λ k. test (span_at spans k)) same ∙ passes) in
     (within, (refl, get_or-set_other links n m link None other))
 
--- a push
+-- a push leaves the others
 pub push_leaves : (test : Span → Bool) (spans : List Span) (links : List (Option ℕ)) (x : Span) (link : Option ℕ) → length links ≡ length spans
     → LeavesOthers test spans links (spans ++ x ∷ []) (links ++ link ∷ [])
 push_leaves test spans links x link as_many =

@@ -78,7 +78,7 @@ exchanged_line s left (x ∷ xs) =
 
 -- ---- whose they are
 
--- of a right that is neither of the two the spans are as before
+-- the spans of a right that is neither of the two are as before
 parts_skipped : (s : Swap) (left : ℕ) (x : Span) (right : RightNo) (others rest : List Span) → same_right right s.recede ≡ false → same_right right s.rise ≡ false
     → last_first (λ y. same_right right y.right) others (parts_of s left x ++ rest) ≡ last_first (λ y. same_right right y.right) others rest
 parts_skipped s left x right others rest recede rise =

@@ -1,4 +1,4 @@
--- A further exchange leaves what third rights get.
+-- A further exchange changes nothing of what third rights get.
 use Rattle.std.proofs.Common.{◌≡◌, ℕ, ◌+◌, ◌-◌, Bool, true, false, cond, not, Option, Some, None, List, [], ◌∷◌, ◌++◌, filter, take, refl, sym, ap, ◌∙◌}
 use Rattle.std.proofs.lemmas.Bool.{not_from_false, or_parts}
 use Rattle.std.proofs.lemmas.List.Elements.{All-contains, Contains-push}

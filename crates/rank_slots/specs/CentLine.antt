@@ -43,7 +43,7 @@ is_dropped places right = list_any (λ p. is_of right p && p.dropped) places
 unfoldable pub cent_line : List Place → List Swap → List RightNo
 cent_line places swaps = filter (λ c. not (is_dropped places c)) (exchange_all (written places) swaps)
 
--- the pieces with one cent more at their front
+-- the pieces with one more cent at their front
 abbrev pub one_more_cent : RightNo → List Piece → List Piece
 one_more_cent right [] = record { right = right; cents = 1 } ∷ []
 one_more_cent right (p ∷ ps) =

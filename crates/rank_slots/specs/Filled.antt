@@ -16,7 +16,7 @@ pub record Filled : Type 0 where
 abbrev pub line : Filled → List RightNo
 line filled = cent_line filled.places filled.swaps
 
--- what a line was filled with, and one exchange more after the others
+-- what a line was filled with, and one more exchange after the others
 abbrev pub with_swap : Filled → Swap → Filled
 with_swap filled s = record { places = filled.places; swaps = filled.swaps ++ s ∷ []; knots = filled.knots }
 

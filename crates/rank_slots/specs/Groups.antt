@@ -15,7 +15,7 @@ abbrev pub joins : List Place → Bool
 joins [] = false
 joins (p ∷ ps) = p.with_previous
 
--- these groups with one place more at the front of the first
+-- these groups with one more place at the front of the first
 abbrev pub with_first : Place → List (List Place) → List (List Place)
 with_first p [] = (p ∷ []) ∷ []
 with_first p (g ∷ gs) = (p ∷ g) ∷ gs

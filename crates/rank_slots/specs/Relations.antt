@@ -30,7 +30,7 @@ relation_by None places x y =
     if shares_group places x y then Equal
     else (if is_listed_ahead places x y then Ahead else Behind)
 
--- How right x stands to right y: one right is of one rank with itself; of two a knot puts the exercised one ahead (BGB § 881), else
+-- How right x stands to right y: a right is equal to itself; of two rights a knot puts the exercised one ahead (BGB § 881), else
 -- their last exchange decides (BGB § 880), else group and place do (BGB § 879).
 abbrev pub relation : Filled → RightNo → RightNo → Relation
 relation filled x y =

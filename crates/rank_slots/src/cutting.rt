@@ -76,7 +76,7 @@ pub(crate) fn write_line(pieces: &mut Vec<Piece>, spans: &[Span], places: &[Plac
     }
 }
 
-/// Whether any place is dropped. Few lines have one; only there is asked for each span.
+/// Whether any place is dropped. Where none is, as on most lines, no span's place is looked up.
 fn any_is_dropped(places: &[Place]) -> bool
     ensures { result ≡ list_any (λ p. p.dropped) places.now }
 {

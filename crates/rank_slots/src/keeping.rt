@@ -72,7 +72,7 @@ impl Spans {
 }
 
 /// The exchanges that follow the last ones, where the places are the last ones and the exchanges
-/// begin with the last ones. No clause says that this is always seen: else the line is rebuilt.
+/// begin with the last ones. No clause says that this is always seen; if not, the line is rebuilt.
 fn further<'a>(
     last_places: &[Place],
     last_swaps: &[Swap],

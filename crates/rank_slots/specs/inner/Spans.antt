@@ -127,7 +127,7 @@ put a place number x = record {
   heads = slice_set a.heads place (Some number);
 }
 
--- the lists with one span more, as the first of the place's chain
+-- the lists with one more span, as the first of the place's chain
 abbrev pub pushed : SpanLists → ℕ → Span → SpanLists
 pushed a place x = record {
   spans = a.spans ++ x ∷ [];

@@ -1,4 +1,4 @@
--- More cents of the last piece's right, or a piece more.
+-- More cents of the last piece's right, or one more piece.
 use Rattle.std.proofs.Common.{◌≡◌, ◌-◌, ◌++◌, [], ◌∷◌, ap, length, replicate, sym, vec_len, arith, ◌∙◌}
 use Rattle.std.proofs.lemmas.Grind.{common_steps}
 use Rattle.std.proofs.lemmas.List.{nil_from_length}

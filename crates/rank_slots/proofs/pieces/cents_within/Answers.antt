@@ -1,4 +1,4 @@
--- A piece more is counted as far as cents are left.
+-- One more piece is counted as far as cents are left.
 use Rattle.std.proofs.Common.{◌≡◌, ◌+◌, ◌-◌, ap, cond, count_by, drop, min, sym, take, arith, ◌∙◌}
 use Rattle.rank_slots.specs.Payments.{is_of_group}
 use Rattle.rank_slots.specs.inner.Pieces.{line_of}

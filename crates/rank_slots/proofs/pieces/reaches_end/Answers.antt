@@ -1,4 +1,4 @@
--- A piece less is left to look at.
+-- One piece less is left to look at.
 use Rattle.std.proofs.Common.{◌+◌, ◌-◌, ◌||◌, ap, drop, not, sym, ◌∙◌}
 use Rattle.std.specs.List.{list_any}
 use Rattle.gb_base.specs.RightNo.{same_right}

@@ -1,4 +1,4 @@
--- A piece more is cut.
+-- One more piece is cut.
 use Rattle.std.proofs.Common.{◌≡◌, ℕ, ◌+◌, ◌<◌, List, [], ◌∷◌, ◌++◌, ap, append_assoc, arith, drop, get_or, length, subst, sym, true, ◌∙◌}
 use Rattle.std.specs.List.{list_any}
 use Rattle.std.proofs.lemmas.List.{drop_more, length-append, length-set}
