@@ -30,7 +30,7 @@ use Rattle.folio_line.proofs.PlacedDistinct.{by_act_distinct, has_same_number}
 use Rattle.folio_line.proofs.PlacedOrder.{of_filing}
 use Rattle.folio_line.proofs.RightsInOrder.{ActsAsFiled, RightsInOrder, is_created_here}
 
--- ---- each of them
+-- ---- each exercise that counts
 
 -- the right has spent its reservation on this one
 abbrev pub is_spent_for : RightNo → List Entry → Bool
@@ -115,9 +115,9 @@ is_tied journal at folio k stands there =
     let from = of_filter_map (exercise_of at folio) (live_by_act at folio) k there in
     (of_live journal at folio from.0 k stands from.1 from.2).tied
 
--- ---- no right is in two
+-- ---- no right is in two exercises
 
--- a right of one is a right of the other
+-- a right of the one exercise is a right of the other
 abbrev pub share_a_right : Knot → Knot → Bool
 share_a_right k l = (same_right k.reserved l.reserved || same_right k.reserved l.exercised) || (same_right k.exercised l.reserved || same_right k.exercised l.exercised)
 
@@ -154,7 +154,7 @@ one_use es a b few first second =
     (in_filter (λ (e : Entry). is_exercise e.what) es one.0 one.1 (spends a one.0.what one.2)) (in_filter (λ (e : Entry). is_exercise e.what) es two.0 two.1 (spends b two.0.what two.2)) in
     spent_on_one a b one.0.what one.2 (subst (λ (e : Entry). is_spent_on b e.what ≡ true) (sym same) two.2)
 
--- two exercises of different rights
+-- two exercises whose exercised rights differ have no right in common
 apart_knots : (journal : List Receipt) (at : Key → List Entry) (folio : ℕ) (k l : Knot) → RightsInOrder journal at → IsTied at folio k → IsTied at folio l → same_right k.exercised l.exercised ≡ false → share_a_right k l ≡ false
 apart_knots journal at folio k l stands first second apart =
     let reserved : same_right k.reserved l.reserved ≡ false = false_from_ne_true (same_right k.reserved l.reserved) (λ same.
@@ -177,7 +177,7 @@ exercises_distinct journal at folio stands =
 
 -- ---- so each right is in one knot at most
 
--- the right is in none of these
+-- the right is in none of these exercises
 abbrev IsInNone : RightNo → Knot → Type 0
 IsInNone a l = (same_right a l.reserved ≡ false) × (same_right a l.exercised ≡ false)
 

@@ -55,7 +55,7 @@ run_ahead p (x ∷ xs) ys pass fail =
 
 -- ---- what is left of them
 
--- What is left of all rights begins with those of a filing, and what is done is by group.
+-- The rest of all rights begins with those of a filing, and the rights that are done stand by group.
 pub record Left (f : ℕ → List CreatedRight) (done rest all : List CreatedRight) : Type 0 where
   pub from : ℕ
   pub many : ℕ

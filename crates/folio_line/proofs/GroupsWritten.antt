@@ -32,7 +32,7 @@ is_past m k x = nat_lt x.id.receipt m || (eqb x.id.receipt m && nat_lt x.made.sp
 abbrev IsPast : ℕ → ℕ → Option CreatedRight → Type 0
 IsPast m k before = IfSome before (λ x. is_past m k x ≡ true)
 
--- rights of one group have one place, and those of two do not
+-- rights of one group have one place, and rights of two groups do not
 one_place : (m k : ℕ) (x y : CreatedRight) → IsOfGroup m k x → IsOfGroup m k y → has_same_place x y ≡ true
 one_place m k x y first second = grind (arith, nat_tests, first.0, first.1, second.0, second.1)
 

@@ -78,7 +78,7 @@ lone_alone claims gone holds journal at folio right made stands is_journal lone 
     let ranges = is_in_ranges journal folio right made is_journal (is_created_here journal at folio right made stands is) in
     alone claims gone holds journal at folio right (the_right right made) stands lone (is_placed holds journal at folio right made is_journal ranges is passes) (right_self right)
 
--- so a plain right stands alone there
+-- so a plain right of which the test holds stands alone
 pub plain_alone : (claims : RightNo → ℕ) (gone : RightNo → Bool) (holds : RightNo → List Entry → Bool) (journal : List Receipt) (at : Key → List Entry) (folio : ℕ) (right : RightNo) → RightsInOrder journal at → IsJournal journal → StandsPlain journal at folio right → holds right (at (Right folio right)) ≡ true
     → StandsAlone (tested_places claims gone holds at folio) right
 plain_alone claims gone holds journal at folio right stands is_journal plain passes =

@@ -8,14 +8,14 @@ use Rattle.folio_line.specs.declared.folio_rights.CreatedRight.{CreatedRight}
 pub before_like : (x y z : CreatedRight) → has_same_place x y ≡ true → is_filed_before x z ≡ is_filed_before y z
 before_like x y z same = grind (arith, nat_tests)
 
--- none stands before one of its place
+-- a right does not stand before one of its own place
 pub before_self : (x : CreatedRight) → is_filed_before x x ≡ false
 before_self x = grind (arith, nat_tests)
 
 pub before_not_same : (x y : CreatedRight) → is_filed_before x y ≡ true → has_same_place x y ≡ false
 before_not_same x y before = grind (arith, nat_tests)
 
--- one stands before a later one of another place
+-- a right stands before a later one of another place
 pub before_later : (x y : CreatedRight) → is_filed_before y x ≡ false → has_same_place x y ≡ false → is_filed_before x y ≡ true
 before_later x y up other = grind (arith, nat_tests)
 

@@ -34,7 +34,7 @@ distinct_numbers [] up = tt
 distinct_numbers (x ∷ xs) up =
     (all_weaker (λ y. is_numbered_before x y ≡ true) (λ y. is_up_to x y ≡ false) xs (λ y before. not_up_to x y before) up.0, distinct_numbers xs up.1)
 
--- a right does not stand before another, or is it
+-- the second right is the first one, or stands before it by number
 abbrev is_up_to_right : CreatedRight → CreatedRight → Bool
 is_up_to_right x y = is_up_to x.id y.id
 

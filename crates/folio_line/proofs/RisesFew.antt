@@ -13,7 +13,7 @@ use Rattle.folio_line.specs.FolioReading.{read_at}
 use Rattle.folio_line.proofs.ExchangesAhead.{fewer_read, rises_there}
 use Rattle.folio_line.proofs.LineRoom.{given_few}
 
--- each of them is an exchange among the entries
+-- each exchange by which the right rises is an exchange among the entries
 rises_among : (right : RightNo) (entries : List Entry) → length (filter_map (λ e. rise_by right e.receipt e.what) entries) ≤ exchanges entries
 rises_among right entries =
     let p = λ (e : Entry). is_exchange e.what in
@@ -23,7 +23,7 @@ rises_among right entries =
     let all : length (filter p entries) ≡ exchanges entries = length-filter p entries in
     omega (arith, there, few, all)
 
--- no reading of the entries has more of them
+-- in no reading are the exchanges by which a right rises more than those that it is in
 rises_few : (before : Option ℕ) (at : Key → List Entry) (folio : ℕ) (id : RightNo) → length (rises_of (read_at before at) folio id) ≤ exchanges (at (Right folio id))
 rises_few None at folio id = rises_among id (at (Right folio id))
 rises_few (Some n) at folio id =

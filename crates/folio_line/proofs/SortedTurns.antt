@@ -69,7 +69,7 @@ before_on s t u first second = grind (arith, nat_tests, first, second)
 not_earlier : (s t : Turn) → comes_before t s ≡ false → is_earlier t.exchange s.exchange ≡ false
 not_earlier s t before = grind (arith, nat_tests, before)
 
--- of one turn and of different numbers, the later one has the greater number
+-- of two numbered exchanges of one turn and of different numbers, the later one has the greater number
 later_number : (s t : Turn) → is_earlier s.exchange t.exchange ≡ false → is_earlier t.exchange s.exchange ≡ false → (comes_before t s || has_same_number s t) ≡ false → is_not_above s t ≡ false
 later_number s t first second apart = grind (arith, nat_tests, first, second, apart)
 

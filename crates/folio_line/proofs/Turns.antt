@@ -71,7 +71,7 @@ none_earlier_on x y zs first all = all_weaker (λ z. is_earlier z y ≡ false) (
 
 -- ---- one order alone
 
--- what is of one turn with an exchange that stands there is not earlier than the first
+-- an exchange of one turn with one that stands there is not earlier than the first
 found_later : (first z : Exchange) (ys : List Exchange) (w : Exchange) (ws : List Exchange) → NoneEarlier first ys → filter (same_turn z) ys ≡ w ∷ ws → is_earlier z first ≡ false
 found_later first z [] w ws all is = absurd (grind arith)
 found_later first z (y ∷ ys) w ws all is =
