@@ -32,6 +32,6 @@ row_push_behind : (before : Option Claim) (cs : List Claim) (c : Claim) → row_
 row_push_behind before [] c = refl
 row_push_behind before (d ∷ cs) c = ap (λ rest. behind_claim before d ∷ rest) (row_push_behind (Some d) cs c)
 
--- one claim more stands in the row
+-- one more claim stands in the row
 pub row_push : (cs : List Claim) (c : Claim) → in_row (cs ++ c ∷ []) ≡ in_row cs ++ behind_claim (last_or None cs) c ∷ []
 row_push cs c = row_is (cs ++ c ∷ []) ∙ row_push_behind None cs c ∙ ap (λ items. items ++ behind_claim (last_or None cs) c ∷ []) (sym (row_is cs))

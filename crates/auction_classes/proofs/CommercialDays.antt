@@ -137,7 +137,7 @@ new_year_of year from to =
     let date = only_date year 1 1 n civil in_range in
     (subst (λ k. k ≤ last_day) same in_range, ap (λ k. (date_of k).year) (sym same) ∙ sym date.0)
 
--- a year before the range has none, and day 0 stands for it
+-- for a year before the range, day 0 stands for 1 January
 no_new_year : (year : ℕ) → year < 1970 → new_year year ≡ 0
 unfolding new_year
 no_new_year year before =
@@ -190,7 +190,7 @@ arrears_days from until entered year most =
       | inr before ↦ years_apart a b year most (omega arith) (omega (arith, before)) up in_range
     ])
 
--- the year of a day is none beyond the range
+-- the year of a day is not beyond the range
 pub year_at_most : (n : ℕ) → (date_of n).year ≤ 2199
 year_at_most n =
     ⊎_elim (λ none. (let year : (date_of n).year ≡ 0 = ap (λ (d : CivilDate). d.year) none in omega (arith, year))) (λ in_range. (date_in_range n in_range).to) (date_kind n)

@@ -46,7 +46,7 @@ exercises_few at folio ids all =
 abbrev numbered : {X : Type 0} → (X → ℕ) → List X → ℕ → ℕ → List X
 numbered number xs from many = flat_map (λ n. filter (λ x. eqb (number x) n) xs) (range_with_len from many)
 
--- one of an earlier number adds nothing
+-- an element of an earlier number adds nothing
 passed : {X : Type 0} (number : X → ℕ) (x : X) (xs : List X) (from many : ℕ) → number x < from → numbered number (x ∷ xs) from many ≡ numbered number xs from many
 passed number x xs from zero below = refl
 passed number x xs from (suc many) below =
@@ -126,7 +126,7 @@ exchanges_few at folio ids all =
 
 -- ---- together
 
--- the folio's line has no more than the rights among which it is read, and than their exchanges
+-- the folio's line has no more rights than those among which it is read, and no more exchanges than those by which they rise
 pub line_within : (at : Key → List Entry) (folio : ℕ) (ids : List RightNo) (line : LineState) (rights exchanges : ℕ) → AreAllRights ids at folio → IsLineOf at folio line
     → length ids ≤ rights → length (all_rises at folio ids) ≤ exchanges → IsLineWithin rights exchanges line
 line_within at folio ids line rights exchanges all is few rises =

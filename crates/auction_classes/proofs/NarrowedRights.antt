@@ -43,7 +43,7 @@ grouped_filter p xs = (λ i. flat_map (λ g. filters_swap (has_group g) p xs i) 
 abbrev pub holds_of : (RightNo → List Entry → Bool) → (Key → List Entry) → ℕ → CreatedRight → Bool
 holds_of holds at folio x = holds x.id (at (Right folio x.id))
 
--- one right more
+-- one more right
 one_narrowed : (t : CreatedRight → Bool) (id : RightNo) (a b : Bool) (o : Option Created) (narrow wide : List CreatedRight) → (a ≡ true → b ≡ true) → ((made : Created) → t (the_right id made) ≡ a)
     → narrow ≡ filter t wide → cons_option (option_map (the_right id) (cond a o None)) narrow ≡ filter t (cons_option (option_map (the_right id) (cond b o None)) wide)
 one_narrowed t id true true None narrow wide less is rest = rest

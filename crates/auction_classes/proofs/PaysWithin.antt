@@ -25,7 +25,7 @@ use Rattle.rank_slots.proofs.PlaceLines.{AreDifferent, claim_least, different_be
 
 -- ---- a share
 
--- money short of the sum gives a claim of a cent or more fewer whole cents than it claims
+-- where the money does not reach the sum, a claim of a cent or more gets fewer whole cents than it claims
 part_below : (money total claim : ℕ) → money < total → 1 ≤ claim → money * claim / total < claim
 part_below money total claim short some =
     let part : ℕ = money * claim / total in

@@ -52,11 +52,11 @@ use Rattle.auction_classes.proofs.RightsOnLine.{live_on_line}
 
 -- ---- older arrears: each is of one right at most
 
--- what a registration claims of a right that is of class 8
+-- what a registration claims for a right in class 8
 abbrev older_of : Sale → Bool → CreatedRight → Registered → ℕ
 older_of s late x r = cond (are_both late r.late) (arrears_named old_arrears (accrues s x) x.id r.what) 0
 
--- the interest of the right is that of an amount
+-- the older arrears of the right, from any day up to any other, are at most the interest of one term
 abbrev HasAmount : Sale → CreatedRight → Type 0
 HasAmount s x = (from until : ℕ) → old_arrears (accrues s x) from until ≤ most_of_term
 
@@ -119,7 +119,7 @@ sum_mapped w f (x ∷ xs) =
     let right = sum_by-cons (λ y. w (f y)) x xs in
     omega (arith, left, right, sum_mapped w f xs)
 
--- one registration claims at most the interest of a term, and all of them so many times as much
+-- one registration claims at most the interest of one term for all rights together
 each_older : (s : Sale) (late : Bool) (r : Registered) (xs : List CreatedRight) → IsDistinct has_same_number xs → AllByRecursion (HasAmount s) xs → sum_by (λ (x : CreatedRight). older_of s late x r) xs ≤ most_of_term
 each_older s late r xs differ all =
     elim (are_both late r.late) as (λ b. sum_by (λ (x : CreatedRight). cond b (arrears_named old_arrears (accrues s x) x.id r.what) 0) xs ≤ most_of_term) [

@@ -1,4 +1,4 @@
--- The line of class 4 is as long as what its live rights claim, and of all of it each of them gets its whole claim: its capital remains.
+-- The line of class 4 is as long as what its live rights claim, and of a sum as great each of them gets its whole claim, so its capital remains.
 use Rattle.std.proofs.Common.{◌≡◌, ℕ, ◌+◌, ◌-◌, ◌<◌, ◌≤◌, Bool, true, false, cond, not, ◌==◌, ◌&&◌, ◌||◌, List, [], ◌∷◌, Option, Some, None, filter, find, length, map, nat_le, sum_by, refl, sym, ap, ◌∙◌, subst, arith}
 use Rattle.std.specs.List.{AllByRecursion, list_all, list_any}
 use Rattle.std.specs.Option.{option_map_or}
@@ -44,7 +44,7 @@ use Rattle.auction_classes.proofs.RemainsWithin.{four_claims}
 use Rattle.auction_classes.proofs.RightsOnLine.{live_on_line}
 use Rattle.auction_classes.proofs.WeighedClaims.{filter_weighs}
 
--- The law of a whole line, at one line: it is as long as what its places claim that are kept, and of all of it each right gets its claim.
+-- The law of a whole line, for one line: it is as long as what its kept places claim, and of a sum as great each right gets its claim.
 pub record IsWholeLine (filled : Filled) : Type 0 where
   pub long : length (line filled) ≡ sum_by (λ p. p.claim) (filter (λ p. not p.dropped) filled.places)
   pub paid : (right : RightNo) → keeps_place filled.places right ≡ true → pay filled right (length (line filled)) ≡ claim_of filled.places right

@@ -1,4 +1,4 @@
--- One class more is written, or it has none of the claims.
+-- One more class is written, or it has none of the claims.
 use Rattle.std.proofs.Common.{◌-◌, ◌+◌, flat_map, length, vec_capacity, vec_len, sym, subst, arith}
 use Rattle.std.specs.List.{range_with_len}
 use Rattle.auction_classes.specs.Claims.{by_class, of_class}
