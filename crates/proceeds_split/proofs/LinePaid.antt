@@ -89,7 +89,7 @@ one_equal f r (id ∷ ids) differ =
     ] refl in
     omega (arith, whole, sum)
 
--- a right that keeps its place has one among those that are not dropped
+-- a right that keeps its place has one place among those that are not dropped
 has_place : (f : RightNo → ℕ) (r : RightNo) (places : List Place) → keeps_place places r ≡ true → f r ≤ sum_by (λ p. cond (same_right p.right r) (f r) 0) (filter (λ p. not p.dropped) places)
 has_place f r [] kept = absurd (false≢true kept)
 has_place f r (p ∷ ps) kept =
@@ -152,7 +152,7 @@ members_are (p ∷ ps) =
       | false ↦ ap (λ qs. p ∷ qs) (members_are ps)
     ]
 
--- what a member gets of the cents of these that are its group's
+-- what a member gets of those of these cents that are its group's
 abbrev part_of : List RightNo → List Place → RightNo → ℕ
 part_of cs group right = share_in_group group right (count_by (is_of_group group) cs)
 

@@ -15,7 +15,7 @@ use Rattle.rank_slots.specs.declared.places.Place.{Place}
 use Rattle.rank_slots.proofs.LineCounts.{none_from_count, tally}
 use Rattle.rank_slots.proofs.SharedCents.{AreOnce}
 
--- the places of others, seen with one place more ahead
+-- the places of others, seen with one more place ahead
 shifted : (f : ℕ → ℕ) (a : ℕ) (p : Place) (ps qs : List Place) → list_any (is_of p.right) qs ≡ false
     → sum_by (λ q. f (a + position_or_len (is_of q.right) (p ∷ ps))) qs ≡ sum_by (λ q. f (a + 1 + position_or_len (is_of q.right) ps)) qs
 shifted f a p ps [] none = refl
