@@ -71,7 +71,7 @@ bytes_written_from (Sync ∷ calls) written before all = bytes_written_from call
 pub bytes_written_all : (calls : List Call) (written : List ℕ) → kept_by calls ≡ length written → bytes_written (events calls written) ≡ length written
 bytes_written_all calls written all = omega (arith, all, bytes_written_from calls written [] (omega (arith, all)))
 
--- the record after one call more
+-- the record after one more call
 module _ (calls more : List Call) (written : List ℕ) where
   pub idle_more : more ≡ calls ++ Idle ∷ [] → events more written ≡ idle ∷ events calls written
   idle_more is = ap (λ (l : List Call). events l written) is ∙ events_idle calls written
