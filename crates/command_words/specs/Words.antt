@@ -54,7 +54,7 @@ form_of (b ∷ text) = if b == 45 then hyphen_form text else plain (b ∷ text)
 abbrev pub Piece : Type 0
 Piece = List ℕ × List ℕ
 
--- one piece more, in front
+-- one more piece, in front
 abbrev pub put : Piece → Option (List Piece) → Option (List Piece)
 put piece = option_map (λ pieces. piece ∷ pieces)
 
