@@ -133,7 +133,7 @@ fn has_turn(exchange: &Exchange) -> bool
 }
 
 /// Whether the cents of a right stay, with the live rights at hand. It is mostly one of these, and
-/// nothing is read of it: a folio may have thousands of exchanges among few rights.
+/// then nothing is read of it: a folio may have thousands of exchanges among few rights.
 fn keeps_cents_beside<P: Parts>(
     reading: &FolioReading<P>,
     live: &[CreatedRight],

@@ -18,8 +18,8 @@ use gb_base::NoMemory;
 use rank_slots::{Place, Slots, Swap};
 use std::alloc::Global;
 
-/// The line of a folio with its capitals, after the exchanges that count. To make its lists and its
-/// room may run out of memory (`NoMemory`); to fill the line takes none.
+/// The line of a folio with its capitals, after the exchanges that count. Making its lists and its
+/// room may run out of memory (`NoMemory`); filling the line takes none.
 ///
 /// Charges 2.1 of 100 euros, 3.1 of 50 and 4.1 of 80, of which 2.1 recedes behind 4.1: 4.1 takes the
 /// cents 1 to 8000, 2.1 those to 10000, 3.1 those to 15000, and 2.1 the rest.
