@@ -33,7 +33,7 @@ fn commercial_day(day: Day) -> u32
     360 * u32::from(day.year()) + 30 * u32::from(day.month()) + u32::from(day.day()).min(30)
 }
 
-/// The interest on a capital for so many days, in whole cents; it may be above the greatest amount. The
+/// The interest on a capital for so many days, in whole cents; it may exceed the greatest amount. The
 /// rate is in hundredths of a percent a year, and a year has 360 days.
 pub fn interest(capital: Cents, rate_bp: u16, days: u32) -> u64
     requires rate { rate_bp ≤ most_rate }

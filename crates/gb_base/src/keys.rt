@@ -9,7 +9,7 @@ ghost use Rattle.std.specs.Ordering.{as_partial_cmp};
 use crate::{FolioId, RightId};
 use std::cmp::Ordering;
 
-/// What items touch, and where entries stand: the title of a folio, one of its rights, or its forced sale.
+/// What items touch, and where entries stand: a folio's title, one of its rights, or its forced sale.
 /// Keys are ordered by folio, then title, rights by number, sale.
 #[derive(Clone, Copy, Debug)]
 pub enum Key {
