@@ -1,4 +1,4 @@
--- What claims need to be paid by a plan: amounts and sums in range, few enough claims that share, and rights that stand on their lines.
+-- What is needed to pay claims by a plan: amounts and sums in range, few enough claims that share, and rights that stand on their lines.
 use Rattle.std.specs.Prelude.{◌≡◌, ℕ, ◌+◌, ◌<◌, ◌≤◌, Bool, true, false, not, ◌==◌, ◌&&◌, ◌||◌, List, All, filter, length, map, sum_by, Some}
 use Rattle.std.specs.List.{IsDistinct}
 use Rattle.gb_base.specs.Limits.{most_sharing, most_sum}

@@ -1,4 +1,4 @@
--- What claims need to be computed with: lines that can be filled, and sums that do not overflow.
+-- What is needed to compute with claims: lines that can be filled, and sums that do not overflow.
 use Rattle.std.specs.Prelude.{◌≡◌, ◌<◌, true, List, All, sum_by}
 use Rattle.gb_base.specs.Limits.{most_sum}
 use Rattle.act_model.specs.declared.sales.Basis.{Basis}
