@@ -1,4 +1,4 @@
--- What the rights of a class need to be paid along its line.
+-- What is needed to pay the rights of a class along its line.
 use Rattle.std.specs.Prelude.{◌≡◌, ◌-◌, ◌≤◌, true, IfSome}
 use Rattle.rank_slots.specs.Filled.{Filled}
 use Rattle.rank_slots.specs.Groups.{keeps_place}
