@@ -31,7 +31,7 @@ impl From<AllocError> for RouteFault {
     }
 }
 
-/// The paths of the table are good and do not conflict, so an insert fails only without memory.
+/// The paths of the table are good and do not conflict, so an insert fails only for lack of memory.
 impl From<InsertError> for RouteFault {
     ghost from_gives = { λ _ e. e ≡ Memory };
 
