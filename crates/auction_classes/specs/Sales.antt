@@ -90,7 +90,7 @@ registrations_found s = filter_map (λ n. option_and_then (registered_by (is_lat
 abbrev pub read_before : Sale → ℕ
 read_before s = option_map_or (λ n. n) (award (at_case s)) s.item
 
--- what the sale reads at each key: the entries there by receipts below that one
+-- what the sale reads at each key: the entries there by receipts below `read_before`
 abbrev pub read : Sale → Key → List Entry
 read s k = below (read_before s) (s.at k)
 
