@@ -12,7 +12,7 @@ use Rattle.folio_sections.specs.declared.entries.What.TheVariants as what
 use Rattle.folio_sections.specs.inner.States.{IsRunning, most_counted, running_behind}
 use Rattle.folio_sections.proofs.Naming.{length_push}
 
--- ---- behind the last that passes
+-- ---- after the last that passes
 
 dropped : {X : Type 0} (xs : List X) → drop (length xs) xs ≡ []
 dropped [] = refl
@@ -70,7 +70,7 @@ walked_on f start xs e stays = ap (fold f start) (behind_more (λ d. is_distribu
 counted_on : (p : Entry → Bool) (xs : List Entry) (e : Entry) → is_distribution e.what ≡ false → count_by p (case (xs ++ e ∷ [])) ≡ count_by p (case xs) + cond (p e) 1 0
 counted_on p xs e stays = ap (count_by p) (behind_more (λ d. is_distribution d.what) xs e stays) ∙ count_push p (case xs) e
 
--- an entry that ends no case: what is counted and named of it
+-- an entry that ends no case leaves this case, where these are its numbers of seizures and registrations, its award and its call
 goes_on : (c : Running) (xs : List Entry) (e : Entry) → is_distribution e.what ≡ false → IsRunning c xs → (s r : ℕ) (a b : Option ℕ)
     → s ≡ min (c.seizures + cond (is_seizure e.what) 1 0) most_counted → r ≡ min (c.registrations + cond (is_registration e.what) 1 0) most_counted
     → a ≡ award_by e.receipt c.award e.what → b ≡ call_by e.receipt c.called e.what
@@ -104,7 +104,7 @@ begins_anew xs e is =
       called = ap (fold (λ o d. call_by d.receipt o d.what) None) (sym empty);
     }
 
--- what is counted stays, where it is no more than is counted
+-- a count that nothing is added to stays as it is
 unseen : (n m : ℕ) → n ≡ min m most_counted → n ≡ min (n + 0) most_counted
 unseen n m is = omega (arith, is)
 

@@ -5,14 +5,14 @@ use Rattle.gb_base.proofs.Members.{In, of_flat_map, of_map, of_range}
 use Rattle.folio_sections.proofs.FilteredLists.{all_filtered, all_in, in_all, of_filter_map}
 use Rattle.folio_sections.proofs.Unchanged.{all_both}
 
--- the test holds of no element and another
+-- where the test holds of no two elements, the list is distinct
 pub distinct_by : {X : Type 0} (e : X → X → Bool) (xs : List X) → ((x y : X) → In x xs → In y xs → e x y ≡ false) → IsDistinct e xs
 unfolding IsDistinct
 distinct_by e [] apart = tt
 distinct_by e (x ∷ xs) apart =
     (all_in (λ y. e x y ≡ false) xs (λ y there. apart x y (inl refl) (inr there)), distinct_by e xs (λ a b here there. apart a b (inr here) (inr there)))
 
--- of a stronger test
+-- a list that is distinct by a test is so by a stronger one
 pub distinct_weaker : {X : Type 0} (d e : X → X → Bool) (xs : List X) → IsDistinct d xs → ((x y : X) → In x xs → In y xs → d x y ≡ false → e x y ≡ false) → IsDistinct e xs
 unfolding IsDistinct
 distinct_weaker d e [] apart weaker = tt
@@ -40,7 +40,7 @@ distinct_filter e p (x ∷ xs) apart =
       | false ↦ distinct_filter e p xs apart.1
     ]
 
--- what each number of a row gives
+-- the lists that the numbers of a row give, one after another
 pub distinct_flat : {X : Type 0} (e : X → X → Bool) (f : ℕ → List X) → ((k : ℕ) → IsDistinct e (f k)) → ((k l : ℕ) (x y : X) → k < l → In x (f k) → In y (f l) → e x y ≡ false)
     → (a n : ℕ) → IsDistinct e (flat_map f (range_with_len a n))
 unfolding IsDistinct
@@ -52,7 +52,7 @@ distinct_flat e f each later a (suc n) =
     let above : a < from.0 = omega (arith, (of_range (a + 1) n from.0 from.1).0) in
     later a from.0 x y above here from.2)
 
--- and what each number of a row is mapped to
+-- what each number of a row is mapped to
 pub distinct_mapped : {X : Type 0} (e : X → X → Bool) (g : ℕ → X) → ((k l : ℕ) → k < l → e (g k) (g l) ≡ false) → (a n : ℕ) → IsDistinct e (map g (range_with_len a n))
 unfolding IsDistinct
 distinct_mapped e g later a zero = tt
@@ -65,7 +65,7 @@ distinct_mapped {X} e g later a (suc n) =
       distinct_mapped e g later (a + 1) n,
     )
 
--- what elements give where they give something
+-- what the elements give, where they give something
 pub distinct_given : {X Y : Type 0} (d : X → X → Bool) (e : Y → Y → Bool) (h : X → Option Y) (xs : List X) → IsDistinct d xs
     → ((a b : X) (x y : Y) → In a xs → In b xs → d a b ≡ false → h a ≡ Some x → h b ≡ Some y → e x y ≡ false) → IsDistinct e (filter_map h xs)
 unfolding IsDistinct
@@ -80,7 +80,7 @@ distinct_given {X} {Y} d e h (a ∷ xs) apart gives =
     next : (x y : Y) → h a ≡ Some x → (b : X) × In b xs × (h b ≡ Some y) → e x y ≡ false
     next x y is from = gives a from.0 x y (inl refl) (inr from.1) (in_all (λ b. d a b ≡ false) xs from.0 apart.0 from.1) is from.2
 
--- the same, of a row
+-- what the elements give that the numbers of a row are mapped to
 
 pub distinct_row : {X Y : Type 0} (e : Y → Y → Bool) (g : ℕ → X) (h : X → Option Y) → ((k l : ℕ) (x y : Y) → k < l → h (g k) ≡ Some x → h (g l) ≡ Some y → e x y ≡ false)
     → (a n : ℕ) → IsDistinct e (filter_map h (map g (range_with_len a n)))

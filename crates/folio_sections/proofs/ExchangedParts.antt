@@ -39,7 +39,7 @@ takes parts others k i j p q at_i at_j e f =
       held = held_kept parts i p q e same;
     }
 
--- the same of what was lent, and of the part that was put in
+-- a list takes the part of the key from another, where both lists were lent and what was put in is that part
 pub takes_at : (now parts others given : List PartState) (k : Key) (i j : ℕ) (p q new : PartState) → parts ≡ now → given ≡ others
     → position (is_at k) now ≡ Some i → position (is_at k) others ≡ Some j → p ≡ get_or parts i p → q ≡ get_or given j q → new ≡ q
     → TakesAt now (set parts i new) others k

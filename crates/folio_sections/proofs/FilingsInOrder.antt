@@ -97,7 +97,7 @@ searched m ws i up below low =
       | None ↦ λ is. sym (not_found m 1 ws i up below (is_behind m ws i is low))
     ] refl
 
--- ---- one behind others of lower filings
+-- ---- one after others of lower filings
 
 step : {V : Type 0} (x w : OfFiling V) (n : ℕ) (new old : Option (OfFiling V)) → (x.filing == w.filing) ≡ false → new ≡ cond (w.filing == n) (Some w) old
     → cond (x.filing == n) (Some x) new ≡ cond (w.filing == n) (Some w) (cond (x.filing == n) (Some x) old)
@@ -109,7 +109,7 @@ step x w n new old other is =
       | false ↦ λ apart. is
     ] refl
 
--- written at its place
+-- a value written at its place
 pub written : {V : Type 0} (ws : List (OfFiling V)) (i : ℕ) (v w : OfFiling V) → AreBelow w.filing ws i → slice_get ws i ≡ Some v → v.filing ≡ w.filing
     → (n : ℕ) → of_filing n (set ws i w) ≡ cond (w.filing == n) (Some w) (of_filing n ws)
 written [] i v w below at same n = cc
@@ -132,7 +132,7 @@ written_ascends a (x ∷ xs) zero v w up at same =
     subst (λ f. (a ≤ f) × Ascends (f + 1) xs) (ap (λ u. u.filing) is ∙ same) up
 written_ascends a (x ∷ xs) (suc i) v w up at same = (up.0, written_ascends (x.filing + 1) xs i v w up.1 at same)
 
--- put into the order
+-- a value put into the order
 pub put_in : {V : Type 0} (ws : List (OfFiling V)) (i : ℕ) (w : OfFiling V) → i ≤ length ws → AreBelow w.filing ws i
     → (n : ℕ) → of_filing n (insert ws i w) ≡ cond (w.filing == n) (Some w) (of_filing n ws)
 put_in ws zero w within below n = refl

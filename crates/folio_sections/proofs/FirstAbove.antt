@@ -22,14 +22,14 @@ waiting_ascend m entries = filter_ascends (λ n. n) (λ n. is_pending n entries)
 pub unnoticed_ascend : (m : ℕ) (entries : List Entry) → Rises 0 (waiting_unnoticed m entries)
 unnoticed_ascend m entries = filter_ascends (λ n. n) (λ n. is_none (notice n entries)) 0 (waiting_before m entries) (waiting_ascend m entries)
 
--- those that begin behind a number are above it
+-- numbers that ascend from above x on are all above x
 all_later : (x a : ℕ) (ys : List ℕ) → x < a → Rises a ys → AllByRecursion (λ y. nat_lt x y ≡ true) ys
 all_later x a [] less up = tt
 all_later x a (y ∷ ys) less up =
     let low = up.0 in
     (grind (arith, nat_tests, low, less), all_later x (y + 1) ys (omega arith) up.1)
 
--- ---- the first above a number, and those behind it
+-- ---- the first above a number, and those after it
 
 pub above_further : (after : Option ℕ) (n k : ℕ) → is_above after n ≡ true → nat_lt n k ≡ true → is_above after k ≡ true
 above_further None n k high above = refl

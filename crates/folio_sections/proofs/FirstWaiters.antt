@@ -1,4 +1,4 @@
--- Those among the waiters that pass a test, as that they wait, or lack a notice, are the filings of the entries that do; so the first and the last of them are.
+-- The waiters that pass a test, such as that they wait or lack a notice, are the filings that pass it by the entries. So the first and the last are the same too.
 use Rattle.std.proofs.Common.{◌≡◌, ℕ, suc, zero, ◌+◌, ◌-◌, ◌<◌, ◌≤◌, Bool, true, false, cond, ◌==◌, ◌&&◌, ◌⊎◌, inl, inr, ⊎_elim, nat_lt, List, [], ◌∷◌, Option, Some, None, drop, filter, find, get_or, is_none, is_some, length, map, option_and_then, option_map, position, reverse, take, take_while, refl, sym, ap, subst, ◌∙◌, arith}
 use Rattle.std.specs.List.{AllByRecursion, last_or, range_with_len}
 use Rattle.std.specs.Option.{option_or}
@@ -32,7 +32,7 @@ wanted_is true false d either = refl
 wanted_is true true false either = refl
 wanted_is true true true either = ⊎_elim (λ not_c. absurd (false≢true (sym not_c))) (λ not_d. absurd (false≢true (sym not_d))) either
 
--- a waiter is not wanted that is not above, or fails
+-- a waiter that is not above the number, or fails the test, is not wanted
 pub not_above : (t : Until → Bool) (low : ℕ) (m : ℕ) (w : Until) → nat_lt low w.filing ≡ false → is_wanted t low m w ≡ false
 not_above t low m w not_it = wanted_is (nat_lt w.filing m) (nat_lt low w.filing) (t w) (inl not_it)
 
@@ -45,7 +45,7 @@ rises_behind a zero (w ∷ ws) up = (omega arith, up.1)
 rises_behind a (suc n) [] up = tt
 rises_behind a (suc n) (w ∷ ws) up = rises_behind (w.filing + 1) n ws up.1
 
--- behind a filing that is not below m none is
+-- after a filing that is not below m none is wanted
 none_behind : (t : Until → Bool) (low : ℕ) (m a : ℕ) (ws : List Until) → Ascends a ws → m ≤ a → find (is_wanted t low m) ws ≡ None
 none_behind t low m a [] up high = refl
 none_behind t low m a (w ∷ ws) up high =
@@ -65,7 +65,7 @@ ends_there t low m a (w ∷ ws) up =
       | false ↦ λ not_below. sym (none_behind t low m (w.filing + 1) ws up.1 (grind (arith, nat_tests, not_below)))
     ] refl
 
--- the search begins behind those that are passed over
+-- the search begins after those that are passed over
 pub searched_from : (t : Until → Bool) (low : ℕ) (m i : ℕ) (ws : List Until) → Ascends 1 ws → ((k : ℕ) (d : Until) → k < i → is_wanted t low m (get_or ws k d) ≡ false)
     → find (λ w. nat_lt low w.filing && t w) (take_while (λ w. nat_lt w.filing m) (drop i ws)) ≡ find (is_wanted t low m) ws
 searched_from t low m i ws up passed =
@@ -94,7 +94,7 @@ front_waits t m a (suc i) (w ∷ ws) up below behind =
     let rest = front_waits t m (w.filing + 1) i ws up.1 (λ k d less. below (suc k) d (omega arith)) (λ d within. behind d (omega arith)) in
     ap (λ xs. cond (t w) (w ∷ xs) xs) rest ∙ ap (λ b. cond (b && t w) (w ∷ filter (is_before t m) ws) (filter (is_before t m) ws)) (sym first)
 
--- where none of the first k passes, those that pass stand behind them
+-- where none of the first k passes, those that pass stand after them
 pub behind_mark : (t : Until → Bool) (k i : ℕ) (ws : List Until) → AllByRecursion (λ x. t x ≡ false) (take k ws) → filter t (drop k (take i ws)) ≡ filter t (take i ws)
 behind_mark t zero i ws none = refl
 behind_mark t (suc k) zero ws none = refl

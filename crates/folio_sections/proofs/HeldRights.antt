@@ -100,7 +100,7 @@ first_key folio = Right folio (new_right 1 1)
 abbrev last_key : ℕ → Key
 last_key folio = Right folio (new_right last_number most_acts)
 
--- the first does not stand behind the last
+-- the first is not greater than the last
 forward : (folio : ℕ) → IsLeBy key_cmp (first_key folio) (last_key folio)
 forward folio = grind (arith, nat_tests)
 

@@ -71,6 +71,6 @@ find-none p xs h = is_none_of (find p xs) (is_some-find p xs ∙ sym (is_some-po
 pub position-set : {X : Type 0} (p : X → Bool) (xs : List X) (i : ℕ) (y d : X) → p y ≡ p (get_or xs i d) → position p (set xs i y) ≡ position p xs
 position-set p xs i y d h = grind (arith, common_steps, position_or_len-set)
 
--- the index behind a push
+-- the index after a push
 pub position_push : {X : Type 0} (p : X → Bool) (xs : List X) (y : X) → position p (xs ++ y ∷ []) ≡ option_or (position p xs) (cond (p y) (Some (length xs)) None)
 position_push p xs y = grind (arith, common_steps, position_or_len_push, prefix_len-le-length)

@@ -11,7 +11,7 @@ use Rattle.folio_sections.specs.inner.Naming.{AreNamedAt, Rises, last_at, last_b
 
 -- ---- numbers that rise
 
--- a number that is not below b is put behind those that are
+-- a number that is not below b is put after those that are
 pub rises_push : (a b : ℕ) (ns : List ℕ) → Rises a ns → AllByRecursion (λ n. n < b) ns → a ≤ b → Rises a (ns ++ b ∷ [])
 rises_push a b [] up below low = (low, tt)
 rises_push a b (n ∷ ns) up below low =
@@ -63,7 +63,7 @@ slice_get-behind : (xs : List Entry) (e : Entry) → slice_get (xs ++ e ∷ []) 
 slice_get-behind [] e = refl
 slice_get-behind (x ∷ xs) e = slice_get-behind xs e
 
--- an entry behind is not seen
+-- an entry at the end is not seen
 at_ahead : (k : ℕ) (ns : List ℕ) (xs : List Entry) (e : Entry) → AllByRecursion (λ n. n < length xs) ns → last_at k ns (xs ++ e ∷ []) ≡ last_at k ns xs
 at_ahead k ns xs e below =
     let kept = filtered_below (length xs) k ns below in
@@ -76,14 +76,14 @@ pub last_or-push : {X : Type 0} (o : Option X) (xs : List X) (x : X) → last_or
 last_or-push o [] x = refl
 last_or-push o (y ∷ xs) x = last_or-push (Some y) xs x
 
--- the place behind all is below the number of entries then
+-- the place at the end is below a greater number of entries
 last_pushed : (b : ℕ) (ns : List ℕ) → last_below (b + 1) (ns ++ b ∷ []) ≡ Some b
 last_pushed b ns =
     let is : nat_lt b (b + 1) ≡ true = grind (arith, nat_tests) in
     ap (last_or None) (filter-append (λ n. nat_lt n (b + 1)) ns (b ∷ []) ∙ ap (λ t. filter (λ n. nat_lt n (b + 1)) ns ++ cond t (b ∷ []) []) is)
     ∙ last_or-push None (filter (λ n. nat_lt n (b + 1)) ns) b
 
--- and not below fewer
+-- the place at the end is not below a number that is not greater
 not_pushed : (k b : ℕ) (ns : List ℕ) → k ≤ b → last_below k (ns ++ b ∷ []) ≡ last_below k ns
 not_pushed k b ns few =
     let no : nat_lt b k ≡ false = grind (arith, nat_tests, few) in

@@ -1,4 +1,4 @@
--- The official notice of a filing, by how many entries stand ahead of it.
+-- The official notice of a filing, by how many entries stand before it.
 use Rattle.std.proofs.Common.{◌≡◌, ℕ, zero, suc, [], ◌∷◌, get_or, ◌+◌, ◌<◌, Bool, true, false, cond, if◌then◌else◌, List, Option, Some, None, drop, find, is_some, length, option_map, position, slice_get, take, nat_lt, refl, sym, ap, ◌∙◌, arith}
 use Rattle.std.specs.List.{position_or_len}
 use Rattle.std.proofs.lemmas.Bool.Decides.{nat_tests}
@@ -6,7 +6,7 @@ use Rattle.folio_sections.specs.Waiting.{after_notice, before_notice, is_notice_
 use Rattle.folio_sections.specs.declared.entries.Entry.{Entry}
 use Rattle.folio_sections.proofs.Indexes.{find-none, find-position, is_some-find, is_some-position, position-at}
 
--- how many entries stand ahead of the notice, where it stands
+-- how many entries stand before the notice, where it stands
 abbrev pub ahead_of : ℕ → List Entry → Option ℕ
 ahead_of m xs = if is_pending m xs then position (λ e. is_notice_of m e.what) xs else None
 

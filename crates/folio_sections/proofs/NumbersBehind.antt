@@ -7,7 +7,7 @@ use Rattle.folio_sections.specs.declared.entries.What.{What}
 use Rattle.folio_sections.specs.inner.States.{numbers_behind, numbers_that}
 use Rattle.folio_sections.proofs.Cases.{behind_another, behind_more}
 
--- the first n, of the first n and one more
+-- the first n of a list and one more are those of its first n and that one
 take_again : (n : ℕ) (xs : List ℕ) (x : ℕ) → take n (take n xs ++ x ∷ []) ≡ take n (xs ++ x ∷ [])
 take_again zero xs x = refl
 take_again (suc n) [] x = refl
@@ -22,13 +22,13 @@ numbers_push t (x ∷ xs) e =
       | false ↦ numbers_push t xs e
     ]
 
--- an entry that passes puts its number behind the others, while there is room
+-- an entry that passes puts its number at the end, while there is room
 pub wanted_push : (n : ℕ) (t : What → Bool) (xs : List Entry) (e : Entry) → t e.what ≡ true → take n (take n (numbers_that t xs) ++ e.receipt ∷ []) ≡ take n (numbers_that t (xs ++ e ∷ []))
 wanted_push n t xs e passes =
     take_again n (numbers_that t xs) e.receipt
     ∙ ap (take n) (sym (numbers_push t xs e ∙ ap (λ b. numbers_that t xs ++ cond b (e.receipt ∷ []) []) passes))
 
--- and any other leaves them
+-- any other entry leaves the numbers as they are
 pub unwanted_push : (n : ℕ) (t : What → Bool) (xs : List Entry) (e : Entry) → t e.what ≡ false → take n (numbers_that t xs) ≡ take n (numbers_that t (xs ++ e ∷ []))
 unwanted_push n t xs e fails_it =
     ap (take n) (sym (numbers_push t xs e ∙ ap (λ b. numbers_that t xs ++ cond b (e.receipt ∷ []) []) fails_it ∙ append-nil (numbers_that t xs)))
@@ -39,7 +39,7 @@ pub next_wanted : (n : ℕ) (t : What → Bool) (i : ℕ) (xs : List Entry) (e :
 next_wanted n t i xs e before after more is passes put =
     put ∙ ap (λ ns. take n (ns ++ e.receipt ∷ [])) is ∙ wanted_push n t (take i xs) e passes ∙ ap (λ ys. take n (numbers_that t ys)) (sym more)
 
--- and where it does not
+-- the step of a walk over entries, where the next one does not pass
 pub next_unwanted : (n : ℕ) (t : What → Bool) (i : ℕ) (xs : List Entry) (e : Entry) (before after : List ℕ) → take (i + 1) xs ≡ take i xs ++ e ∷ []
     → before ≡ take n (numbers_that t (take i xs)) → t e.what ≡ false → after ≡ before → after ≡ take n (numbers_that t (take (i + 1) xs))
 next_unwanted n t i xs e before after more is fails_it stays =
@@ -47,7 +47,7 @@ next_unwanted n t i xs e before after more is fails_it stays =
 
 -- ---- of a case
 
--- behind an entry
+-- after an entry
 pub numbers_on : (n : ℕ) (t : What → Bool) (xs : List Entry) (e : Entry) (before : List ℕ) → before ≡ take n (numbers_that t (case xs))
     → numbers_behind n t before e.receipt e.what ≡ take n (numbers_that t (case (xs ++ e ∷ [])))
 numbers_on n t xs e before is =

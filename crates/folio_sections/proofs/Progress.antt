@@ -12,7 +12,7 @@ use Rattle.folio_sections.specs.declared.entries.Entry.{Entry}
 use Rattle.folio_sections.proofs.Additions.{adds_none, adds_then, room_left}
 use Rattle.folio_sections.proofs.Unchanged.{all_both}
 
--- What each part brings keeps something (P), and does not change with entries that keep it.
+-- What each part brings has a property (P), and does not change when entries that have it are added.
 pub record Independent (X : Type 0) (f : (Key → List Entry) → X → List Entry) (P : Entry → Type 0) : Type 0 where
   pub same : (at0 at1 : Key → List Entry) (done : List Entry) → AddsAll at0 at1 done → AllByRecursion P done → (x : X) → f at1 x ≡ f at0 x
   pub keeps : (at0 : Key → List Entry) (x : X) → AllByRecursion P (f at0 x)
@@ -55,7 +55,7 @@ goes_on X f P xs x rest at0 at1 at2 room0 room1 room2 holds0 holds1 holds2 each 
     goes_on_by X f P P xs x rest at0 at1 at2 room0 room1 room2 holds0 holds1 holds2 so_far
     (each.same at0 at1 so_far.done so_far.added.there so_far.keeps x) so_far.keeps (each.keeps at0 x) more held
 
--- so it finds its room
+-- so the next part finds its room
 pub has_room_by : (X : Type 0) (f : (Key → List Entry) → X → List Entry) (P : Entry → Type 0) (xs : List X) (x : X) (rest : List X) (at0 at1 : Key → List Entry) (room0 room1 : Key → ℕ) (holds0 holds1 : Key → Bool)
     → Progress X f P xs (x ∷ rest) at0 at1 room0 room1 holds0 holds1 → f at1 x ≡ f at0 x → HasRoom room0 (flat_map (f at0) xs)
     → HasRoom room1 (f at1 x)

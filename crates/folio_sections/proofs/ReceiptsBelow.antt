@@ -1,4 +1,4 @@
--- Where receipts never fall, those below a number stand ahead of the others.
+-- Where receipts never fall, those below a number stand before the others.
 use Rattle.std.proofs.Common.{◌≡◌, ℕ, ◌-◌, ◌<◌, ◌≤◌, nat_le, nat_lt, true, false, List, get_or, slice_get, take, length, Some, sym, ap, ◌∙◌, ⊎_elim, arith}
 use Rattle.std.specs.List.Sorted.{IsPartitionedBy}
 use Rattle.std.proofs.lemmas.Bool.{cases_lt}

@@ -16,7 +16,7 @@ use Rattle.folio_sections.proofs.Cases.{count_push}
 use Rattle.folio_sections.proofs.Naming.{named_push, unnamed_push}
 use Rattle.folio_sections.proofs.Titles.{any_push}
 
--- the holder behind a content, where the last new one and the creation ahead of it are these
+-- the holder, where these are the last new holder and the right as it was created
 abbrev holder_of : Option ℕ → Option Created → Option ℕ
 holder_of new made = option_or new (option_map (λ c. c.spec.holder) made)
 

@@ -1,4 +1,4 @@
--- The days until which filings wait, with one put or with those taken away that have ended, and the marks beside them.
+-- The days until which filings wait, and the marks beside them, once a day is put in or those that have ended are taken away.
 use Rattle.std.proofs.Common.{◌≡◌, ℕ, suc, zero, ◌+◌, ◌<◌, ◌≤◌, Bool, not, drop, length, length-drop, take, subst, true, false, cond, count_by, ◌==◌, List, [], ◌∷◌, Option, Some, None, filter, is_none, is_some, min, option_and_then, option_map, refl, sym, ap, ◌∙◌, arith}
 use Rattle.std.specs.List.{AllByRecursion, position_or_len}
 use Rattle.std.proofs.lemmas.Bool.Decides.{nat_tests}
@@ -8,7 +8,7 @@ use Rattle.folio_sections.specs.inner.Waiters.{IsMark, Until, has_ended, until_i
 use Rattle.folio_sections.proofs.FilingsInOrder.{fewer, none_below}
 use Rattle.folio_sections.proofs.Indexes.{is_none_of}
 
--- ---- the mark behind a day that is put at i
+-- ---- the mark after a day is put at i
 
 pub mark_low : (is_lacking : Bool) (n i : ℕ) → cond is_lacking (min n i) n ≤ n
 mark_low true n i = omega arith
@@ -18,7 +18,7 @@ pub lower_mark : (is_lacking : Bool) (n i : ℕ) → i < cond is_lacking (min n 
 lower_mark true n i less = absurd (omega arith)
 lower_mark false n i less = refl
 
--- where the first of these do not pass behind it, the mark may stand there
+-- where the first k of the list still do not pass then, the mark may stand at k
 pub mark_put : (t : Until → Bool) (n k : ℕ) (xs ys : List Until) → k ≤ n → IsMark t n xs → length xs ≤ length ys
     → (AllByRecursion (λ x. t x ≡ false) (take k xs) → AllByRecursion (λ x. t x ≡ false) (take k ys)) → IsMark t k ys
 mark_put t n k xs ys low is_mark longer goes_over =
@@ -43,7 +43,7 @@ joined t n k (suc m) [] is all rest = tt
 joined t zero k (suc m) (x ∷ xs) is all rest = let same : k ≡ suc m = omega (arith, is) in subst (λ j. AllByRecursion (λ y. t y ≡ false) (take j (x ∷ xs))) same rest
 joined t (suc n) k (suc m) (x ∷ xs) is all rest = (all.0, joined t n k m xs (omega (arith, is)) all.1 rest)
 
--- so many behind the mark do not pass
+-- the next so many from the mark on do not pass
 pub record MovesTo (t : Until → Bool) (n k : ℕ) (xs : List Until) : Type 0 where
   pub within : n + k ≤ length xs
   pub is_mark : IsMark t (n + k) xs
@@ -85,7 +85,7 @@ none_of_some : (o : Option ℕ) → is_some o ≡ true → is_none o ≡ false
 none_of_some None is = cc
 none_of_some (Some n) is = refl
 
--- and none that has ended is left
+-- none that has ended is left
 pub none_ended : (xs : List Until) → count_by has_ended (filter waits xs) ≡ 0
 none_ended [] = refl
 none_ended (x ∷ xs) =

@@ -27,7 +27,7 @@ or_all false = refl
 pub any_push : (p : Entry → Bool) (xs : List Entry) (e : Entry) → list_any p (xs ++ e ∷ []) ≡ (list_any p xs || p e)
 any_push p xs e = list_any-append p xs (e ∷ []) ∙ ap (λ b. list_any p xs || b) (or_nothing (p e))
 
--- a content that names owners names those behind it, and any other leaves them
+-- a content that names owners names those after it, and any other leaves them
 named_then : (before : Option (List ℕ)) (w : What) → is_some (owners_by None w) ≡ true → owners_by before w ≡ owners_by None w
 named_then before (what.Opened inventory people) is = refl
 named_then before (what.Owner people) is = refl

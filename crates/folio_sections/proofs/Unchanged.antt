@@ -27,16 +27,16 @@ pub all_both : {X : Type 0} (P : X → Type 0) (xs ys : List X) → AllByRecursi
 all_both P [] ys first second = second
 all_both P (x ∷ xs) ys first second = (first.0, all_both P xs ys first.1 second)
 
--- what follows at each element
+-- what follows at each element follows of all
 pub all_weaker : {X : Type 0} (P Q : X → Type 0) (xs : List X) → ((x : X) → P x → Q x) → AllByRecursion P xs → AllByRecursion Q xs
 all_weaker P Q [] f all = tt
 all_weaker P Q (x ∷ xs) f all = (f x all.0, all_weaker P Q xs f all.1)
 
--- the entry does not set filing m to wait, nor settle it, and is not its official notice
+-- the entry does not set filing m to wait, does not end its waiting, and is not its official notice
 abbrev pub KeepsNotice : ℕ → Entry → Type 0
 KeepsNotice m e = (before : Option ℕ) → (until_by m before e.what ≡ before) × (is_notice_of m e.what ≡ false)
 
--- so of every filing
+-- the entry keeps the waiting and the notice of every filing
 abbrev pub KeepsNotices : Entry → Type 0
 KeepsNotices e = (m : ℕ) → KeepsNotice m e
 

@@ -20,7 +20,7 @@ held_too these before after is = record {
   others = λ k other. is k ∙ or_no (is_held before k) (these k) other;
 }
 
--- some of them first, and then some
+-- some of these keys are added first, and some then
 pub held_then : (these first then : Key → Bool) (before between after : List PartState)
     → ((k : Key) → these k ≡ false → first k ≡ false) → ((k : Key) → these k ≡ false → then k ≡ false)
     → WidensBy first before between → WidensBy then between after → WidensBy these before after

@@ -11,7 +11,7 @@ abbrev pub is_distribution : What → Bool
 is_distribution what.Distributed = true
 is_distribution other = false
 
--- the case: what stands behind the last distribution
+-- the case: what stands after the last distribution
 abbrev pub case : List Entry → List Entry
 case entries = after_last (λ e. is_distribution e.what) entries
 
@@ -49,7 +49,7 @@ registrations entries = count_by (λ e. is_registration e.what) (case entries)
 abbrev pub registration_numbers : List Entry → List ℕ
 registration_numbers entries = map (λ e. e.receipt) (filter (λ e. is_registration e.what) (case entries))
 
--- the receipt of the award behind an entry: its own where it is one, else the one before
+-- the receipt of the last award after an entry: the entry's own where it is an award, else the one before
 abbrev pub award_by : ℕ → Option ℕ → What → Option ℕ
 award_by receipt before (what.Awarded buyer bid) = Some receipt
 award_by receipt before other = before
@@ -58,7 +58,7 @@ award_by receipt before other = before
 abbrev pub award : List Entry → Option ℕ
 award entries = fold (λ before e. award_by e.receipt before e.what) None (case entries)
 
--- the receipt of the call to bid behind an entry: its own where it is one, else the one before
+-- the receipt of the last call to bid after an entry: the entry's own where it is a call, else the one before
 abbrev pub call_by : ℕ → Option ℕ → What → Option ℕ
 call_by receipt before (what.Bids costs) = Some receipt
 call_by receipt before other = before

@@ -1,4 +1,4 @@
--- What becomes of parts that exchange the part of a key with other parts.
+-- What becomes of parts when they exchange the part of a key with other parts.
 use Rattle.std.specs.Prelude.{◌≡◌, false, List}
 use Rattle.gb_base.specs.Keys.{same_key}
 use Rattle.gb_base.specs.declared.keys.Key.{Key}

@@ -23,7 +23,7 @@ room_at parts key = option_map_or (λ p. p.room) (find (λ p. same_key p.key key
 abbrev pub is_given : List Key → Key → Bool
 is_given keys key = list_any (λ k. same_key k key) keys
 
--- no key is lost, and none is added but these
+-- no key is lost, and no other is added than these
 pub record WidensBy (these : Key → Bool) (before after : List PartState) : Type 0 where
   pub kept : (k : Key) → IsTrue (is_held before k) → IsTrue (is_held after k)
   pub others : (k : Key) → these k ≡ false → is_held after k ≡ is_held before k

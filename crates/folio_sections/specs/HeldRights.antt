@@ -1,4 +1,4 @@
--- The rights of a folio whose parts are held, of any parts.
+-- The rights of a folio whose parts are held, whatever parts these are.
 -- Why so: docs/DECISIONS.md, "The extract is read from the register alone".
 use Rattle.std.specs.Prelude.{ℕ, Bool, List, filter, flat_map, map}
 use Rattle.std.specs.List.{range_with_len}

@@ -43,7 +43,7 @@ places journal at folio = places_among journal folio (at (Title folio))
 abbrev pub own_place : ℕ → List TitlePlace → Option TitlePlace
 own_place m standing = find (λ p. p.filing == m) standing
 
--- the filing of a place of the other division on this day, else the one before
+-- the filing of this place where it is of the other division and set on this day, else the one before
 abbrev pub behind_by : Bool → ℕ → Option ℕ → TitlePlace → Option ℕ
 behind_by third day before p = if p.day == day && (if third then p.second else p.third) then Some p.filing else before
 

@@ -10,7 +10,7 @@ use Rattle.folio_sections.specs.declared.entries.RightForm.TheVariants as form
 use Rattle.folio_sections.specs.declared.entries.What.{What}
 use Rattle.folio_sections.specs.declared.entries.What.TheVariants as what
 
--- the right as created behind a content: the one that it creates, else the one before
+-- the right as created, after a content: the one that it creates, else the one before
 abbrev pub created_by : Option Created → What → Option Created
 created_by before (what.Created made) = Some made
 created_by before other = before
@@ -19,7 +19,7 @@ created_by before other = before
 abbrev pub created : List Entry → Option Created
 created entries = fold (λ before e. created_by before e.what) None entries
 
--- the day on which a right was entered, behind a content of this day
+-- the day on which a right was entered, after a content: the content's day where it creates the right, else the one before
 abbrev pub entered_by : ℕ → Option ℕ → What → Option ℕ
 entered_by day before (what.Created made) = Some day
 entered_by day before other = before
@@ -28,7 +28,7 @@ entered_by day before other = before
 abbrev pub entered_on : List Entry → Option ℕ
 entered_on entries = fold (λ before e. entered_by e.day before e.what) None entries
 
--- whether the right is live behind a content
+-- whether the right is live after a content
 abbrev pub live_by : Bool → What → Bool
 live_by before (what.Created made) = true
 live_by before (what.Cancelled expired) = false
@@ -48,7 +48,7 @@ abbrev pub is_conversion : What → Bool
 is_conversion what.Converted = true
 is_conversion other = false
 
--- the form of the right: that in which it was created, and the full one once it is converted (BGB § 883(3))
+-- the form of the right: full once it is converted (BGB § 883(3)), else the one in which it was created
 abbrev pub form_of : List Entry → Option RightForm
 form_of entries =
     option_map (λ made. if list_any (λ e. is_conversion e.what) entries then form.Full else made.form) (created entries)
@@ -63,7 +63,7 @@ is_full_form None = false
 abbrev pub is_full : List Entry → Bool
 is_full entries = is_full_form (form_of entries)
 
--- the holder behind a content that names a new one
+-- the last new holder, after a content: the one that it names, else the one before
 abbrev pub new_holder_by : Option ℕ → What → Option ℕ
 new_holder_by before (what.Holder person) = Some person
 new_holder_by before other = before
@@ -77,7 +77,7 @@ holder entries =
 abbrev pub holder_for : ℕ → List Entry → Option ℕ
 holder_for m entries = if is_some (notice m entries) then holder (before_notice m entries) else holder entries
 
--- the capital behind a content that leaves a new one
+-- the capital that the last award left, after a content: the one that it leaves, else the one before
 abbrev pub remaining_by : Option ℕ → What → Option ℕ
 remaining_by before (what.Remains capital) = Some capital
 remaining_by before other = before

@@ -16,7 +16,7 @@ is_opening other = false
 abbrev pub is_open : List Entry → Bool
 is_open entries = list_any (λ e. is_opening e.what) entries
 
--- the parcel behind a content: the one that it names, else the one before
+-- the parcel after a content: the one that it names, else the one before
 abbrev pub inventory_by : Option Inventory → What → Option Inventory
 inventory_by before (what.Opened inventory owners) = Some inventory
 inventory_by before other = before
@@ -25,7 +25,7 @@ inventory_by before other = before
 abbrev pub inventory : List Entry → Option Inventory
 inventory entries = fold (λ before e. inventory_by before e.what) None entries
 
--- the owners behind a content: those that it names, else those before
+-- the owners after a content: those that it names, else those before
 abbrev pub owners_by : Option (List ℕ) → What → Option (List ℕ)
 owners_by before (what.Opened inventory owners) = Some owners
 owners_by before (what.Owner owners) = Some owners

@@ -5,7 +5,7 @@ use Rattle.folio_sections.specs.declared.entries.Entry.{Entry}
 use Rattle.folio_sections.specs.declared.entries.What.{What}
 use Rattle.folio_sections.specs.declared.entries.What.TheVariants as what
 
--- the day until which filing m waits, behind a content
+-- the day until which filing m waits, after a content
 abbrev pub until_by : ℕ → Option ℕ → What → Option ℕ
 until_by m before (what.Pending filing until) = if filing == m then Some until else before
 until_by m before (what.Settled filing) = if filing == m then None else before
@@ -23,7 +23,7 @@ is_pending m entries = is_some (pending m entries)
 abbrev pub receipts_before : ℕ → List ℕ
 receipts_before n = range_with_len 1 (n - 1)
 
--- the earlier filings than m that wait, ascending
+-- the filings before m that wait, ascending
 abbrev pub waiting_before : ℕ → List Entry → List ℕ
 waiting_before m entries = filter (λ n. is_pending n entries) (receipts_before m)
 
@@ -37,11 +37,11 @@ abbrev pub notice : ℕ → List Entry → Option ℕ
 notice m entries =
     if is_pending m entries then option_map (λ e. e.day) (find (λ e. is_notice_of m e.what) entries) else None
 
--- the entries ahead of the official notice of filing m
+-- the entries before the official notice of filing m
 abbrev pub before_notice : ℕ → List Entry → List Entry
 before_notice m entries = before_first (λ e. is_notice_of m e.what) entries
 
--- the entries behind the official notice of filing m
+-- the entries after the official notice of filing m
 abbrev pub after_notice : ℕ → List Entry → List Entry
 after_notice m entries = after_first (λ e. is_notice_of m e.what) entries
 
@@ -50,6 +50,6 @@ abbrev pub is_above : Option ℕ → ℕ → Bool
 is_above None n = true
 is_above (Some m) n = nat_lt m n
 
--- the earlier filings than m that wait at a key without a notice, ascending
+-- the filings before m that wait at a key without a notice, ascending
 abbrev pub waiting_unnoticed : ℕ → List Entry → List ℕ
 waiting_unnoticed m entries = filter (λ n. is_none (notice n entries)) (waiting_before m entries)

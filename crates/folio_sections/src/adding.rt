@@ -31,8 +31,8 @@ pub fn entry_by(journal: &Journal, item: ReceiptNo, key: Key, what: What) -> Ent
     }
 }
 
-/// Adds an entry at the end of its key's part. The same as `Parts::append`, with its clause over a
-/// list.
+/// Adds an entry at the end of its key's part, by `Parts::append`. Its clauses speak of a list of
+/// entries, as rules need it that add several; here the list has this entry alone.
 pub fn add<P: Parts>(parts: &mut P, entry: Entry)
     requires held { IsTrue (P.holds parts.old entry.key) }
     requires room { HasRoom (P.room parts.old) (entry ∷ []) }

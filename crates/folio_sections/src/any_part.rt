@@ -83,7 +83,7 @@ impl AnyPart {
         }
     }
 
-    /// Takes all its entries away. Its room grows by as many; it takes no memory.
+    /// Takes all its entries away, and its room grows by as many. It takes no memory.
     pub fn clear(&mut self)
         ensures key { self.new.key ≡ self.old.key }
         ensures entries { self.new.entries ≡ [] }

@@ -91,7 +91,8 @@ impl<'a> CaseFront<'a> {
         }
     }
 
-    /// The part, where these are all of its entries: what it keeps beside them is then theirs.
+    /// The part, where these are all of its entries: then what it keeps beside its entries is right
+    /// for these.
     fn whole_part(&self) -> Option<&CasePart>
         ensures { IfSome result (λ part. part.now.entries ≡ self.now) }
     {
@@ -102,7 +103,7 @@ impl<'a> CaseFront<'a> {
         }
     }
 
-    /// The entries of the case: those behind the last distribution (ZVG § 105).
+    /// The entries of the case: those after the last distribution (ZVG § 105).
     fn case(&self) -> &[Entry]
         ensures { result.now ≡ case self.now }
     {
@@ -111,7 +112,7 @@ impl<'a> CaseFront<'a> {
     }
 }
 
-/// How many of these entries stand behind the last distribution.
+/// How many of these entries stand after the last distribution.
 fn count_in_case(entries: &[Entry]) -> usize
     ensures within { result ≤ length entries.now }
     ensures value { result ≡ suffix_len (λ e. not (is_distribution e.what)) entries.now }
@@ -146,7 +147,8 @@ fn last_call(case: &[Entry]) -> Option<ReceiptNo>
         .fold(None, |before, entry| call_by(before, entry))
 }
 
-/// The receipt of the award behind an entry: its own where it is one, else the one before.
+/// The receipt of the last award after an entry: the entry's own where it is an award, else the one
+/// before.
 fn award_by(before: Option<ReceiptNo>, entry: &Entry) -> Option<ReceiptNo>
     ensures { result ≡ award_by entry.now.receipt before entry.now.what }
 {
@@ -156,7 +158,8 @@ fn award_by(before: Option<ReceiptNo>, entry: &Entry) -> Option<ReceiptNo>
     }
 }
 
-/// The receipt of the call to bid behind an entry: its own where it is one, else the one before.
+/// The receipt of the last call to bid after an entry: the entry's own where it is a call, else the
+/// one before.
 fn call_by(before: Option<ReceiptNo>, entry: &Entry) -> Option<ReceiptNo>
     ensures { result ≡ call_by entry.now.receipt before entry.now.what }
 {

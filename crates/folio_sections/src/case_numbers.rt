@@ -8,7 +8,7 @@ use crate::{Entry, What};
 use arrayvec::ArrayVec;
 use gb_base::ReceiptNo;
 
-/// Goes on by an entry: the first 8 seizures of the case behind it.
+/// Takes an entry in: the numbers are then the first 8 seizures of the case after it.
 pub(crate) fn note_seizure(numbers: &mut ArrayVec<ReceiptNo, 8>, entry: &Entry)
     ensures { numbers.new.items ≡ numbers_behind most_seizures is_seizure numbers.old.items entry.now.receipt entry.now.what }
 {
@@ -19,7 +19,7 @@ pub(crate) fn note_seizure(numbers: &mut ArrayVec<ReceiptNo, 8>, entry: &Entry)
     }
 }
 
-/// Goes on by an entry: the first 32 registrations of the case behind it.
+/// Takes an entry in: the numbers are then the first 32 registrations of the case after it.
 pub(crate) fn note_registration(numbers: &mut ArrayVec<ReceiptNo, 32>, entry: &Entry)
     ensures { numbers.new.items ≡ numbers_behind most_registrations is_registration numbers.old.items entry.now.receipt entry.now.what }
 {
@@ -56,7 +56,7 @@ pub(crate) fn first_registrations(case: &[Entry]) -> ArrayVec<ReceiptNo, 32>
     numbers
 }
 
-/// Puts a number behind the others, where there is room.
+/// Puts a number at the end, where there is room.
 fn push_while_room<const N: usize>(numbers: &mut ArrayVec<ReceiptNo, N>, number: ReceiptNo)
     ensures { numbers.new.items ≡ take N (numbers.old.items ++ number ∷ []) }
 {

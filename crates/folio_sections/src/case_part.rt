@@ -26,10 +26,10 @@ pub struct CasePart {
     registered: ArrayVec<ReceiptNo, 32>,
 }
 
-/// The case: what stands behind the last distribution.
+/// The case: what stands after the last distribution.
 #[derive(Clone, Copy)]
 struct Running {
-    /// How many entries stand ahead of the case.
+    /// How many entries stand before the case.
     begin: usize,
     seizures: u32,
     registrations: u32,
@@ -146,7 +146,7 @@ impl CasePart {
         self.list.key()
     }
 
-    /// The entries of the case: those behind the last distribution (ZVG § 105).
+    /// The entries of the case: those after the last distribution (ZVG § 105).
     pub fn case(&self) -> &[Entry]
         ensures { result.now ≡ case self.now.entries }
     {
@@ -219,7 +219,7 @@ impl CasePart {
     }
 }
 
-/// A case that begins behind so many entries, and has none.
+/// A case that begins after so many entries, and has none itself.
 fn case_from(begin: usize) -> Running
     ensures { result ≡ record { begin = begin; seizures = 0; registrations = 0; award = None; called = None } }
 {
@@ -232,7 +232,7 @@ fn case_from(begin: usize) -> Running
     }
 }
 
-/// The case behind a further entry, which so many stand ahead of.
+/// The case after a further entry, with so many entries before that one.
 fn running_behind(ahead: usize, before: Running, entry: &Entry) -> Running
     requires { ahead < 18446744073709551615 }
     ensures { result ≡ running_behind ahead before entry.now.receipt entry.now.what }

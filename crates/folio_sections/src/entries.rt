@@ -17,7 +17,7 @@ pub enum RightForm {
 pub struct Created {
     pub spec: RightSpec,
     pub form: RightForm,
-    /// Up to which capital a later right may be entered ahead (BGB § 881).
+    /// Up to which capital a later right may be entered ahead of this one (BGB § 881).
     pub reserve: Option<Cents>,
     /// The right whose reservation this one took up.
     pub ahead_of: Option<RightId>,
@@ -77,7 +77,7 @@ pub enum What {
     Cancelled {
         expired: bool,
     },
-    /// At both rights: one recedes behind the other by this act of the filing (BGB § 880).
+    /// At both rights: one recedes in rank behind the other by this act of the filing (BGB § 880).
     Exchanged {
         recede: RightId,
         rise: RightId,
@@ -87,7 +87,7 @@ pub enum What {
     Exercised {
         by: RightId,
     },
-    /// At a right: it remains behind an award with this capital (ZVG § 52).
+    /// At a right: it remains after an award with this capital (ZVG § 52).
     Remains {
         capital: Cents,
     },

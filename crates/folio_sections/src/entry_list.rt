@@ -1,4 +1,4 @@
-//! What the parts share: the entries at a key, the filings that wait there, and where the entries
+//! What the parts share: the entries at a key, the filings that wait there, and where those entries
 //! stand that name who is concerned.
 //! Why so: docs/DECISIONS.md, "The common calls of parts stand in each part".
 ghost use Rattle.folio_sections.specs.inner.Naming.{last_below, Rises};
@@ -18,7 +18,7 @@ pub struct EntryList {
     key: Key,
     entries: Vec<Entry>,
     waiters: Waiters,
-    /// How many entries stand ahead of each that names owners, or a holder.
+    /// For each entry that names owners or a holder, how many entries stand before it.
     naming: Vec<usize>,
     /// For how many entries more each of the lists has room.
     room: usize,
@@ -72,7 +72,7 @@ impl EntryList {
         Ok(())
     }
 
-    /// Adds an entry at the end, which names who is concerned or does not.
+    /// Adds an entry at the end; `names` says whether it names who is concerned.
     pub fn append(&mut self, entry: Entry, names: bool)
         requires key { entry.key ≡ self.old.key }
         requires room { 1 ≤ self.old.room }
@@ -123,7 +123,7 @@ impl EntryList {
         self.waiters.until(filing)
     }
 
-    /// How many entries stand ahead of the official notice of a filing; None where none stands.
+    /// How many entries stand before the official notice of a filing; None where none stands.
     pub fn ahead_of_notice(&self, filing: ReceiptNo) -> Option<usize>
         ensures { result ≡ if is_pending filing self.now.entries then position (λ e. is_notice_of filing e.what) self.now.entries else None }
     {
@@ -177,7 +177,7 @@ impl EntryList {
     }
 }
 
-/// Puts a number behind the others, if that is wanted.
+/// Puts a number at the end, if that is wanted.
 fn push_if(wanted: bool, numbers: &mut Vec<usize>, number: usize)
     requires { vec_len numbers.old < vec_capacity numbers.old }
     ensures items { numbers.new.items ≡ if wanted then numbers.old.items ++ number ∷ [] else numbers.old.items }

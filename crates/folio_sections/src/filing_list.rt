@@ -31,9 +31,9 @@ fn value_at<V: Copy>(list: &[OfFiling<V>], index: usize, filing: ReceiptNo) -> O
     }
 }
 
-/// Puts a value in the place of that of its filing, or into the order where there is none, and
-/// answers at which index. If none of the first n passes a test, none of the first n does behind it,
-/// unless this one is among them and passes; and of all, at most one more passes than before.
+/// Writes a value over the one of its filing, or puts it where it belongs in the order if there is
+/// none. It answers at which index. If none of the first n passed a test before, none of the first n
+/// does after, unless the new value is among them and passes; of all, at most one more passes.
 pub(crate) fn put<V: Copy>(list: &mut Vec<OfFiling<V>>, one: OfFiling<V>) -> usize
     requires order { Ascends 1 list.old.items }
     requires room { vec_len list.old < vec_capacity list.old }
@@ -53,7 +53,7 @@ pub(crate) fn put<V: Copy>(list: &mut Vec<OfFiling<V>>, one: OfFiling<V>) -> usi
     index
 }
 
-/// How many of them are of filings below this one, whose number, as that of any receipt, is at least 1.
+/// How many of them are of filings below this one, whose number is at least 1, like any receipt's.
 pub(crate) fn count_below<V: Copy>(list: &[OfFiling<V>], filing: ReceiptNo) -> usize
     requires { Ascends 1 list.now }
     ensures positive { 0 < filing }

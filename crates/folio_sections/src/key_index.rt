@@ -10,7 +10,8 @@ use gb_base::{FolioId, Key, NoMemory};
 use std::alloc::Global;
 use std::collections::BTreeMap;
 
-/// From so many keys on some are at hand: of fewer, each is found in a node or two of the map.
+/// From so many keys on, some are at hand. Where keys are fewer, each is found in a node or two of
+/// the map.
 const MANY_KEYS: usize = 64;
 
 /// How many keys may be at hand.
@@ -21,7 +22,7 @@ const SLOTS: usize = 512;
 pub(crate) struct KeyIndex {
     pub places: BTreeMap<Key, usize>,
     /// Some of the places once more, each at the slot of its key. There are no slots while keys are
-    /// few, and fewer or none where memory for them is wanting.
+    /// few, and fewer or none where memory for them ran out.
     slots: Vec<Option<KeyPlace>>,
 }
 
@@ -33,7 +34,7 @@ pub(crate) struct KeyPlace {
 }
 
 impl KeyIndex {
-    /// Of no keys.
+    /// The index of no keys.
     pub fn new(alloc: Global) -> KeyIndex
         ensures empty { IsEmpty result.places }
         ensures at_hand { AreAtHand result.places result.slots.items }
@@ -94,8 +95,9 @@ impl KeyIndex {
     }
 }
 
-/// Makes the slots once keys are many. Want of memory for them is no failure: then fewer keys are at
-/// hand, or none. (Of any type, since a push of a struct that holds a key is not covered.)
+/// Makes the slots once keys are many. Where memory for them runs out this does not fail: fewer
+/// keys are at hand then, or none. (Of any type, since a push of a struct that holds a key is not
+/// covered.)
 fn make_slots<T: Copy>(slots: &mut Vec<Option<T>>, keys: usize)
     ensures { (slots.new.items ≡ slots.old.items) ⊎ All IsNone slots.new.items }
 {
@@ -104,7 +106,7 @@ fn make_slots<T: Copy>(slots: &mut Vec<Option<T>>, keys: usize)
     }
 }
 
-/// Adds empty slots, as many as there may be or as memory is found for.
+/// Adds empty slots: as many as there may be, or as many as memory is found for.
 fn add_empty<T: Copy>(slots: &mut Vec<Option<T>>)
     ensures { All IsNone slots.old.items → All IsNone slots.new.items }
 {
@@ -115,8 +117,8 @@ fn add_empty<T: Copy>(slots: &mut Vec<Option<T>>)
     }
 }
 
-/// The slot of a key. Receipts and folios often follow one another, or come at one distance from the
-/// next; both multiplications mix their bits, so that such keys are scattered as any others are.
+/// The slot of a key. Receipts and folios often follow one another, or stand at equal distances. The
+/// two multiplications mix their bits, so that such keys are scattered like any others.
 fn slot_of(key: &Key) -> usize {
     let number = key_number(key).wrapping_mul(0x9E37_79B1);
     let mixed = (number ^ (number >> 15)).wrapping_mul(0x85EB_CA6B);

@@ -19,7 +19,7 @@ pub(crate) fn keep_room<T>(list: &mut Vec<T>, n: usize) -> Result<(), NoMemory>
     }
 }
 
-/// Puts a value behind the others, where there is room.
+/// Puts a value at the end, where there is room.
 pub(crate) fn push_where_room<T: Copy>(list: &mut Vec<T>, value: &T)
     ensures { list.new.items ≡ if nat_lt (vec_len list.old) (vec_capacity list.old) then list.old.items ++ value.now ∷ [] else list.old.items }
 {

@@ -66,8 +66,8 @@ impl MapParts {
         })
     }
 
-    /// Holds the part of a key too; nothing stands there where it was not held before, and where it
-    /// was nothing changes. Where no memory is found nothing changes.
+    /// Holds the part of a key too. A part that was not held before is empty; one that was stays as
+    /// it is. Where no memory is found nothing changes.
     pub fn hold(&mut self, key: Key) -> Result<(), NoMemory>
         ensures held { OnOk result ((k : Key) → is_held self.new k ≡ (is_held self.old k || same_key key k)) }
         ensures entries { entries_at self.new ≡ entries_at self.old }
@@ -112,9 +112,9 @@ impl MapParts {
     }
 
     /// Holds the part of a key, with room for as many entries more as stand there and for n besides.
-    /// The part is looked for once; that of a key which is not held yet gets its room before it is put
-    /// among the others. Where no memory is found nothing changes. It succeeds where the key is held
-    /// and has the room already.
+    /// The part is looked for once. Where the key is not held yet, its part gets its room before it
+    /// is put among the others. Where no memory is found nothing changes. It succeeds where the key
+    /// is held and has the room already.
     pub fn hold_with_room(&mut self, key: &Key, n: usize) -> Result<(), NoMemory>
         requires few { n ≤ most_at_a_key }
         ensures held { OnOk result ((k : Key) → is_held self.new k ≡ (is_held self.old k || same_key key.now k)) }
@@ -141,7 +141,7 @@ impl MapParts {
     }
 
     /// Takes all entries away. The keys stay, and at each the room grows by the entries that stood
-    /// there; it takes no memory.
+    /// there. It takes no memory.
     pub fn clear(&mut self)
         ensures held { is_held self.new ≡ is_held self.old }
         ensures entries { (k : Key) → entries_at self.new k ≡ [] }
@@ -175,8 +175,8 @@ impl MapParts {
         }
     }
 
-    /// The rights of a folio whose parts are held, by receipt and act. However many parts are
-    /// held elsewhere, it looks at those of the folio's rights alone.
+    /// The rights of a folio whose parts are held, by receipt and act. It looks at the parts of this
+    /// folio's rights alone, however many parts are held elsewhere.
     pub fn rights_in(&self, alloc: Global, folio: FolioId) -> Result<Vec<RightId>, NoMemory>
         ensures rights { IfOk result (λ rights. rights.items ≡ held_rights (is_held self.now) folio) }
     {
@@ -203,7 +203,7 @@ impl MapParts {
     }
 }
 
-/// The rights of an index's keys from the first to the last of these two.
+/// The rights of an index's keys from the first of these two keys to the last.
 fn rights_between(
     alloc: Global,
     index: &BTreeMap<Key, usize>,

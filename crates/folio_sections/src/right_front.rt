@@ -88,8 +88,8 @@ impl<'a> RightFront<'a> {
         self.state().capital()
     }
 
-    /// What is read from the entries: what the part keeps where these are all of its entries, else
-    /// what it says of so many of them.
+    /// What is read from the entries. Where these are all entries of the part, it is the state that
+    /// the part keeps; else it is what the part says of its first so many.
     fn state(&self) -> RightState
         ensures { IsRightState result self.now }
     {

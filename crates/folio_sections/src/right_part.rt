@@ -19,7 +19,7 @@ pub struct RightPart {
     state: RightState,
     /// How many exchanges the right is in.
     exchanges: usize,
-    /// The state behind each sixteenth entry, where memory for it was found.
+    /// The state after each sixteenth entry, where memory for it was found.
     marks: StateMarks,
 }
 
@@ -67,7 +67,7 @@ impl RightPart {
         ensures succeeds { n ≤ self.old.room → IsOk result }
     {
         self.list.reserve(n)?;
-        // Behind what the entries need, so that marks take no memory from them.
+        // After what the entries need, so that marks take no memory from them.
         self.marks.reserve(self.list.entries().len(), n);
         Ok(())
     }
@@ -115,7 +115,7 @@ impl RightPart {
         &self.state
     }
 
-    /// What is read from the first so many entries, from the last mark that is not behind them on.
+    /// What is read from the first so many entries, from the last mark that is not after them on.
     pub(crate) fn state_ahead(&self, ahead: usize) -> RightState
         requires { ahead ≤ length self.now.entries }
         ensures { IsRightState result (take ahead self.now.entries) }
@@ -207,7 +207,7 @@ impl RightPart {
         }
     }
 
-    /// The holder behind the first so many entries.
+    /// The holder after the first so many entries.
     pub(crate) fn holder_ahead(&self, ahead: usize) -> Option<Person>
         requires { ahead ≤ length self.now.entries }
         ensures { result ≡ holder (take ahead self.now.entries) }
@@ -278,7 +278,7 @@ impl RightPart {
     }
 }
 
-/// How many exchanges a right is in behind a content.
+/// How many exchanges a right is in after a content.
 fn exchanges_by(before: usize, what: &What) -> usize
     requires { before < 18446744073709551615 }
     ensures { result ≡ before + (if is_exchange what.now then 1 else 0) }

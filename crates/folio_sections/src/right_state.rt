@@ -49,7 +49,7 @@ impl RightState {
     }
 }
 
-/// The right behind these entries.
+/// The right after these entries.
 pub(crate) fn state_on(before: RightState, entries: &[Entry]) -> RightState
     ensures { result ≡ state_on before entries.now }
 {
@@ -58,7 +58,7 @@ pub(crate) fn state_on(before: RightState, entries: &[Entry]) -> RightState
         .fold(before, |before, entry| state_by(before, entry))
 }
 
-/// The right of no entries.
+/// The right before its first entry.
 pub(crate) const NEVER_CREATED: RightState = RightState {
     live: false,
     created: None,
@@ -69,7 +69,7 @@ pub(crate) const NEVER_CREATED: RightState = RightState {
     spent: false,
 };
 
-/// The right behind an entry.
+/// The right after an entry.
 pub(crate) fn state_by(before: RightState, entry: &Entry) -> RightState
     ensures { result ≡ state_by before entry.now }
 {
@@ -85,7 +85,7 @@ pub(crate) fn state_by(before: RightState, entry: &Entry) -> RightState
     }
 }
 
-/// Whether the right is live behind a content.
+/// Whether the right is live after a content.
 fn live_by(before: bool, what: &What) -> bool
     ensures { result ≡ live_by before what.now }
 {
@@ -97,7 +97,7 @@ fn live_by(before: bool, what: &What) -> bool
     }
 }
 
-/// The right as created behind a content: the one that it creates, else the one before.
+/// The right as created, after a content: the one that it creates, else the one before.
 fn created_by(before: Option<Created>, what: &What) -> Option<Created>
     ensures { result ≡ created_by before what.now }
 {
@@ -107,8 +107,8 @@ fn created_by(before: Option<Created>, what: &What) -> Option<Created>
     }
 }
 
-/// The day on which the right was entered behind an entry: that of one that creates it, else the one
-/// before.
+/// The day on which the right was entered, after an entry: the entry's own day where it creates the
+/// right, else the one before.
 fn entered_by(before: Option<Day>, entry: &Entry) -> Option<Day>
     ensures { result ≡ entered_by entry.now.day before entry.now.what }
 {
@@ -128,7 +128,7 @@ fn is_conversion(what: &What) -> bool
     }
 }
 
-/// The holder behind a content that names a new one, else the one before.
+/// The last new holder, after a content: the one that it names, else the one before.
 fn new_holder_by(before: Option<Person>, what: &What) -> Option<Person>
     ensures { result ≡ new_holder_by before what.now }
 {
@@ -138,8 +138,8 @@ fn new_holder_by(before: Option<Person>, what: &What) -> Option<Person>
     }
 }
 
-/// Whether a content names the holder behind it, where this is the last new one: a creation does
-/// where there is no new one yet.
+/// Whether a content names who is the holder after it, where `before` was the last new holder. A new
+/// holder always does; a creation does where there was no new holder yet.
 pub(crate) fn names_holder(before: Option<Person>, what: &What) -> bool
     ensures { result ≡ names_holder before what.now }
 {
@@ -161,7 +161,8 @@ pub(crate) fn holder_named(what: &What) -> Option<Person>
     }
 }
 
-/// The capital behind a content that leaves a new one, else the one before.
+/// The capital that the last award left, after a content: the one that it leaves, else the one
+/// before.
 fn remaining_by(before: Option<Cents>, what: &What) -> Option<Cents>
     ensures { result ≡ remaining_by before what.now }
 {

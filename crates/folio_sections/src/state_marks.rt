@@ -1,4 +1,4 @@
-//! The states of a right behind some of its entries, so that no reader walks all of them.
+//! The states of a right after some of its entries, so that no reader walks all entries.
 //! Why so: docs/DECISIONS.md, "A right keeps its state behind each sixteenth entry".
 ghost use Rattle.std.specs.Prelude.{◌≡◌, ◌+◌, ◌≤◌, ◌&&◌, nat_lt, [], ◌∷◌, ◌++◌, if◌then◌else◌, length, take, vec_len, vec_capacity};
 ghost use Rattle.folio_sections.specs.inner.Marks.{AreMarks, is_at_mark, state_at};
@@ -12,14 +12,14 @@ use std::alloc::Global;
 /// How many entries stand between one mark and the next.
 const ENTRIES_PER_MARK: usize = 16;
 
-/// The states of a right behind each sixteenth of its first entries.
+/// The states of a right after each sixteenth of its first entries.
 #[derive(Drop)]
 pub(crate) struct StateMarks {
     states: Vec<RightState>,
 }
 
 impl StateMarks {
-    /// Of no entries.
+    /// The marks of no entries.
     pub fn new(alloc: Global) -> StateMarks
         ensures { result.states.items ≡ [] }
     {
@@ -28,8 +28,8 @@ impl StateMarks {
         }
     }
 
-    /// Keeps room for the marks of n entries more behind so many, where memory for them is found.
-    /// Marks only spare a walk, so that want of memory for them is no failure: what has no room is
+    /// Keeps room for the marks of n entries that come after so many, where memory for it is found.
+    /// Marks only spare a walk, so it is no failure where memory runs out: a mark without room is
     /// not noted.
     pub fn reserve(&mut self, entries: usize, n: usize)
         ensures { self.new.states.items ≡ self.old.states.items }
@@ -39,8 +39,8 @@ impl StateMarks {
         }
     }
 
-    /// Notes the state behind so many entries, where these are just those of the next mark and
-    /// there is room. Once a mark was not noted for want of room, none is until they are cleared.
+    /// Notes the state after so many entries, where the next mark is due after just so many and
+    /// there is room. Once a mark found no room, none is noted until they are cleared.
     pub fn note(&mut self, entries: usize, state: &RightState)
         ensures { self.new.states.items ≡ if is_at_mark entries (vec_len self.old.states + 1) && nat_lt (vec_len self.old.states) (vec_capacity self.old.states) then self.old.states.items ++ state.now ∷ [] else self.old.states.items }
     {
@@ -56,8 +56,8 @@ impl StateMarks {
         self.states.clear();
     }
 
-    /// The state behind the first so many of these entries: the one at the last mark that is not
-    /// behind them, and a walk on from there.
+    /// The state after the first so many of these entries: it is taken from the last mark that is
+    /// not after them, and a walk goes on from there.
     pub fn state_ahead(&self, entries: &[Entry], ahead: usize) -> RightState
         requires marks { AreMarks self.now.states.items entries.now }
         requires within { ahead ≤ length entries.now }
@@ -67,7 +67,7 @@ impl StateMarks {
         state_on(self.at(mark), &entries[ENTRIES_PER_MARK * mark..ahead])
     }
 
-    /// The state at mark number so many; at mark 0 that of no entries.
+    /// The state at the mark of this number; at mark 0 it is that of no entries.
     fn at(&self, mark: usize) -> RightState
         requires { mark ≤ vec_len self.now.states }
         ensures { result ≡ state_at mark self.now.states.items }
@@ -79,7 +79,7 @@ impl StateMarks {
     }
 }
 
-/// Whether the mark of number k stands behind just so many entries.
+/// Whether the mark of number k stands after just so many entries.
 fn is_at_mark(entries: usize, k: usize) -> bool
     ensures { result ≡ is_at_mark entries k }
 {

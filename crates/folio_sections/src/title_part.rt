@@ -20,7 +20,7 @@ pub struct TitlePart {
     list: EntryList,
     opened: bool,
     inventory: Option<Inventory>,
-    /// How many entries stand ahead of the last award's owner.
+    /// How many entries stand before the last award's owner.
     award: Option<usize>,
 }
 
@@ -164,7 +164,7 @@ impl TitlePart {
         }
     }
 
-    /// The owners behind the first so many entries.
+    /// The owners after the first so many entries.
     pub(crate) fn owners_ahead(&self, ahead: usize) -> Option<Owners>
         requires { ahead ≤ length self.now.entries }
         ensures { result ≡ owners (take ahead self.now.entries) }
@@ -175,7 +175,7 @@ impl TitlePart {
         }
     }
 
-    /// Whether an award's owner follows the first so many entries and the one behind them.
+    /// Whether an award's owner comes after the entry that has so many before it.
     fn award_follows(&self, ahead: usize) -> bool
         requires { ahead < length self.now.entries }
         ensures { result ≡ list_any (λ e. is_award_owner e.what) (drop (ahead + 1) self.now.entries) }
@@ -209,7 +209,7 @@ impl TitlePart {
     }
 }
 
-/// Whether the folio is open behind a content.
+/// Whether the folio is open after a content.
 fn opened_by(before: bool, what: &What) -> bool
     ensures { result ≡ (before || is_opening what.now) }
 {
@@ -226,7 +226,7 @@ pub(crate) fn is_opening(what: &What) -> bool
     }
 }
 
-/// The parcel behind a content: the one that it names, else the one before.
+/// The parcel after a content: the one that it names, else the one before.
 fn inventory_by(before: Option<Inventory>, what: &What) -> Option<Inventory>
     ensures { result ≡ inventory_by before what.now }
 {
@@ -236,7 +236,7 @@ fn inventory_by(before: Option<Inventory>, what: &What) -> Option<Inventory>
     }
 }
 
-/// The owners behind a content: those that it names, else those before.
+/// The owners after a content: those that it names, else those before.
 fn owners_by(before: Option<Owners>, what: &What) -> Option<Owners>
     ensures { result ≡ owners_by before what.now }
 {
@@ -267,7 +267,7 @@ fn names_owners(what: &What) -> bool
     }
 }
 
-/// How many entries stand ahead of the last award's owner, behind a content with so many ahead.
+/// How many entries stand before the last award's owner, after a content that has so many before it.
 fn award_by(ahead: usize, before: Option<usize>, what: &What) -> Option<usize>
     ensures { result ≡ award_by ahead before what.now }
 {

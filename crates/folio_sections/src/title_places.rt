@@ -115,7 +115,8 @@ fn last_ahead(
         .fold(None, |before, place| behind_by(third, day, before, place))
 }
 
-/// The filing of a place of the other division on this day, else the one before.
+/// The filing of this place where it is of the other division and set on this day, else the one
+/// before.
 fn behind_by(
     third: bool,
     day: Day,

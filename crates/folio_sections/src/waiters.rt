@@ -1,4 +1,4 @@
-//! The filings that wait at a key, beside its entries, so that no reader walks these.
+//! The filings that wait at a key, kept beside its entries, so that no reader walks the entries.
 //! Why so: docs/DECISIONS.md, "A filing whose waiting has ended is swept, and its notice stays".
 //! Why so: docs/DECISIONS.md, "A part is asked for the next filing that waits without a notice".
 ghost use Rattle.std.specs.Prelude.{◌≡◌, ◌+◌, ◌≤◌, ◌<◌, ◌==◌, ◌&&◌, false, count_by, drop, filter, take, take_while, ℕ, Bool, Some, None, [], length, find, if◌then◌else◌, get_or, option_map, is_none, nat_lt, min, vec_len, vec_capacity, OnOk, IsOk};
@@ -21,19 +21,19 @@ pub(crate) struct Waiters {
     /// The day until which a filing waits, in the order of filings; None once its waiting has
     /// ended.
     until: Vec<OfFiling<Option<Day>>>,
-    /// How many entries stand ahead of the first official notice of a filing, in the order of
+    /// How many entries stand before the first official notice of a filing, in the order of
     /// filings.
     notices: Vec<OfFiling<usize>>,
     /// None of the first so many of `until` waits.
     passed: usize,
     /// None of the first so many of `until` waits without a notice.
     noticed: usize,
-    /// At most so many have ended: it counts each end since those that had ended were taken away.
+    /// At most so many have ended. It counts each end since the last sweep.
     ended: usize,
 }
 
 impl Waiters {
-    /// Of no entries.
+    /// The waiters of no entries.
     pub fn new(alloc: Global) -> Waiters
         ensures order { AreInOrder result }
         ensures few { FewEnded result.until.items result.ended }
@@ -57,7 +57,7 @@ impl Waiters {
         value_of(self.until.as_slice(), filing).unwrap_or(None)
     }
 
-    /// How many entries stand ahead of the official notice of a filing; None where it has none.
+    /// How many entries stand before the official notice of a filing; None where it has none.
     pub fn notice(&self, filing: ReceiptNo) -> Option<usize>
         requires { AreInOrder self.now }
         ensures { result ≡ value_in filing self.now.notices.items }
@@ -97,7 +97,7 @@ impl Waiters {
         first_unnoticed(list, self.notices.as_slice(), floor, filing)
     }
 
-    /// The place in `until` ahead of which no filing above this number passes a test that none of
+    /// An index in `until`. No filing before it is above this number and passes a test that none of
     /// the first `mark` passes.
     fn start_above(&self, floor: u32, mark: usize) -> usize
         requires order { AreInOrder self.now }
@@ -131,7 +131,7 @@ impl Waiters {
         keep_room(&mut self.notices, more_notices)
     }
 
-    /// Takes what a further entry says, with so many ahead of it. It takes no memory.
+    /// Takes in what a further entry says, with so many entries before it. It takes no memory.
     pub fn note(&mut self, ahead: usize, what: &What)
         requires order { AreInOrder self.old }
         requires few { FewEnded self.old.until.items self.old.ended }
@@ -196,7 +196,7 @@ impl Waiters {
         self.noticed = mark_behind(self.noticed, index, notice);
     }
 
-    /// Ends the waiting of a filing, which is yet to be counted.
+    /// Ends the waiting of a filing. The caller still has to count it (`count_ended`).
     fn end(&mut self, filing: ReceiptNo)
         requires order { AreInOrder self.old }
         requires few { FewEnded self.old.until.items self.old.ended }
@@ -212,8 +212,8 @@ impl Waiters {
         let _ = put(&mut self.until, OfFiling { filing, value });
     }
 
-    /// Counts one more that has ended, or takes all that have away where they may be more than
-    /// half.
+    /// Counts one more that has ended. Where they may be more than half then, all that have ended
+    /// are taken away instead.
     fn count_ended(&mut self)
         requires order { AreInOrder self.old }
         requires counted { count_by has_ended self.old.until.items ≤ self.old.ended + 1 }
@@ -231,7 +231,7 @@ impl Waiters {
         }
     }
 
-    /// Takes those away that have ended; the others are passed anew.
+    /// Takes those away that have ended. Both marks begin again at the first of the others.
     fn sweep(&mut self)
         requires order { AreInOrder self.old }
         ensures order { AreInOrder self.new }
@@ -262,7 +262,7 @@ impl Waiters {
         let _ = put(&mut self.notices, OfFiling { filing, value });
     }
 
-    /// Moves each mark past those behind it that it may pass.
+    /// Moves each mark on, past those that it may pass.
     fn move_marks(&mut self)
         requires order { AreInOrder self.old }
         ensures order { AreInOrder self.new }
@@ -302,14 +302,14 @@ fn behind(list: &[OfFiling<Option<Day>>], start: usize) -> &[OfFiling<Option<Day
     &list[start..]
 }
 
-/// How many stand ahead of the first that waits.
+/// How many stand before the first that waits.
 fn count_ended_ahead(list: &[OfFiling<Option<Day>>]) -> usize
     ensures { result ≡ position_or_len waits list.now }
 {
     list.iter().take_while(|one| one.value.is_none()).count()
 }
 
-/// How many stand ahead of the first that waits without one of these notices.
+/// How many stand before the first that waits without one of these notices.
 fn count_noticed_ahead(list: &[OfFiling<Option<Day>>], notices: &[OfFiling<usize>]) -> usize
     requires { Ascends 1 notices.now }
     ensures { result ≡ position_or_len (lacks_notice notices.now) list.now }
@@ -327,7 +327,7 @@ fn lacks_notice(notices: &[OfFiling<usize>], one: &OfFiling<Option<Day>>) -> boo
     one.value.is_some() && value_of(notices, one.filing).is_none()
 }
 
-/// The mark behind a filing with this notice that is set to wait at an index.
+/// The mark `noticed` after a filing with this notice is set to wait at an index.
 fn mark_behind(noticed: usize, index: usize, notice: Option<usize>) -> usize
     ensures { result ≡ if is_none notice then min noticed index else noticed }
 {
@@ -337,7 +337,7 @@ fn mark_behind(noticed: usize, index: usize, notice: Option<usize>) -> usize
     }
 }
 
-/// The number above which filings are looked for.
+/// The number above which filings are looked for: 0 where there is none to begin after.
 fn floor(after: Option<ReceiptNo>) -> u32
     ensures { result ≡ floor after }
 {

@@ -3,7 +3,7 @@ use Rattle.std.specs.Prelude.{ℕ, ◌==◌, List, if◌then◌else◌, Option, 
 use Rattle.gb_base.specs.Ascending.{AscendsBy}
 use Rattle.folio_sections.specs.declared.filing_list.OfFiling.{OfFiling}
 
--- the filings begin at n or behind it, and ascend
+-- the filings ascend, and none is below n
 abbrev pub Ascends : {V : Type 0} → ℕ → List (OfFiling V) → Type 0
 Ascends n xs = AscendsBy (λ x. x.filing) n xs
 

@@ -9,7 +9,7 @@ use Rattle.folio_sections.specs.declared.waiters.Waiters.{Waiters}
 use Rattle.folio_sections.specs.inner.Naming.{Rises}
 use Rattle.folio_sections.specs.inner.Waiters.{AreInOrder, FewEnded, SayAs}
 
--- the key, the entries in order, the room for more, and how many stand ahead of each that names who is concerned
+-- the key, the entries in order, the room for more, and for each entry that names who is concerned how many stand before it
 pub record Listed : Type 0 where
   pub key : Key
   pub entries : List Entry
@@ -29,7 +29,7 @@ pub record GoWith (key : Key) (entries : List Entry) (waiters : Waiters) (naming
   pub rise : Rises 0 naming
   pub among : AllByRecursion (λ n. n < length entries) naming
 
--- No list has more elements than there are entries, and each has room for as many as there are and as there is room for.
+-- No list has more elements than there are entries, and each has room for the entries that stand and for those to come.
 pub record HaveRoom (entries : Vec Entry Global) (waiters : Waiters) (naming : Vec ℕ Global) (room : ℕ) : Type 0 where
   pub few_until : vec_len waiters.until ≤ vec_len entries
   pub few_notices : vec_len waiters.notices ≤ vec_len entries

@@ -14,16 +14,16 @@ use Rattle.folio_sections.specs.declared.right_state.RightState.{RightState}
 use Rattle.folio_sections.specs.inner.Listed.{Listed}
 use Rattle.folio_sections.specs.inner.Naming.{AreNamedAt}
 
--- more than n entries stand ahead of this one, where there is one
+-- there is such an entry, and more than n stand before it
 abbrev pub stands_behind : ℕ → Option ℕ → Bool
 stands_behind n None = false
 stands_behind n (Some ahead) = nat_lt n ahead
 
--- so many entries stand ahead of the last award's owner
+-- so many entries stand before the last award's owner
 abbrev pub IsLastAward : Option ℕ → List Entry → Type 0
 IsLastAward last entries = (n : ℕ) → list_any (λ e. is_award_owner e.what) (drop (n + 1) entries) ≡ stands_behind n last
 
--- how many stand ahead of the last award's owner, behind a content with so many ahead
+-- how many entries stand before the last award's owner, after a content that has so many before it
 abbrev pub award_by : ℕ → Option ℕ → What → Option ℕ
 award_by ahead before (what.AwardOwner buyer) = Some ahead
 award_by ahead before other = before
@@ -41,13 +41,13 @@ holder_named (what.Created made) = Some made.spec.holder
 holder_named (what.Holder person) = Some person
 holder_named other = None
 
--- A content names the holder behind it, where the last new one is this: a creation does where there is no new one yet.
+-- A content names who is the holder after it: a new holder always does, a creation where there was no new holder before.
 abbrev pub names_holder : Option ℕ → What → Bool
 names_holder before (what.Created made) = is_none before
 names_holder before (what.Holder person) = true
 names_holder before other = false
 
--- the right behind an entry
+-- the right after an entry
 abbrev pub state_by : RightState → Entry → RightState
 state_by before e = record {
   live = live_by before.live e.what;
@@ -59,11 +59,11 @@ state_by before e = record {
   spent = before.spent || is_exercise e.what;
 }
 
--- the right of no entries
+-- the right before its first entry
 abbrev pub never_created : RightState
 never_created = record { live = false; created = None; entered = None; converted = false; new_holder = None; remaining = None; spent = false }
 
--- the right behind these entries
+-- the right after these entries
 abbrev pub state_on : RightState → List Entry → RightState
 state_on start entries = fold state_by start entries
 
@@ -77,7 +77,7 @@ pub record IsRightState (is : RightState) (entries : List Entry) : Type 0 where
   pub remaining : is.remaining ≡ fold (λ before e. remaining_by before e.what) None entries
   pub spent : is.spent ≡ is_spent entries
 
--- a right keeps its state, how many exchanges it is in, and the places that name the holder behind each number of entries
+-- a right keeps its state, how many exchanges it is in, and at which places the holder is named after each number of entries
 pub record IsRight (is : RightState) (count : ℕ) (entries : List Entry) (naming : List ℕ) : Type 0 where
   pub state : IsRightState is entries
   pub counted : count ≡ exchanges entries
@@ -87,8 +87,8 @@ pub record IsRight (is : RightState) (count : ℕ) (entries : List Entry) (namin
 abbrev pub numbers_that : (What → Bool) → List Entry → List ℕ
 numbers_that t entries = map (λ e. e.receipt) (filter (λ e. t e.what) entries)
 
--- The first n numbers of a case behind an entry by item i: none behind a distribution, and one more behind a content that
--- passes, where there are fewer.
+-- The first n numbers of a case after an entry by item i: none after a distribution, and one more after a content that
+-- passes, where there were fewer.
 abbrev pub numbers_behind : ℕ → (What → Bool) → List ℕ → ℕ → What → List ℕ
 numbers_behind n t before i w = if is_distribution w then [] else if t w then take n (before ++ i ∷ []) else before
 
@@ -111,7 +111,7 @@ pub record IsCase (case_is : Running) (first_seized first_registered : List ℕ)
   pub seized : first_seized ≡ take most_seizures (seizure_numbers entries)
   pub registered : first_registered ≡ take most_registrations (registration_numbers entries)
 
--- the case behind a further entry by item i, with so many entries ahead
+-- the case after a further entry by item i, with so many entries before that one
 abbrev pub running_behind : ℕ → Running → ℕ → What → Running
 running_behind ahead before i what.Distributed = record { begin = ahead + 1; seizures = 0; registrations = 0; award = None; called = None }
 running_behind ahead before i what.Seized =

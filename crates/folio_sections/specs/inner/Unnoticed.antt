@@ -1,4 +1,4 @@
--- The first filing of those that wait at a key that passes a test, as that it lacks an official notice, and the last one.
+-- The first and the last filing that pass a test among those that wait at a key. A test is, for one, that a filing lacks an official notice.
 use Rattle.std.specs.Prelude.{ℕ, Bool, ◌&&◌, nat_lt, List, Option, Some, None, filter, find, is_none, option_map}
 use Rattle.std.specs.List.{last_or}
 use Rattle.folio_sections.specs.Waiting.{is_pending, notice}
@@ -14,18 +14,18 @@ abbrev pub floor : Option ℕ → ℕ
 floor None = 0
 floor (Some n) = n
 
--- it is of a filing above this number and below filing m, and passes
+-- the waiter is of a filing above this number and below filing m, and passes
 abbrev pub is_wanted : (Until → Bool) → ℕ → ℕ → Until → Bool
 is_wanted t low m x = nat_lt x.filing m && (nat_lt low x.filing && t x)
 
--- the first filing of which one is so
+-- the first filing that has such a waiter
 abbrev pub first_that : (Until → Bool) → ℕ → ℕ → List Until → Option ℕ
 first_that t low m xs = option_map (λ x. x.filing) (find (is_wanted t low m) xs)
 
--- it is of a filing below filing m, and passes
+-- the waiter is of a filing below filing m, and passes
 abbrev pub is_before : (Until → Bool) → ℕ → Until → Bool
 is_before t m x = nat_lt x.filing m && t x
 
--- the last filing of which one is so
+-- the last filing that has such a waiter
 abbrev pub last_that : (Until → Bool) → ℕ → List Until → Option ℕ
 last_that t m xs = option_map (λ x. x.filing) (last_or None (filter (is_before t m) xs))

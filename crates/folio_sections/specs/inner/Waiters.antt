@@ -32,7 +32,7 @@ pub record IsMark (t : Until → Bool) (n : ℕ) (until : List Until) : Type 0 w
   pub within : n ≤ length until
   pub first : AllByRecursion (λ x. t x ≡ false) (take n until)
 
--- Each filing stands once in each list, in ascending order. None ahead of one mark waits, and none ahead of the other waits without a notice.
+-- Each filing stands once in each list, in ascending order. None before one mark waits, and none before the other waits without a notice.
 pub record AreInOrder (ws : Waiters) : Type 0 where
   pub until : Ascends 1 ws.until.items
   pub notices : Ascends 1 ws.notices.items

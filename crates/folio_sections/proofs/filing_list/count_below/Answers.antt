@@ -1,4 +1,4 @@
--- Those of lower filings stand ahead of the others.
+-- Those of lower filings stand before the others.
 use Rattle.std.proofs.Common.{rules, nat_lt, arith}
 use Rattle.std.proofs.lemmas.List.Sorted.{IsPartitionPoint-from_clause}
 use Rattle.gb_base.proofs.Ascending.{parted_below}

@@ -1,4 +1,4 @@
--- Those of filings up to the number stand ahead of the others.
+-- Those of filings up to the number stand before the others.
 use Rattle.std.proofs.Common.{rules, ◌≡◌, true, nat_le, get_or, arith}
 use Rattle.std.proofs.lemmas.Bool.Decides.{nat_tests}
 use Rattle.std.proofs.lemmas.List.Sorted.{IsPartitionPoint-from_clause}

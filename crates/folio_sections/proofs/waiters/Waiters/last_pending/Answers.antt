@@ -1,4 +1,4 @@
--- Of those below the filing, the last that waits stands behind the mark.
+-- Of those below the filing, the last that waits does not stand before the mark.
 use Rattle.std.proofs.Common.{◌≡◌, ◌∙◌, ℕ, false, None, drop, filter, List, Option, ap, option_map, subst, take, arith}
 use Rattle.std.specs.List.{last_or}
 use Rattle.folio_sections.specs.inner.Waiters.{Until, waits}

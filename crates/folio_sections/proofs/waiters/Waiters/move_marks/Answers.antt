@@ -1,4 +1,4 @@
--- The first so many behind each mark do not pass its test, so none ahead of where it moves to does.
+-- The next so many from each mark on do not pass its test, so none before the place to which it moves does.
 use Rattle.std.proofs.Common.{◌∙◌, ap, length, arith}
 use Rattle.std.specs.List.{position_or_len}
 use Rattle.folio_sections.specs.inner.Waiters.{lacks_notice, waits}
