@@ -47,7 +47,7 @@ act_creates folio made act filed =
     ap (λ o. option_map_or (is_of_division (division_of made)) o false) filed.spec ∙ own_division (division_of made) made.spec refl in
     λ i. there i && here i
 
--- so one of the acts of its filing does
+-- so one of the acts of its filing creates in the right's division
 among_acts : (folio : ℕ) (made : Created) (acts : List Act) (k : ℕ) → IsSomeAnd (slice_get acts k) (IsAsFiled folio made) → create_in_division (division_of made) folio acts ≡ true
 among_acts folio made [] k filed = absurd filed
 among_acts folio made (act ∷ acts) zero filed =
@@ -68,7 +68,7 @@ creates_for_right : (journal : List Receipt) (folio : ℕ) (right : RightNo) (ma
     → create_in_division (division_of made) folio (acts_of journal right.receipt) ≡ true
 creates_for_right journal folio right made filed = filing_has folio made right.act (filing_at journal right.receipt) filed
 
--- ---- it has a place
+-- ---- the filing has a place
 
 -- an entry that sets filing m a place is enough
 in_front : (m : ℕ) (o : Option TitlePlace) (ps : List TitlePlace) → IsSomeAnd o (λ p. p.filing ≡ m) → list_any (λ p. p.filing == m) (cons_option o ps) ≡ true
@@ -87,13 +87,13 @@ place_found journal folio m receipt (d ∷ es) zero e within is sets =
 place_found journal folio m receipt (d ∷ es) (suc k) e within is sets =
     further m (place_by journal folio d.day d.what) (places_among journal folio es) (place_found journal folio m receipt es k e (omega arith) is sets)
 
--- a title with an entry that sets it one has a place of filing m
+-- a title has a place of filing m where one of its entries sets that place
 pub has_its_place : (journal : List Receipt) (folio m receipt : ℕ) (es : List Entry) → Any (SetsPlace journal folio m receipt) es → is_some (own_place m (places_among journal folio es)) ≡ true
 has_its_place journal folio m receipt es placed =
     is_some-find (λ (p : TitlePlace). p.filing == m) (places_among journal folio es)
     ∙ place_found journal folio m receipt es placed.0 placed.1 placed.2 placed.3 placed.4
 
--- ---- and the place names its division
+-- ---- the place names the right's division
 
 -- a place of filing m, which names this division
 record StandsAt (m : ℕ) (third : Bool) (ps : List TitlePlace) : Type 0 where
@@ -114,12 +114,12 @@ stands_at journal folio m third ps (Some p) own has names creates =
 
 -- ---- the right as it was created
 
--- the right that a content creates has this
+-- the right that a content creates has the property P
 abbrev pub OfCreation : (Created → Type 0) → What → Type 0
 OfCreation P (what.Created made) = P made
 OfCreation P other = Unit {0}
 
--- what each creation has, the right has as it was created
+-- a property that each creation has, the right has as it was created
 next_has : (P : Created → Type 0) (before : Option Created) (w : What) → IfSome before P → OfCreation P w → IfSome (created_by before w) P
 next_has P before (what.Created made) old new = new
 next_has P before other old new = old
@@ -131,7 +131,7 @@ last_has P before (e ∷ es) old all = last_has P (created_by before e.what) es 
 pub created_has : (P : Created → Type 0) (es : List Entry) → AllByRecursion (λ e. OfCreation P e.what) es → IfSome (created es) P
 created_has P es all = last_has P None es tt all
 
--- the right stands at a place of its filing, which names its division
+-- the right stands at a place of its filing, and the place names the right's division
 abbrev StandsPlaced : List Receipt → (Key → List Entry) → ℕ → RightNo → Created → Type 0
 StandsPlaced journal at folio right made = StandsAt right.receipt (division_of made) (places journal at folio)
 

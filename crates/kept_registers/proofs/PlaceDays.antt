@@ -105,14 +105,14 @@ all_cons : (P : TitlePlace → Type 0) (o : Option TitlePlace) (ps : List TitleP
 all_cons P None ps one all = all
 all_cons P (Some p) ps one all = (one, all)
 
--- each has what follows of its entry
+-- what follows of each entry holds of the place that it sets
 all_places : (journal : List Receipt) (folio : ℕ) (P : TitlePlace → Type 0) (Q : Entry → Type 0) (es : List Entry) → ((e : Entry) → Q e → IfSome (place_by journal folio e.day e.what) P)
     → AllByRecursion Q es → AllByRecursion P (places_among journal folio es)
 all_places journal folio P Q [] each all = tt
 all_places journal folio P Q (e ∷ es) each all =
     all_cons P (place_by journal folio e.day e.what) (places_among journal folio es) (each e all.0) (all_places journal folio P Q es each all.1)
 
--- it is of the day of its entry
+-- a place is of the day of its entry
 on_its_day : (journal : List Receipt) (folio day : ℕ) (w : What) → IfSome (place_by journal folio day w) (λ p. p.day ≡ day)
 on_its_day journal folio day (what.Placed filing second third) = refl
 on_its_day journal folio day (what.Notice filing) =
@@ -154,7 +154,7 @@ pub days_never_fall : (journal : List Receipt) (at : Key → List Entry) (folio 
 days_never_fall journal at folio stands kept =
     to_pairs (λ (p later : TitlePlace). p.day ≤ later.day) (places journal at folio) (days_in_turn journal at folio stands kept)
 
--- they ascend by filing, and their days never fall
+-- the places of a folio ascend by filing, and their days never fall
 pub places_ascend : (journal : List Receipt) (at : Key → List Entry) (folio : ℕ) → IsJournal journal → Kept journal at → Ascends (places journal at folio)
 places_ascend journal at folio stands kept =
     both_ascend (places journal at folio)
@@ -163,7 +163,7 @@ places_ascend journal at folio stands kept =
 
 -- ---- the divisions that a place names
 
--- it says in which divisions its filing creates rights in the folio
+-- the place says in which divisions its filing creates rights in the folio
 abbrev pub NamesDivisions : List Receipt → ℕ → TitlePlace → Type 0
 NamesDivisions journal folio p =
     (p.second ≡ create_in_division false folio (acts_of journal p.filing)) × (p.third ≡ create_in_division true folio (acts_of journal p.filing))

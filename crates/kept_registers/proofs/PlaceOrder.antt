@@ -18,7 +18,7 @@ Ascends (p ∷ ps) = AllByRecursion (IsLater p) ps × Ascends ps
 
 -- ---- the place of a filing
 
--- it has what each place has
+-- the place of filing m has what each place has
 pub own_has : (P : TitlePlace → Type 0) (m : ℕ) (ps : List TitlePlace) (p : TitlePlace) → AllByRecursion P ps → own_place m ps ≡ Some p → P p × (p.filing ≡ m)
 own_has P m [] p all is = absurd (cc is)
 own_has P m (o ∷ ps) p all is =
@@ -27,7 +27,7 @@ own_has P m (o ∷ ps) p all is =
       | false ↦ λ other found. own_has P m ps p all.1 found
     ] refl is
 
--- it is the first place, or later than that
+-- the place of filing m is the first one, or later than the first
 not_before_first : (m : ℕ) (o : TitlePlace) (ps : List TitlePlace) (p : TitlePlace) → AllByRecursion (IsLater o) ps → own_place m (o ∷ ps) ≡ Some p → (o.filing ≤ m) × (o.day ≤ p.day)
 not_before_first m o ps p later is =
     elim (eqb o.filing m) as (λ b. eqb o.filing m ≡ b → cond b (Some o) (own_place m ps) ≡ Some p → (o.filing ≤ m) × (o.day ≤ p.day)) [
@@ -39,7 +39,7 @@ not_before_first m o ps p later is =
           let less = h.0.0 in let day = h.0.1 in let own = h.1 in (omega arith, omega arith)
     ] refl is
 
--- that of an earlier filing is of no later day
+-- the place of an earlier filing is of no later day
 pub days_rise : (m n : ℕ) (ps : List TitlePlace) (p q : TitlePlace) → Ascends ps → own_place m ps ≡ Some p → own_place n ps ≡ Some q → m < n → p.day ≤ q.day
 days_rise m n [] p q up first second less = absurd (cc first)
 days_rise m n (o ∷ ps) p q up first second less =
@@ -73,7 +73,7 @@ ahead_is n (o ∷ ps) =
       | false ↦ subst (λ j. take j (o ∷ ps) ≡ o ∷ ahead n ps) (sym next) (ap (λ qs. o ∷ qs) (ahead_is n ps))
     ]
 
--- one of them is of filing m exactly where that is the earlier one
+-- one of them is of filing m exactly where m is the earlier filing
 one_ahead : (m n : ℕ) (ps : List TitlePlace) (p q : TitlePlace) → Ascends ps → own_place m ps ≡ Some p → own_place n ps ≡ Some q → list_any (λ r. r.filing == m) (ahead n ps) ≡ nat_lt m n
 one_ahead m n [] p q up first second = absurd (cc first)
 one_ahead m n (o ∷ ps) p q up first second =
@@ -110,7 +110,7 @@ ascends_ahead n (o ∷ ps) up =
       | false ↦ (all_ahead (IsLater o) n ps up.0, ascends_ahead n ps up.1)
     ]
 
--- they are of earlier filings
+-- the places ahead of filing n's own are of earlier filings
 pub earlier_ahead : (n : ℕ) (ps : List TitlePlace) (q : TitlePlace) → Ascends ps → own_place n ps ≡ Some q → AllByRecursion (λ p. p.filing < n) (ahead n ps)
 earlier_ahead n [] q up second = tt
 earlier_ahead n (o ∷ ps) q up second =
@@ -121,7 +121,7 @@ earlier_ahead n (o ∷ ps) q up second =
           let less = h.0.0 in let own = h.1 in (omega arith, earlier_ahead n ps q up.1 found)
     ] refl second
 
--- that of an earlier filing is among them
+-- the place of an earlier filing is among those ahead
 pub own_ahead : (m n : ℕ) (ps : List TitlePlace) (p : TitlePlace) → Ascends ps → own_place m ps ≡ Some p → m < n → own_place m (ahead n ps) ≡ Some p
 own_ahead m n [] p up first less = first
 own_ahead m n (o ∷ ps) p up first less =
@@ -142,7 +142,7 @@ own_ahead m n (o ∷ ps) p up first less =
 abbrev pub is_other : Bool → ℕ → TitlePlace → Bool
 is_other third day p = p.day == day && (if third then p.second else p.third)
 
--- places of earlier filings than n alone are found
+-- among places of filings before n, only such a filing is found
 pub found_earlier : (third : Bool) (day n : ℕ) (before : Option ℕ) (ps : List TitlePlace) → AllByRecursion (λ p. p.filing < n) ps → IfSome before (λ k. k < n) → IfSome (fold (behind_by third day) before ps) (λ k. k < n)
 found_earlier third day n before [] less old = old
 found_earlier third day n before (o ∷ ps) less old =
@@ -152,7 +152,7 @@ found_earlier third day n before (o ∷ ps) less old =
       | false ↦ old
     ])
 
--- once one of filing m or a later one is found, the last is such
+-- once filing m or a later one is found, what is found last is one of these too
 found_stays : (third : Bool) (day m : ℕ) (before : Option ℕ) (ps : List TitlePlace) → AllByRecursion (λ p. m < p.filing) ps → IsSomeAnd before (λ k. m ≤ k) → IsSomeAnd (fold (behind_by third day) before ps) (λ k. m ≤ k)
 found_stays third day m before [] later old = old
 found_stays third day m before (o ∷ ps) later old =

@@ -9,7 +9,7 @@ use Rattle.kept_registers.specs.Ranks.{Ranked, are_of_one_day, is_ahead, is_behi
 use Rattle.folio_sections.specs.declared.title_places.TitlePlace.{TitlePlace}
 use Rattle.kept_registers.proofs.PlaceOrder.{Ascends, ahead, ahead_is, ascends_ahead, days_rise, earlier_ahead, found_earlier, found_own, is_other, own_ahead, placed_ahead_is}
 
--- the place is of the division of the right's
+-- the place is one for the right's own division
 abbrev pub is_of_own : Bool → TitlePlace → Bool
 is_of_own third p = if third then p.third else p.second
 
@@ -39,7 +39,7 @@ behind_earlier third m n ps p q up first second less other =
     ∙ at_least m (fold (behind_by third q.day) None (ahead n ps))
     (found_own third q.day m None (ahead n ps) p (ascends_ahead n ps up) (own_ahead m n ps p up first less) other)
 
--- one of an earlier filing does not
+-- a right of an earlier filing stands behind neither filing m nor a later one
 behind_later : (third : Bool) (m n : ℕ) (ps : List TitlePlace) (q : TitlePlace) → Ascends ps → own_place n ps ≡ Some q → n < m → option_map_or (λ k. nat_le m k) (behind third n ps) false ≡ false
 behind_later third m n ps q up second less =
     ap (λ o. option_map_or (λ k. nat_le m k) o false) (behind_is third n ps q second)
@@ -50,7 +50,7 @@ both_places : (test : TitlePlace → TitlePlace → Bool) (m n : ℕ) (ps : List
 both_places test m n ps p q first second =
     λ i. option_map_or (λ r. option_map_or (test r) (second i) false) (first i) false
 
--- what is not of the second right's division is of the first one's
+-- where two rights are of different divisions, a place for the first one's is of the other division than the second one's
 other_division : (first second : Bool) (p : TitlePlace) → same_division first second ≡ false → is_of_own first p ≡ true → (if second then p.second else p.third) ≡ true
 other_division true true p apart own = absurd (true≢false apart)
 other_division true false p apart own = own

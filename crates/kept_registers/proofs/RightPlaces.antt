@@ -1,4 +1,4 @@
--- Rights stand at the places of their filings, and places that are added behind change nothing of those ahead.
+-- Rights stand at the places of their filings, and places that are added at the end change nothing of those before them.
 use Rattle.std.proofs.Common.{◌≡◌, ℕ, true, false, cond, eqb, Bool, List, [], ◌∷◌, ◌++◌, IfSome, IsSomeAnd, Option, Some, None, fold, is_some, option_and_then, refl, sym, ap, subst, ◌∙◌}
 use Rattle.std.proofs.lemmas.Bool.{false≢true}
 use Rattle.std.proofs.lemmas.List.Elements.{recursion_from_All}
@@ -37,7 +37,7 @@ right_in_place journal at folio right made kept is =
     subst (λ o. IfSome o P) is
     (created_has P entries (all_weaker Enters (λ e. OfCreation P e.what) entries (λ e enters. as_creation journal standing right e.what enters) all))
 
--- ---- places behind those that stand
+-- ---- places after those that stand
 
 -- a filing that has its place keeps it
 own_stays : (m : ℕ) (ps qs : List TitlePlace) → is_some (own_place m ps) ≡ true → own_place m (ps ++ qs) ≡ own_place m ps
@@ -48,7 +48,7 @@ own_stays m (o ∷ ps) qs has =
       | false ↦ λ later. own_stays m ps qs later
     ] has
 
--- and the same places ahead of it
+-- a filing that has its place keeps the places ahead of it
 ahead_stays : (m : ℕ) (ps qs : List TitlePlace) → is_some (own_place m ps) ≡ true → ahead m (ps ++ qs) ≡ ahead m ps
 ahead_stays m [] qs has = absurd (false≢true has)
 ahead_stays m (o ∷ ps) qs has =

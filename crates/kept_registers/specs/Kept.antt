@@ -9,7 +9,7 @@ use Rattle.kept_registers.specs.KeptPlaces.{PendingEverywhere, PlacesAscend}
 use Rattle.kept_registers.specs.KeptRights.{CreatedAsFiled, EnteredInPlace, ExchangedArePlain}
 use Rattle.folio_sections.specs.declared.entries.Entry.{Entry}
 
--- All of it, of a journal and of what stands at each key.
+-- All that is kept, of a journal and of what stands at each key.
 pub record Kept (journal : List Receipt) (at : Key → List Entry) : Type 0 where
   pub receipts_rise : ReceiptsRise journal at
   pub places_ascend : PlacesAscend journal at

@@ -26,7 +26,7 @@ IsItsItem folio (what.Bids costs) (item.OpenBids f c) = (f ≡ folio) × (c ≡ 
 IsItsItem folio (what.Awarded buyer bid) (item.Award f b c) = (f ≡ folio) × (b ≡ buyer) × (c ≡ bid)
 IsItsItem folio other its = ⊥
 
--- a content of a forced sale stands only by its item
+-- the content, where it is one of a forced sale, was entered by its own item
 abbrev pub StandsByItem : List Receipt → ℕ → ℕ → What → Type 0
 StandsByItem journal folio receipt what.Seized = IsSomeAnd (item_at journal receipt) (IsItsItem folio what.Seized)
 StandsByItem journal folio receipt what.Registered = IsSomeAnd (item_at journal receipt) (IsItsItem folio what.Registered)
@@ -66,7 +66,7 @@ seized_right (item.OpenBids folio costs) = None
 seized_right (item.Award folio buyer bid) = None
 seized_right (item.Distribute folio) = None
 
--- an entry that seizes from a right does so from one older than receipt n
+-- where the entry seizes from a right, this right is older than receipt n
 abbrev pub SeizesFromOlder : List Receipt → ℕ → Entry → Type 0
 SeizesFromOlder journal n e =
     IsTrue (is_seizure e.what) → IfSome (option_and_then seized_right (item_at journal e.receipt)) (λ right. right.receipt < n)
@@ -80,8 +80,9 @@ LeavesCents other = Unit {0}
 abbrev pub IsOpenedBefore : ℕ → List Entry → Type 0
 IsOpenedBefore n entries = Any (λ o. IsTrue (is_opening o.what) × (o.receipt < n)) entries
 
--- A case, as it stood below any receipt, begins with a seizure of an open folio, its entries are of their items, and its
--- numbers keep their limits. What remains of a right is an amount.
+-- A case, as it stood before any receipt, begins with a seizure of an open folio. Its entries are of their items, and its
+-- seizures and registrations keep their limits. No two of its registrations are of arrears for one right. Each right from
+-- which the land is seized is older than the case's first entry. What remains of a right is an amount.
 pub record CaseInOrder (journal : List Receipt) (at : Key → List Entry) : Type 0 where
   pub remains : (folio : ℕ) (right : RightNo) → All (λ e. LeavesCents e.what) (at (Right folio right))
   pub opened : (folio : ℕ) → All (λ e. IsTrue (is_seizure e.what) → IsOpenedBefore e.receipt (at (Title folio))) (at (Case folio))

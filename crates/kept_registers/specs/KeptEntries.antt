@@ -25,7 +25,7 @@ abbrev pub IsCreatedInTime : ℕ → Key → What → Type 0
 IsCreatedInTime receipt (Right folio right) (what.Created made) = right.receipt ≤ receipt
 IsCreatedInTime receipt key other = Unit {0}
 
--- the journal has the entry's receipt, and the entry is of its stamp day
+-- the journal has the entry's receipt, and the entry is of that receipt's stamp day
 abbrev pub IsStamped : List Receipt → Entry → Type 0
 IsStamped journal e = option_map (λ r. r.stamp.day) (receipt_at journal e.receipt) ≡ Some e.day
 

@@ -29,8 +29,8 @@ is_placed m other = false
 abbrev pub HasPlace : List Receipt → (Key → List Entry) → ℕ → ℕ → Type 0
 HasPlace journal at folio m = IsSome (own_place m (places journal at folio))
 
--- In each folio places stand in ascending order of their filings. A filing that waits there has no place but by its notice,
--- and where a later one has a place, it has one itself if it creates a right there.
+-- In each folio places stand in ascending order of their filings. A filing that waits there has no place but by its notice.
+-- Where a later filing has a place, one that waits has a place too if it creates a right there.
 pub record PlacesAscend (journal : List Receipt) (at : Key → List Entry) : Type 0 where
   pub ascend : (folio : ℕ) → AllPairs (λ p later. p.filing < later.filing) (places journal at folio)
   pub divisions : (folio : ℕ) → All (λ e. SaysDivisions journal folio e.what) (at (Title folio))
@@ -42,7 +42,7 @@ pub record PlacesAscend (journal : List Receipt) (at : Key → List Entry) : Typ
 abbrev pub NamesEarlier : ℕ → Act → Type 0
 NamesEarlier m act = All (λ right. right.receipt < m) (rights_named act)
 
--- A filing waits at all its keys until one day, or at none, and while it waits its acts name rights of earlier filings alone.
+-- A filing waits at all its keys until one day, or at none. While it waits, its acts name rights of earlier filings alone.
 pub record PendingEverywhere (journal : List Receipt) (at : Key → List Entry) : Type 0 where
   pub everywhere : (m : ℕ) (k l : Key) → Contains (keys_of_filing journal m) k → Contains (keys_of_filing journal m) l
       → pending m (at k) ≡ pending m (at l)

@@ -1,4 +1,4 @@
--- What holds of the rights of a register that comes about: they are as they were filed, and what is exchanged or exercised may be.
+-- What holds of the rights of a register that comes about: they are as they were filed, and only what may be exchanged or exercised is.
 use Rattle.std.specs.Prelude.{◌≡◌, ℕ, ◌<◌, ◌≤◌, false, List, All, Any, count_by, IsSome, IsSomeAnd, Some, None}
 use Rattle.gb_base.specs.Limits.{most_acts}
 use Rattle.gb_base.specs.RightNo.{RightNo}
@@ -30,7 +30,7 @@ pub record IsAsFiled (folio : ℕ) (made : Created) (act : Act) : Type 0 where
 abbrev pub SetsPlace : List Receipt → ℕ → ℕ → ℕ → Entry → Type 0
 SetsPlace journal folio m receipt e = IsSomeAnd (place_by journal folio e.day e.what) (λ p. p.filing ≡ m) × (e.receipt ≤ receipt)
 
--- A right that is entered: the journal has its creating act, among the first of its folio, and its filing has its place by then.
+-- A right that is entered: the journal has its creating act, which is among the first `most_creations` of its folio, and its filing has its place by then.
 pub record IsCreatedAsFiled (journal : List Receipt) (at : Key → List Entry) (folio : ℕ) (right : RightNo) (receipt : ℕ) (made : Created) : Type 0 where
   pub filed : IsSomeAnd (act_of_right journal right) (IsAsFiled folio made)
   pub rank : IsSomeAnd (creating_rank journal right) (λ n. n ≤ most_creations)
@@ -45,8 +45,8 @@ EntersAsFiled journal at folio right receipt other = Unit {0}
 pub record CreatedAsFiled (journal : List Receipt) (at : Key → List Entry) : Type 0 where
   pub filed : (folio : ℕ) (right : RightNo) → All (λ e. EntersAsFiled journal at folio right e.receipt e.what) (at (Right folio right))
 
--- A right that is entered stands at the place of its filing: by the day of that place, behind what stands there ahead of it
--- (GBO § 45(2)), and beside another right where its filing has one of its group.
+-- A right that is entered stands at the place of its filing. It has the day of that place, stands behind what the places say
+-- (GBO § 45(2)), and shares its group where its filing has another right of that group.
 pub record StandsAtItsPlace (journal : List Receipt) (standing : List TitlePlace) (right : RightNo) (made : Created) : Type 0 where
   pub on_day : IsSomeAnd (own_place right.receipt standing) (λ p. p.day ≡ made.placed)
   pub stands_behind : behind (is_in_division_three made.spec.kind) right.receipt standing ≡ made.behind
@@ -76,8 +76,8 @@ abbrev pub StandsAhead : (Key → List Entry) → ℕ → RightNo → RightNo �
 StandsAhead at folio right by =
     IsSomeAnd (created (at (Right folio by))) (λ made. made.ahead_of ≡ Some right) × (right.receipt < by.receipt)
 
--- a content at a right exchanges plain rights alone, by one of the acts that a filing has, and uses a reservation that the
--- right has
+-- A content at a right exchanges plain rights alone, by an act whose number a filing may have, and exercises only a
+-- reservation that the right has.
 abbrev pub ActsOnItsKind : List Receipt → (Key → List Entry) → ℕ → RightNo → What → Type 0
 ActsOnItsKind journal at folio right (what.Exchanged recede rise act) =
     StandsPlain journal at folio recede × StandsPlain journal at folio rise × (1 ≤ act) × (act ≤ most_acts)
@@ -85,7 +85,7 @@ ActsOnItsKind journal at folio right (what.Exercised by) =
     IsSomeAnd (created (at (Right folio right))) (λ made. IsSome made.reserve) × StandsAhead at folio right by
 ActsOnItsKind journal at folio right other = Unit {0}
 
--- Plain rights alone are exchanged (BGB § 880), and a reservation is used at most once, by a right of a later filing (BGB § 881).
+-- Plain rights alone are exchanged (BGB § 880). A reservation is exercised at most once, by a right of a later filing (BGB § 881).
 pub record ExchangedArePlain (journal : List Receipt) (at : Key → List Entry) : Type 0 where
   pub kinds : (folio : ℕ) (right : RightNo) → All (λ e. ActsOnItsKind journal at folio right e.what) (at (Right folio right))
   pub once : (folio : ℕ) (right : RightNo) → count_by (λ e. is_exercise e.what) (at (Right folio right)) ≤ 1

@@ -15,7 +15,7 @@ pub record Ranked : Type 0 where
   pub group : ℕ
   pub third : Bool
 
--- the same of a right as it was created
+-- what the rank of a right is read by, of a right as it was created
 abbrev pub ranked : RightNo → Created → Ranked
 ranked right made = record { filing = right.receipt; group = made.spec.group; third = is_in_division_three made.spec.kind }
 
@@ -28,7 +28,7 @@ same_division false third = not third
 abbrev pub is_placed_ahead : List TitlePlace → ℕ → ℕ → Bool
 is_placed_ahead standing m n = list_any (λ p. p.filing == m) (before_first (λ p. p.filing == n) standing)
 
--- both filings have places, of which this holds
+-- both filings have places, and the test holds of the two
 abbrev pub places_are : (TitlePlace → TitlePlace → Bool) → List TitlePlace → ℕ → ℕ → Bool
 places_are test standing m n = option_map_or (λ p. option_map_or (test p) (own_place n standing) false) (own_place m standing) false
 
@@ -44,14 +44,14 @@ are_of_one_day standing m n = places_are (λ p q. p.day == q.day) standing m n
 abbrev pub is_behind : List TitlePlace → ℕ → Ranked → Bool
 is_behind standing m x = option_map_or (λ n. nat_le m n) (behind x.third x.filing standing) false
 
--- Right x stands ahead of right y. Within one filing the smaller group does, in one division the earlier place, else the
--- earlier day; on one day x does where y stands behind its filing, or behind a later one.
+-- Right x stands ahead of right y. Within one filing the smaller group is ahead, in one division the earlier place, else the
+-- earlier day. On one day x is ahead where y stands behind x's filing, or behind a later one.
 abbrev pub is_ahead : List TitlePlace → Ranked → Ranked → Bool
 is_ahead standing x y =
     if x.filing == y.filing then nat_lt x.group y.group
     else (if same_division x.third y.third then is_placed_ahead standing x.filing y.filing
     else is_of_earlier_day standing x.filing y.filing || (are_of_one_day standing x.filing y.filing && is_behind standing x.filing y))
 
--- the order of filing and group
+-- right x is ahead of right y in the order of filing and group
 abbrev pub is_filed_ahead : Ranked → Ranked → Bool
 is_filed_ahead x y = nat_lt x.filing y.filing || (x.filing == y.filing && nat_lt x.group y.group)

@@ -35,7 +35,7 @@ pub fn place_days()
 
 /// In every kept register a right as it was entered (its day, what it stands behind, and whether it
 /// shares its group) is as the places at the title and the journal have it. So what an extract
-/// prints of it and what its rank is read from say the same.
+/// prints of a right agrees with what its rank is read from.
 pub fn rights_stand_at_their_places()
     ensures in_place { (journal : List Receipt) (at : Key → List Entry) (folio : ℕ) (right : RightNo) (made : Created) → Kept journal at
         → created (at (Right folio right)) ≡ Some made → StandsAtItsPlace journal (places journal at folio) right made }
