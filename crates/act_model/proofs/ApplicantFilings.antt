@@ -31,7 +31,7 @@ pub nothing : (b : Bool) → false ≡ (b && false)
 nothing true = refl
 nothing false = refl
 
--- one receipt more ahead, which is the one, or not
+-- one number more at the front, which is the one that is asked for, or not
 with_one : (k n : ℕ) (b e : Bool) (ns : List ℕ) → eqb k n ≡ e → list_any (λ j. eqb j n) (cons_option (cond b (Some k) None) ns) ≡ ((b && e) || list_any (λ j. eqb j n) ns)
 with_one k n true e ns is = ap (λ c. c || list_any (λ j. eqb j n) ns) is
 with_one k n false e ns is = refl

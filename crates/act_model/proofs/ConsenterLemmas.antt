@@ -26,11 +26,11 @@ and_true : (b : Bool) → (b && true) ≡ b
 and_true true = refl
 and_true false = refl
 
--- a consent is one to its act
+-- a consent is a consent to its own act
 pub consents : (d : Doc) (act p : ℕ) (given : Form) → d ≡ doc.Consent act p given → eqb act act ≡ true → is_consent_to act d ≡ true
 consents d act p given is itself = ap (is_consent_to act) is ∙ and_true (eqb act act) ∙ itself
 
--- who consents is listed behind the others, where that is wanted
+-- who consents is listed after the others, where that is wanted
 pub listed_behind : {Z : Type 0} (lists : BTreeMap (ℕ × ℕ) (Vec Consenter Z)) (n filing act p : ℕ) (given : Form) (d : Doc) (wanted : Bool) (before : ℕ → ℕ → List Consenter) → d ≡ doc.Consent act p given → wanted ≡ true
     → ((q : ℕ × ℕ) → listed pair_cmp lists q ≡ cond (is_eq (pair_cmp (filing, act) q)) (before filing act ++ record { person = p; first = n } ∷ []) (before q.0 q.1))
     → (m a : ℕ) → listed pair_cmp lists (m, a) ≡ before m a ++ consenter_of n filing d wanted m a
@@ -46,7 +46,7 @@ listed_behind lists n filing act p given d wanted before is comes wrote m a =
         λ i. before (eqb-true filing m same.0 i) (eqb-true act a same.1 i) ++ record { person = p; first = n } ∷ []
     either false e = sym (append-nil _)
 
--- and takes room for one
+-- the one who is listed takes room for one
 pub room_taken : (old new : ℕ → ℕ → ℕ) (filing act p : ℕ) (given : Form) (d : Doc) → d ≡ doc.Consent act p given → eqb filing filing ≡ true
     → ((q : ℕ × ℕ) → old q.0 q.1 ≤ new q.0 q.1 + cond (is_eq (pair_cmp (filing, act) q)) 1 0)
     → (a : ℕ) → old filing a ≤ new filing a + cond (is_consent_to a d) 1 0
@@ -54,7 +54,7 @@ room_taken old new filing act p given d is itself took a =
     subst (λ b. old filing a ≤ new filing a + cond b 1 0)
     (is_at-pair filing act filing a ∙ ap (λ b. b && eqb act a) itself ∙ sym (and_true (eqb act a)) ∙ ap (is_consent_to a) (sym is)) (took (filing, a))
 
--- ---- they agree with what is known
+-- ---- those who are listed agree with what is known
 
 rises_behind : (from n p : ℕ) (cs : List Consenter) → from ≤ n → Rises from n cs → Rises from n (cs ++ record { person = p; first = n } ∷ [])
 rises_behind from n p [] le up = (le, (omega arith, tt))
@@ -64,7 +64,7 @@ pub rises_later : (from n last : ℕ) (cs : List Consenter) → n ≤ last → R
 rises_later from n last [] le up = tt
 rises_later from n last (c ∷ cs) le up = let within = up.1.0 in (up.0, (omega arith, rises_later c.first n last cs le up.1.1))
 
--- whether a number is known, and this one
+-- whether a number is known, and is this one
 abbrev pub is_known : ℕ → Option ℕ → Bool
 is_known k o = option_map_or (λ f. eqb f k) o false
 
@@ -72,7 +72,7 @@ none_comes : (k : ℕ) (known : Option ℕ) → (is_known k known || false) ≡ 
 none_comes k None = refl
 none_comes k (Some x) = or_false (eqb x k)
 
--- the person who comes where no first cure was known
+-- the person who is added where no first cure was known
 comes_first : (n k p q : ℕ) (known : Option ℕ) → eqb q p ≡ true
     → (is_known k known || list_any (is_consenter p k) (cond (is_none known) (record { person = q; first = n } ∷ []) [])) ≡ is_known k (option_or known (Some n))
 comes_first n k p q None e = ap (λ b. (b && eqb n k) || false) e ∙ or_false (eqb n k)
@@ -84,7 +84,7 @@ other_comes : (n k p q : ℕ) (b : Bool) (known : Option ℕ) → eqb q p ≡ fa
 other_comes n k p q true known e = ap (λ b. is_known k known || ((b && eqb n k) || false)) e ∙ none_comes k known
 other_comes n k p q false known e = none_comes k known
 
--- what is known of a person with one document more, and who is listed
+-- with one document more, what is known of a person agrees with who is listed
 one_comes : (n k p q : ℕ) (t u v : Bool) (o known : Option ℕ) → eqb q p ≡ v → ((t && (u && v)) ≡ true → o ≡ known)
     → (is_known k known || list_any (is_consenter p k) (cond ((t && u) && is_none o) (record { person = q; first = n } ∷ []) []))
     ≡ is_known k (option_or known (cond (t && ((u && v) || false)) (Some n) None))
@@ -131,7 +131,7 @@ none_found : (n : ℕ) (t : Bool) → cond (t && (false || false)) (Some n) None
 none_found n true = refl
 none_found n false = refl
 
--- a document by which no consent is found is no certified one
+-- a document that is no consent is no certified consent
 none_certified : (n filing : ℕ) (d : Doc) (m a p : ℕ) → found_in n filing (d ∷ []) (key_of m (sought.Consent a p)) ≡ None → found_in n filing (d ∷ []) (key_of m (sought.Certified a p)) ≡ None
 none_certified n filing (doc.Consent act q form.Certified) m a p none = none
 none_certified n filing (doc.Consent act q form.Plain) m a p none = none_found n (eqb filing m)
@@ -146,7 +146,7 @@ certified_then old new n filing d m a p finds before none =
     let parts = neither (first old.firsts (key_of m (sought.Consent a p))) (found_in n filing (d ∷ []) (key_of m (sought.Consent a p))) (sym (finds (key_of m (sought.Consent a p))) ∙ none) in
     finds (key_of m (sought.Certified a p)) ∙ (λ i. option_or (before parts.0 i) (none_certified n filing d m a p parts.1 i))
 
--- one document more: who is listed, and what is found
+-- one document more: who is listed agrees with what is found
 pub agree_then : (old new : CureDocuments) (n filing : ℕ) (d : Doc) → AgreeTo n old
     → ((m a : ℕ) → consenters_to new m a ≡ consenters_to old m a ++ new_consenters n old filing d m a)
     → Finds old new (found_in n filing (d ∷ []))
@@ -163,7 +163,7 @@ agree_then old new n filing d agree listed finds = record {
 
 -- ---- walked up to a receipt
 
--- none who stands behind a later receipt is up to it
+-- of those whose consents come after a receipt, none is up to it
 later_none : (q : Consenter → Bool) (upto from last : ℕ) (cs : List Consenter) → upto < from → Rises from last cs → list_any (λ c. nat_le c.first upto && q c) cs ≡ false
 later_none q upto from last [] behind up = refl
 later_none q upto from last (c ∷ cs) behind up =

@@ -30,7 +30,7 @@ rises_earlier : (m a p b : ℕ) (rs : List RightNo) → (ltb m p || (eqb m p && 
 rises_earlier m a p b [] h up = tt
 rises_earlier m a p b (r ∷ rs) h up = (from_earlier m a p b r h up.0, up.1)
 
--- each right is from there on
+-- each right of a list that rises from an act is of that act or a later one
 rises_at : (m a : ℕ) (rs : List RightNo) (i : ℕ) (d : RightNo) → Rises m a rs → i < length rs → is_from m a (get_or rs i d) ≡ true
 rises_at m a [] i d up lt = absurd (omega arith)
 rises_at m a (r ∷ rs) zero d up lt = up.0
@@ -39,7 +39,7 @@ rises_at m a (r ∷ rs) (suc i) d up lt =
     let before = up.0 in
     grind (arith, nat_tests, behind, before)
 
--- a later one is behind an earlier one
+-- a right further on is of a later act
 rises_between : (m a : ℕ) (rs : List RightNo) (i j : ℕ) (d : RightNo) → Rises m a rs → i < j → j < length rs → is_from (get_or rs i d).receipt ((get_or rs i d).act + 1) (get_or rs j d) ≡ true
 rises_between m a [] i j d up before lt = absurd (omega arith)
 rises_between m a (r ∷ rs) i zero d up before lt = absurd (omega arith)
@@ -93,7 +93,7 @@ place_none rs right i within less greater =
     apart_greater : (x right : RightNo) → rights.ghosts.cmp x right ≡ Greater → same_right right x ≡ false
     apart_greater x right h = grind (arith, nat_tests, h)
 
--- the acts of a filing, ahead of what rises from the next receipt on
+-- what the acts of a filing create, followed by what rises from the next receipt on, rises from the filing on
 acts_rise : (n a folio : ℕ) (acts : List Act) (rest : List RightNo) → Rises (n + 1) 0 rest → Rises n a (creations_by_acts n a acts folio ++ rest)
 acts_rise n a folio [] rest up = rises_earlier n a (n + 1) 0 rest (grind (arith, nat_tests)) up
 acts_rise n a folio (act ∷ acts) rest up = first (creates_in folio act) (creations_by_acts n (a + 1) acts folio) (acts_rise n (a + 1) folio acts rest up)
@@ -145,6 +145,6 @@ receipts_few n folio (r ∷ rs) well =
     let others = receipts_few (n + 1) folio rs (All-tail (λ q. IsTrue (well_formed q.item)) r rs well) in
     grind (arith, common_steps, first, others)
 
--- they are at most eight a receipt
+-- a folio has at most eight creating acts for each receipt
 pub creations_few : (journal : List Receipt) (folio : ℕ) → All (λ r. IsTrue (well_formed r.item)) journal → length (creations_in journal folio) ≤ 8 * length journal
 creations_few journal folio well = receipts_few 1 folio journal well

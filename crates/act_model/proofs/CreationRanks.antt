@@ -42,7 +42,7 @@ or_left : (b c : Bool) → b ≡ true → (b || c) ≡ true
 or_left true c h = refl
 or_left false c h = absurd (false≢true h)
 
--- what the acts of filing n create in the folio has the right of each that creates there
+-- what the acts of filing n create in the folio has the right of each act that creates there
 acts_have : (folio n a : ℕ) (acts : List Act) (i : ℕ) (act : Act) (right : RightNo) → slice_get acts i ≡ Some act → creates_in folio act ≡ true → same_right right (new_right n (a + i)) ≡ true → list_any (same_right right) (creations_by_acts n a acts folio) ≡ true
 acts_have folio n a [] i act right at creates same = absurd (cc at)
 acts_have folio n a (x ∷ xs) zero act right at creates same =

@@ -32,7 +32,7 @@ booleans = decided booleans_Decides
 pub lists : {X : Type 0} {E : X → X → Bool} → Exact E → Exact (pointwise E)
 lists {E = E} e = decided (λ xs ys. slice_eq-Decides (exact_decides e) xs ys (pointwise E xs ys) refl)
 
--- where different values have different parts, and these are compared
+-- a test of parts, where different values have different parts
 pub parts : {X Y : Type 0} {E : Y → Y → Bool} (f : X → Y) → ((x y : X) → f x ≡ f y → x ≡ y) → Exact E → Exact (λ x y. E (f x) (f y))
 parts f apart e = record { same = λ x y h. apart x y (e.same (f x) (f y) h); itself = λ x. e.itself (f x) }
 

@@ -1,4 +1,4 @@
--- The keys of what is looked for: which of them are one, and what a document is looked for as.
+-- The keys of what is looked for: when two of them are equal, and what a document is looked for as.
 use Rattle.std.proofs.Common.{◌≡◌, ℕ, Bool, true, false, cond, eqb, ◌&&◌, ◌||◌, [], ◌∷◌, Option, Some, None, refl, sym, ap, ◌∙◌}
 use Rattle.std.specs.BTreeMap.{BTreeMap}
 use Rattle.std.specs.Option.{option_map_or, option_or}
@@ -27,7 +27,7 @@ sought_exact = enum_exact kind.enum _ (pair numbers (one numbers), (pair numbers
 keys_exact : Exact keys.ghosts.eq
 keys_exact = parts (λ k. (k.filing, k.sought)) (λ a b e i. record { filing = (e i).0; sought = (e i).1 }) (pair numbers sought_exact)
 
--- keys that are not told apart are of the same filing and of the same that is looked for
+-- keys that compare as equal are of one filing, and ask for one thing
 pub tied : (m : ℕ) (s : Sought) (q : DocumentOf) → is_eq (document_cmp (key_of m s) q) ≡ (eqb m q.filing && same_sought s q.sought)
 unfolding document_cmp
 tied m s q = sym (order.matches_eq-law (key_of m s) q)
@@ -83,7 +83,7 @@ or_twice n (Some x) a b = refl
 abbrev placed : ℕ → DocumentOf → DocumentOf → Option ℕ
 placed n k q = cond (is_eq (document_cmp k q)) (Some n) None
 
--- what is written at a key comes where nothing was
+-- what is written at a key stands there only where nothing stood
 pub comes : (old new : BTreeMap DocumentOf (Option ℕ)) (k : DocumentOf) (n : ℕ)
     → ((q : DocumentOf) → first new q ≡ cond (is_eq (document_cmp k q)) (option_or (first old k) (Some n)) (first old q))
     → (q : DocumentOf) → first new q ≡ option_or (first old q) (placed n k q)
@@ -97,7 +97,7 @@ both_of : (t a b : Bool) → ((t && a) || (t && b)) ≡ (t && ((a || b) || false
 both_of true a b = sym (or_false (a || b))
 both_of false a b = refl
 
--- so one document is found by its key, and by that of its form
+-- a document that is no certified consent is found by its one key
 found_plain : (n m : ℕ) (d : Doc) (k : DocumentOf) (o : Option ℕ) → certified_as d ≡ None → option_or o (placed n (key_of m (sought_as d)) k) ≡ option_or o (found_in n m (d ∷ []) k)
 found_plain n m d k o none =
     let met : (same_sought (sought_as d) k.sought || false) ≡ is_sought k.sought d = subst_none in

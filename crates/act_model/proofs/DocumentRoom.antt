@@ -21,7 +21,7 @@ use Rattle.act_model.specs.inner.Index.{pair_cmp}
 use Rattle.act_model.specs.inner.Lists.{room, Widens}
 use Rattle.act_model.proofs.DocumentKeys.{met_as, same_sought, tied}
 
--- a list of one and others
+-- a list is its first element and the others
 pub whole : {X : Type 0} (xs : List X) (d : X) → 0 < length xs → d ≡ get_or xs 0 d → xs ≡ d ∷ take (length xs - 1) (drop 1 xs)
 whole [] d some is = absurd (omega arith)
 whole (x ∷ xs) d some is =
@@ -31,7 +31,7 @@ whole (x ∷ xs) d some is =
 pub eqb-itself : (n : ℕ) → eqb n n ≡ true
 eqb-itself n = grind (arith, nat_tests)
 
--- what finds a document has a place, where its keys have
+-- each way to look for a document has a place, where the document's keys have places
 places_made : (held : DocumentOf → Bool) (m : ℕ) (d : Doc) (s : Sought)
     → ((q : DocumentOf) → IsTrue (is_eq (document_cmp (key_of m (sought_as d)) q)) → IsTrue (held q))
     → ((c : Sought) → certified_as d ≡ Some c → (q : DocumentOf) → IsTrue (is_eq (document_cmp (key_of m c) q)) → IsTrue (held q))
@@ -66,7 +66,7 @@ few a (d ∷ docs) = elim (is_consent_to a d) as (λ b. length (cond b (d ∷ fi
   | false ↦ let rest = few a docs in omega arith
 ]
 
--- room in lists for who consents in a document and in those behind it
+-- room in lists for who consents in a document and in those after it
 room_for_consents : {Z : Type 0} (before after : BTreeMap (ℕ × ℕ) (Vec Consenter Z)) (m : ℕ) (d : Doc) (docs rest : List Doc) → docs ≡ d ∷ rest → HasRoomForConsents before m rest → Widens pair_cmp before after
     → ((a : ℕ) → IsTrue (is_consent_to a d) → length docs ≤ room pair_cmp after (m, a))
     → HasRoomForConsents after m (d ∷ rest)
@@ -80,7 +80,7 @@ room_for_consents before after m d docs rest is behind wider people a = by_test 
         omega arith
     by_test false e = le_trans (behind a) (wider.room (m, a))
 
--- room for a document and those behind it
+-- room for a document and those after it
 pub room_for_all : (before after : CureDocuments) (m : ℕ) (d : Doc) (docs rest : List Doc) → docs ≡ d ∷ rest → HasRoomForDocs before m rest → KeepsDocuments before after
     → ((s : Sought) → IsTrue (is_sought s d) → IsTrue (is_held after.firsts (key_of m s)))
     → ((a : ℕ) → IsTrue (is_consent_to a d) → length docs ≤ room pair_cmp after.consenters (m, a))
@@ -100,7 +100,7 @@ room_for_one lists m d rest has a = by_test (is_consent_to a d) (has a)
     by_test true e = omega arith
     by_test false e = omega arith
 
--- room for one of several
+-- room for several documents is room for the first of them
 pub room_for_first : (documents : CureDocuments) (m : ℕ) (d : Doc) (docs rest : List Doc) → docs ≡ d ∷ rest → HasRoomForDocs documents m docs → HasRoomForDocs documents m (d ∷ [])
 room_for_first documents m d docs rest is has =
     let all : HasRoomForDocs documents m (d ∷ rest) = subst (HasRoomForDocs documents m) is has in
@@ -125,7 +125,7 @@ widens_then cmp a b c first then = record {
   room = λ k. le_trans (first.room k) (then.room k);
 }
 
--- what is kept twice
+-- what is kept in two steps is kept in both together
 pub keeps_then : (a b c : CureDocuments) → KeepsDocuments a b → KeepsDocuments b c → KeepsDocuments a c
 keeps_then a b c first then = record {
   first = λ k. then.first k ∙ first.first k;

@@ -29,14 +29,14 @@ use Rattle.act_model.proofs.DocumentRoom.{eqb-itself}
 
 -- ---- documents of one act
 
--- one document more, of which the filing has the act where it passes
+-- one document more: it counts where it passes and the filing has its act
 one_more : (p : Doc → Bool) (d : Doc) (docs : List Doc) (t b passes rest : Bool) → p d ≡ passes → (passes ≡ true → t ≡ b) → list_any p docs ≡ (b && rest) → list_any p (cond t (d ∷ docs) docs) ≡ (b && (passes || rest))
 one_more p d docs true b true rest is same so_far = ap (λ x. x || list_any p docs) is ∙ ap (λ c. c && true) (same refl)
 one_more p d docs true b false rest is same so_far = ap (λ x. x || list_any p docs) is ∙ so_far
 one_more p d docs false b true rest is same so_far = so_far ∙ ap (λ c. c && rest) (sym (same refl)) ∙ ap (λ c. c && true) (same refl)
 one_more p d docs false b false rest is same so_far = so_far
 
--- those of one act count where the filing has it
+-- documents of one act count where the filing has this act
 of_one_act : (p : Doc → Bool) (a acts : ℕ) → ((d : Doc) → p d ≡ true → act_of_doc d ≡ a) → (docs : List Doc)
     → list_any p (filter (λ d. is_between 1 acts (act_of_doc d)) docs) ≡ (is_between 1 acts a && list_any p docs)
 of_one_act p a acts same [] = nothing (is_between 1 acts a)
@@ -74,7 +74,7 @@ with_cure p i k ns false none rest = rest
 not_up_to : (k i : ℕ) → nat_le k i ≡ false → i < k
 not_up_to k i e = grind (arith, nat_tests, e)
 
--- cures ascend, so one up to a receipt passes where the first that passes is up to it
+-- cures ascend, so one up to a receipt passes just where the first that passes is up to that receipt
 first_up_to : (p : ℕ → Bool) (i m k : ℕ) (rs : List Receipt)
     → list_any (λ n. nat_le n i && p n) (filter_map (cure_of m) (enumerate_from k rs)) ≡ option_map_or (λ n. nat_le n i) (find p (filter_map (cure_of m) (enumerate_from k rs))) false
 first_up_to p i m k [] = refl
@@ -113,7 +113,7 @@ act_is (sought.Proof a) (doc.Agreement b) h = absurd (false≢true h)
 act_is (sought.Proof a) (doc.TaxClearance b) h = absurd (false≢true h)
 act_is (sought.Proof a) (doc.ExpiryProof b) h = eqb-true b a h
 
--- whether a document counts that is looked for so
+-- whether a document that is looked for so counts for the filing
 pub has_sought : (matter : Matter) (s : Sought) → list_any (is_sought s) (docs_of matter)
     ≡ (is_between 1 (length matter.filing.now.acts) (act_sought s) && (list_any (is_sought s) matter.filing.now.docs || option_map_or (λ n. nat_le n matter.item) (first_cure matter.journal.now.receipts matter.number s) false))
 has_sought matter s =
@@ -127,7 +127,7 @@ any_weaker f g [] weaker h = h
 any_weaker f g (x ∷ xs) weaker h =
     ⊎_elim (λ here. or_left (g x) (list_any g xs) (weaker x here)) (λ later. or_right (g x) (list_any g xs) (any_weaker f g xs weaker later)) (or_cases (f x) (list_any f xs) h)
 
--- one who passes, as somebody who is listed
+-- where one passes, somebody who is listed passes
 listed_passes : (B : Type 0) (f : Consenter → Bool) (cs : List Consenter) → ((c : Consenter) → list_any (is_consenter c.person c.first) cs ≡ true → f c ≡ true → B) → list_any f cs ≡ true → B
 listed_passes B f [] then h = absurd (false≢true h)
 listed_passes B f (c ∷ cs) then h =
@@ -136,7 +136,7 @@ listed_passes B f (c ∷ cs) then h =
     (λ later. listed_passes B f cs (λ e listed passes. then e (or_right (is_consenter e.person e.first c) _ listed) passes) later)
     (or_cases (f c) (list_any f cs) h)
 
--- one who passes, as somebody who consents
+-- where a consent by somebody who passes stands among documents, there is a person who passes and consents there
 pub somebody_consents : (B : Type 0) (a : ℕ) (q : ℕ → Bool) (docs : List Doc) → ((p : ℕ) → q p ≡ true → list_any (is_consent_of a p) docs ≡ true → B) → list_any (is_consent_by a q) docs ≡ true → B
 somebody_consents B a q [] then h = absurd (false≢true h)
 somebody_consents B a q (doc.Consent act p given ∷ docs) then h =
@@ -207,7 +207,7 @@ consent_act a q (doc.Agreement b) h = absurd (false≢true h)
 consent_act a q (doc.TaxClearance b) h = absurd (false≢true h)
 consent_act a q (doc.ExpiryProof b) h = absurd (false≢true h)
 
--- whether somebody consents who passes
+-- whether somebody who passes consents
 pub has_consenter : (matter : Matter) (documents : CureDocuments) (a : ℕ) (q : ℕ → Bool) → AreDocumentsOf documents matter.journal.now.receipts
     → list_any (is_consent_by a q) (docs_of matter)
     ≡ consents_with matter a q (consenters_to documents matter.number a)
@@ -216,7 +216,7 @@ has_consenter matter documents a q are =
     ∙ ap (λ b. is_between 1 (length matter.filing.now.acts) a && (list_any (is_consent_by a q) matter.filing.now.docs || b))
     (sym (consent_in_cures documents matter.journal.now.receipts matter.number matter.item a q are))
 
--- ---- what the code asks, one after the other
+-- ---- what the code asks, one question after another
 
 pub found_own : (x b o k r : Bool) → x ≡ (b && (o || k)) → b ≡ true → r ≡ o → r ≡ true → r ≡ x
 found_own x b o k r is act own found = found ∙ (λ i. sym act i && ((sym found ∙ own) i || k)) ∙ sym is

@@ -27,7 +27,7 @@ get_last : {X : Type 0} (xs : List X) (x : X) → slice_get (xs ++ x ∷ []) (le
 get_last [] x = refl
 get_last (y ∷ ys) x = get_last ys x
 
--- the receipts before stay
+-- the receipts that stood stay as they are
 receipt_before : (journal : List Receipt) (r : Receipt) (n : ℕ) → n ≤ length journal → receipt_at (journal ++ r ∷ []) n ≡ receipt_at journal n
 receipt_before journal r n within = either (eqb n 0) refl
   where
@@ -41,7 +41,7 @@ receipt_last journal r n at =
     let last : n - 1 ≡ length journal = omega arith in
     ap (λ b. cond b None (slice_get (journal ++ r ∷ []) (n - 1))) some ∙ ap (slice_get (journal ++ r ∷ [])) last ∙ get_last journal r
 
--- a search among cures of receipts that two tests answer alike
+-- where two tests answer alike for some receipts, a search among the cures there finds the same one
 same_option : (p q : ℕ → Bool) (b : Bool) (k : ℕ) (ns : List ℕ) → p k ≡ q k → find p ns ≡ find q ns → find p (cons_option (cond b (Some k) None) ns) ≡ find q (cons_option (cond b (Some k) None) ns)
 same_option p q true k ns same rest = λ i. cond (same i) (Some k) (rest i)
 same_option p q false k ns same rest = rest

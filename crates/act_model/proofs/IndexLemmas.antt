@@ -24,7 +24,7 @@ use Rattle.act_model.proofs.ConsenterLemmas.{is_known, rises_later}
 use Rattle.act_model.proofs.FirstCures.{first_cure-push}
 use Rattle.act_model.proofs.ItemIndexLemmas.{creations_in-push, cures_of-push, filings_of-push}
 
--- who is known stays in the order of receipts behind one receipt more
+-- those who are known stay in the order of receipts after one receipt more
 pub agree_later : (documents : CureDocuments) (n last : ℕ) → n ≤ last → AgreeTo n documents → AgreeTo last documents
 agree_later documents n last le agree = record {
   known = agree.known;
@@ -51,7 +51,7 @@ AreIndexesOf-push old new journal after r n same at count are more_cures more_cr
       documents = documents;
     })
 
--- wider lists are the same indexes, and keep the room that there was
+-- wider lists say what the indexes said, and keep the room that there was
 agree_kept : (old new : CureDocuments) (n : ℕ) → KeepsDocuments old new → AgreeTo n old → AgreeTo n new
 agree_kept old new n keeps agree = record {
   known = λ m a p k. ap (list_any (is_consenter p k)) (keeps.consenters.listed (m, a)) ∙ agree.known m a p k ∙ ap (is_known k) (sym (keeps.first (key_of m (sought.Consent a p))));
@@ -119,7 +119,7 @@ all_indexed numbers n journal at is = record {
   nearly_all = omega arith;
 }
 
--- with each receipt indexed and more room a journal stands as before, and is ready for what it was ready for
+-- once each receipt is indexed and there is more room, a journal stands as before, and is ready for what it was ready for
 pub still_ready : (old new : ItemIndexes) (numbers : BTreeMap (ℕ × ℕ) ℕ) (indexed n : ℕ) (before after : List Receipt) (ready : Option Item) (count capacity same_count wider : ℕ)
     → IsJournal before → AreIndexesOf old before → IsReady ready old indexed count capacity → Widen old new → after ≡ before → IsIndexOf numbers before → n ≡ length before → n ≡ count → same_count ≡ count → capacity ≤ wider
     → IsJournal after × IsIndexed numbers n after × AreIndexesOf new after × IsReady ready new n same_count wider

@@ -13,7 +13,7 @@ use Rattle.act_model.specs.Cures.{cure_of, cures, cures_of}
 use Rattle.act_model.specs.Filings.{filing_of, filings_of, is_filed_by}
 use Rattle.act_model.specs.inner.ItemIndexes.{creations_by_acts, cures_by, filings_by}
 
--- no more acts create than there are
+-- no more rights are created than there are acts
 pub creations_by_acts-few : (n a k : ℕ) (acts : List Act) → length (creations_by_acts n a acts k) ≤ length acts
 creations_by_acts-few n a k [] = omega arith
 creations_by_acts-few n a k (act ∷ acts) = grind (arith, creations_by_acts-few n (a + 1) k acts)
@@ -22,7 +22,7 @@ creations_by_acts-few n a k (act ∷ acts) = grind (arith, creations_by_acts-few
 creations_by_acts-elsewhere : (n a k : ℕ) (act : Act) (acts : List Act) → eqb (folio_of act) k ≡ false → creations_by_acts n a (act ∷ acts) k ≡ creations_by_acts n (a + 1) acts k
 creations_by_acts-elsewhere n a k act acts h = grind (arith, h)
 
--- room for what all acts create, where there is room for what those behind the first create, and for as many values as there are acts in the first one's folio
+-- there is room for what all acts create, where there is room for what those after the first create, and in the first one's folio for as many values as there are acts
 pub room_with_first : (n a k : ℕ) (acts : List Act) (act : Act) (before after : ℕ → ℕ) (folio : ℕ) → 0 < length acts → act ≡ get_or acts 0 act → folio ≡ folio_of act → length acts ≤ after folio → length (creations_by_acts n (a + 1) (take (length acts - 1) (drop 1 acts)) k) ≤ before k → before k ≤ after k → length (creations_by_acts n a acts k) ≤ after k
 room_with_first n a k [] act before after folio some is here kept rest wider = absurd (omega arith)
 room_with_first n a k (first ∷ acts) act before after folio some is here kept rest wider =

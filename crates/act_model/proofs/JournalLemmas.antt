@@ -39,7 +39,7 @@ number_from-other n s f (q ∷ rs) r h = ap (λ o. cond (is_sent_as s f q) (Some
 pub is_at-pair : (a b c d : ℕ) → is_eq (ordering_then (nat_cmp a c) (nat_cmp b d)) ≡ (eqb a c && eqb b d)
 is_at-pair a b c d = grind (arith, nat_tests)
 
--- the index after one more receipt, of a sender and reference that it had not
+-- the index after one more receipt, whose sender and reference it did not have
 IsIndexOf-push : (old new : BTreeMap (ℕ × ℕ) ℕ) (journal : List Receipt) (r : Receipt) → number_of r.sender r.reference journal ≡ None → IsIndexOf old journal → Updates pair_cmp old new (r.sender, r.reference) (Some (length journal + 1)) → IsIndexOf new (journal ++ r ∷ [])
 IsIndexOf-push old new journal r none index updates sender reference =
     let there = updates.0 (sender, reference) in
@@ -62,7 +62,7 @@ not_before_behind : (stamp q : DayMinute) (last : Receipt) → is_before last.st
 not_before_behind stamp q last h =
     cond_both (is_before stamp last.stamp) last.stamp stamp (λ t. is_before t q ≡ false) (λ e. h) (λ e. grind (arith, nat_tests))
 
--- the stamp of a new receipt is before none that stands
+-- the stamp of a new receipt is not before any that stands
 pub stamp_after-last : (journal : List Receipt) (stamp : DayMinute) → AllPairs (λ r s. is_before s.stamp r.stamp ≡ false) journal → (k : ℕ) (d : Receipt) → k < length journal → is_before (stamp_after journal stamp) (get_or journal k d).stamp ≡ false
 stamp_after-last journal stamp stamps k d h =
     let last = get_or journal (length journal - 1) d in
@@ -75,7 +75,7 @@ stamp_after-last journal stamp stamps k d h =
 pub sent_both_ways : (a b c d : ℕ) → (eqb a c && eqb b d) ≡ (eqb c a && eqb d b)
 sent_both_ways a b c d = grind (arith, nat_tests)
 
--- a journal after one more receipt, of a sender and reference that it had not, stamped before none that stands
+-- a journal after one more receipt, whose sender and reference it did not have, and which is not stamped before any that stands
 pub IsJournal-push : (journal : List Receipt) (r : Receipt) → IsJournal journal → length journal < 200000 → IsTrue (well_formed r.item) → number_of r.sender r.reference journal ≡ None → ((k : ℕ) (d : Receipt) → k < length journal → is_before r.stamp (get_or journal k d).stamp ≡ false) → IsJournal (journal ++ r ∷ [])
 IsJournal-push journal r j few well none later = record {
   few = grind (arith, common_steps);
@@ -84,7 +84,7 @@ IsJournal-push journal r j few well none later = record {
   stamps = all_pairs_push (λ p q. is_before q.stamp p.stamp ≡ false) journal r j.stamps later;
 }
 
--- both together, where the index has all receipts but the new one
+-- the journal and its index after one more receipt, where the index has all receipts but the new one
 pub Journal-push : (journal after : List Receipt) (r : Receipt) (numbers : BTreeMap (ℕ × ℕ) ℕ) (indexed : ℕ) → after ≡ journal ++ r ∷ [] → IsJournal journal → IsIndexed numbers indexed journal → indexed ≡ length journal → length journal < 200000 → IsTrue (well_formed r.item) → number_of r.sender r.reference journal ≡ None → ((k : ℕ) (d : Receipt) → k < length journal → is_before r.stamp (get_or journal k d).stamp ≡ false) → IsJournal after × IsIndexed numbers indexed after
 Journal-push journal after r numbers indexed same j index all few well none later =
     let first : take indexed (journal ++ r ∷ []) ≡ take indexed journal =
@@ -145,7 +145,7 @@ last_from n s f (r ∷ rs) (suc k) (suc i) e le none =
     ∙ last_from (n + 1) s f rs k i (omega arith) (omega arith) c.1
     ∙ ap (λ m. number_from m s f (drop k rs)) (omega arith)
 
--- where these are all receipts but one at most, a number not found among them can only be the last one's
+-- where the first i are all receipts but one at most, a number that is not found among them can only be the last one's
 pub found_waiting : (sender reference : ℕ) (journal : List Receipt) (i : ℕ) → length journal ≤ i + 1 → number_of sender reference (take i journal) ≡ None → number_from (length journal) sender reference (drop (length journal - 1) journal) ≡ number_of sender reference journal
 found_waiting s f [] i le none = refl
 found_waiting s f (r ∷ rs) i le none =

@@ -23,7 +23,7 @@ ge_not_lt Less h = absurd (false≢true h)
 ge_not_lt Equal h = refl
 ge_not_lt Greater h = refl
 
--- a key behind the first one
+-- a key that is put in after the first one
 pub insert_key-first : (keys : List Key) (k j : Key) (i : ℕ) → 0 < length keys → j ≡ get_or keys 0 j → is_ge (key_cmp k j) ≡ true → insert (take (length keys - 1) (drop 1 keys)) i k ≡ insert_key k (take (length keys - 1) (drop 1 keys)) → insert keys (i + 1) k ≡ insert_key k keys
 insert_key-first [] k j i within first ge place = absurd (omega arith)
 insert_key-first (x ∷ xs) k j i within first ge place =
@@ -56,7 +56,7 @@ pub with_keys-append : (ks ls js : List Key) → with_keys (ks ++ ls) js ≡ wit
 with_keys-append [] ls js = refl
 with_keys-append (k ∷ ks) ls js = with_keys-append ks ls (with_key k js)
 
--- how many of the folios have their title among the keys
+-- how many of these folios have their title among the keys
 abbrev present : List ℕ → List Key → ℕ
 present [] js = 0
 present (f ∷ fs) js = cond (list_any (λ j. same_key j (Title f)) js) 1 0 + present fs js
@@ -69,7 +69,7 @@ present-le (f ∷ fs) js =
       | false ↦ omega (arith, present-le fs js)
     ]
 
--- a test that may become true
+-- one element is counted as a test says, which may only become true; the count of the others may only grow
 abbrev rises : Bool → Bool → ℕ → ℕ → Type 0
 rises a b m n = cond b 1 0 + m ≤ cond (a || b) 1 0 + n
 
@@ -107,7 +107,7 @@ present-new (f ∷ fs) k js is_title new =
     omega (arith, or_rises (same_key k (Title f)) (list_any (λ j. same_key j (Title f)) js) (present fs js + 1) (present fs (insert_key k js)) later))
     (cases_Bool (same_key k (Title f))))
 
--- as many keys as titles of these folios and r others
+-- no more keys than the titles of these folios that are among them, and r others
 abbrev Fits : List ℕ → ℕ → List Key → Type 0
 Fits fs r js = length js ≤ present fs js + r
 
@@ -138,7 +138,7 @@ length-once (n ∷ ns) =
       | false ↦ omega (arith, length-once ns)
     ]
 
--- the title of a folio that stands among these
+-- the key is the title of one of these folios
 abbrev is_title_of : List ℕ → Key → Bool
 is_title_of fs k = list_any (λ f. same_key k (Title f)) fs
 

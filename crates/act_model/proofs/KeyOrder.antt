@@ -147,7 +147,7 @@ contain_same ks js same q =
     let here = has_decides q js in
     (λ c. here.0 (sym (same q) ∙ there.1 c), λ c. there.0 (same q ∙ here.1 c))
 
--- they are the keys that were put there
+-- the keys that stand there are those that were put there
 pub with_keys_members : (ks : List Key) (q : Key) → (Contains (with_keys ks []) q → Contains ks q) × (Contains ks q → Contains (with_keys ks []) q)
 with_keys_members ks = contain_same (with_keys ks []) ks (λ q. has_with_keys q ks [] ∙ or_false (has q ks))
 
@@ -265,12 +265,12 @@ placed_in_order ks =
     one_list (with_keys ks []) (in_key_order ks) (sorted_with_keys ks [] sorted_none) (in_key_order_sorted ks)
     (λ q. let ours = with_keys_members ks q in let theirs = in_key_order_members ks q in (λ c. theirs.1 (ours.0 c), λ c. ours.1 (theirs.0 c)))
 
--- so are those of a filing
+-- the keys of a filing that are put in their places are those in key order
 pub filing_in_order : (journal : List Receipt) (m : ℕ) (f : Filing) (js : List Key) → filing_at journal m ≡ Some f → js ≡ with_keys (keys_of_acts journal m 1 f.acts) [] → js ≡ keys_in_order journal m
 filing_in_order journal m f js is made =
     made ∙ placed_in_order (keys_of_acts journal m 1 f.acts)
     ∙ ap in_key_order (sym (ap (λ o. option_map_or (λ g. keys_of_acts journal m 1 g.acts) o []) is))
 
--- where receipt m is no filing there are none
+-- where receipt m is no filing there are no keys
 pub none_in_order : (journal : List Receipt) (m : ℕ) → filing_at journal m ≡ None → [] ≡ keys_in_order journal m
 none_in_order journal m is = placed_in_order [] ∙ ap (λ o. in_key_order (option_map_or (λ g. keys_of_acts journal m 1 g.acts) o [])) (sym is)

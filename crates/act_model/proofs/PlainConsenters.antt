@@ -39,19 +39,19 @@ no_number (Some x) e = absurd (false≢true e)
 not_itself : (n : ℕ) → nat_lt n n ≡ false
 not_itself n = grind (arith, nat_tests)
 
--- receipt n, where it brings a certified consent, is not behind itself
+-- a certified consent in receipt n does not come after receipt n
 unless_certified : (n : ℕ) (certified : Bool) → comes_behind n (cond certified (Some n) None) ≡ not certified
 unless_certified n true = not_itself n
 unless_certified n false = refl
 
--- who comes to the list of all comes to the other where the test passes
+-- who is added to the list of all is added to the plain ones where the test passes
 one_comes : (p : Consenter → Bool) (c : Consenter) (here none certified : Bool) → (here ≡ true → none ≡ true → p c ≡ not certified)
     → cond (here && (none && not certified)) (c ∷ []) [] ≡ filter p (cond (here && none) (c ∷ []) [])
 one_comes p c true true certified is = ap (λ b. cond b (c ∷ []) []) (sym (is refl refl))
 one_comes p c true false certified is = refl
 one_comes p c false none certified is = refl
 
--- who comes to the plain ones with a document
+-- who is added to the plain ones with a document
 plain_comes : (old : CureDocuments) (n filing : ℕ) (docs : List Doc) (d : Doc) (m a : ℕ)
     → ((m a p : ℕ) → first old.firsts (key_of m (sought.Consent a p)) ≡ None → first old.firsts (key_of m (sought.Certified a p)) ≡ None)
     → consenter_of n filing d (is_first_consent old filing d && not (is_certified_among docs d)) m a
@@ -70,7 +70,7 @@ plain_comes old n filing docs (doc.Agreement act) m a certified = refl
 plain_comes old n filing docs (doc.TaxClearance act) m a certified = refl
 plain_comes old n filing docs (doc.ExpiryProof act) m a certified = refl
 
--- one document more: who is listed as plain, by what it and those behind it bring
+-- one document more: who is listed as plain, by what it and those after it bring
 pub plain_then : (old new : CureDocuments) (n filing : ℕ) (docs : List Doc) (d : Doc) → AgreeTo n old → ArePlain old (firsts_with old (found_in n filing docs))
     → ((m a : ℕ) → consenters_to new m a ≡ consenters_to old m a ++ new_consenters n old filing d m a)
     → ((m a : ℕ) → plain_consenters_to new m a ≡ plain_consenters_to old m a ++ consenter_of n filing d (is_first_consent old filing d && not (is_certified_among docs d)) m a)
@@ -101,13 +101,13 @@ firsts_go_on old new n filing docs d rest is finds = λ i m s. at_key m s i
 
 -- ---- with one receipt more
 
--- what a cure of an earlier filing brings
+-- the first cures with what a cure of an earlier filing brings
 pub firsts_by_cure : (old : CureDocuments) (n m : ℕ) (i : Item) (docs : List Doc) → i ≡ item.Cure m docs → nat_lt m n ≡ true
     → firsts_with old (found_by n i) ≡ firsts_with old (found_in n m docs)
 firsts_by_cure old n m i docs is behind =
     ap (λ x. firsts_with old (found_by n x)) is ∙ (λ j k s. option_or (first old.firsts (key_of k s)) (cond (behind j) (found_in n m docs (key_of k s)) None))
 
--- what a later receipt brings is behind an earlier one
+-- what a later receipt brings comes after an earlier one
 found_behind : (f n : ℕ) (i : Item) (k : DocumentOf) → nat_lt f n ≡ true → comes_behind f (found_by n i k) ≡ true
 found_behind f n (item.Cure m docs) k later = either (nat_lt m n) (eqb m k.filing && list_any (is_sought k.sought) docs)
   where
@@ -127,7 +127,7 @@ behind_as_before : (f n : ℕ) (i : Item) (k : DocumentOf) (o : Option ℕ) → 
 behind_as_before f n i k None later = sym (found_behind f n i k later)
 behind_as_before f n i k (Some x) later = refl
 
--- of those who stand ahead of a receipt just they are plain, whatever it brings
+-- among those whose consents come before receipt n, who is plain stays so, whatever receipt n brings
 plain_ahead : (documents : CureDocuments) (journal : List Receipt) (n : ℕ) (i : Item) (m a from last : ℕ) (cs : List Consenter)
     → ((k : ℕ) (s : Sought) → first documents.firsts (key_of k s) ≡ first_cure journal k s) → last < n → Rises from last cs
     → filter (is_plain_first (first_cure journal) m a) cs ≡ filter (is_plain_first (firsts_with documents (found_by n i)) m a) cs

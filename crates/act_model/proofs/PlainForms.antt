@@ -16,13 +16,13 @@ use Rattle.act_model.specs.inner.FiledConsents.{consents_with}
 use Rattle.act_model.specs.inner.Firsts.{first_cure}
 use Rattle.act_model.proofs.FiledDocuments.{has_consenter, has_sought}
 
--- a consent in plain form is one, and none is certified
+-- where the form is plain, there is a consent and none is certified
 pub plain_is : (certified consents : Bool) → is_plain (cond certified (Some form.Certified) (cond consents (Some form.Plain) None)) ≡ true → (certified ≡ false) × (consents ≡ true)
 plain_is true consents h = absurd (false≢true h)
 plain_is false true h = (refl, refl)
 plain_is false false h = absurd (false≢true h)
 
--- what is not brought up to a receipt comes behind each one up to it
+-- what no cure up to a receipt brings comes after each cure up to that receipt
 behind_up_to : (first upto : ℕ) (o : Option ℕ) → nat_le first upto ≡ true → option_map_or (λ n. nat_le n upto) o false ≡ false → comes_behind first o ≡ true
 behind_up_to first upto None within none = refl
 behind_up_to first upto (Some n) within none = grind (arith, nat_tests, within, none)
@@ -43,7 +43,7 @@ plain_at_first matter a c within plain =
     (not_in_cures (is_between 1 (length matter.filing.now.acts) a) (list_any (is_certified_consent_of a c.person) matter.filing.now.docs) _ here.0
     (sym (has_sought matter (sought.Certified a c.person)) ∙ parts.0))
 
--- where all that pass one test pass another, it is enough to ask those
+-- where all that pass f pass p, it is enough to ask those that pass p
 one_among : (f p : Consenter → Bool) (c : Consenter) (cs : List Consenter) (t u : Bool) → f c ≡ t → (t ≡ true → u ≡ true) → list_any f (filter p cs) ≡ list_any f cs
     → list_any f (cond u (c ∷ filter p cs) (filter p cs)) ≡ (t || list_any f cs)
 one_among f p c cs true u is then rest = ap (λ b. list_any f (cond b (c ∷ filter p cs) (filter p cs))) (then refl) ∙ (λ i. is i || rest i)
@@ -58,7 +58,7 @@ any_among f p (c ∷ cs) then = one_among f p c cs (f c) (p c) refl (then c) (an
 abbrev pub passes_plain : Matter → ℕ → (ℕ → Bool) → ℕ → Bool
 passes_plain matter a t p = is_plain (given (docs_of matter) a p) && t p
 
--- whether somebody consents in plain form alone who passes
+-- whether somebody who passes consents in plain form alone
 pub has_plain_consenter : (matter : Matter) (documents : CureDocuments) (a : ℕ) (t : ℕ → Bool) → AreDocumentsOf documents matter.journal.now.receipts
     → list_any (is_consent_by a (passes_plain matter a t)) (docs_of matter) ≡ consents_with matter a (passes_plain matter a t) (plain_consenters_to documents matter.number a)
 has_plain_consenter matter documents a t are =

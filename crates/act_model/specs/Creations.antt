@@ -23,12 +23,12 @@ creation_in folio m numbered = if creates_in folio numbered.1 then Some (new_rig
 abbrev pub creations_of_acts : ℕ → ℕ → List Act → List RightNo
 creations_of_acts folio m acts = filter_map (creation_in folio m) (enumerate_from 1 acts)
 
--- the rights that item m wants created in the folio: those of its acts where it is a filing, else none
+-- the rights that item m applies for in the folio: those that its acts create where it is a filing, else none
 abbrev pub creations_of_item : ℕ → ℕ → Item → List RightNo
 creations_of_item folio m (item.Filing f) = creations_of_acts folio m f.acts
 creations_of_item folio m other = []
 
--- the rights that all filings of the journal want created in the folio, by receipt, and in a filing by act
+-- the rights that all filings of the journal apply for in the folio, by receipt, and in a filing by act
 abbrev pub creations_in : List Receipt → ℕ → List RightNo
 creations_in journal folio = flat_map (λ numbered. creations_of_item folio numbered.0 numbered.1.item) (enumerate_from 1 journal)
 

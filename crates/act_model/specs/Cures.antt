@@ -10,10 +10,10 @@ abbrev pub cures : ℕ → Item → Bool
 cures m (item.Cure filing docs) = filing == m
 cures m other = false
 
--- the number of a numbered receipt, where it is a cure of filing m and stands behind it
+-- the number of a numbered receipt, where it is a cure of filing m and comes after it
 abbrev pub cure_of : ℕ → ℕ × Receipt → Option ℕ
 cure_of m numbered = if nat_lt m numbered.0 && cures m numbered.1.item then Some numbered.0 else None
 
--- the numbers of the cures that name filing m and stand behind it, ascending
+-- the numbers of the cures that name filing m and come after it, ascending
 abbrev pub cures_of : List Receipt → ℕ → List ℕ
 cures_of journal m = filter_map (cure_of m) (enumerate_from 1 journal)

@@ -16,7 +16,7 @@ is_of_division third spec = if third then is_in_division_three spec.kind else no
 abbrev pub creates_in_division : Bool → ℕ → Act → Bool
 creates_in_division third folio act = folio_of act == folio && option_map_or (is_of_division third) (right_created act) false
 
--- some of these acts creates a right of division III, or else of division II, in the folio
+-- one of these acts creates a right of division III, or else of division II, in the folio
 abbrev pub create_in_division : Bool → ℕ → List Act → Bool
 create_in_division third folio acts = list_any (creates_in_division third folio) acts
 

@@ -26,7 +26,7 @@ docs_of_cure (item.Distribute folio) = []
 abbrev pub docs_by_cure : List Receipt → ℕ → List Doc
 docs_by_cure journal n = option_map_or (λ r. docs_of_cure r.item) (receipt_at journal n) []
 
--- the act for which a document is
+-- the number of the act that the document is for
 abbrev pub act_of_doc : Doc → ℕ
 act_of_doc (doc.Consent act person given) = act
 act_of_doc (doc.Agreement act) = act

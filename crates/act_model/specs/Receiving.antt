@@ -19,8 +19,8 @@ is_sent_as sender reference r = r.sender == sender && r.reference == reference
 abbrev pub is_before : DayMinute → DayMinute → Bool
 is_before a b = nat_lt a.day b.day || (a.day == b.day && nat_lt a.minute b.minute)
 
--- What a journal is: no more receipts than fit, each of a well-formed item, no two of one sender and reference,
--- none stamped before an earlier one.
+-- What a journal is: no more receipts than it may have, each of a well-formed item, no two of one sender and reference,
+-- and none stamped before an earlier one.
 pub record IsJournal (journal : List Receipt) : Type 0 where
   pub few : length journal ≤ most_receipts
   pub items : All (λ r. IsTrue (well_formed r.item)) journal
@@ -81,7 +81,7 @@ is_accepted (added.Differs n) = false
 is_accepted added.Full = false
 is_accepted added.Memory = false
 
--- the receipt that an item gets behind this journal
+-- the receipt that an item gets after those of this journal
 abbrev pub next_receipt : List Receipt → DayMinute → ℕ → ℕ → Item → Receipt
 next_receipt journal stamp sender reference item =
     record { stamp = stamp_after journal stamp; sender = sender; reference = reference; item = item }

@@ -7,7 +7,7 @@ use Rattle.act_model.specs.Creations.{creations_in}
 use Rattle.act_model.specs.Limits.{most_creations}
 use Rattle.act_model.specs.declared.receipts.Receipt.{Receipt}
 
--- the rights that earlier receipts than i create in the folio, among the first 256 of it
+-- the rights that receipts before i create in the folio, among the first 256 of the folio
 abbrev pub earlier_rights : List Receipt → ℕ → ℕ → List RightNo
 earlier_rights journal i folio = filter (λ right. nat_lt right.receipt i) (take most_creations (creations_in journal folio))
 

@@ -13,7 +13,7 @@ is_sought (sought.Agreement a) d = is_agreement a d
 is_sought (sought.Clearance a) d = is_clearance a d
 is_sought (sought.Proof a) d = is_proof a d
 
--- the act for which it is looked for
+-- the act for which the document is looked for
 abbrev pub act_sought : Sought → ℕ
 act_sought (sought.Consent a person) = a
 act_sought (sought.Certified a person) = a

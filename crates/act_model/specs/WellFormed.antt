@@ -35,7 +35,7 @@ is_act_number act = is_between 1 most_acts act
 abbrev pub is_inventory : Inventory → Bool
 is_inventory i = is_between 1 65535 i.district && is_between 1 4294967295 i.parcel && is_between 1 greatest_area i.area
 
--- interest up to 20 percent a year
+-- a kind of right, with interest of at most 20 percent a year
 abbrev pub is_right_kind : RightKind → Bool
 is_right_kind kind.PersonalEasement = true
 is_right_kind kind.Usufruct = true
@@ -51,7 +51,7 @@ abbrev pub is_reserve : Option ℕ → Bool
 is_reserve None = true
 is_reserve (Some cents) = is_amount cents
 
--- the values of an act are in their ranges, and a right in a reservation's rank is of division III
+-- the values of an act are in their ranges, and a right that takes up a reservation is of division III
 abbrev pub is_act : Act → Bool
 is_act (Open folio inventory owners) = is_inventory inventory
 is_act (Transfer folio owners) = true
@@ -91,7 +91,7 @@ folio_with_new_owners (Cancel folio right) = None
 folio_with_new_owners (Exchange folio recede rise) = None
 folio_with_new_owners (Exercise folio behind spec) = None
 
--- at most one opening or transfer names the same folio
+-- no folio is named by two openings or transfers
 abbrev pub gives_owners_once : List Act → Bool
 gives_owners_once acts = is_distinct (filter_map folio_with_new_owners acts)
 
@@ -116,7 +116,7 @@ are_different (r ∷ rs) = not (list_any (same_right r) rs) && are_different rs
 abbrev pub names_rights_once : List Act → Bool
 names_rights_once acts = are_different (flat_map rights_named acts)
 
--- a right that is entered under a reservation, or in one, stands alone in its group
+-- the act creates a right that reserves, or one that takes up a reservation: such a right stands alone in its group
 abbrev pub wants_own_group : Act → Bool
 wants_own_group (Open folio inventory owners) = false
 wants_own_group (Transfer folio owners) = false
@@ -129,7 +129,7 @@ wants_own_group (Cancel folio right) = false
 wants_own_group (Exchange folio recede rise) = false
 wants_own_group (Exercise folio behind spec) = true
 
--- both are there, and of one group
+-- both rights are there, and of one group
 abbrev pub same_group : Option RightSpec → Option RightSpec → Bool
 same_group (Some s) (Some t) = s.group == t.group
 same_group (Some s) None = false
@@ -139,7 +139,7 @@ same_group None t = false
 abbrev pub share_group : Act → Act → Bool
 share_group a b = folio_of a == folio_of b && same_group (right_created a) (right_created b)
 
--- where one of two acts wants a group of its own, the other has not that group
+-- no two acts create rights of one group in one folio where one of the two wants a group of its own
 abbrev pub keep_groups_apart : List Act → Bool
 keep_groups_apart [] = true
 keep_groups_apart (a ∷ acts) =
@@ -149,7 +149,7 @@ keep_groups_apart (a ∷ acts) =
 abbrev pub keeps_rules : List Act → Bool
 keeps_rules acts = names_few_folios acts && gives_owners_once acts && names_rights_once acts && keep_groups_apart acts
 
--- one to eight acts, all of them and the documents in their ranges, that keep the rules
+-- one to eight acts that keep the rules; all acts and documents are in their ranges
 abbrev pub is_filing : Filing → Bool
 is_filing f = is_between 1 most_acts (length f.acts) && list_all is_act f.acts && list_all is_doc f.docs && keeps_rules f.acts
 

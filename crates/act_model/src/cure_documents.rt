@@ -26,7 +26,7 @@ pub struct Consenter {
     pub first: ReceiptNo,
 }
 
-/// What cures bring for the filings ahead of them.
+/// What cures bring for earlier filings.
 #[derive(Drop)]
 pub struct CureDocuments {
     alloc: Global,
@@ -36,12 +36,12 @@ pub struct CureDocuments {
     /// Who consents, by the number of the filing and its act, in the order of receipt.
     consenters: BTreeMap<(u32, u8), Vec<Consenter>>,
     /// Those of them who have no certified consent in the cure of their first consent or an earlier
-    /// one, in the same order: nobody else can have consented in plain form alone (GBO § 29).
+    /// one, in the order of receipt: nobody else can have consented in plain form alone (GBO § 29).
     plain_consenters: BTreeMap<(u32, u8), Vec<Consenter>>,
 }
 
 impl CureDocuments {
-    /// Those of no cures.
+    /// The documents of no cures.
     #[tactic(auto, unfolding(crate::specs::inner::Firsts::document_cmp))]
     pub fn new(alloc: Global) -> CureDocuments
         ensures { AreDocumentsOf result [] }
@@ -91,8 +91,8 @@ impl CureDocuments {
         }
     }
 
-    /// Takes documents of receipt n, a cure of this filing, for which there is room. Who is plain is
-    /// told by what is found once all of them are taken, so that those behind one count with it.
+    /// Takes documents of receipt n, a cure of this filing, for which there is room. Who is plain
+    /// follows from all of them together: a certified consent further on in `docs` counts too.
     pub fn add(&mut self, n: ReceiptNo, filing: ReceiptNo, docs: &[Doc])
         requires room { HasRoomForDocs self.old filing docs.now }
         requires agree { AgreeTo n self.old }
@@ -107,7 +107,8 @@ impl CureDocuments {
         }
     }
 
-    /// Makes places for the first receipt that brings what the document is looked for as.
+    /// Makes places for the document: one under what it is looked for as, and one more where it is a
+    /// certified consent.
     fn reserve_places(&mut self, filing: ReceiptNo, doc: &Doc) -> Result<(), NoMemory>
         ensures keeps { KeepsDocuments self.old self.new }
         ensures held { OnOk result ((s : Sought) → IsTrue (is_sought s doc.now) → IsTrue (is_held self.new.firsts (key_of filing s))) }
@@ -142,7 +143,8 @@ impl CureDocuments {
         }
     }
 
-    /// Takes a document of receipt n, a cure of this filing, the first of these that are left of it.
+    /// Takes a document of receipt n, a cure of this filing. It is the first of `docs`, which are
+    /// the documents that are left of the cure.
     fn add_doc(&mut self, n: ReceiptNo, filing: ReceiptNo, doc: &Doc, docs: &[Doc])
         requires room { HasRoomForDocs self.old filing (doc.now ∷ []) }
         requires agree { AgreeTo n self.old }
@@ -156,9 +158,9 @@ impl CureDocuments {
         self.set_firsts(n, filing, doc);
     }
 
-    /// Lists who consents, where that person's consent is the first; as plain too, where none of these
-    /// documents of the same cure is a certified one of the person. None taken before can be, or this
-    /// consent would not be the first.
+    /// Lists who consents, where this consent is the person's first. The person is listed as plain
+    /// too, where none of these documents of the same cure is a certified consent of the person. No
+    /// document taken before can be one, or this consent would not be the first.
     fn add_consenter(&mut self, n: ReceiptNo, filing: ReceiptNo, doc: &Doc, docs: &[Doc])
         requires room { (a : ℕ) → IsTrue (is_consent_to a doc.now) → 1 ≤ room pair_cmp self.old.consenters (filing, a) }
         requires plain_room { (a : ℕ) → IsTrue (is_consent_to a doc.now) → 1 ≤ room pair_cmp self.old.plain_consenters (filing, a) }
@@ -189,7 +191,7 @@ impl CureDocuments {
         }
     }
 
-    /// Puts receipt n into the places of what the document is looked for as, where they are empty.
+    /// Puts receipt n into the places of the document, where they are empty.
     fn set_firsts(&mut self, n: ReceiptNo, filing: ReceiptNo, doc: &Doc)
         requires { (s : Sought) → IsTrue (is_sought s doc.now) → IsTrue (is_held self.old.firsts (key_of filing s)) }
         ensures finds { Finds self.old self.new (found_in n filing (doc.now ∷ [])) }
@@ -205,7 +207,7 @@ impl CureDocuments {
     }
 }
 
-/// Lists who consents in a document of receipt n, where that is to be done.
+/// Lists who consents in a document of receipt n, if that is wanted.
 fn list_consenter(
     lists: &mut BTreeMap<(u32, u8), Vec<Consenter>>,
     n: ReceiptNo,

@@ -14,13 +14,13 @@ use crate::sought::are_among;
 use crate::{Doc, Filing, Form, Matter, PersonTest, Sought};
 use gb_base::{Person, ReceiptNo};
 
-/// The documents that count for a filing: its own, and those of its cures up to the item that
-/// settles it, but for those of an act that it does not have. Its own are walked; what cures bring
-/// is found.
+/// The documents that count for a filing: its own, and those of its cures up to the item with which
+/// it is judged. A document for an act that the filing does not have counts for nothing. The
+/// filing's own documents are walked; what cures bring is found in the journal's index.
 impl<'a> Matter<'a> {
     ghost use Rattle.act_model.specs.Documents.{docs_of, given, has_proof, is_plain};
 
-    /// Whether a document counts that is looked for so.
+    /// Whether a document that is looked for so counts for the filing.
     pub fn has(&self, sought: &Sought) -> bool
         ensures { result ≡ list_any (is_sought sought.now) (docs_of self.now) }
     {
@@ -28,7 +28,7 @@ impl<'a> Matter<'a> {
             && (are_among(sought, self.filing.docs.list()) || cures_bring(self, sought))
     }
 
-    /// Whether somebody consents to the act, in either form, who passes the test.
+    /// Whether somebody who passes the test consents to the act, in either form.
     pub fn some_consenter<T: PersonTest>(&self, act: u8, test: &T) -> bool
         ensures { result ≡ list_any (is_consent_by act (T.test test.now)) (docs_of self.now) }
     {
@@ -52,8 +52,8 @@ impl<'a> Matter<'a> {
         self.some_consents(act, in_cures, &plain)
     }
 
-    /// Whether somebody consents to the act who passes the test: in a document of the filing's own,
-    /// or as one of these, who consent in cures.
+    /// Whether somebody who passes the test consents to the act: in a document of the filing's own,
+    /// or as one of `in_cures`, who consent in cures.
     fn some_consents<T: PersonTest>(&self, act: u8, in_cures: &[Consenter], test: &T) -> bool
         requires { (last : ℕ) × Rises 0 last in_cures.now }
         ensures { result ≡ consents_with self.now act (T.test test.now) in_cures.now }

@@ -10,9 +10,9 @@ use crate::{Act, RightSpec};
 use arrayvec::ArrayVec;
 use gb_base::{FolioId, RightId};
 
-/// Whether the acts keep the four rules over a whole filing: they name at most two folios, give a
-/// folio owners at most once, name no right twice, and keep the groups of rights apart that are
-/// entered under or in a reservation.
+/// Whether the acts keep the four rules over a whole filing. They name at most two folios. They give
+/// a folio owners at most once. They name no right twice. A right that reserves, or that takes up a
+/// reservation, is alone in its group.
 pub fn keeps_rules(acts: &[Act]) -> bool
     requires { length acts.now ≤ most_acts }
     ensures { result ≡ keeps_rules acts.now }
@@ -151,14 +151,15 @@ fn no_clash(act: &Act, others: &[Act]) -> bool
     others.iter().all(|other| !clash(act, other))
 }
 
-/// Whether two acts create rights of one group in one folio, of which one wants a group of its own.
+/// Whether two acts create rights of one group in one folio, and one of them wants a group of its
+/// own.
 fn clash(a: &Act, b: &Act) -> bool
     ensures { result ≡ ((wants_own_group a.now || wants_own_group b.now) && share_group a.now b.now) }
 {
     (wants_own_group(a) || wants_own_group(b)) && share_group(a, b)
 }
 
-/// Whether the act enters a right under a reservation, or in one.
+/// Whether the act creates a right that reserves, or one that takes up a reservation.
 fn wants_own_group(act: &Act) -> bool
     ensures { result ≡ wants_own_group act.now }
 {
@@ -182,7 +183,7 @@ pub fn share_group(a: &Act, b: &Act) -> bool
     a.folio() == b.folio() && same_group(a.right_created(), b.right_created())
 }
 
-/// Whether both are there, and of one group.
+/// Whether both rights are there, and of one group.
 fn same_group(a: Option<RightSpec>, b: Option<RightSpec>) -> bool
     ensures { result ≡ same_group a b }
 {

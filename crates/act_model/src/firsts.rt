@@ -16,7 +16,7 @@ pub struct DocumentOf {
     pub sought: Sought,
 }
 
-/// The first receipt that brings it; None where none does.
+/// The first receipt that brings what the key asks for; None where none does.
 #[tactic(auto, unfolding(crate::specs::inner::Firsts::document_cmp))]
 pub fn first(firsts: &BTreeMap<DocumentOf, Option<ReceiptNo>>, key: DocumentOf) -> Option<ReceiptNo>
     ensures { result ≡ first firsts.now key }
@@ -27,7 +27,7 @@ pub fn first(firsts: &BTreeMap<DocumentOf, Option<ReceiptNo>>, key: DocumentOf) 
     }
 }
 
-/// Makes a place for the first receipt that brings it, where there is none.
+/// Makes an empty place for what is looked for, where there is no place yet.
 #[tactic(auto, unfolding(crate::specs::inner::Firsts::document_cmp))]
 pub fn make_room(
     firsts: &mut BTreeMap<DocumentOf, Option<ReceiptNo>>,
@@ -48,7 +48,7 @@ pub fn make_room(
     }
 }
 
-/// Puts a receipt into the place of what it brings, unless one stands there already.
+/// Puts a receipt into the key's place, unless one stands there already.
 #[tactic(auto, unfolding(crate::specs::inner::Firsts::document_cmp))]
 pub fn set_first(
     firsts: &mut BTreeMap<DocumentOf, Option<ReceiptNo>>,

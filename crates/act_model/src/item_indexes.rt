@@ -15,16 +15,16 @@ use gb_base::{FolioId, NoMemory, Person, ReceiptNo, RightId};
 use std::alloc::Global;
 use std::collections::BTreeMap;
 
-/// The cures of each filing that stand behind it with what they bring, the creating acts of each
-/// folio, and the filings of each applicant.
+/// The later cures of each filing with what they bring, the creating acts of each folio, and the
+/// filings of each applicant.
 #[derive(Drop)]
 pub struct ItemIndexes {
     alloc: Global,
-    /// By the number of the filing.
+    /// The cures, by the number of the filing.
     cures: BTreeMap<u32, Vec<ReceiptNo>>,
-    /// By the number of the folio.
+    /// The creating acts, by the number of the folio.
     creations: BTreeMap<u32, Vec<RightId>>,
-    /// By the number of the applicant.
+    /// The filings, by the number of the applicant.
     filings: BTreeMap<u32, Vec<ReceiptNo>>,
     documents: CureDocuments,
 }

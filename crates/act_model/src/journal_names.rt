@@ -1,8 +1,8 @@
 //! Names of journals, as types.
 use std::marker::Brand;
 
-/// A journal, as a type. No value has it: what stands in several places that no one sees at once, as
-/// what several locks keep, speaks of one journal where its types have one name.
+/// A journal, as a type that no value has. Several locks keep things that nobody sees all at once:
+/// where their types have one name, all of them speak of one journal.
 pub trait JournalName {
     ghost use Rattle.std.specs.Prelude.{List};
     ghost use Rattle.act_model.specs.declared.receipts.Receipt.{Receipt};

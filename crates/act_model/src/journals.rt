@@ -43,9 +43,10 @@ pub struct Journal {
     numbers: BTreeMap<(u32, u64), ReceiptNo>,
     indexed: usize,
     /// What follows from what the receipts say. It takes a receipt into room that is kept, without
-    /// memory, so none waits for it.
+    /// memory, so no receipt waits for these indexes.
     indexes: ItemIndexes,
-    /// The item for whose receipt there is room in all of these; then no receipt waits.
+    /// The item for whose receipt there is room in all of these. Where there is one, no receipt
+    /// waits.
     ready_for: Option<Item>,
 }
 
@@ -123,8 +124,8 @@ impl Journal {
         }
     }
 
-    /// The number of the last receipt, which may still wait for the index, where it is of this
-    /// sender and reference.
+    /// The number of the last receipt, where it is of this sender and reference: this receipt may
+    /// still wait for the index.
     fn find_waiting(&self, sender: u32, reference: u64) -> Option<ReceiptNo>
         ensures { result ≡ number_from (length self.now.receipts) sender reference (drop (length self.now.receipts - 1) self.now.receipts) }
     {
@@ -136,7 +137,7 @@ impl Journal {
         }
     }
 
-    /// The numbers of the cures of filing n that stand behind it, ascending.
+    /// The numbers of the cures of filing n that come after it, ascending.
     pub fn cures_of(&self, n: ReceiptNo) -> &[ReceiptNo]
         ensures { result.now ≡ cures_of self.now.receipts n }
     {
@@ -158,14 +159,15 @@ impl Journal {
         self.indexes.filings_of(applicant)
     }
 
-    /// What cures bring for the filings ahead of them.
+    /// What cures bring for earlier filings.
     pub(crate) fn cure_documents(&self) -> &CureDocuments
         ensures { AreDocumentsOf result.now self.now.receipts }
     {
         self.indexes.documents()
     }
 
-    /// The place of a creating act, from 1, among all of its folio; None where the id names none.
+    /// The place, from 1, of the right's creating act among all creating acts of its folio; None
+    /// where the journal has no such act.
     pub fn creating_rank(&self, right: RightId) -> Option<u32>
         ensures { result ≡ creating_rank self.now.receipts right }
     {
@@ -173,7 +175,7 @@ impl Journal {
         rank_among(self.creations_in(folio), right)
     }
 
-    /// The stamp that a receipt gets behind the last one: the last one's where that is later.
+    /// The stamp that a receipt gets after the last one: the last one's where that is later.
     pub fn next_stamp(&self, stamp: Stamp) -> Stamp
         ensures { result ≡ stamp_after self.now.receipts stamp }
     {
@@ -183,9 +185,9 @@ impl Journal {
         }
     }
 
-    /// Keeps room for one receipt of this item: the next `add`, where it is of the same item, does
-    /// not answer `Memory`. Room for another item is given up. Where no memory is found the journal
-    /// is unchanged.
+    /// Keeps room for one receipt of this item: the next `add`, if it is of the same item, does not
+    /// answer `Memory`. Room that was kept for another item is given up. Where no memory is found
+    /// the journal is unchanged.
     pub fn reserve_one(&mut self, item: &Item) -> Result<(), NoMemory>
         ensures receipts { self.new.receipts ≡ self.old.receipts }
         ensures room { OnOk result (IsTrue (has_room self.new item.now)) }
@@ -216,8 +218,8 @@ impl Journal {
 
     /// Receives an item. One number acts once: an item whose sender and reference stand already is
     /// answered with the number under which they stand. The stamp is the last receipt's where that
-    /// is later. Want of memory comes only where the item would be accepted and no room is kept
-    /// for it, and changes nothing. An accepted item takes up the room that was kept.
+    /// is later. Memory runs out (`Memory`) only where the item would be accepted and no room is
+    /// kept for it; then nothing changes. An accepted item takes up the room that was kept.
     pub fn add(&mut self, stamp: Stamp, sender: u32, reference: u64, item: &Item) -> Added
         requires { IsTrue (well_formed item.now) }
         ensures answer { (result ≡ answer_to self.old.receipts sender reference item.now)
@@ -265,7 +267,7 @@ impl Journal {
     }
 }
 
-/// Takes the item for whose receipt room is kept, which is this one; so it is not copied again.
+/// Takes the copy of this item with which its room was kept, so that the item is not copied again.
 fn take_kept(ready_for: &mut Option<Item>, item: &Item) -> Item
     requires { ready_for.old ≡ Some item.now }
     ensures item { result ≡ item.now }
@@ -274,7 +276,7 @@ fn take_kept(ready_for: &mut Option<Item>, item: &Item) -> Item
     ready_for.take().unwrap()
 }
 
-/// Brings the last receipt into the index where it waits.
+/// Brings the last receipt into the index, if it still waits.
 fn index_waiting(
     numbers: &mut BTreeMap<(u32, u64), ReceiptNo>,
     indexed: usize,
@@ -295,7 +297,7 @@ fn index_waiting(
     }
 }
 
-/// The place of the right, from 1, in a list that ascends; None where it is not in it.
+/// The place of the right, from 1, in a list that ascends; None where the list does not have it.
 fn rank_among(rights: &[RightId], right: RightId) -> Option<u32>
     requires rising { Rises 0 0 rights.now }
     requires few { length rights.now ≤ 8 * most_receipts }

@@ -16,7 +16,7 @@ pub fn key_order()
     ensures members { (keys : List Key) (k : Key) → Contains (in_key_order keys) k ↔ Contains keys k }
 {}
 
-/// They can be in one way only.
+/// Keys can be put in ascending order, each once, in one way only.
 pub fn one_key_order()
     ensures { (keys others : List Key) → IsStrictlySortedBy key_cmp keys → IsStrictlySortedBy key_cmp others
         → ((k : Key) → Contains keys k ↔ Contains others k) → keys ≡ others }

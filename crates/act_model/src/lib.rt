@@ -2,9 +2,9 @@
 //!
 //! - What comes in: `items`, `filing_acts` with `rights`, `land` and `people`, `documents`, and
 //!   `sales` for a forced sale. `filing_rules` and `ranges` say what is well formed.
-//! - The journal: `receipts`, `journals` and its answers `added`; `item_indexes` and `lists` are how
-//!   it finds cures, creating acts and filings, `cure_documents` and `firsts` what cures bring.
-//!   `journal_names` has names of journals, by which types speak of one.
+//! - The journal: `receipts`, `journals` and its answers `added`. `item_indexes` and `lists` are how
+//!   it finds cures, creating acts and filings; `cure_documents` and `firsts` are how it finds what
+//!   cures bring. `journal_names` has names of journals, by which types speak of one.
 //! - What follows from it: `filings` finds filings, acts and rights, `touched_keys` the keys that a
 //!   filing touches, `divisions` and `groups` what it creates; `matters` is a filing with the item
 //!   with which it is judged, `filing_documents` are the documents that count then, and `sought`

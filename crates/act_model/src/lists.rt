@@ -41,7 +41,7 @@ pub fn reserve<K: Ord + Copy, V: Copy>(
     }
 }
 
-/// Puts a value behind the others under this key.
+/// Puts a value at the end of those under this key.
 pub fn push<K: Ord + Copy, V: Copy>(lists: &mut BTreeMap<K, Vec<V>>, k: K, value: V)
     requires { 1 ≤ room K.cmp lists.old k }
     ensures listed { (q : K) → listed K.cmp lists.new q ≡ if is_eq (K.cmp k q) then listed K.cmp lists.old k ++ value ∷ [] else listed K.cmp lists.old q }

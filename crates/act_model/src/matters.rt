@@ -4,7 +4,7 @@ use crate::{Filing, Journal};
 use gb_base::ReceiptNo;
 
 /// A filing of a journal, as it is judged with an item: with itself, or with a later cure of it.
-/// Who makes a matter hands in the filing that stands at its number.
+/// Whoever makes a matter hands in the filing that stands at its number.
 #[derive(Clone, Copy)]
 pub struct Matter<'a> {
     /// The journal in which both have their numbers.

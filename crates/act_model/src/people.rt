@@ -24,7 +24,7 @@ impl Model for Owners {
     ghost invariant = { λ a. AreOwners a.list.items × (length a.list.items ≤ most_owners) };
 }
 
-/// The same owners in the same order are equal.
+/// Lists of the same owners in the same order are equal.
 impl PartialEq for Owners {
     ghost use Rattle.std.specs.Prelude.{◌==◌};
     ghost use Rattle.std.specs.Cmp.Lexicographic.{pointwise, lists_per};

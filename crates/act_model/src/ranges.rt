@@ -88,7 +88,7 @@ fn is_reserve(reserve: Option<Cents>) -> bool
     }
 }
 
-/// Whether an amount is at least one cent, as whatever is claimed, bid or secured.
+/// Whether an amount is at least one cent, as all must be that are claimed, bid or secured.
 fn is_amount(cents: Cents) -> bool
     ensures { result ≡ is_amount cents }
 {

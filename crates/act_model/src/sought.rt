@@ -25,7 +25,7 @@ pub trait PersonTest {
 pub enum Sought {
     /// A consent of the person, in either form.
     Consent { act: u8, person: Person },
-    /// A certified one.
+    /// A certified consent of the person.
     Certified { act: u8, person: Person },
     /// The agreement on a transfer (GBO § 20).
     Agreement { act: u8 },
@@ -87,7 +87,7 @@ pub fn sought_as(doc: &Doc) -> Sought
     }
 }
 
-/// What a certified consent is looked for as besides (GBO § 29).
+/// What a document is looked for as besides, where it is a certified consent (GBO § 29).
 pub fn certified_as(doc: &Doc) -> Option<Sought>
     ensures { result ≡ certified_as doc.now }
 {

@@ -93,7 +93,7 @@ fn keys_of_acts(journal: &Journal, m: ReceiptNo, acts: &[Act]) -> ArrayVec<Key, 
     keys
 }
 
-/// Puts each of these keys in its place, unless it stands.
+/// Puts each of these keys in its place, unless it stands there already.
 fn insert_keys(keys: &mut ArrayVec<Key, 18>, more: &[Key])
     requires { length (with_keys more.now keys.old.items) ≤ 18 }
     ensures { keys.new.items ≡ with_keys more.now keys.old.items }
@@ -103,7 +103,7 @@ fn insert_keys(keys: &mut ArrayVec<Key, 18>, more: &[Key])
     }
 }
 
-/// Puts a key in its place, unless it stands.
+/// Puts a key in its place, unless it stands there already.
 fn insert_key(keys: &mut ArrayVec<Key, 18>, key: Key)
     requires { length (with_key key keys.old.items) ≤ 18 }
     ensures { keys.new.items ≡ with_key key keys.old.items }
@@ -115,7 +115,7 @@ fn insert_key(keys: &mut ArrayVec<Key, 18>, key: Key)
     keys.insert(index, key);
 }
 
-/// The index of the first key that is greater, or the one behind the last.
+/// The index of the first key that is greater; where there is none, the length of the list.
 fn index_for(keys: &[Key], key: Key) -> usize
     ensures index { insert keys.now result key ≡ insert_key key keys.now }
     ensures within { result ≤ length keys.now }

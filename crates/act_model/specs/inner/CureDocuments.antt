@@ -31,7 +31,7 @@ sought_as (doc.Agreement a) = sought.Agreement a
 sought_as (doc.TaxClearance a) = sought.Clearance a
 sought_as (doc.ExpiryProof a) = sought.Proof a
 
--- what a certified consent is looked for as besides
+-- what a document is looked for as besides, where it is a certified consent
 abbrev pub certified_as : Doc → Option Sought
 certified_as (doc.Consent a p form.Certified) = Some (sought.Certified a p)
 certified_as (doc.Consent a p form.Plain) = None
@@ -48,7 +48,7 @@ abbrev pub found_by : ℕ → Item → DocumentOf → Option ℕ
 found_by n (item.Cure m docs) k = if nat_lt m n then found_in n m docs k else None
 found_by n other k = None
 
--- what was first at each key stays, and what is found comes where there was none
+-- what was first at each key stays, and where there was none what is found becomes first
 abbrev pub Finds : CureDocuments → CureDocuments → (DocumentOf → Option ℕ) → Type 0
 Finds old new found = (k : DocumentOf) → first new.firsts k ≡ option_or (first old.firsts k) (found k)
 
@@ -64,7 +64,7 @@ plain_consenters_to documents m a = listed pair_cmp documents.plain_consenters (
 abbrev pub is_consenter : ℕ → ℕ → Consenter → Bool
 is_consenter p n c = c.person == p && c.first == n
 
--- who consents in a document of receipt n for filing `filing`, where it is to be listed, among those who consent to act a of filing m
+-- who is to be listed under act a of filing m with a document of receipt n for filing `filing`, if that is wanted
 abbrev pub consenter_of : ℕ → ℕ → Doc → Bool → ℕ → ℕ → List Consenter
 consenter_of n filing (doc.Consent act p given) wanted m a =
     if (filing == m && act == a) && wanted then record { person = p; first = n } ∷ [] else []
@@ -86,23 +86,23 @@ is_certified_among docs (doc.Agreement act) = false
 is_certified_among docs (doc.TaxClearance act) = false
 is_certified_among docs (doc.ExpiryProof act) = false
 
--- who comes to those who consent to act a of filing m with a document of receipt n for filing `filing`
+-- who is added to those who consent to act a of filing m, by a document of receipt n for filing `filing`
 abbrev pub new_consenters : ℕ → CureDocuments → ℕ → Doc → ℕ → ℕ → List Consenter
 new_consenters n documents filing d m a = consenter_of n filing d (is_first_consent documents filing d) m a
 
--- the receipts begin at `from`, do not fall, and end at `last` at the latest
+-- the receipts do not fall, none is before `from`, and none is after `last`
 abbrev pub Rises : ℕ → ℕ → List Consenter → Type 0
 Rises from last [] = Unit {0}
 Rises from last (c ∷ cs) = (from ≤ c.first) × ((c.first ≤ last) × Rises c.first last cs)
 
 -- Those who consent are the persons for whose consent a first cure is known, with that cure, in the order of receipts up to `last`.
--- Whose consent is not known, of that person no certified one is.
+-- Where no consent of a person is known, no certified consent of that person is known either.
 pub record AgreeTo (last : ℕ) (documents : CureDocuments) : Type 0 where
   pub known : (m a p n : ℕ) → list_any (is_consenter p n) (consenters_to documents m a) ≡ option_map_or (λ f. f == n) (first documents.firsts (key_of m (sought.Consent a p))) false
   pub rise : (m a : ℕ) → Rises 0 last (consenters_to documents m a)
   pub certified : (m a p : ℕ) → first documents.firsts (key_of m (sought.Consent a p)) ≡ None → first documents.firsts (key_of m (sought.Certified a p)) ≡ None
 
--- the first certified consent, if there is one, comes behind receipt n
+-- the first certified consent, if there is one, comes after receipt n
 abbrev pub comes_behind : ℕ → Option ℕ → Bool
 comes_behind n certified = option_map_or (λ k. nat_lt n k) certified true
 
@@ -110,11 +110,11 @@ comes_behind n certified = option_map_or (λ k. nat_lt n k) certified true
 abbrev pub is_plain_first : (ℕ → Sought → Option ℕ) → ℕ → ℕ → Consenter → Bool
 is_plain_first firsts m a c = comes_behind c.first (firsts m (sought.Certified a c.person))
 
--- just those who consent so are listed as plain, by these first cures
+-- just those whose first consent is plain in this sense are listed as plain, by these first cures
 abbrev pub ArePlain : CureDocuments → (ℕ → Sought → Option ℕ) → Type 0
 ArePlain documents firsts = (m a : ℕ) → plain_consenters_to documents m a ≡ filter (is_plain_first firsts m a) (consenters_to documents m a)
 
--- the first cures, with what these find where there was none
+-- the first cures, and where there was none, what is found
 abbrev pub firsts_with : CureDocuments → (DocumentOf → Option ℕ) → ℕ → Sought → Option ℕ
 firsts_with documents found m s = option_or (first documents.firsts (key_of m s)) (found (key_of m s))
 
@@ -143,7 +143,7 @@ abbrev pub HasRoomForItem : CureDocuments → ℕ → Item → Type 0
 HasRoomForItem documents n (item.Cure m docs) = nat_lt m n ≡ true → HasRoomForDocs documents m docs
 HasRoomForItem documents n other = Unit {0}
 
--- the same is known, and nowhere has room become less
+-- nothing that is known has changed, and nowhere has room become less
 pub record KeepsDocuments (old new : CureDocuments) : Type 0 where
   pub first : (k : DocumentOf) → first new.firsts k ≡ first old.firsts k
   pub held : (k : DocumentOf) → is_held old.firsts k ≡ true → is_held new.firsts k ≡ true

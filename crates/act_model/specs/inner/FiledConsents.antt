@@ -6,7 +6,7 @@ use Rattle.act_model.specs.declared.cure_documents.Consenter.{Consenter}
 use Rattle.act_model.specs.declared.matters.Matter.{Matter}
 use Rattle.act_model.specs.DocumentTests.{is_consent_by}
 
--- somebody who passes consents to act a: in a document of the filing's own, or as one of these, who consent in cures up to the item
+-- somebody who passes consents to act a: in a document of the filing's own, or as one of `in_cures`, whose first consent is in a cure up to the item
 abbrev pub consents_with : Matter → ℕ → (ℕ → Bool) → List Consenter → Bool
 consents_with matter a passes in_cures =
     is_between 1 (length matter.filing.now.acts) a

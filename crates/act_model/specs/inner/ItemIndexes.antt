@@ -43,21 +43,21 @@ pub record HaveRoomFor (indexes : ItemIndexes) (n : ℕ) (item : Item) : Type 0 
   pub filings : HasRoom nat_cmp indexes.filings (filings_by n item)
   pub documents : HasRoomForItem indexes.documents n item
 
--- the same indexes, and nowhere has room become less
+-- the indexes say what they said before, and nowhere has room become less
 pub record Widen (old new : ItemIndexes) : Type 0 where
   pub cures : Widens nat_cmp old.cures new.cures
   pub creations : Widens nat_cmp old.creations new.creations
   pub filings : Widens nat_cmp old.filings new.filings
   pub documents : KeepsDocuments old.documents new.documents
 
--- A journal that is ready for an item: no receipt waits for the index by sender and reference, and there is room for one of
--- the item, in the list and in the indexes by what items say.
+-- A journal that is ready for an item: no receipt waits for the index by sender and reference. There is room for a receipt of
+-- the item in the list and in the indexes by what items say.
 pub record IsReadyFor (item : Item) (indexes : ItemIndexes) (indexed count capacity : ℕ) : Type 0 where
   pub none_waits : indexed ≡ count
   pub room_for_one : count < capacity
   pub room : HaveRoomFor indexes (count + 1) item
 
--- a journal is ready for the item for which it says so
+-- a journal is ready for the item for which it says that room is kept
 abbrev pub IsReady : Option Item → ItemIndexes → ℕ → ℕ → ℕ → Type 0
 IsReady ready_for indexes indexed count capacity =
     (item : Item) → ready_for ≡ Some item → IsReadyFor item indexes indexed count capacity

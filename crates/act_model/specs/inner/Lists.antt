@@ -21,7 +21,7 @@ listed cmp lists k = values_in (get cmp lists k)
 abbrev pub room : {K X Z : Type 0} → (K → K → Ordering) → BTreeMap K (Vec X Z) → K → ℕ
 room cmp lists k = room_in (get cmp lists k)
 
--- the same values stand under each key, and nowhere has room become less
+-- under each key stand the values that stood there, and nowhere has room become less
 pub record Widens {K X Z : Type 0} (cmp : K → K → Ordering) (old new : BTreeMap K (Vec X Z)) : Type 0 where
   pub listed : (k : K) → listed cmp new k ≡ listed cmp old k
   pub room : (k : K) → room cmp old k ≤ room cmp new k
@@ -30,6 +30,6 @@ pub record Widens {K X Z : Type 0} (cmp : K → K → Ordering) (old new : BTree
 abbrev pub HasRoom : {K X Z : Type 0} → (K → K → Ordering) → BTreeMap K (Vec X Z) → (K → List X) → Type 0
 HasRoom cmp lists more = (k : _) → length (more k) ≤ room cmp lists k
 
--- the values of `more k` have come under each key k
+-- under each key k the values of `more k` have been added
 abbrev pub Adds : {K X Z : Type 0} → (K → K → Ordering) → BTreeMap K (Vec X Z) → BTreeMap K (Vec X Z) → (K → List X) → Type 0
 Adds cmp old new more = (k : _) → listed cmp new k ≡ listed cmp old k ++ more k

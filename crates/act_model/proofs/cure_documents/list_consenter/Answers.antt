@@ -1,4 +1,4 @@
--- Who consents comes behind the others.
+-- Who consents is listed after the others.
 use Rattle.std.proofs.Common.{◌≡◌, ℕ, ◌+◌, ◌≤◌, cond, [], ◌∷◌, ◌++◌, subst, sym}
 use Rattle.std.specs.Ordering.{is_eq}
 use Rattle.act_model.specs.inner.Index.{pair_cmp}

@@ -1,4 +1,4 @@
--- Who is listed behind a later receipt is not asked.
+-- Whoever is listed from a later receipt on is not asked.
 use Rattle.std.proofs.Common.{◌<◌, arith, subst, sym, ◌∙◌}
 use Rattle.act_model.proofs.ConsenterLemmas.{none_from}
 use Rattle.act_model.proofs.filing_documents.some_passes.Goals as goal

@@ -1,4 +1,4 @@
--- Room for the first act's right stands beside room for those behind it.
+-- Room for the first act's right stands beside room for those after it.
 use Rattle.std.proofs.Common.{◌∙◌, ◌+◌, arith}
 use Rattle.std.specs.Ordering.{nat_cmp}
 use Rattle.act_model.specs.inner.Lists.{room}

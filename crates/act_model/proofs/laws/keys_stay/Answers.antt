@@ -1,4 +1,4 @@
--- Receipts behind a filing change none of its keys.
+-- Receipts after a filing change none of its keys.
 use Rattle.act_model.proofs.KeysStay.{keys_of_filing_stay}
 use Rattle.act_model.proofs.laws.keys_stay.Goals as goal
 

@@ -1,4 +1,4 @@
--- More keys are no fewer, so what fits at the end fits before.
+-- Keys only become more, so where all fit at the end they fit before.
 use Rattle.std.proofs.Common.{◌≡◌, ◌+◌, ◌∷◌, length, drop, ap, arith}
 use Rattle.act_model.specs.inner.KeyInsertion.{with_key, with_keys}
 use Rattle.act_model.proofs.KeyLemmas.{drop_next, length-with_keys}

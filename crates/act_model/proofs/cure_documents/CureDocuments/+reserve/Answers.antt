@@ -1,4 +1,4 @@
--- Room for a document stands beside room for those behind it.
+-- Room for a document stands beside room for those after it.
 use Rattle.std.proofs.Common.{ℕ, ◌-◌, ◌≤◌, drop, length, take, IsTrue}
 use Rattle.act_model.specs.inner.CureDocuments.{is_consent_to, HasRoomForDocs}
 use Rattle.act_model.specs.inner.Index.{pair_cmp}

@@ -1,4 +1,4 @@
--- A certified consent is found in either form.
+-- A certified consent is found as a consent, and as a certified one.
 use Rattle.std.proofs.Common.{◌≡◌, cond, Some, sym, ◌∙◌, subst}
 use Rattle.std.specs.Option.{option_or}
 use Rattle.std.specs.Ordering.{is_eq}

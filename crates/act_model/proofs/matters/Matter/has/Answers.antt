@@ -1,4 +1,4 @@
--- Its own documents, and then what cures bring.
+-- The filing's own documents are asked first, then what cures bring.
 use Rattle.std.proofs.Common.{length, ap, sym, ◌∙◌}
 use Rattle.std.specs.List.{list_any}
 use Rattle.gb_base.specs.Limits.{is_between}

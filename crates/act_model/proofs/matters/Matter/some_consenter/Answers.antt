@@ -1,4 +1,4 @@
--- Who consents in its own documents, and then in cures.
+-- Who consents in the filing's own documents is asked first, then who consents in cures.
 use Rattle.std.proofs.Common.{ap, sym, ◌∙◌}
 use Rattle.act_model.specs.inner.FiledConsents.{consents_with}
 use Rattle.act_model.proofs.FiledDocuments.{has_consenter}
