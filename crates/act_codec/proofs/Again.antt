@@ -1,4 +1,4 @@
--- What is spelled is read again, whatever follows it.
+-- What is spelled is read back, whatever follows it.
 use Rattle.std.proofs.Common.{rules, ◌≡◌, ◌≢◌, IfSome, IsNone, ℕ, ◌^◌, ◌<◌, ◌≤◌, Bool, true, false, ltb, List, [], ◌∷◌, ◌++◌, length, Option, Some, None, refl, sym, ap, ◌∙◌, append_assoc, arith}
 use Rattle.std.specs.Int.{Width, w16, w32, w64, byte_len, from_be_bytes, to_be_bytes}
 use Rattle.std.specs.List.{AllByRecursion, flat_map}
@@ -190,7 +190,7 @@ unfolding read_receipt u16_bytes u32_bytes u64_bytes
 receipt_again r rest h =
     bind_again _ _ _ _ (stamp_again r.stamp _ h.0) (bind_again _ _ _ _ (u32_again r.sender _ h.1) (bind_again _ _ _ _ (u64_again r.reference _ h.2) (bind_again _ _ _ _ (item_again r.item rest h.3) refl)))
 
--- what a receipt is spelled as is read as this receipt
+-- the spelling of a receipt is read as this receipt
 pub whole_again : (r : Receipt) → IsReceipt r → read_whole (spelling r) ≡ Some r
 unfolding read_whole u16_bytes u32_bytes u64_bytes
 whole_again r h =

@@ -1,14 +1,14 @@
--- So many parts, one after the other.
+-- A given number of parts that are read one after another.
 use Rattle.std.proofs.Common.{◌≡◌, ℕ, suc, ◌+◌, ◌-◌, ◌<◌, List, [], ◌∷◌, ◌++◌, length, Option, Some, None, refl, sym, ap, ◌∙◌, append_assoc, arith}
 use Rattle.std.specs.List.{AllByRecursion, flat_map}
 use Rattle.std.proofs.lemmas.List.{append-nil, length_push}
 use Rattle.act_codec.specs.inner.Reading.{◌>>=◌, read_times}
 
--- what was read before, and what is still read
+-- what was read before, put in front of what is still read
 abbrev pub with_front : {X : Type 0} → List X → Option (List X × List ℕ) → Option (List X × List ℕ)
 with_front front read = read >>= λ x. Some (front ++ x.0, x.1)
 
--- i of so many parts are read, and these bytes are left
+-- i of `count` parts are read, and these bytes are left
 pub record SoFar {X : Type 0} (part_at : List ℕ → Option (X × List ℕ)) (spelled : X → List ℕ) (IsX : X → Type 0) (count i : ℕ) (start left : List ℕ) (xs : List X) : Type 0 where
   pub read : with_front xs (read_times part_at (count - i) left) ≡ read_times part_at count start
   pub found : start ≡ flat_map spelled xs ++ left

@@ -39,7 +39,7 @@ u32_bytes n = to_be_bytes w32 n
 unfoldable pub u64_bytes : ℕ → List ℕ
 u64_bytes n = to_be_bytes w64 n
 
--- how many, and then each
+-- how many elements there are, and then each element
 abbrev pub counted : {X : Type 0} → (X → List ℕ) → List X → List ℕ
 counted spelled xs = u8_bytes (length xs) ++ flat_map spelled xs
 
@@ -134,6 +134,6 @@ stamp_bytes t = u32_bytes t.day ++ u16_bytes t.minute
 abbrev pub spelling : Receipt → List ℕ
 spelling r = stamp_bytes r.stamp ++ (u32_bytes r.sender ++ (u64_bytes r.reference ++ item_bytes r.item))
 
--- no spelling is longer
+-- the most bytes that a spelling has
 abbrev pub longest_spelling : ℕ
 longest_spelling = 522

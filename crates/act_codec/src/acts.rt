@@ -29,7 +29,7 @@ fn read_inventory(from: &mut Reader) -> Option<Inventory>
     })
 }
 
-/// So many persons.
+/// `count` persons, one after another.
 fn read_persons(count: u8, from: &mut Reader) -> Option<ArrayVec<Person, 4>>
     requires { count ≤ most_owners }
     ensures read { Gives (option_map (λ v. v.items) result) from.new (read_times read_id count from.old) }
@@ -180,7 +180,7 @@ fn read_act(from: &mut Reader) -> Option<Act>
     }
 }
 
-/// So many acts.
+/// `count` acts, one after another.
 fn read_list(count: u8, from: &mut Reader) -> Option<ArrayVec<Act, 8>>
     requires { count ≤ most_acts }
     ensures read { Gives (option_map (λ v. v.items) result) from.new (read_times read_act count from.old) }
@@ -194,7 +194,7 @@ fn read_list(count: u8, from: &mut Reader) -> Option<ArrayVec<Act, 8>>
     Some(acts)
 }
 
-/// A count of at most eight, and so many acts.
+/// A count of at most eight, and then that many acts.
 pub fn read_acts(from: &mut Reader) -> Option<Acts>
     ensures read { Gives result from.new (read_counted most_acts read_act from.old) }
     ensures found { Found result from.old from.new (counted act_bytes) AreActs }
@@ -334,7 +334,7 @@ fn put_list(to: &mut Writer, acts: &[Act]) -> Result<(), NoMemory>
     Ok(())
 }
 
-/// Writes the count of the acts, and each.
+/// Writes the count of the acts, and then each act.
 pub fn put_acts(to: &mut Writer, acts: &Acts) -> Result<(), NoMemory>
     ensures wrote { OnOk result (to.new ≡ to.old ++ counted act_bytes acts.now) }
     ensures held { OnOk result (AreActs acts.now) }

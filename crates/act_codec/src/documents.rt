@@ -53,7 +53,7 @@ fn read_doc(from: &mut Reader) -> Option<Doc>
     }
 }
 
-/// So many documents.
+/// `count` documents, one after another.
 fn read_list(count: u8, from: &mut Reader) -> Option<ArrayVec<Doc, 32>>
     requires { count ≤ most_docs }
     ensures read { Gives (option_map (λ v. v.items) result) from.new (read_times read_doc count from.old) }
@@ -67,7 +67,7 @@ fn read_list(count: u8, from: &mut Reader) -> Option<ArrayVec<Doc, 32>>
     Some(docs)
 }
 
-/// A count of at most 32, and so many documents.
+/// A count of at most 32, and then that many documents.
 pub fn read_docs(from: &mut Reader) -> Option<Docs>
     ensures read { Gives result from.new (read_counted most_docs read_doc from.old) }
     ensures found { Found result from.old from.new (counted doc_bytes) AreDocs }
@@ -128,7 +128,7 @@ fn put_list(to: &mut Writer, docs: &[Doc]) -> Result<(), NoMemory>
     Ok(())
 }
 
-/// Writes the count of the documents, and each.
+/// Writes the count of the documents, and then each document.
 pub fn put_docs(to: &mut Writer, docs: &Docs) -> Result<(), NoMemory>
     ensures wrote { OnOk result (to.new ≡ to.old ++ counted doc_bytes docs.now) }
     ensures held { OnOk result (AreDocs docs.now) }

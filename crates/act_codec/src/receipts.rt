@@ -13,7 +13,7 @@ use act_model::{Receipt, well_formed};
 use gb_base::{NoMemory, Stamp};
 use std::alloc::Global;
 
-/// The most bytes of a spelling: room for them is taken at once.
+/// The most bytes that a spelling may have: room for them is taken at once.
 fn most_bytes() -> usize
     ensures { result ≡ longest_spelling }
 {
@@ -101,7 +101,7 @@ pub fn encode(alloc: Global, receipt: &Receipt) -> Result<Vec<u8>, NoMemory>
     requires { IsTrue (well_formed receipt.now.item) }
     ensures spelled { IfOk result (λ v. v.items ≡ spelling receipt.now) }
     ensures short { IfOk result (λ v. length v.items ≤ longest_spelling) }
-    // So `decode` gives this receipt again.
+    // So `decode` gives this receipt back.
     ensures is_receipt { OnOk result (IsReceipt receipt.now) }
 {
     let mut to = Writer::new(alloc, most_bytes())?;

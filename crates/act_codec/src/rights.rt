@@ -51,7 +51,7 @@ pub fn read_spec(from: &mut Reader) -> Option<RightSpec>
     })
 }
 
-/// A reservation, or none; None where neither begins here.
+/// A reservation, or that there is none; None where neither begins here.
 #[tactic(auto, unfolding(crate::specs::inner::Reading::read_reserve))]
 pub fn read_reserve(from: &mut Reader) -> Option<Option<Cents>>
     ensures read { Gives result from.new (read_reserve from.old) }

@@ -1,5 +1,5 @@
--- Reading from left to right, part by part: a value and the bytes behind it, or none. What is promised of reading does
--- not rest on these: it is said by the spelling alone.
+-- Reading from left to right, part by part: a value and the bytes behind it, or none. What is promised of reading does not
+-- rest on these definitions: it is said by the spelling alone.
 use Rattle.std.specs.Prelude.{◌≡◌, ◌<◌, ◌^◌, ◌++◌, ℕ, zero, suc, Bool, true, false, ◌&&◌, ◌==◌, nat_lt, nat_le, if◌then◌else◌, List, [], ◌∷◌, length, take, drop, Option, Some, None}
 use Rattle.std.specs.Int.{Width, w16, w32, w64, byte_len, from_be_bytes}
 use Rattle.gb_base.specs.Limits.{first_stamp_day, is_between, last_day, last_stamp_day, minutes_of_day, most_acts, most_cents}
@@ -35,7 +35,7 @@ abbrev pub ◌>>=◌ : {A B : Type 0} → Option A → (A → Option B) → Opti
 None >>= f = None
 (Some x) >>= f = f x
 
--- A reader that gave this result, and has these bytes left, read so.
+-- A reader that gave this result, and left these bytes, did what this reading does.
 abbrev pub Gives : {X : Type 0} → Option X → List ℕ → Option (X × List ℕ) → Type 0
 Gives (Some x) left read = read ≡ Some (x, left)
 Gives None left read = read ≡ None
@@ -44,22 +44,22 @@ Gives None left read = read ≡ None
 abbrev pub IsAny : {X : Type 0} → X → Type 0
 IsAny x = Unit {0}
 
--- A reader that gave this value had its spelling before the bytes that are left.
+-- Where a reader gave a value, it found the value's spelling before the bytes that are left.
 abbrev pub Found : {X : Type 0} → Option X → List ℕ → List ℕ → (X → List ℕ) → (X → Type 0) → Type 0
 Found (Some x) old new spelled IsX = (old ≡ spelled x ++ new) × IsX x
 Found None old new spelled IsX = Unit {0}
 
--- the same where the tag was read before
+-- Where a reader gave a value whose tag had been read before, tag and bytes are its spelling before the bytes that are left.
 abbrev pub FoundTagged : {X : Type 0} → ℕ → Option X → List ℕ → List ℕ → (X → List ℕ) → (X → Type 0) → Type 0
 FoundTagged tag (Some x) old new spelled IsX = (tag ∷ old ≡ spelled x ++ new) × IsX x
 FoundTagged tag None old new spelled IsX = Unit {0}
 
--- an act of this tag and folio, which were read before
+-- where a reader gave an act whose tag and folio had been read before, these and its bytes are the act's spelling
 abbrev pub FoundAct : ℕ → ℕ → Option Act → List ℕ → List ℕ → Type 0
 FoundAct tag folio (Some act) old new = IsNumber folio → (tag ∷ u32_bytes folio ++ old ≡ act_bytes act ++ new) × IsAct act
 FoundAct tag folio None old new = Unit {0}
 
--- a document of this tag and act, which were read before
+-- where a reader gave a document whose tag and act had been read before, these and its bytes are the document's spelling
 abbrev pub FoundDoc : ℕ → ℕ → Option Doc → List ℕ → List ℕ → Type 0
 FoundDoc tag act (Some doc) old new = act < 2 ^ 8 → (tag ∷ act ∷ old ≡ doc_bytes doc ++ new) × IsDoc doc
 FoundDoc tag act None old new = Unit {0}
@@ -144,12 +144,12 @@ read_reserve bytes = do
   tag ← read_u8 bytes
   reserve_by tag.0 tag.1
 
--- so many parts, one after the other
+-- a given number of parts, one after another
 abbrev pub read_times : {X : Type 0} → (List ℕ → Option (X × List ℕ)) → ℕ → List ℕ → Option (List X × List ℕ)
 read_times part_at zero bytes = Some ([], bytes)
 read_times part_at (suc n) bytes = part_at bytes >>= λ x. read_times part_at n x.1 >>= λ xs. Some (x.0 ∷ xs.0, xs.1)
 
--- a count of at most so many, and the parts
+-- a count, which may be no more than given, and then that many parts
 abbrev pub read_counted : {X : Type 0} → ℕ → (List ℕ → Option (X × List ℕ)) → List ℕ → Option (List X × List ℕ)
 read_counted limit part_at bytes = read_u8 bytes >>= λ count. if nat_le count.0 limit then read_times part_at count.0 count.1 else None
 
@@ -450,7 +450,7 @@ read_receipt bytes = do
   item ← read_item reference.1
   Some (record { stamp = stamp.0; sender = sender.0; reference = reference.0; item = item.0 }, item.1)
 
--- all of the bytes, where they are those of a well-formed item
+-- the receipt that all of the bytes are, where its item is well formed
 unfoldable pub read_whole : List ℕ → Option Receipt
 read_whole bytes = do
   receipt ← read_receipt bytes

@@ -1,4 +1,4 @@
--- What is spelled so is read, so where nothing is read the bytes are no spelling.
+-- Each spelling is read, so where nothing is read the bytes are no spelling.
 use Rattle.act_codec.proofs.Again.{none_spelled}
 use Rattle.act_codec.proofs.receipts.decode.Goals as goal
 
