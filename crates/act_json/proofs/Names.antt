@@ -33,11 +33,11 @@ named_by_list : {A : Type 0} (names others : List (Bor (List ℕ))) (members : L
 named_by_list names others [] = refl
 named_by_list names others (m ∷ ms) = rw (among_both names others m.0.now, named_by_list names others ms) refl
 
--- all members have one of these or those names
+-- all members have a name of one of the two lists
 abbrev pub are_all_among : {A : Type 0} (names others : List (Bor (List ℕ))) → List (Bor (List ℕ) × Value A) → Bool
 are_all_among names others members = list_all (λ m. among names m.0.now || among others m.0.now) members
 
--- the test of what an object says is the test of its tree's names
+-- the test of the names in what an object says is the test of the names in its tree
 pub only_of_list : (v : Value Global) (members : Vec (Bor (List ℕ) × Value Global) Global) (names others : List (Bor (List ℕ))) (b : Bool)
     → v ≡ Object members → b ≡ are_all_among names others members.items → (if b then Ok tt else Err (codes "*")) ≡ only (texts names ++ texts others) (view v)
 only_of_list v members names others b is test =

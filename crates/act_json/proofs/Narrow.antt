@@ -16,11 +16,11 @@ element_narrow [] i d h = absurd (omega arith)
 element_narrow (v ∷ vs) zero d h = omega arith
 element_narrow (v ∷ vs) (suc i) d h = omega (arith, element_narrow vs i d (omega arith))
 
--- an element of an array
+-- an element of an array has no longer arrays than the array
 pub widest_element : {A : Type 0} (vs : List (Value A)) (i : ℕ) (v : Value A) → i < length vs → v ≡ get_or vs i v → widest (view v) ≤ widest (array (items_view vs))
 widest_element vs i v h is = omega (arith, ap (λ x. widest (view x)) is, element_narrow vs i v h)
 
--- the number of elements
+-- an array has no more elements than the longest array in it
 pub count_in_array : {A : Type 0} (vs : List (Value A)) → length vs ≤ widest (array (items_view vs))
 count_in_array vs = omega (arith, count_of-items_view vs)
 
@@ -33,7 +33,7 @@ member_narrow : (k : List ℕ) (ms : Members) (d : Data) → get_member k ms ≡
 member_narrow k no_members d is = absurd (cc)
 member_narrow k (member l e ms) d is = at_order _ k e d (get_member k ms) _ is (λ r. omega (arith, member_narrow k ms d r)) (omega arith)
 
--- a member of an object
+-- a member of an object has no longer arrays than the object
 pub widest_member : (k : List ℕ) (whole part : Data) → get k whole ≡ Some part → widest part ≤ widest whole
 widest_member k null part is = absurd (cc)
 widest_member k (boolean b) part is = absurd (cc)
@@ -42,7 +42,7 @@ widest_member k (string s) part is = absurd (cc)
 widest_member k (array ds) part is = absurd (cc)
 widest_member k (object ms) part is = member_narrow k ms part is
 
--- an array
+-- what a value is as an array has no longer arrays than the value
 pub as_array_narrow : (d : Data) (ds : Items) → as_array d ≡ Some ds → widest (array ds) ≤ widest d
 as_array_narrow null ds is = absurd (cc)
 as_array_narrow (boolean b) ds is = absurd (cc)

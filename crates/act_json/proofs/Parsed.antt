@@ -17,6 +17,6 @@ read_is text j fits is test = ap (option_and_then of_json) is ∙ of_json-said j
 pub json_is : (line text : List ℕ) (j : Json) (fits : Bool) → text ≡ line → is_utf8 line ≡ true → tree_of text ≡ Some j → fits ≡ in_range j → json_of line ≡ where_fits fits (said j)
 json_is line text j fits same utf8 is test = ap (λ b. if b then read line else None) utf8 ∙ ap read (sym same) ∙ read_is text j fits is test
 
--- no array in it has more elements than the line has bytes, but for one
+-- no array in the value has more elements than the line has bytes and one more
 pub narrow_is : (line text : List ℕ) (j : Json) (fits : Bool) → text ≡ line → tree_of text ≡ Some j → fits ≡ in_range j → fits ≡ true → widest (said j) ≤ length line + 1
 narrow_is line text j fits same is test all = widest_read line (said j) (ap read (sym same) ∙ read_is text j fits is test ∙ ap (λ b. where_fits b (said j)) all)

@@ -1,4 +1,4 @@
--- What a tree says is what `serde_json` reads, and each look into the one is a look into the other.
+-- What a tree says is what `serde_json` reads, and what is found in the tree is found in what it says.
 use Rattle.std.proofs.Common.{◌≡◌, ℕ, negsuc, Global, List, Bool, true, false, cond, ◌&&◌, Option, Some, None, is_some, option_map, option_and_then, Ordering, Less, Equal, Greater, Bor, bytes_eq, refl, sym, ap, ◌∙◌, true≢false}
 use Rattle.std.specs.Prelude.{if◌then◌else◌, unwrap_or}
 use Rattle.std.specs.Option.{option_or}
@@ -62,7 +62,7 @@ mutual
       ap (option_and_then (λ d. of_members ms (put k d found))) (of_json-said j)
       ∙ first_fits (in_range j) (members_in_range ms) (said j) (λ d. of_members ms (put k d found)) _ (of_members-said ms (put k (said j) found))
 
--- ---- looks into it
+-- ---- what is found in it
 
 pub as_str_said : (j : Json) → tree.as_str j ≡ as_str (said j)
 as_str_said json.null = refl
@@ -80,7 +80,7 @@ as_bool_said (json.string s) = refl
 as_bool_said (json.array js) = refl
 as_bool_said (json.object ms) = refl
 
--- what was put at a name is found there, and the others stay
+-- what was put under a name is found there, and the other members stay
 found_at : (b : Bool) (name k : List ℕ) (d : Data) (found : Members) → bytes_eq k name ≡ b → get_member name (put k d found) ≡ cond b (Some d) (get_member name found)
 found_at true name k d found is = let same : k ≡ name = (bytes_eq-Decides k name).0 is in ap (λ n. get_member n (put k d found)) (sym same) ∙ get_member-put k d found
 found_at false name k d found is = get_member-put_other name k d found (λ same. true≢false (sym ((bytes_eq-Decides k name).1 (sym same)) ∙ is))
@@ -101,7 +101,7 @@ alone : (o : Option Data) → option_or o None ≡ o
 alone None = refl
 alone (Some d) = refl
 
--- the member of a name
+-- the member of a name in a tree says what the member of that name is in what the tree says
 pub get_said : (name : List ℕ) (j : Json) → option_map said (tree.get name j) ≡ get name (said j)
 get_said name json.null = refl
 get_said name (json.boolean b) = refl
@@ -153,11 +153,11 @@ and_true : (b : Bool) → (b && true) ≡ b
 and_true true = refl
 and_true false = refl
 
--- the members that an object says have the names of its tree's
+-- the members in what an object says have the names of the members in its tree
 pub names_said : (names : List (List ℕ)) (ms : json.Members) → are_named names (members_said ms no_members) ≡ all_named names ms
 names_said names ms = named_said names ms no_members ∙ and_true _
 
--- what a part that was found says
+-- what a part says that was found
 pub said_found : (r : Option (Bor (Value Global))) → option_map (λ v. said (value_view v.now)) r ≡ option_map said (option_map (λ v. value_view v.now) r)
 said_found None = refl
 said_found (Some v) = refl

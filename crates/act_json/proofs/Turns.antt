@@ -9,7 +9,7 @@ use Rattle.json.specs.declared.value.Value.{Value}
 use Rattle.act_json.specs.Reading.{Read, ◌>>=◌, within, elements}
 use Rattle.act_json.specs.inner.Values.{view, items_view}
 
--- what holds of an `Ok`, at one
+-- where a result is Ok, what holds of an Ok holds
 pub holds_at_ok : {T E P : Type 0} (r : Result T E) → IsOk r → OnOk r P → P
 holds_at_ok (Ok x) ok holds = holds
 holds_at_ok (Err e) ok holds = absurd (cc)
@@ -17,14 +17,14 @@ holds_at_ok (Err e) ok holds = absurd (cc)
 all_after_push : {A : Type 0} (p : A → Bool) (xs : List A) (x : A) → IsTrue (list_all p xs) → IsTrue (p x) → IsTrue (list_all p (xs ++ x ∷ []))
 all_after_push p xs x all one = rw (list_all-append p xs (x ∷ []), all, one) refl
 
--- what holds of all elements and of one more holds of all after a try to push it
+-- what holds of all elements and of one more holds of all after this one was pushed, or found no room
 pub all_after_try_push : {A E : Type 0} (p : A → Bool) (r : Result (Unit {0}) E) (xs after : List A) (x : A) → OnOk r (after ≡ xs ++ x ∷ []) → OnErr r (after ≡ xs)
     → IsTrue (list_all p xs) → IsTrue (p x) → IsTrue (list_all p after)
 all_after_try_push p (Ok u) xs after x pushed stays all one = rw pushed (all_after_push p xs x all one)
 all_after_try_push p (Err e) xs after x pushed stays all one = rw stays all
 
 module _ {A : Type 0} (read : Data → Read A) where
-  -- what was read before, and what is still read
+  -- what was read before, put in front of what is still read
   abbrev pub prepended : List A → Read (List A) → Read (List A)
   prepended before more = more >>= λ xs. Ok (before ++ xs)
 

@@ -1,4 +1,4 @@
--- No array that is read has more elements than its text has bytes, but for one.
+-- No array that is read has more elements than its text has bytes and one more.
 use Rattle.std.proofs.Common.{◌≡◌, ℕ, zero, suc, ◌+◌, ◌≤◌, max, Bool, true, false, List, [], ◌∷◌, length, Option, Some, None, option_map, option_and_then, Ordering, Less, Equal, Greater, refl, subst, arith}
 use Rattle.std.specs.Prelude.{⊤}
 use Rattle.std.specs.Ordering.{match_ordering}
@@ -101,7 +101,7 @@ abbrev mutual
   members_width json.no_members = 0
   members_width (json.member k j ms) = max (width j) (members_width ms)
 
--- what was read is at most so wide, and no more tokens are left
+-- what was read is at most so wide, and at most so many tokens are left
 abbrev Fits : {A : Type 0} → (A → ℕ) → ℕ → Option (A × List Token) → Type 0
 Fits f n None = ⊤
 Fits f n (Some p) = (f p.0 ≤ n) × (length p.1 ≤ n)
@@ -224,7 +224,7 @@ members_widest-put k d no_members n p q = omega arith
 members_widest-put k d (member l e ms) n p q =
     members_widest-match_ordering _ (member k d (member l e ms)) (member l d ms) (member l e (put k d ms)) n (omega arith) (omega arith) (omega (arith, members_widest-put k d ms n p (omega arith)))
 
--- elements and their widths
+-- the width of an array: by its elements, and by what is in them
 abbrev both : Items → ℕ
 both ds = max (count_of ds) (items_widest ds)
 

@@ -1,4 +1,4 @@
--- The grammar of items: for each object its members in their order, and after the last one that no other is there.
+-- The grammar of items: for each object its members in their order, and after the last one the test that there is no other.
 use Rattle.std.specs.Prelude.{ℕ, List, [], ◌∷◌, Bool, true, false, Ok, codes}
 use Rattle.serde_json.specs.Data.{Data}
 use Rattle.gb_base.specs.Limits.{most_cents, most_acts}
@@ -89,7 +89,7 @@ read_kind right_word.Usufruct d = Ok kind.Usufruct
 read_kind right_word.Mortgage d = rate d >>= λ bp. Ok (kind.Mortgage bp)
 read_kind right_word.LandCharge d = rate d >>= λ bp. Ok (kind.LandCharge bp)
 
--- the members of a right that an act describes, where its kind is called so
+-- the members of a right that an act describes, of the kind that this word stands for
 unfoldable pub read_spec : RightWord → Data → Read RightSpec
 read_spec word d = do
   kind ← read_kind word d
@@ -130,7 +130,7 @@ read_inventory d = do
   area ← member (codes "area") (read_whole 1 1000000000) d
   Ok (record { district = district; parcel = parcel; sub = sub; area = area })
 
--- Of an act the members behind `act` and `folio` are read.
+-- Each of these reads the members of an act after `act` and `folio`.
 
 -- the opening of a folio
 unfoldable pub read_open : ℕ → Data → Read Act
@@ -204,7 +204,7 @@ read_exercise folio d = do
   only (codes "act" ∷ codes "folio" ∷ codes "behind" ∷ spec_names word) d
   Ok (act.Exercise folio behind spec)
 
--- the act of this folio that is called so
+-- the act of this folio that this word stands for
 abbrev pub act_called : ActWord → ℕ → Data → Read Act
 act_called act_word.Open = read_open
 act_called act_word.Transfer = read_transfer
@@ -246,11 +246,11 @@ read_consent act d = do
   only (codes "doc" ∷ codes "act" ∷ codes "person" ∷ codes "form" ∷ []) d
   Ok (doc.Consent act person form)
 
--- a document that has nothing besides
+-- a document that has no members besides `doc` and `act`
 abbrev pub bare : Doc → Data → Read Doc
 bare document d = only (codes "doc" ∷ codes "act" ∷ []) d >> Ok document
 
--- the document for this act that is called so
+-- the document for this act that this word stands for
 abbrev pub doc_called : DocWord → ℕ → Data → Read Doc
 doc_called doc_word.Consent act d = read_consent act d
 doc_called doc_word.Agreement act d = bare (doc.Agreement act) d
@@ -285,7 +285,7 @@ read_from_right d = do
   only (codes "type" ∷ codes "right" ∷ []) d
   Ok (basis.FromRight right)
 
--- what a seizure rests on, where it is called so
+-- what a seizure rests on, of the kind that this word stands for
 abbrev pub basis_called : BasisWord → Data → Read Basis
 basis_called basis_word.Personal = read_personal
 basis_called basis_word.Right = read_from_right
@@ -326,7 +326,7 @@ read_arrears d = do
   only (codes "type" ∷ codes "right" ∷ codes "from" ∷ codes "until" ∷ []) d
   Ok (registered.Arrears right from until)
 
--- the registration that is called so
+-- the registration that this word stands for
 abbrev pub registration_called : RegistrationWord → Data → Read Registration
 registration_called registration_word.Advance = read_advance
 registration_called registration_word.Charge = read_charge
@@ -361,7 +361,7 @@ read_acts = array_of 1 most_acts read_act
 abbrev pub read_docs : Data → Read (List Doc)
 read_docs = array_of 0 32 read_doc
 
--- a filing; the rules over a whole filing are tested last of all
+-- a filing; the rules over a whole filing are tested last
 unfoldable pub read_filing : Data → Read Item
 read_filing d = do
   applicant ← member (codes "applicant") serial d
@@ -428,7 +428,7 @@ read_distribute d = do
   only (codes "kind" ∷ codes "folio" ∷ []) d
   Ok (item.Distribute folio)
 
--- the item that is called so
+-- the item that this word stands for
 abbrev pub item_called : ItemWord → Data → Read Item
 item_called item_word.Filing = read_filing
 item_called item_word.Cure = read_cure

@@ -75,7 +75,7 @@ item_of line = line_read_by item_line (json_of line)
 unfoldable pub stamped_of : List ℕ → Result (DayMinute × ℕ × ℕ × Item) LineFault
 stamped_of line = line_read_by stamped_line (json_of line)
 
--- what was read is what is meant, unless memory ran out
+-- what was read is what the line means, unless memory ran out
 abbrev pub ReadsAs : {A : Type 0} → Result A LineFault → Result A LineFault → Type 0
 ReadsAs (Ok x) meant = meant ≡ Ok x
 ReadsAs (Err NotJson) meant = meant ≡ Err NotJson

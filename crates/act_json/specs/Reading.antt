@@ -6,17 +6,17 @@ use Rattle.serde_json.specs.Data as json
 use Rattle.serde_json.specs.Find.{get, as_number, as_u64, as_bool, as_str, as_array, as_object}
 use Rattle.gb_base.specs.Limits.{is_between}
 
--- a value, or the path that is wrong, from where reading began: empty where the value itself is wrong
+-- a value, or the path that is wrong, seen from where reading began: it is empty where the value itself is wrong
 abbrev pub Read : Type 0 → Type 0
 Read A = Result A (List ℕ)
 
--- reads on with the value; the first wrong path is the answer
+-- reads on with the value that was read; where a path is wrong, the first one is the answer
 infixl 10 ◌>>=◌
 abbrev pub ◌>>=◌ : {A B : Type 0} → Read A → (A → Read B) → Read B
 (Ok x) >>= next = next x
 (Err path) >>= next = Err path
 
--- reads on without a value
+-- reads on without the value that was read
 infixl 10 ◌>>◌
 abbrev pub ◌>>◌ : {A B : Type 0} → Read A → Read B → Read B
 (Ok x) >> next = next
@@ -64,7 +64,7 @@ abbrev pub are_named : List (List ℕ) → Members → Bool
 are_named names json.no_members = true
 are_named names (json.member name d ms) = list_any (bytes_eq name) names && are_named names ms
 
--- no member has another name than these
+-- the object has no member of another name than these
 abbrev pub only : List (List ℕ) → Data → Read (Unit {0})
 only names d = do
   ms ← wanted (as_object d)

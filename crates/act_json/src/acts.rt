@@ -1,4 +1,5 @@
-//! The acts of a filing. A reader of an act takes the whole object, and its folio, which is read.
+//! The acts of a filing. A reader of an act takes the whole object, and its folio, which was read
+//! before.
 ghost use Rattle.std.specs.Prelude.{◌≡◌, ◌≤◌, length, IfErr, IfOk, IsTrue};
 ghost use Rattle.act_model.specs.WellFormed.{is_act, is_inventory};
 ghost use Rattle.act_json.specs.Grammar.{act_called, read_inventory, read_open, read_transfer, read_create, read_notice, read_convert, read_assign, read_cancel, read_exchange, read_exercise};

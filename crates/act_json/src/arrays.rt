@@ -36,7 +36,7 @@ pub(crate) fn array<T: FromJson + Default, const N: usize>(
     Ok(list)
 }
 
-/// The elements, where they are at most N. All are read, also those that find no room.
+/// The elements, where they are at most N. All are read, also those for which there is no room.
 fn elements<T: FromJson + Default, const N: usize>(
     values: &[Value<'_>],
 ) -> Result<ArrayVec<T, N>, Path>

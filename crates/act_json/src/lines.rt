@@ -108,7 +108,7 @@ fn parse<'a>(
     }
 }
 
-/// The tree that the text is, whatever numbers are in it.
+/// The tree that the text is, whether or not the numbers in it are in range.
 fn tree<'a>(alloc: Global, text: &'a str, scratch: &'a mut Scratch) -> Result<Value<'a>, LineFault>
     ensures { Parses value_view result (tree_of text.now) }
 {
@@ -124,7 +124,7 @@ fn tree<'a>(alloc: Global, text: &'a str, scratch: &'a mut Scratch) -> Result<Va
             }
         }
         Err(Error::Invalid) => Err(LineFault::NotJson),
-        // No other error comes here but want of memory.
+        // The only other error here is that memory ran out.
         Err(_) => Err(LineFault::Memory),
     }
 }
@@ -158,7 +158,7 @@ fn stamped_line(value: &Value<'_>) -> Result<(Stamp, u32, u64, Item), Path>
     Ok((stamp, sender, reference, item))
 }
 
-/// The line is an object; its path is a name of its own where it is none.
+/// The line is an object. Where it is none, the wrong path is `line`.
 fn line_object(value: &Value<'_>) -> Result<(), Path>
     ensures { result ≡ within (codes "line") (an_object (view value.now)) }
 {

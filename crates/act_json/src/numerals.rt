@@ -23,8 +23,8 @@ fn positive(numeral: &Numeral<'_>) -> Option<u64>
     numeral.to_u64()
 }
 
-/// Whether the number that a text writes is in range: whole and of at most 64 bits, or near to a
-/// float.
+/// Whether the number that a text writes is in range: whole and of at most 64 bits, or near enough
+/// to a finite float.
 pub(crate) fn is_in_range(text: &[u8]) -> bool
     ensures { result ≡ is_some (number_of text.now) }
 {

@@ -31,7 +31,7 @@ impl Path {
         self.bytes.as_slice()
     }
 
-    /// The empty path, of the value where reading began.
+    /// The empty path: that of the value where reading began.
     pub(crate) fn here() -> Path
         ensures { result ≡ [] }
     {

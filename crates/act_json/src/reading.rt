@@ -20,10 +20,10 @@ pub(crate) trait FromJson: Drop {
     // What the grammar reads.
     ghost reads: { Data → Result Self (List ℕ) };
 
-    // No wrong path inside is longer.
+    // The most bytes of a wrong path inside the value.
     ghost longest: { ℕ };
 
-    // The ranges and rules that each value read keeps.
+    // The ranges and rules that each value keeps that was read.
     ghost keeps: { Self → Bool } = { λ _. true };
 
     fn read(value: &Value<'_>) -> Result<Self, Path>
@@ -137,7 +137,7 @@ pub(crate) fn kind_word<W: FromJson>(value: &Value<'_>, name: &str) -> Result<W,
     member(value, name)
 }
 
-/// The object has no member of another name.
+/// The object has no member of another name than these.
 #[tactic(auto, using(crate::proofs::Names::no_more))]
 pub(crate) fn only(value: &Value<'_>, names: &[&str]) -> Result<(), Path>
     ensures exact { result ≡ only (map (λ name. name.now) names.now) (view value.now) }
@@ -146,7 +146,7 @@ pub(crate) fn only(value: &Value<'_>, names: &[&str]) -> Result<(), Path>
     only_of_both(value, names, &[])
 }
 
-/// The object has no member of another name than these and those.
+/// The object has no member of another name than those in `names` and in `others`.
 pub(crate) fn only_of_both(value: &Value<'_>, names: &[&str], others: &[&str]) -> Result<(), Path>
     ensures exact { result ≡ only (map (λ name. name.now) names.now ++ map (λ name. name.now) others.now)
         (view value.now) }

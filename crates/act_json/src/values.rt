@@ -43,7 +43,7 @@ pub(crate) fn whole_number(value: &Value<'_>) -> Option<u64>
     }
 }
 
-/// Whether each number in the value is in range. Where one is not, the text is no JSON here.
+/// Whether each number in the value is in range. Where one is not, the line counts as no JSON.
 #[cycle(in_range)]
 pub(crate) fn is_in_range(value: &Value<'_>) -> bool
     ensures { result ≡ in_range (value_view value.now) }

@@ -13,7 +13,7 @@ abbrev pub count_of : Items → ℕ
 count_of no_items = 0
 count_of (item d ds) = suc (count_of ds)
 
--- the elements of the longest array that is anywhere in the value
+-- how many elements the longest array has that is anywhere in the value
 abbrev mutual
   pub widest : Data → ℕ
   widest null = 0

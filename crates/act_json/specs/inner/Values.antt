@@ -27,7 +27,7 @@ abbrev mutual
   members_said json.no_members found = found
   members_said (json.member k j ms) found = members_said ms (put k (said j) found)
 
--- each number in it is in range
+-- each number in the tree is in range
 abbrev mutual
   pub in_range : Json → Bool
   in_range json.null = true
@@ -53,6 +53,6 @@ view v = said (tree.value_view v)
 abbrev pub items_view : {A : Type 0} → List (Value A) → Items
 items_view vs = items_said (tree.items_view vs)
 
--- the tree that a text is, whatever numbers are in it
+-- the tree that a text is, whether or not the numbers in it are in range
 abbrev pub tree_of : List ℕ → Option Json
 tree_of text = option_and_then (λ p. if_last p.0 p.1) (json.value max_depth (tokens text))

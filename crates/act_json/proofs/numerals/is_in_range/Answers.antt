@@ -1,4 +1,4 @@
--- The numeral behind a minus, or the whole text.
+-- The numeral is the text after the minus, or the whole text.
 use Rattle.std.proofs.Common.{true, false, drop, sym, ap, ◌∙◌, arith, take_all, length-drop, is_some}
 use Rattle.fast_float.specs.Text.{scan}
 use Rattle.serde_json.specs.Read.{number_from}

@@ -1,4 +1,4 @@
--- All members have one of the names, or one has not.
+-- Either all members have one of the names, or one has another.
 use Rattle.std.proofs.Common.{ap, ◌∙◌, sym}
 use Rattle.std.specs.Prelude.{if◌then◌else◌, Ok, Err, codes}
 use Rattle.act_json.proofs.Names.{are_all_among, only_of_list}

@@ -1,4 +1,4 @@
--- What is left is in range where all is.
+-- What is left is in range just where the whole is.
 use Rattle.std.proofs.Common.{◌≡◌, drop}
 use Rattle.json.specs.Value.{items_view, members_view}
 use Rattle.act_json.specs.inner.Values.{items_in_range, members_in_range}
