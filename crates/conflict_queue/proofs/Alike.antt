@@ -29,7 +29,7 @@ pub if_some : {X : Type 0} (o : Option X) (P Q : X → Type 0) → ((x : X) → 
 if_some (Some x) P Q f p = f x p
 if_some None P Q f p = tt
 
--- the keys of a receipt are those of what it holds
+-- the keys of a receipt are those of the item that it holds
 pub item_touches : (journal : List Receipt) (n : ℕ) (w : Item) → option_map (λ r. r.item) (receipt_at journal n) ≡ Some w → keys_of_item journal n ≡ keys_by_item journal n w
 item_touches journal n w is = held (receipt_at journal n) is
   where
@@ -79,7 +79,7 @@ sale_len folio journal n =
         let same = length-map rights (Right folio) in
         omega arith
 
--- an item of a sale that touches as many rights
+-- an earlier item of a sale that touches as many rights as item n finds touches the keys of item n
 pub sale_ahead : (journal : List Receipt) (n j folio : ℕ) (touched : List Key) → j < n → keys_of_item journal j ≡ keys_of_sale journal j folio
     → touched ≡ keys_touched journal j → length touched ≡ length (earlier_rights journal n folio) + 2 → IsAhead journal n j (keys_of_sale journal n folio)
 sale_ahead journal n j folio touched less of_sale is many =
@@ -101,7 +101,7 @@ by_sale journal n folio (item.OpenBids f costs) is = ap (keys_of_sale journal n)
 by_sale journal n folio (item.Award f buyer bid) is = ap (keys_of_sale journal n) (some_is f folio is)
 by_sale journal n folio (item.Distribute f) is = ap (keys_of_sale journal n) (some_is f folio is)
 
--- ---- an item and one ahead of it
+-- ---- an item and one before it
 
 pub alike : (journal : List Receipt) (n : ℕ) (w : Item) (ks : List Key) → option_map (λ r. r.item) (receipt_at journal n) ≡ Some w → keys_by_item journal n w ≡ ks
     → (o : Option ℕ) → IfSome o (λ j. IsAhead journal n j ks) → IfSome o (λ j. TouchesSame journal n j)
@@ -118,7 +118,7 @@ wider journal n i folio j more here =
 pub later_sales : (journal : List Receipt) (n i : ℕ) (sales : BTreeMap ℕ ℕ) → n ≤ i → AreSales journal n sales → AreSales journal i sales
 later_sales journal n i sales more are = λ folio j there. wider journal n i folio j more (are folio j there)
 
--- item i is the last of a sale now
+-- the last items of sales, once item i is the last one of its sale
 pub with_sale : (journal : List Receipt) (n i folio : ℕ) (old new : BTreeMap ℕ ℕ) → n ≤ i → AreSales journal n old → keys_of_item journal i ≡ keys_of_sale journal i folio
     → Updates nat_cmp old new folio (Some i) → AreSales journal i new
 with_sale journal n i folio old new more are of_sale updates = λ q j there.

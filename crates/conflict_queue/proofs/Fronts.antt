@@ -6,7 +6,7 @@ use Rattle.gb_base.proofs.Ascending.{ascends_at, ascends_later}
 use Rattle.gb_base.proofs.Fronts.{none_pass}
 use Rattle.conflict_queue.specs.inner.Queues.{Ascends}
 
--- the first n of a list that has no more are all of it
+-- the first n of a list that has no more than n are all of it
 pub take_few : {X : Type 0} (n : ℕ) (xs : List X) → length xs ≤ n → take n xs ≡ xs
 take_few zero [] few = refl
 take_few (suc n) [] few = refl
@@ -15,7 +15,7 @@ take_few (suc n) (x ∷ xs) few = ap (λ rest. x ∷ rest) (take_few n xs (omega
 
 -- ---- numbers in a row
 
--- the numbers in a row that pass ascend
+-- of numbers in a row, those that pass ascend
 pub passing_ascend : (p : ℕ → Bool) (a n : ℕ) → Ascends a (filter p (range_with_len a n))
 passing_ascend p a zero = tt
 passing_ascend p a (suc n) =
@@ -30,7 +30,7 @@ none_below p b a n above = none_pass (λ m. nat_lt m b) (filter p (range_with_le
     let least = ascends_at (λ m. m) a (filter p (range_with_len a n)) k d (passing_ascend p a n) within in
     grind (arith, nat_tests, least, above))
 
--- those of them that are below a number
+-- of numbers in a row, those that pass and are below a number
 pub passing_below : (p : ℕ → Bool) (a k n : ℕ) → k ≤ n → filter (λ m. nat_lt m (a + k)) (filter p (range_with_len a n)) ≡ filter p (range_with_len a k)
 passing_below p a zero n few = none_below p (a + 0) a n (omega arith)
 passing_below p a (suc k) zero few = absurd (omega arith)

@@ -1,4 +1,4 @@
--- An item that comes behind the others stands at the end of the queues at its keys.
+-- An item that comes after the others stands at the end of the queues at its keys.
 use Rattle.std.proofs.Common.{◌≡◌, ℕ, zero, suc, ◌+◌, ◌-◌, ◌<◌, ◌≤◌, true, false, cond, ◌||◌, List, [], ◌∷◌, ◌++◌, filter, length, map, slice_get, refl, sym, ap, subst, ◌∙◌, arith}
 use Rattle.std.specs.List.{range_with_len}
 use Rattle.std.specs.List.Sorted.{IsStrictlySortedBy}
@@ -12,7 +12,7 @@ use Rattle.conflict_queue.specs.inner.Queues.{queue_of}
 use Rattle.conflict_queue.proofs.Lists.{get_behind, get_front}
 use Rattle.conflict_queue.proofs.Numbered.{filter_numbered}
 
--- ---- the keys of an item are each once
+-- ---- each key of an item stands once
 
 none_same : (k : Key) (js : List Key) → has_key k js ≡ false → filter (λ j. same_key j k) js ≡ []
 none_same k [] none = refl
@@ -59,7 +59,7 @@ queue_grows docket ks k =
     ∙ filter-append test numbers ((1 + length docket) ∷ [])
     ∙ (λ i. filter_numbered test (touches_in docket k) 1 (length docket) (touches_before docket ks k) i ++ cond (touches_last docket ks k i) ((1 + length docket) ∷ []) [])
 
--- the queues of the docket with the keys of item i
+-- the queue at a key after the keys of one item more were pushed is that of the docket with these keys
 pub pushed : (docket : List (List Key)) (ks got : List Key) (k : Key) (item : ℕ) (old new : List ℕ) → IsStrictlySortedBy key_cmp ks → got ≡ ks → item ≡ 1 + length docket → old ≡ queue_of docket k
     → new ≡ old ++ map (λ j. item) (filter (λ j. same_key j k) got) → new ≡ queue_of (docket ++ ks ∷ []) k
 pushed docket ks got k item old new sorted same number was is =

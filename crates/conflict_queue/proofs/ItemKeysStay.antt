@@ -58,14 +58,14 @@ creations_both journal more folio =
     ap (λ numbered. flat_map (λ p. creations_of_item folio p.0 p.1.item) numbered) (numbered_both 1 journal more)
     ∙ flat_map-append (λ p. creations_of_item folio p.0 p.1.item) (enumerate_from 1 journal) (enumerate_from (1 + length journal) more)
 
--- ---- the first of them
+-- ---- the first of the rights
 
 none_pass : {X : Type 0} (p : X → Bool) (n : ℕ) (ys : List X) → AllByRecursion (λ y. p y ≡ false) ys → filter p (take n ys) ≡ []
 none_pass p zero ys fail = refl
 none_pass p (suc n) [] fail = refl
 none_pass p (suc n) (y ∷ ys) fail = rw fail.0 (none_pass p n ys fail.1)
 
--- elements that do not pass, behind a list, change nothing among its first
+-- elements that do not pass, put after a list, change nothing of what passes among the first n
 first_pass : {X : Type 0} (p : X → Bool) (n : ℕ) (xs ys : List X) → AllByRecursion (λ y. p y ≡ false) ys → filter p (take n (xs ++ ys)) ≡ filter p (take n xs)
 first_pass p zero xs ys fail = refl
 first_pass p (suc n) [] ys fail = none_pass p (suc n) ys fail

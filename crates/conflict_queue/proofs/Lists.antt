@@ -20,21 +20,21 @@ map_both : {X Y : Type 0} (f : X → Y) (xs ys : List X) → map f (xs ++ ys) �
 map_both f [] ys = refl
 map_both f (x ∷ xs) ys = ap (λ rest. f x ∷ rest) (map_both f xs ys)
 
--- a further list changes none of those before
+-- further lists change nothing of the lists before them
 same_lists : (lists more : List (Vec Key Global)) (numbers : List ℕ) → AreListed lists numbers → lists_at (lists ++ more) numbers ≡ lists_at lists numbers
 same_lists lists more [] listed = refl
 same_lists lists more (n ∷ ns) listed = λ i.
     option_map_or (λ list. list.items) (get_front lists more n (All-head (λ l. l < length lists) n ns listed) i) []
     ∷ same_lists lists more ns (All-tail (λ l. l < length lists) n ns listed) i
 
--- an item with a list of its own
+-- the lists of all items with one item more, which has a list of its own
 pub own_list : (lists : List (Vec Key Global)) (numbers : List ℕ) (keys : Vec Key Global) → AreListed lists numbers
     → lists_at (lists ++ keys ∷ []) (numbers ++ length lists ∷ []) ≡ lists_at lists numbers ++ keys.items ∷ []
 own_list lists numbers keys listed =
     map_both (list_at (lists ++ keys ∷ [])) numbers (length lists ∷ [])
     ∙ (λ i. same_lists lists (keys ∷ []) numbers listed i ++ option_map_or (λ list. list.items) (get_behind lists keys i) [] ∷ [])
 
--- an item with the list of another
+-- the lists of all items with one item more, which shares the list of another
 pub shared_list : (lists : List (Vec Key Global)) (numbers : List ℕ) (n : ℕ) → lists_at lists (numbers ++ n ∷ []) ≡ lists_at lists numbers ++ list_at lists n ∷ []
 shared_list lists numbers n = map_both (list_at lists) numbers (n ∷ [])
 

@@ -13,7 +13,7 @@ use Rattle.conflict_queue.proofs.SaleKeys.{in_order_has}
 pub some_is : {X : Type 0} (x y : X) → Some x ≡ Some y → x ≡ y
 some_is x y e = ap (λ o. option_map_or (λ v. v) o x) e
 
--- what a list over the numbers from 1 has at number i
+-- a list over the numbers from 1 has at number i what i gives
 pub numbered_at : {X : Type 0} (f : ℕ → X) (n i : ℕ) → 1 ≤ i → i ≤ n → slice_get (map f (range_with_len 1 n)) (i - 1) ≡ Some (f i)
 numbered_at f n i low high =
     let count = length-map-range_with_len f 1 n in
@@ -40,7 +40,7 @@ filter_numbered p q a (suc n) same = λ i. cond (same a (omega arith) (omega ari
     (a ∷ filter_numbered p q (a + 1) n (λ j low high. same j (omega arith) (omega arith)) i)
     (filter_numbered p q (a + 1) n (λ j low high. same j (omega arith) (omega arith)) i)
 
--- what stands ahead in the docket of a journal does so in the journal
+-- what was at a key before, by the docket of a journal, was so by the journal
 pub previous_is : (journal : List Receipt) (docket : List (List Key)) (k : Key) (i : ℕ) → docket ≡ docket_of journal → i ≤ length docket → previous_in docket i k ≡ previous journal i k
 previous_is journal docket k i is high =
     let count = ap length is ∙ docket_len journal in

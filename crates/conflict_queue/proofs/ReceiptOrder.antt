@@ -5,7 +5,7 @@ use Rattle.std.proofs.lemmas.List.FromFn.{get_or-range_with_len, length-range_wi
 use Rattle.act_model.specs.declared.receipts.Receipt.{Receipt}
 use Rattle.conflict_queue.specs.Schedules.{in_receipt_order, IsPermitted}
 
--- of two numbers in a row the one ahead is the smaller
+-- of two numbers in a row the first is the smaller
 rising : (n : ℕ) → AllPairs (λ i later. i < later) (range_with_len 1 n)
 rising n i j d less within =
     let count = length-range_with_len 1 n in

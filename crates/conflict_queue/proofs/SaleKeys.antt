@@ -22,7 +22,7 @@ use Rattle.act_model.specs.SaleKeys.{earlier_rights}
 
 -- ---- rights that rise
 
--- a right behind is of no earlier receipt
+-- a right from an act of receipt m on is of no earlier receipt
 from_receipt : (m a : ℕ) (r : RightNo) → is_from m a r ≡ true → m ≤ r.receipt
 from_receipt m a r h = grind (arith, nat_tests, h)
 
@@ -41,7 +41,7 @@ rises_between m a (r ∷ rs) zero (suc j) d up order within = rises_at r.receipt
 rises_between m a (r ∷ rs) (suc i) zero d up order within = absurd (omega arith)
 rises_between m a (r ∷ rs) (suc i) (suc j) d up order within = rises_between r.receipt (r.act + 1) rs i j d up.1 (omega arith) (omega arith)
 
--- those of earlier receipts stand ahead of the others
+-- the rights of receipts before n stand before the others
 pub parted_earlier : (n m a : ℕ) (rs : List RightNo) → Rises m a rs → IsPartitionedBy (λ r. nat_lt r.receipt n) rs
 parted_earlier n m a rs up = λ i j d order within passes.
     let less = rises_between m a rs i j d up order within in
@@ -59,7 +59,7 @@ none_earlier n m a (r ∷ rs) later up =
     let not : nat_lt r.receipt n ≡ false = grind (arith, nat_tests, first, later) in
     rw not (none_earlier n r.receipt (r.act + 1) rs (omega arith) up.1)
 
--- so they are the first ones
+-- so the rights of receipts before n are the first ones
 front_earlier : (n m a : ℕ) (rs : List RightNo) → Rises m a rs → filter (λ r. nat_lt r.receipt n) rs ≡ take (length (filter (λ r. nat_lt r.receipt n) rs)) rs
 front_earlier n m a [] up = refl
 front_earlier n m a (r ∷ rs) up =
@@ -84,7 +84,7 @@ earlier_rise journal n folio =
     subst (Rises 0 0) (sym (front_earlier n 0 0 first (first_rise journal folio)))
     (rises_take 0 0 (length (filter (λ r. nat_lt r.receipt n) first)) first (first_rise journal folio))
 
--- two items that find as many rights find the same
+-- two items that find equally many rights find the same rights
 pub as_many : (journal : List Receipt) (n m folio : ℕ) → length (earlier_rights journal n folio) ≡ length (earlier_rights journal m folio) → earlier_rights journal n folio ≡ earlier_rights journal m folio
 as_many journal n m folio same =
     let first = take most_creations (creations_in journal folio) in
@@ -110,7 +110,7 @@ right_ahead folio x y h = rw (tied folio) (grind (arith, nat_tests, h))
 from_later : (x : RightNo) (r s : RightNo) → is_from x.receipt (x.act + 1) r ≡ true → is_from r.receipt (r.act + 1) s ≡ true → is_from x.receipt (x.act + 1) s ≡ true
 from_later x r s h g = grind (arith, nat_tests, h, g)
 
--- a right is ahead of those behind it and of the sale
+-- the key of a right is before those of the later rights and that of the sale
 right_above : (folio : ℕ) (x : RightNo) (rs : List RightNo) → Rises x.receipt (x.act + 1) rs → AllByRecursion (λ k. key_cmp (Right folio x) k ≡ Less) (map (Right folio) rs ++ Case folio ∷ [])
 right_above folio x [] up = (right_ahead_of_case folio x, tt)
 right_above folio x (r ∷ rs) up = (right_ahead folio x r up.0, right_above folio x rs (later rs up.1))
@@ -147,7 +147,7 @@ sale_has folio rs q =
     ap (λ b. same_key (Title folio) q || b) (list_any-append (λ j. same_key j q) (map (Right folio) rs) (Case folio ∷ []))
     ∙ rotated (same_key (Title folio) q) (has_key q (map (Right folio) rs)) (same_key (Case folio) q)
 
--- the title, the rights, the sale: that is key order
+-- the title, then the rights, then the sale: that is the order of keys
 pub sale_in_order : (folio : ℕ) (rs : List RightNo) → Rises 0 0 rs → Title folio ∷ (map (Right folio) rs ++ Case folio ∷ []) ≡ in_key_order (Case folio ∷ Title folio ∷ map (Right folio) rs)
 sale_in_order folio rs up =
     let ours = Title folio ∷ (map (Right folio) rs ++ Case folio ∷ []) in
@@ -158,7 +158,7 @@ sale_in_order folio rs up =
     let both = in_key_order_members theirs q in
     (λ c. both.1 (there.0 (sym (sale_has folio rs q) ∙ here.1 c)), λ c. here.0 (sale_has folio rs q ∙ there.1 (both.0 c))))
 
--- the keys in order have the same ones
+-- putting keys in order adds no key and loses none
 pub in_order_has : (k : Key) (ks : List Key) → has_key k (in_key_order ks) ≡ has_key k ks
 in_order_has k ks =
     let there = has_decides k (in_key_order ks) in

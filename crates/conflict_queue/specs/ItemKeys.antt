@@ -1,4 +1,4 @@
--- The keys that an item touches (GBO § 17). They follow from the receipts up to it alone, whatever became of these.
+-- The keys that an item touches (GBO § 17). They follow from the receipts up to it alone, whatever became of these receipts.
 use Rattle.std.specs.Prelude.{ℕ, nat_lt, if◌then◌else◌, List, [], ◌∷◌}
 use Rattle.std.specs.Option.{option_map_or}
 use Rattle.gb_base.specs.declared.keys.Key.{Key}
@@ -10,7 +10,7 @@ use Rattle.act_model.specs.declared.items.Item.{Item}
 use Rattle.act_model.specs.declared.items.Item.TheVariants as item
 use Rattle.act_model.specs.declared.receipts.Receipt.{Receipt}
 
--- the keys of filing m, as item i names it: none where it is no earlier one
+-- the keys of filing m, as item i names it: none where m is not before i
 abbrev pub keys_of_named : List Receipt → ℕ → ℕ → List Key
 keys_of_named journal i m = if nat_lt m i then keys_of_filing journal m else []
 
@@ -25,6 +25,6 @@ keys_by_item journal i (item.OpenBids folio costs) = keys_of_sale journal i foli
 keys_by_item journal i (item.Award folio buyer bid) = keys_of_sale journal i folio
 keys_by_item journal i (item.Distribute folio) = keys_of_sale journal i folio
 
--- the keys of receipt i; none where there is none
+-- the keys of receipt i; none where there is no such receipt
 abbrev pub keys_of_item : List Receipt → ℕ → List Key
 keys_of_item journal i = option_map_or (λ r. keys_by_item journal i r.item) (receipt_at journal i) []

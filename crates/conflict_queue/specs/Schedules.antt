@@ -1,4 +1,4 @@
--- The orders in which the items of a journal may be settled (GBO § 17): of two that touch one key the earlier comes first.
+-- The orders in which the items of a journal may be settled (GBO § 17): of two items that touch one key the earlier comes first.
 use Rattle.std.specs.Prelude.{◌≡◌, ◌↔◌, ℕ, ◌<◌, ◌≤◌, List, length, Any, AllPairs, Contains}
 use Rattle.std.specs.List.{range_with_len}
 use Rattle.act_model.specs.declared.receipts.Receipt.{Receipt}
@@ -8,7 +8,7 @@ use Rattle.conflict_queue.specs.ItemKeys.{keys_of_item}
 abbrev pub Conflicts : List Receipt → ℕ → ℕ → Type 0
 Conflicts journal i j = Any (λ k. Contains (keys_of_item journal j) k) (keys_of_item journal i)
 
--- Each number of the journal stands once, and of two that conflict the smaller stands ahead.
+-- Each number of the journal stands once, and of two items that conflict the one with the smaller number stands first.
 pub record IsPermitted (journal : List Receipt) (order : List ℕ) : Type 0 where
   pub all : (n : ℕ) → Contains order n ↔ (1 ≤ n) × (n ≤ length journal)
   pub once : AllPairs (λ i later. i ≡ later → ⊥) order

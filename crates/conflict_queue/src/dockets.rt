@@ -48,7 +48,7 @@ impl Docket {
     ghost use Rattle.act_model.specs.declared.receipts.Receipt.{Receipt};
     ghost use Rattle.conflict_queue.specs.Dockets.{docket_of, keys_touched, previous, previous_in};
 
-    /// The docket of the journal. It may want memory.
+    /// The docket of the journal. It may run out of memory (NoMemory).
     pub fn build(alloc: Global, journal: &Journal) -> Result<Docket, NoMemory>
         ensures docket { IfOk result (λ docket. docket ≡ docket_of journal.now.receipts) }
         ensures len { IfOk result (λ docket. length docket ≡ length journal.now.receipts) }
@@ -110,7 +110,8 @@ fn add_keys(
     note_sale(sales, journal, item)
 }
 
-/// Adds the keys of the next item, and keeps them once where an earlier one touches the same.
+/// Adds the keys of the next item. Where an earlier item at hand touches these keys too, both share
+/// one list.
 fn push_keys(
     alloc: Global,
     keys: &mut KeyLists,
@@ -130,7 +131,7 @@ fn push_keys(
 }
 
 /// An earlier item that touches the same keys, where one is at hand: the filing that the item
-/// names, or the last item of the same sale, unless rights were created since.
+/// names, or the last item of the sale, unless the sale has more rights since.
 fn touched_alike(
     keys: &KeyLists,
     sales: &BTreeMap<u32, ReceiptNo>,
@@ -154,7 +155,7 @@ fn touched_alike(
     }
 }
 
-/// The filing that item n names, where it is an earlier one.
+/// The filing that item n names, where it is a filing before item n.
 fn earlier_filing(journal: &Journal, n: ReceiptNo, filing: ReceiptNo) -> Option<ReceiptNo>
     ensures { IfSome result (λ m. IsAhead journal.now.receipts n m (keys_of_named journal.now.receipts n filing)) }
 {
@@ -165,7 +166,8 @@ fn earlier_filing(journal: &Journal, n: ReceiptNo, filing: ReceiptNo) -> Option<
     Some(filing)
 }
 
-/// The last item of a sale of the folio, where it touches as many rights as item n finds.
+/// The last item that touched the sale of the folio, where it touches as many rights as item n
+/// finds.
 fn last_of_sale(
     keys: &KeyLists,
     sales: &BTreeMap<u32, ReceiptNo>,
@@ -179,14 +181,14 @@ fn last_of_sale(
 {
     let last = *sales.get(&folio.get())?;
     let touched = keys.get(last.get() as usize - 1).len();
-    // Besides its rights a sale touches the title and itself.
+    // Besides its rights, an item of a sale touches the title and the sale itself.
     if touched != earlier_rights(journal, n, folio).len() + 2 {
         return None;
     }
     Some(last)
 }
 
-/// Notes the item where it is the last one of a sale.
+/// Notes the item as the last one of a sale, where it touches all keys of one.
 fn note_sale(
     sales: &mut BTreeMap<u32, ReceiptNo>,
     journal: &Journal,
@@ -202,7 +204,8 @@ fn note_sale(
     Ok(())
 }
 
-/// The folio whose forced sale the item touches with all its keys; None where it touches others.
+/// The folio of the forced sale all of whose keys the item touches; None where it touches other
+/// keys.
 fn folio_of_sale(item: &Item) -> Option<FolioId>
     ensures { result ≡ folio_of_sale item.now }
 {

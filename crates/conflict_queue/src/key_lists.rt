@@ -4,8 +4,8 @@ use gb_base::{Key, NoMemory};
 use std::alloc::Global;
 use std::marker::Model;
 
-/// The keys of each item, in the order of receipts. A cure touches what its filing touches, and
-/// items of one sale mostly the same keys, so items may share a list.
+/// The keys of each item, in the order of receipts. A cure touches what its filing touches, and the
+/// items of one sale mostly touch the same keys, so items may share a list.
 #[derive(Drop)]
 pub(crate) struct KeyLists {
     lists: Vec<Vec<Key>>,
@@ -29,7 +29,7 @@ impl KeyLists {
     ghost use Rattle.std.specs.Prelude.{◌≡◌, ◌<◌, ◌++◌, ◌∷◌, List, [], length, slice_get, OnOk, Some};
     ghost use Rattle.gb_base.specs.declared.keys.Key.{Key};
 
-    /// No list.
+    /// The lists of no items.
     pub fn new(alloc: Global) -> KeyLists
         ensures { result ≡ [] }
     {
@@ -46,7 +46,7 @@ impl KeyLists {
         self.numbers.len()
     }
 
-    /// The keys of the item of this index.
+    /// The keys of the item at this index.
     pub fn get(&self, index: usize) -> &[Key]
         requires { index < length self.now }
         ensures { slice_get self.now index ≡ Some result.now }
@@ -64,7 +64,7 @@ impl KeyLists {
         Ok(())
     }
 
-    /// Adds an item with the keys of the one of this index.
+    /// Adds an item that has the keys of the item at this index.
     pub fn share(&mut self, index: usize) -> Result<(), NoMemory>
         requires { index < length self.old }
         ensures { (keys : List Key) → slice_get self.old index ≡ Some keys → OnOk result (self.new ≡ self.old ++ keys ∷ []) }

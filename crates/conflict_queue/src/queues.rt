@@ -19,7 +19,7 @@ pub(crate) fn queue_at(queues: &BTreeMap<Key, Vec<ReceiptNo>>, key: Key) -> &[Re
     }
 }
 
-/// Puts an item behind the others at each of these keys.
+/// Puts an item at the end of the queue at each of these keys.
 pub(crate) fn push_all(
     alloc: Global,
     queues: &mut BTreeMap<Key, Vec<ReceiptNo>>,
@@ -34,7 +34,7 @@ pub(crate) fn push_all(
     Ok(())
 }
 
-/// Puts an item behind the others at the key.
+/// Puts an item at the end of the queue at the key.
 fn push(
     alloc: Global,
     queues: &mut BTreeMap<Key, Vec<ReceiptNo>>,

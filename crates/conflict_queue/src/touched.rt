@@ -11,7 +11,7 @@ use gb_base::{FolioId, Key, NoMemory, ReceiptNo, RightId};
 use std::alloc::Global;
 
 /// The keys that item n touches, in ascending order, each once (GBO § 17). They follow from the
-/// receipts up to it alone. They may want memory.
+/// receipts up to it alone. This may run out of memory (NoMemory).
 pub fn touches(alloc: Global, journal: &Journal, n: ReceiptNo) -> Result<Vec<Key>, NoMemory>
     requires { n ≤ length journal.now.receipts }
     ensures { IfOk result (λ keys. keys.items ≡ keys_touched journal.now.receipts n) }
@@ -27,7 +27,7 @@ pub(crate) fn item_at(journal: &Journal, n: ReceiptNo) -> &Item
     &journal.receipts()[n.get() as usize - 1].item
 }
 
-/// The keys of item n, where it is this one.
+/// The keys of item n, where `item` is this item.
 fn keys_by_item(
     alloc: Global,
     journal: &Journal,
@@ -48,7 +48,7 @@ fn keys_by_item(
     }
 }
 
-/// The keys of the filing that item n names; none where it is no earlier one.
+/// The keys of the filing that item n names; none where that is not before item n.
 fn keys_of_named(
     alloc: Global,
     journal: &Journal,
@@ -83,8 +83,7 @@ fn keys_of_sale(
     Ok(keys)
 }
 
-/// The rights that earlier receipts than item n create in the folio, among the first of it, as many
-/// as a folio has at most.
+/// The rights that receipts before item n create in the folio, among its first `MOST_CREATIONS`.
 pub(crate) fn earlier_rights(journal: &Journal, n: ReceiptNo, folio: FolioId) -> &[RightId]
     ensures { result.now ≡ earlier_rights journal.now.receipts n folio }
 {

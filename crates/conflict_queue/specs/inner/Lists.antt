@@ -12,6 +12,6 @@ list_at lists l = option_map_or (λ list. list.items) (slice_get lists l) []
 abbrev pub lists_at : List (Vec Key Global) → List ℕ → List (List Key)
 lists_at lists numbers = map (list_at lists) numbers
 
--- each of these numbers is one of a list
+-- each of these numbers is the number of a list
 abbrev pub AreListed : List (Vec Key Global) → List ℕ → Type 0
 AreListed lists numbers = All (λ l. l < length lists) numbers

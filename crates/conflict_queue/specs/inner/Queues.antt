@@ -25,6 +25,6 @@ queue_of docket k = filter (touches_in docket k) (range_with_len 1 (length docke
 abbrev pub AreQueuesOf : BTreeMap Key (Vec ℕ Global) → List (List Key) → Type 0
 AreQueuesOf queues docket = (k : Key) → queue_at queues k ≡ queue_of docket k
 
--- the numbers begin at a or behind it, and ascend
+-- the numbers ascend, and none is below a
 abbrev pub Ascends : ℕ → List ℕ → Type 0
 Ascends a ns = AscendsBy (λ n. n) a ns

@@ -1,4 +1,4 @@
--- Earlier items that touch the same keys: the filing that an item names, and the last item of each sale.
+-- Earlier items that touch the keys which a later item touches: the filing that it names, and the last item of its sale.
 use Rattle.std.specs.Prelude.{◌≡◌, ℕ, ◌<◌, ◌≤◌, List, Option, Some, None}
 use Rattle.std.specs.BTreeMap.{BTreeMap, get}
 use Rattle.std.specs.Ordering.{nat_cmp}
@@ -11,7 +11,7 @@ use Rattle.conflict_queue.specs.Dockets.{keys_touched}
 use Rattle.conflict_queue.specs.ItemKeys.{keys_of_item}
 use Rattle.act_model.specs.SaleKeys.{keys_of_sale}
 
--- the folio all keys of whose sale the item touches; none where it touches others
+-- the folio of the forced sale all of whose keys the item touches; none where it touches other keys
 abbrev pub folio_of_sale : Item → Option ℕ
 folio_of_sale (item.Filing f) = None
 folio_of_sale (item.Cure m docs) = None
@@ -27,11 +27,11 @@ pub record IsOfSale (journal : List Receipt) (n folio j : ℕ) : Type 0 where
   pub within : j ≤ n
   pub keys : keys_of_item journal j ≡ keys_of_sale journal j folio
 
--- what stands under a folio is one of the first n items, and touches the keys of a sale of it
+-- what stands under a folio is one of the first n items, and touches the keys of a sale of this folio
 abbrev pub AreSales : List Receipt → ℕ → BTreeMap ℕ ℕ → Type 0
 AreSales journal n sales = (folio j : ℕ) → get nat_cmp sales folio ≡ Some j → IsOfSale journal n folio j
 
--- Item j is earlier than item i, and touches the same keys.
+-- Item j is earlier than item i, and touches the keys that item i touches.
 pub record TouchesSame (journal : List Receipt) (i j : ℕ) : Type 0 where
   pub earlier : j < i
   pub keys : keys_touched journal j ≡ keys_touched journal i

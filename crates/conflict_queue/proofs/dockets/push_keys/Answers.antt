@@ -1,4 +1,4 @@
--- The keys of an earlier item that touches the same are those of this one.
+-- The keys of an earlier item that touches the same keys are those of this item.
 use Rattle.std.proofs.Common.{◌≡◌, ◌∙◌, ◌++◌, ◌∷◌, [], ◌-◌, length, slice_get, OnOk, ap, subst, arith}
 use Rattle.std.proofs.lemmas.List.FromFn.{length-map-range_with_len}
 use Rattle.conflict_queue.specs.Dockets.{keys_touched}

@@ -1,4 +1,4 @@
--- What an item names, and the last item of its sale, touch what it touches.
+-- The filing that an item names and the last item of its sale touch what the item touches.
 use Rattle.std.proofs.Common.{ap}
 use Rattle.conflict_queue.specs.ItemKeys.{keys_by_item, keys_of_named}
 use Rattle.act_model.specs.SaleKeys.{keys_of_sale}

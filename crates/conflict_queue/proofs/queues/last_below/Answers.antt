@@ -1,4 +1,4 @@
--- The numbers below the item stand ahead of the others, so a search by halves finds the last of them.
+-- The numbers below the item stand before the others, so a search by halves finds the last of them.
 use Rattle.std.proofs.Common.{rules, ◌∙◌, nat_lt, take, None, ap}
 use Rattle.std.specs.List.{last_or}
 use Rattle.std.proofs.lemmas.List.Sorted.{IsPartitionPoint-from_clause}

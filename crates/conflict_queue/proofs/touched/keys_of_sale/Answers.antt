@@ -1,4 +1,4 @@
--- The title, the rights as they rise, the sale.
+-- The title, then the rights in their order, then the sale.
 use Rattle.std.proofs.Common.{◌∙◌, ◌++◌, ◌∷◌, [], map, ap}
 use Rattle.gb_base.specs.declared.keys.Key.TheVariants.{Title, Right, Case}
 use Rattle.act_model.specs.SaleKeys.{earlier_rights}

@@ -1,4 +1,4 @@
--- The queue at a key ascends, and below the item it is what was there before.
+-- The queue at a key ascends, and what it has below the item was at the key before the item.
 use Rattle.std.proofs.Common.{◌∙◌, ◌-◌, ◌≤◌, nat_lt, filter, length, None, sym, ap, subst, arith}
 use Rattle.std.specs.List.{last_or}
 use Rattle.conflict_queue.specs.Dockets.{previous_in, touches_in}
