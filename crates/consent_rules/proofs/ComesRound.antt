@@ -1,4 +1,4 @@
--- A walk over those who wait may begin at any filing: those from it on, and then those ahead of it, are all.
+-- A walk over those who wait may begin at any filing: those from it on, and then those before it, are all.
 use Rattle.std.proofs.Common.{◌≡◌, ℕ, suc, zero, ◌+◌, ◌-◌, ◌<◌, ◌≤◌, Bool, true, false, cond, ◌||◌, nat_le, List, ◌∷◌, filter, filter_map, Option, Some, None, IsNone, IfSome, refl, sym, ap, ◌∙◌, arith}
 use Rattle.std.specs.List.{list_any, range_with_len}
 use Rattle.std.specs.Option.{option_map_or}
@@ -51,7 +51,7 @@ module _ (p waits : ℕ → Bool) (f : ℕ → Option ℕ) (o : Option ℕ) (s :
           ap (λ c. cond c (a ∷ filter (is_above o) (filter waits (range_with_len (a + 1) n))) (filter (is_above o) (filter waits (range_with_len (a + 1) n)))) above ∙ ap (λ ns. a ∷ ns) rest
       by_test false rest = rest
 
-  -- k of them are ahead of s
+  -- k of the numbers are below s
   round : (a k n : ℕ) → 0 < a → a + k ≡ s → k ≤ n
       → (list_any p (filter_map f (filter (is_above o) (filter waits (range_with_len a n)))) || list_any p (filter_map f (filter waits (range_with_len a k))))
       ≡ list_any p (filter_map f (filter waits (range_with_len a n)))
@@ -76,7 +76,7 @@ module _ (p waits : ℕ → Bool) (f : ℕ → Option ℕ) (o : Option ℕ) (s :
           ∙ sym (any_given p (f a) (filter_map f (filter waits (range_with_len (a + 1) n))))
       by_test false rest = rest
 
--- those ahead of s, and those above the number below it
+-- those below s, and those above the number below s, are all
 pub comes_round : (p : ℕ → Bool) (journal : List Receipt) (o : Option ℕ) (s m : ℕ) (entries : List Entry) → 0 < s → s ≤ m → (IsNone o ↔ (s - 1 ≡ 0)) → IfSome o (λ k. k ≡ s - 1)
     → (list_any p (applicants_above journal None s entries) || list_any p (applicants_above journal o m entries)) ≡ list_any p (waiting_applicants journal m entries)
 comes_round p journal o s m entries some le none value =

@@ -1,4 +1,4 @@
--- That a filing's keys are all that its acts need.
+-- The parts at a filing's keys are all that its acts need.
 use Rattle.std.proofs.Common.{◌≡◌, ℕ, ◌+◌, Bool, true, false, if◌then◌else◌, List, [], ◌∷◌, Some, None, Option, All, Contains, IsTrue, IfSome, get_or, refl, sym, ap, ◌∙◌, arith, suc, subst, rules}
 use Rattle.std.specs.Option.{option_map_or, option_map}
 use Rattle.std.specs.List.{list_all}

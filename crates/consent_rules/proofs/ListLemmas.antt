@@ -13,7 +13,7 @@ pub brought_step : {X Y : Type 0} (f : X → List Y) (xs : List X) (i : ℕ) (x 
     → (done ++ f (get_or xs i x)) ++ flat_map f (drop (i + 1) xs) ≡ done ++ flat_map f (drop i xs)
 brought_step f xs i x done lt = rw (add-one, drop-cons xs i x) (append_assoc done (f (get_or xs i x)) (flat_map f (drop (suc i) xs)))
 
--- a test of what a map gives of one more element
+-- a test of what a map gives, with one more element
 pub any_given : {Y : Type 0} (p : Y → Bool) (y : Option Y) (ys : List Y) → list_any p (cons_option y ys) ≡ (option_map_or p y false || list_any p ys)
 any_given p (Some y) ys = refl
 any_given p None ys = refl

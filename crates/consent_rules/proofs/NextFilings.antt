@@ -19,7 +19,7 @@ use Rattle.consent_rules.proofs.WaitersLeft.{all_left, asked_first, fewer_left}
 
 -- ---- the first of ascending numbers that is not below another
 
--- what is looked up behind those that fail is the first that passes
+-- what is looked up after those that fail is the first that passes
 pub found_behind : {X : Type 0} (p : X → Bool) (xs : List X) (i : ℕ) → i ≤ length xs
     → ((k : ℕ) (d : X) → 0 ≤ k → k < i → p (get_or xs k d) ≡ false)
     → ((k : ℕ) (d : X) → i ≤ k → k < length xs → p (get_or xs k d) ≡ true)
@@ -75,14 +75,14 @@ none_listed w n (x ∷ xs) h above =
       | false ↦ λ fails later. neither _ _ (grind (arith, nat_tests, fails, above)) (none_listed w n xs later above)
     ] refl h
 
--- none is below where they begin
+-- no number is listed below where the list begins
 below_start : (a n : ℕ) (xs : List ℕ) → AscendsBy (λ k. k) a xs → n < a → list_any (λ k. eqb k n) xs ≡ false
 below_start a n [] up less = refl
 below_start a n (x ∷ xs) up less =
     let first = up.0 in
     neither _ _ (grind (arith, nat_tests, first, less)) (below_start (x + 1) n xs up.1 (omega arith))
 
--- and none between a number and the first at or above it
+-- no number is listed between a number and the first at or above it
 none_between : (a w n f : ℕ) (xs : List ℕ) → AscendsBy (λ k. k) a xs → find (nat_le w) xs ≡ Some f → w ≤ n → n < f → list_any (λ k. eqb k n) xs ≡ false
 none_between a w n f [] up h above less = refl
 none_between a w n f (x ∷ xs) up h above less =
@@ -95,7 +95,7 @@ none_between a w n f (x ∷ xs) up h above less =
 
 -- ---- those who wait, from one number to another
 
--- where none up to a number passes, those above it are left
+-- where none up to a number passes, asking all is asking those above it
 skip_to : (p : ℕ → Bool) (f : ℕ → Option ℕ) (after : Option ℕ) (g : ℕ) (ns : List ℕ) → ((n : ℕ) → nat_lt g n ≡ true → is_above after n ≡ true)
     → ((n : ℕ) → is_above after n ≡ true → n ≤ g → option_map_or p (f n) false ≡ false)
     → list_any p (filter_map f (filter (is_above after) ns)) ≡ list_any p (filter_map f (filter (is_above (Some g)) ns))
@@ -115,7 +115,7 @@ skip_to p f after g (n ∷ ns) over fail = by_tests (is_above after n) (nat_lt g
     by_tests false true rest low high = absurd (false≢true (sym low ∙ over n high))
     by_tests false false rest low high = rest
 
--- where none above a number passes, none is left that does
+-- where none above a number passes, none that is left passes
 none_from : (p : ℕ → Bool) (f : ℕ → Option ℕ) (after : Option ℕ) (ns : List ℕ) → ((n : ℕ) → is_above after n ≡ true → option_map_or p (f n) false ≡ false)
     → list_any p (filter_map f (filter (is_above after) ns)) ≡ false
 none_from p f after [] fail = refl
@@ -138,7 +138,7 @@ fewer_above w g (n ∷ ns) le = by_tests (nat_lt w n) (nat_lt g n) (fewer_above 
 
 -- ---- where the walk begins
 
--- who has no filing does not wait
+-- whoever has no filing does not wait
 pub none_filed : (journal : List Receipt) (person m : ℕ) (entries : List Entry) → slice_get (filings_of journal person) 0 ≡ None
     → false ≡ list_any (λ q. eqb q person) (waiting_applicants journal m entries)
 none_filed journal person m entries none =
@@ -150,7 +150,7 @@ none_filed journal person m entries none =
     no_first [] e = refl
     no_first (x ∷ xs) e = absurd (false≢true (sym (ap is_some e)))
 
--- none is listed below the first
+-- no number is listed below the first
 below_first : (n first : ℕ) (xs : List ℕ) → AscendsBy (λ k. k) 1 xs → slice_get xs 0 ≡ Some first → n ≤ first - 1 → list_any (λ k. eqb k n) xs ≡ false
 below_first n first [] up is low = refl
 below_first n first (x ∷ xs) up is low =
@@ -158,7 +158,7 @@ below_first n first (x ∷ xs) up is low =
     let some = up.0 in
     below_start x n (x ∷ xs) (omega arith, up.1) (grind (arith, same, some, low))
 
--- whose first filing is above a number waits with those above it
+-- whoever's first filing is above a number waits, if at all, with a filing above that number
 pub from_first : (journal : List Receipt) (person m first : ℕ) (after : Option ℕ) (entries : List Entry) → slice_get (filings_of journal person) 0 ≡ Some first
     → IfSome after (λ k. k ≡ first - 1)
     → list_any (λ q. eqb q person) (applicants_above journal after m entries) ≡ list_any (λ q. eqb q person) (waiting_applicants journal m entries)
@@ -174,7 +174,7 @@ module _ (journal : List Receipt) (person : ℕ) (after : Option ℕ) (m w : ℕ
   abbrev is_person : ℕ → Bool
   is_person q = eqb q person
 
-  -- the filing that waits is one of the person
+  -- the filing that waits is one of the person's
   pub same_one : (f : ℕ) → Some w ≡ find (is_above after) (waiting_before m entries) → find (nat_le w) (filings_of journal person) ≡ Some f → f ≡ w
       → list_any is_person (applicants_above journal after m entries) ≡ list_any is_person (waiting_applicants journal m entries)
       → true ≡ list_any is_person (waiting_applicants journal m entries)
@@ -182,7 +182,7 @@ module _ (journal : List Receipt) (person : ℕ) (after : Option ℕ) (m w : ℕ
       asked_first is_person journal after m w true entries is so_far
       (sym (listed_where_applied journal person w) ∙ found_listed (nat_le w) (filings_of journal person) w (next ∙ ap (λ n. Some n) same))
 
-  -- the person has none at or above it
+  -- the person has no filing at or above the one that waits
   pub no_other : Some w ≡ find (is_above after) (waiting_before m entries) → find (nat_le w) (filings_of journal person) ≡ None
       → list_any is_person (applicants_above journal after m entries) ≡ list_any is_person (waiting_applicants journal m entries)
       → false ≡ list_any is_person (waiting_applicants journal m entries)
@@ -191,7 +191,7 @@ module _ (journal : List Receipt) (person : ℕ) (after : Option ℕ) (m w : ℕ
       sym (none_from is_person (applicant_of journal) (Some w) (waiting_before m entries) (λ n above. fails n (grind (arith, nat_tests, above))))
       ∙ asked_first is_person journal after m w false entries is so_far (fails w (omega arith))
 
-  -- the next of the person is above it
+  -- the person's next filing is above the one that waits
   pub leaps : (f g : ℕ) → Some w ≡ find (is_above after) (waiting_before m entries) → find (nat_le w) (filings_of journal person) ≡ Some f → w ≤ g → g < f
       → list_any is_person (applicants_above journal after m entries) ≡ list_any is_person (waiting_applicants journal m entries)
       → list_any is_person (applicants_above journal (Some g) m entries) ≡ list_any is_person (waiting_applicants journal m entries)
@@ -206,7 +206,7 @@ module _ (journal : List Receipt) (person : ℕ) (after : Option ℕ) (m w : ℕ
       let less = fewer_above w g (waiting_before m entries) low in
       omega arith
 
--- the number below one that is above another is not below that
+-- where a number is above another, the number below it is not below the other
 pub not_below : (w f : ℕ) → nat_le w f ≡ true → eqb f w ≡ false → w ≤ f - 1
 not_below w f above other = grind (arith, nat_tests, above, other)
 

@@ -1,4 +1,4 @@
--- Who lacks the form has consented, so those who consent are asked.
+-- Whoever lacks the form has consented, so those who consent are asked.
 use Rattle.std.proofs.Common.{◌≡◌, ℕ, Bor, Bool, true, eqb, ◌&&◌, List, [], ◌∷◌, sym, ap, ◌∙◌, ⊎_elim}
 use Rattle.std.specs.Cmp.{both_ways}
 use Rattle.std.specs.List.{list_any}
@@ -13,7 +13,7 @@ use Rattle.act_model.proofs.DocumentRoom.{eqb-itself}
 use Rattle.act_model.proofs.FiledDocuments.{any_weaker, consent_passes, somebody_consents}
 use Rattle.act_model.proofs.PlainForms.{plain_is}
 
--- one who passes, as one of these
+-- where one of these passes, there is a person among these who passes
 one_of_these : (B : Type 0) (q : ℕ → Bool) (ps : List ℕ) → ((p : ℕ) → list_any (λ r. eqb r p) ps ≡ true → q p ≡ true → B) → list_any q ps ≡ true → B
 one_of_these B q [] then h = absurd (false≢true h)
 one_of_these B q (p ∷ ps) then h =
@@ -22,7 +22,7 @@ one_of_these B q (p ∷ ps) then h =
     (λ later. one_of_these B q ps (λ r listed passes. then r (or_right (eqb p r) _ listed) passes) later)
     (or_cases (q p) (list_any q ps) h)
 
--- one of these who passes
+-- where a person among these passes, one of these passes
 these_pass : (q : ℕ → Bool) (p : ℕ) (ps : List ℕ) → q p ≡ true → list_any (λ r. eqb r p) ps ≡ true → list_any q ps ≡ true
 these_pass q p ps passes = any_weaker (λ r. eqb r p) q ps (λ r same. ap q (eqb-true r p same) ∙ passes)
 

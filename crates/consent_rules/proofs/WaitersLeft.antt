@@ -22,26 +22,26 @@ first_left : (after : Option ℕ) (m n : ℕ) (entries : List Entry) → Some n 
     → left_above after m entries ≡ n ∷ left_above (Some n) m entries
 first_left after m n entries is = first_above after (waiting_before m entries) n (waiting_ascend m entries) (sym is)
 
--- so one fewer is left behind it
+-- so one fewer is left after it
 pub fewer_left : (after : Option ℕ) (m n : ℕ) (entries : List Entry) → Some n ≡ find (is_above after) (waiting_before m entries)
     → length (left_above (Some n) m entries) < length (left_above after m entries)
 fewer_left after m n entries is = let count = ap length (first_left after m n entries is) in omega arith
 
--- and a test of those left is that of its applicant, or of those behind it
+-- so one of those left passes a test just where its applicant passes, or one of those after it
 next_left : (p : ℕ → Bool) (journal : List Receipt) (after : Option ℕ) (m n : ℕ) (entries : List Entry) → Some n ≡ find (is_above after) (waiting_before m entries)
     → list_any p (applicants_above journal after m entries) ≡ (option_map_or p (applicant_of journal n) false || list_any p (applicants_above journal (Some n) m entries))
 next_left p journal after m n entries is =
     ap (λ ns. list_any p (filter_map (applicant_of journal) ns)) (first_left after m n entries is)
     ∙ any_given p (applicant_of journal n) (applicants_above journal (Some n) m entries)
 
--- so what its applicant answers, or those behind it, is what all do whom the walk asks
+-- so the answer of its applicant, or of those after it, is that of all whom the walk asks
 pub asked_first : {all : Bool} (p : ℕ → Bool) (journal : List Receipt) (after : Option ℕ) (m n : ℕ) (b : Bool) (entries : List Entry) → Some n ≡ find (is_above after) (waiting_before m entries)
     → list_any p (applicants_above journal after m entries) ≡ all → option_map_or p (applicant_of journal n) false ≡ b
     → (b || list_any p (applicants_above journal (Some n) m entries)) ≡ all
 asked_first p journal after m n b entries is so_far answer =
     ap (λ c. c || list_any p (applicants_above journal (Some n) m entries)) (sym answer) ∙ sym (next_left p journal after m n entries is) ∙ so_far
 
--- of two walks in turn: what both ask next, or those behind, is what all do whom both ask
+-- of two walks in turn: the answer of those whom both ask next, or of those after them, is that of all whom both ask
 pub asked_both : {all : Bool} (p : ℕ → Bool) (journal : List Receipt) (ahead behind next : Option ℕ) (s m n : ℕ) (b c : Bool) (entries : List Entry) → Some n ≡ find (is_above ahead) (waiting_before s entries)
     → (list_any p (applicants_above journal ahead s entries) || list_any p (applicants_above journal behind m entries)) ≡ all → option_map_or p (applicant_of journal n) false ≡ b
     → (c || list_any p (applicants_above journal next m entries)) ≡ list_any p (applicants_above journal behind m entries)
@@ -50,7 +50,7 @@ asked_both p journal ahead behind next s m n b c entries is so_far answer other 
     ap (λ x. x || (c || list_any p (applicants_above journal next m entries))) (asked_first p journal ahead s n b entries is refl answer)
     ∙ ap (λ y. list_any p (applicants_above journal ahead s entries) || y) other ∙ so_far
 
--- where none is found none is left, and none passed
+-- where none is found, none is left, and so none passes
 pub none_pass : {all : Bool} (p : ℕ → Bool) (journal : List Receipt) (after : Option ℕ) (m : ℕ) (entries : List Entry) → None ≡ find (is_above after) (waiting_before m entries)
     → list_any p (applicants_above journal after m entries) ≡ all
     → false ≡ all
@@ -66,7 +66,7 @@ none_wait p journal m entries none = none_pass p journal None m entries (not_som
     not_some (Some n) some = absurd (false≢true (sym some))
     not_some None some = refl
 
--- where the applicant of the last one passes, one does
+-- where the applicant of the last filing passes, one of all passes
 pub last_passes : (p : ℕ → Bool) (journal : List Receipt) (m : ℕ) (entries : List Entry) → option_map_or p (option_and_then (applicant_of journal) (last_or None (waiting_before m entries))) false ≡ true
     → true ≡ list_any p (waiting_applicants journal m entries)
 last_passes p journal m entries is = sym (among (waiting_before m entries) is)
@@ -76,7 +76,7 @@ last_passes p journal m entries is = sym (among (waiting_before m entries) is)
     among (n ∷ []) it = any_given p (applicant_of journal n) [] ∙ ap (λ b. b || false) it
     among (n ∷ k ∷ ns) it = any_given p (applicant_of journal n) (filter_map (applicant_of journal) (k ∷ ns)) ∙ or_right (option_map_or p (applicant_of journal n) false) _ (among (k ∷ ns) it)
 
--- what may be there equals this
+-- an optional value is there and equals this one
 pub given_is : (e : ℕ → ℕ → Bool) (o : Option ℕ) (y : ℕ) → option_map_or (λ x. e x y) o false ≡ option_eq e o (Some y)
 given_is e (Some x) y = refl
 given_is e None y = refl

@@ -89,14 +89,14 @@ converts_full_right at (Cancel folio right) = false
 converts_full_right at (Exchange folio recede rise) = false
 converts_full_right at (Exercise folio behind spec) = false
 
--- A right takes no part in an exchange: a priority notice, a right of a group of its filing and folio, one with a reservation,
--- and one in a reservation's rank.
+-- The right may take no part in an exchange: it is a priority notice, or shares its group with another right of its filing and
+-- folio, or has a reservation, or stands in the rank of one.
 abbrev pub is_barred_from_exchange : List Receipt → (Key → List Entry) → ℕ → RightNo → Bool
 is_barred_from_exchange journal at folio right =
     not (is_full (at (Right folio right))) || shares_its_group journal right
     || option_map_or (λ made. is_some made.reserve || is_some made.ahead_of) (live_right (at (Right folio right))) false
 
--- BGB § 880: one of the rights of an exchange takes no part in one
+-- BGB § 880: one of the rights of the exchange may take no part in one
 abbrev pub exchanges_unfit_right : List Receipt → (Key → List Entry) → Act → Bool
 exchanges_unfit_right journal at (Exchange folio recede rise) =
     is_barred_from_exchange journal at folio recede || is_barred_from_exchange journal at folio rise
@@ -109,7 +109,7 @@ exchanges_unfit_right journal at (Assign folio right holder) = false
 exchanges_unfit_right journal at (Cancel folio right) = false
 exchanges_unfit_right journal at (Exercise folio behind spec) = false
 
--- a reservation of less than the capital; none is less than any
+-- the reservation is of less than the capital; where there is none, it always is
 abbrev pub reserves_less : Option ℕ → ℕ → Bool
 reserves_less (Some reserved) capital = nat_lt reserved capital
 reserves_less None capital = true
@@ -169,7 +169,7 @@ has_stranger journal m docs at acts a act = list_any (is_strangers_consent a (ne
 abbrev pub lacks_consent : ℕ → List Doc → (Key → List Entry) → List Act → ℕ → Act → Bool
 lacks_consent m docs at acts a act = is_silent_among docs a (affected m docs at acts a act)
 
--- The ground holds for act a of the filing. Only grounds of an act are asked of one: those of `grounds` but for GBO § 16.
+-- The ground holds for act a of the filing. Only the grounds of an act are asked here: all of `grounds` but GBO § 16.
 abbrev pub holds : List Receipt → ℕ → Filing → List Doc → (Key → List Entry) → Section → ℕ → Act → Bool
 holds journal m f docs at section.Limit a act = is_beyond_limit journal m a
 holds journal m f docs at section.Gbo3 a act = lacks_folio at f.acts a act
@@ -190,7 +190,7 @@ grounds =
     section.Gbo16 ∷ section.Limit ∷ section.Gbo3 ∷ section.Bgb873 ∷ section.Bgb883 ∷ section.Bgb880 ∷ section.Bgb881
     ∷ section.Bgb1059 ∷ section.Gbo13 ∷ section.Gbo20 ∷ section.Gbo19 ∷ []
 
--- the filing is rejected on this ground: GBO § 16 is of the whole filing, each other one of some act
+-- the filing is rejected on this ground: GBO § 16 is a ground of the whole filing, each other ground is one of some act
 abbrev pub is_rejected_under : List Receipt → ℕ → Filing → List Doc → (Key → List Entry) → Section → Bool
 is_rejected_under journal m f docs at section.Gbo16 = f.conditional
 is_rejected_under journal m f docs at s = list_any (λ p. holds journal m f docs at s p.0 p.1) (enumerate_from 1 f.acts)
@@ -275,7 +275,7 @@ abbrev pub interim_or_enter : List Defect → Judgement
 interim_or_enter [] = Enter
 interim_or_enter (d ∷ ds) = Interim (d ∷ ds)
 
--- rejection goes ahead of all
+-- a ground for rejection comes before all defects
 abbrev pub judgement_by : Option Section → List Defect → Judgement
 judgement_by (Some s) found = Reject s
 judgement_by None found = interim_or_enter found
@@ -304,6 +304,6 @@ IsKnownExchange journal m at (Assign folio right holder) = Unit {0}
 IsKnownExchange journal m at (Cancel folio right) = Unit {0}
 IsKnownExchange journal m at (Exercise folio behind spec) = Unit {0}
 
--- the same of each act of filing m
+-- where an act of filing m exchanges ranks, the receding right, if it is live, is as an earlier filing's act created it here
 abbrev pub KnowsExchanges : List Receipt → ℕ → (Key → List Entry) → Type 0
 KnowsExchanges journal m at = All (IsKnownExchange journal m at) (acts_of journal m)

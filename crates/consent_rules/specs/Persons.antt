@@ -1,7 +1,7 @@
 -- Whom an act concerns, who must consent to it, and who may apply for it (GBO §§ 13, 19, 22, 27; BGB §§ 876, 880(2)).
 -- `m` is the number of the filing that is judged, `acts` are its acts, and `act` is act `a` of them, from 1; `docs` are the documents
 -- that count for it; `at` has the entries at each key, as they stand when it is judged. Who stands at a title or a right for a filing
--- is said by `owners_for` and `holder_for`: where an official notice keeps its place, in general who stood there ahead of the notice.
+-- is said by `owners_for` and `holder_for`: where an official notice keeps its place, in general who stood there before the notice.
 use Rattle.std.specs.Prelude.{ℕ, ◌-◌, Bool, false, not, ◌&&◌, ◌==◌, if◌then◌else◌, List, [], ◌∷◌, ◌++◌, filter_map, fold, take, Option, Some, None, option_to_list}
 use Rattle.std.specs.Option.{option_map_or}
 use Rattle.gb_base.specs.RightNo.{RightNo}
@@ -45,11 +45,11 @@ abbrev pub persons : Option (List ℕ) → List ℕ
 persons (Some people) = people
 persons None = []
 
--- the same as a list, empty where the folio is not open
+-- the owners of a folio as act a finds them, as a list; it is empty where the folio is not open
 abbrev pub owners_then : ℕ → (Key → List Entry) → List Act → ℕ → ℕ → List ℕ
 owners_then m at acts a folio = persons (owners_as_of m at acts a folio)
 
--- the holder of a right who stands there for the filing, as a list, empty where there is none
+-- the holder of a right who stands there for the filing, as a list; it is empty where there is none
 abbrev pub holder_then : ℕ → (Key → List Entry) → ℕ → RightNo → List ℕ
 holder_then m at folio right = option_to_list (holder_for m (at (Right folio right)))
 

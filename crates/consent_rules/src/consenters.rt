@@ -16,7 +16,7 @@ use gb_base::Person;
 pub struct Consenters<'a> {
     /// Whose right the act affects (GBO § 19).
     pub affected: ArrayVec<Person, 4>,
-    /// The owners who consent beside them (GBO § 27, BGB § 880(2)).
+    /// The owners who consent beside those who are affected (GBO § 27, BGB § 880(2)).
     pub owner_side: ArrayVec<Person, 4>,
     /// The applicants who wait at the right (BGB § 876); None where the act needs none of them.
     pub others: Option<Waiting<'a>>,
@@ -46,7 +46,7 @@ impl<'a> Consenters<'a> {
         some_are_lacking(lack, self.affected.as_slice())
     }
 
-    /// Whether this is lacking from one of the owners who consent beside them.
+    /// Whether this is lacking from one of the owners who consent beside those who are affected.
     pub fn some_owner(&self, lack: &Lack) -> bool
         ensures { result ≡ list_any (is_lacking lack.now) self.now.owner_side.items }
     {

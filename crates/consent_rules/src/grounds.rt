@@ -44,8 +44,8 @@ pub fn rejection<P: Parts>(parts: &P, matter: &Matter) -> Option<Section>
     None
 }
 
-/// Whether the filing is rejected on this ground: a condition is one of the whole filing, each
-/// other ground one of some act (GBO § 16).
+/// Whether the filing is rejected on this ground. A condition (GBO § 16) is a ground of the whole
+/// filing, each other ground is one of some act.
 fn is_rejected_under<P: Parts>(parts: &P, matter: &Matter, section: Section) -> bool
     requires held { All (HasParts (P.holds parts.now) (P.at parts.now)) matter.now.filing.now.acts }
     ensures { result ≡ is_rejected_under matter.now.journal.now.receipts matter.now.number matter.now.filing.now (docs_of matter.now) (P.at parts.now) section }
@@ -69,8 +69,8 @@ fn holds_for_some<P: Parts>(parts: &P, matter: &Matter, section: Section) -> boo
     false
 }
 
-/// Whether the ground holds for act a of the filing. Only the grounds of an act are asked, which
-/// are all of `GROUNDS` but the first.
+/// Whether the ground holds for act a of the filing. Only the grounds of an act are asked here: all
+/// of `GROUNDS` but the first.
 fn holds<P: Parts>(parts: &P, matter: &Matter, section: Section, a: u8, act: &Act) -> bool
     requires from_one { 1 ≤ a }
     requires to_eight { a ≤ most_acts }

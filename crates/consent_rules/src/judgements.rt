@@ -14,8 +14,8 @@ pub struct Defect {
     pub act: u8,
 }
 
-/// Want of form for act 1, which fills the unused slots of a bounded list. It is a defect that a
-/// filing can have.
+/// The lack of form at act 1 (GBO § 29), which fills the unused slots of a bounded list. A filing
+/// can have this defect.
 impl Default for Defect {
     ghost use Rattle.std.specs.Prelude.{◌≤◌, Contains};
     ghost use Rattle.gb_base.specs.Limits.{most_acts};
@@ -52,7 +52,7 @@ impl Model for Defects {
 }
 
 impl Defects {
-    /// These defects. Takes no memory.
+    /// These defects. It takes no memory.
     pub fn new(list: ArrayVec<Defect, 48>) -> Defects
         ensures { result ≡ list.items }
     {

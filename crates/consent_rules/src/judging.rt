@@ -16,8 +16,8 @@ use folio_sections::Parts;
 use gb_base::ReceiptNo;
 
 /// Filing `filing`, judged on the register as it stands, with its documents and those of its cures
-/// up to receipt `upto` (GBO § 18). It wants the parts of the filing's keys, and of each right that
-/// recedes that it is as an earlier filing creates it. It takes no memory and cannot fail.
+/// up to receipt `upto` (GBO § 18). It needs the parts of the filing's keys, and that each live
+/// right that recedes is as an earlier filing creates it. It takes no memory and cannot fail.
 ///
 /// ```
 /// // As it was filed, without a cure.

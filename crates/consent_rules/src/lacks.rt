@@ -26,7 +26,7 @@ pub fn is_lacking(lack: &Lack, person: Person) -> bool
     }
 }
 
-/// Whether this is lacking from one of these.
+/// Whether this is lacking from one of these persons.
 pub fn some_are_lacking(lack: &Lack, people: &[Person]) -> bool
     ensures { result ≡ list_any (is_lacking lack.now) people.now }
 {

@@ -112,7 +112,7 @@ pub fn converts_full_right<P: Parts>(parts: &P, act: &Act) -> bool
     }
 }
 
-/// Whether a right of an exchange takes no part in one (BGB § 880).
+/// Whether one of the rights of an exchange may take no part in one (BGB § 880).
 pub fn exchanges_unfit_right<P: Parts>(parts: &P, journal: &Journal, act: &Act) -> bool
     requires held { HasParts (P.holds parts.now) (P.at parts.now) act.now }
     ensures { result ≡ exchanges_unfit_right journal.now.receipts (P.at parts.now) act.now }
@@ -137,8 +137,8 @@ pub fn exchanges_unfit_right<P: Parts>(parts: &P, journal: &Journal, act: &Act) 
     }
 }
 
-/// Whether the right takes no part in an exchange: a priority notice, one of a group, one with a
-/// reservation or in the rank of one.
+/// Whether the right may take no part in an exchange: it is a priority notice, or shares its group,
+/// or has a reservation, or stands in the rank of one.
 fn is_barred_from_exchange<P: Parts>(
     parts: &P,
     journal: &Journal,
@@ -188,7 +188,7 @@ pub fn lacks_reservation<P: Parts>(parts: &P, act: &Act) -> bool
     }
 }
 
-/// Whether the right was entered with no reservation of as much as this capital.
+/// Whether there is no right with a reservation of at least this capital.
 fn lacks_reserve_for(made: Option<Created>, capital: Cents) -> bool
     ensures { result ≡ option_map_or (λ made. reserves_less made.reserve capital) made true }
 {
@@ -198,7 +198,7 @@ fn lacks_reserve_for(made: Option<Created>, capital: Cents) -> bool
     }
 }
 
-/// Whether a reservation is of less than the capital; none is less than any.
+/// Whether a reservation is of less than the capital; where there is none, it always is.
 fn reserves_less(reserve: Option<Cents>, capital: Cents) -> bool
     ensures { result ≡ reserves_less reserve capital }
 {

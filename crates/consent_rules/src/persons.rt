@@ -17,8 +17,8 @@ pub fn acts_before(acts: &[Act], a: u8) -> &[Act]
     &acts[..many.min(acts.len())]
 }
 
-/// The owners as of act a: named by an act before it in that folio, else those at the title whom
-/// the filing concerns; none where there are none.
+/// The owners as of act a: those whom the last act before it names for this folio, else those at the
+/// title whom the filing concerns; the list is empty where there are none.
 pub fn owners_then<P: Parts>(
     parts: &P,
     matter: &Matter,
@@ -49,7 +49,7 @@ fn owners_as_of<P: Parts>(parts: &P, matter: &Matter, a: u8, folio: FolioId) -> 
     owners_behind(folio, owners, acts_before(matter.filing.acts.list(), a))
 }
 
-/// The owners of a folio behind these acts.
+/// The owners of a folio after these acts.
 fn owners_behind(folio: FolioId, owners: Option<Owners>, acts: &[Act]) -> Option<Owners>
     ensures { result ≡ fold (owners_named folio) owners acts.now }
 {
@@ -57,7 +57,7 @@ fn owners_behind(folio: FolioId, owners: Option<Owners>, acts: &[Act]) -> Option
         .fold(owners, |before, act| owners_named(folio, before, act))
 }
 
-/// The owners of a folio behind an act: those that it names, else those before.
+/// The owners of a folio after an act: those whom it names, else those before.
 fn owners_named(of: FolioId, before: Option<Owners>, act: &Act) -> Option<Owners>
     ensures { result ≡ owners_named of before act.now }
 {
@@ -76,7 +76,8 @@ fn owners_named(of: FolioId, before: Option<Owners>, act: &Act) -> Option<Owners
     }
 }
 
-/// The holder of a right whom the filing concerns; none where it was never created.
+/// The holder of a right whom the filing concerns; the list is empty where the right was never
+/// created.
 pub fn holder_then<P: Parts>(
     parts: &P,
     filing: ReceiptNo,

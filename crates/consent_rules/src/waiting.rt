@@ -55,9 +55,9 @@ impl<'a> Waiting<'a> {
         waits(self.journal, self.before, self.part, person)
     }
 
-    /// Whether this is lacking from one of them. Who lacks the form has consented in plain form
-    /// alone, so where anybody waits those who have are asked; else all of them, until one has not
-    /// consented.
+    /// Whether this is lacking from one of them. For the consent itself, those who wait are asked
+    /// until one has not consented. Whoever lacks the form has consented in plain form alone: so for
+    /// the form, if anybody waits, those who consented so are asked whether they wait.
     pub fn some(&self, lack: &Lack) -> bool
         ensures { result ≡ list_any (is_lacking lack.now) self.now }
     {
@@ -95,9 +95,9 @@ fn some_filing_waits(before: ReceiptNo, part: &RightPart) -> bool
     part.next_pending(None, before).is_some()
 }
 
-/// Whether the person is an applicant of an earlier filing that waits at the right: a filing that
-/// waits and one of the person, each the next at or above the other, from the person's first until
-/// they are the same.
+/// Whether the person is the applicant of an earlier filing that waits at the right. From the
+/// person's first filing on it takes the next filing that waits, and then the person's next filing
+/// at or above that one, in turn, until both are one filing or one of them is missing.
 fn waits(journal: &Journal, before: ReceiptNo, part: &RightPart, person: Person) -> bool
     ensures { result ≡ list_any (λ q. q == person) (waiting_applicants journal.now.receipts before part.now.entries) }
 {
@@ -126,7 +126,7 @@ fn number_below(n: ReceiptNo) -> Option<ReceiptNo>
     ReceiptNo::new(n.get() - 1)
 }
 
-/// The first of these numbers, which ascend, that is not below another.
+/// The first of these ascending numbers that is not below n.
 fn first_from(numbers: &[ReceiptNo], n: ReceiptNo) -> Option<ReceiptNo>
     requires { AscendsBy (λ k. k) 1 numbers.now }
     ensures { result ≡ find (nat_le n) numbers.now }
@@ -135,7 +135,7 @@ fn first_from(numbers: &[ReceiptNo], n: ReceiptNo) -> Option<ReceiptNo>
     number_at(numbers, below)
 }
 
-/// The number at this place; None behind the last one.
+/// The number at this index; None after the last one.
 fn number_at(numbers: &[ReceiptNo], i: usize) -> Option<ReceiptNo>
     ensures { result ≡ slice_get numbers.now i }
 {
@@ -143,19 +143,21 @@ fn number_at(numbers: &[ReceiptNo], i: usize) -> Option<ReceiptNo>
 }
 
 /// Whether this is lacking from an applicant of an earlier filing that waits at the right. The last
-/// is asked first: where they consent in the order in which they wait, the last one consents last,
-/// and until then nobody else is asked.
+/// one is asked first: where they consent in the order in which they wait, the last one consents
+/// last, and until then nobody else is asked.
 fn some_waits(journal: &Journal, before: ReceiptNo, part: &RightPart, lack: &Lack) -> bool
     ensures { result ≡ list_any (is_lacking lack.now) (waiting_applicants journal.now.receipts before part.now.entries) }
 {
     last_lacks(journal, before, part, lack) || some_lacks(journal, before, part, lack)
 }
 
-/// The same as `some_waits`, asked of all. Two walks go on in turn: one from the first on, up to a
-/// filing of somebody who consents in the item with which the filing is judged, and one from that
-/// filing to the end; with no such filing the first goes over all. Where they consent in the order in
-/// which they wait, also where they come round, the next one to consent stands right behind that
-/// filing; where they begin with the last, the first consents last.
+/// Whether this is lacking from an applicant of an earlier filing that waits at the right, with all
+/// of them asked. Two walks take turns. One goes from the first filing that waits up to a filing of
+/// somebody who consents in the item with which the filing is judged. The other goes from that
+/// filing to the end. Where there is no such filing, the first walk goes over all. Where applicants
+/// consent in the order in which they wait, also where they begin in the middle and come round, the
+/// next one to consent stands right after that filing. Where they begin with the last, the first
+/// consents last.
 fn some_lacks(journal: &Journal, before: ReceiptNo, part: &RightPart, lack: &Lack) -> bool
     ensures { result ≡ list_any (is_lacking lack.now) (waiting_applicants journal.now.receipts before part.now.entries) }
 {
@@ -175,7 +177,7 @@ fn some_lacks(journal: &Journal, before: ReceiptNo, part: &RightPart, lack: &Lac
 }
 
 /// Whether this is lacking from the applicant of the next filing above `after` that waits at the
-/// right. Goes on to that filing, so that those above it are left to ask.
+/// right. `after` becomes that filing, so that those above it are left to ask.
 fn next_lacks(
     journal: &Journal,
     after: &mut Option<ReceiptNo>,

@@ -1,5 +1,5 @@
-//! Where the second walk over those who wait at a right begins. It is a matter of speed alone: whoever
-//! walks comes round to all, so no clause says which filing is found.
+//! Where the second walk over those who wait at a right begins. This is for speed alone: the walks
+//! come round to all who wait, so no clause says which filing is found.
 ghost use Rattle.std.specs.Prelude.{◌≤◌};
 
 use crate::lacks::Lack;
@@ -7,13 +7,14 @@ use act_model::{Doc, Item, Journal};
 use folio_sections::RightPart;
 use gb_base::ReceiptNo;
 
-/// A filing ahead of this one that waits at the right, of the last who waits there among those who
-/// consent in the item with which the filing is judged; this one where there is none.
+/// A filing before this one that waits at the right. It is one of the last person who has such a
+/// filing, among those who consent in the item with which the filing is judged. Where nobody has
+/// one, it is this filing itself.
 pub fn start(journal: &Journal, before: ReceiptNo, part: &RightPart, lack: &Lack) -> ReceiptNo
     ensures { result ≤ before }
 {
     match filing_of_last(journal, before, part, lack) {
-        // It is ahead in any case: the lower one is taken for the clause.
+        // It is before this one in any case; the lower one is taken for the clause.
         Some(filing) => lower(filing, before),
         None => before,
     }
@@ -26,7 +27,8 @@ fn lower(a: ReceiptNo, b: ReceiptNo) -> ReceiptNo
     if a < b { a } else { b }
 }
 
-/// The filing that waits, of the last who consents to the act in that item and has one.
+/// The filing that waits of the last person who has one, among those who consent to the act in the
+/// item with which the filing is judged.
 fn filing_of_last(
     journal: &Journal,
     before: ReceiptNo,
@@ -50,7 +52,8 @@ fn docs_in(item: &Item) -> &[Doc] {
     }
 }
 
-/// A filing that waits, of who consents to the act in the document.
+/// A filing that waits of the person who consents to the act in this document; None where there is
+/// none.
 fn waiting_filing(
     doc: &Doc,
     number: u8,
@@ -66,9 +69,8 @@ fn waiting_filing(
     }
 }
 
-/// The last of these filings ahead of this one, where that one waits at the right, or else the first
-/// of them, where that one does. Most persons have one filing, or file elsewhere only ahead of it or
-/// only behind it.
+/// Of these filings before this one, the last where it waits at the right, else the first where it
+/// does. Most persons have one filing, or file elsewhere only before it or only after it.
 fn last_or_first(filings: &[ReceiptNo], before: ReceiptNo, part: &RightPart) -> Option<ReceiptNo> {
     let below = filings.partition_point(|filing| *filing < before);
     match &filings[..below] {

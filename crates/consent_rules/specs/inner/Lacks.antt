@@ -4,7 +4,7 @@ use Rattle.act_model.specs.Documents.{docs_of, given, is_plain}
 use Rattle.consent_rules.specs.declared.lacks.Lack.{Lack}
 use Rattle.consent_rules.specs.declared.lacks.Lack.TheVariants as lack
 
--- this is lacking from the person
+-- the person's consent to the act lacks this
 abbrev pub is_lacking : Lack → ℕ → Bool
 is_lacking (lack.Consent matter a) person = is_none (given (docs_of matter.now) a person)
 is_lacking (lack.Form matter a) person = is_plain (given (docs_of matter.now) a person)

@@ -1,4 +1,4 @@
--- The numbers below another stand ahead of the others, so a search by halves finds the first of those.
+-- The numbers below n stand before the others, so a search by halves finds the first of the others.
 use Rattle.std.proofs.Common.{rules, ◌∙◌, nat_le, nat_lt, true, false}
 use Rattle.std.proofs.lemmas.List.Sorted.{IsPartitionPoint-from_clause}
 use Rattle.gb_base.proofs.Ascending.{parted_below}

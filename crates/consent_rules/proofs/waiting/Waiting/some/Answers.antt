@@ -1,4 +1,4 @@
--- Who lacks the form is one of those who consent, and of none where no filing waits.
+-- Whoever lacks the form is one of those who consent; where no filing waits, nobody lacks it.
 use Rattle.std.proofs.Common.{◌∙◌, sym, ap}
 use Rattle.std.specs.List.{list_any}
 use Rattle.consent_rules.specs.inner.Lacks.{is_lacking}
