@@ -25,16 +25,16 @@ held_both holds (k ∷ ks) js all = let rest = held_both holds ks js all.1 in ((
 pub keys_are : (journal : List Receipt) (m : ℕ) (f : Filing) → filing_at journal m ≡ Some f → keys_of_filing journal m ≡ keys_of_acts journal m 1 f.acts
 keys_are journal m f is = ap (λ o. option_map_or (λ g. keys_of_acts journal m 1 g.acts) o []) is
 
--- so are those of a filing's acts
+-- what the entry of a filing brings: its places, and then the contents of its acts
 entered_is : (journal : List Receipt) (m i : ℕ) (at0 : Key → List Entry) (f : Filing) → filing_at journal m ≡ Some f → entered journal m i at0 ≡ places_brought journal m i at0 ++ contents_brought journal m i (with_places journal m i at0) f
 entered_is journal m i at0 f is =
     ap (λ o. option_map_or (λ g. places_brought journal m i at0 ++ contents_brought journal m i (with_places journal m i at0) g) o []) is
 
--- once the places stand
+-- what stands once the places are added
 placed_is : (journal : List Receipt) (m i : ℕ) (at0 at1 : Key → List Entry) → AddsAll at0 at1 (places_brought journal m i at0) → at1 ≡ with_places journal m i at0
 placed_is journal m i at0 at1 added = λ i k. added k i
 
--- the places, and then the contents
+-- the places are added, and then the contents: that is the filing's entry
 pub all_entered : (journal : List Receipt) (m i : ℕ) (at0 at1 at2 : Key → List Entry) (room0 room1 room2 : Key → ℕ) (f : Filing) → filing_at journal m ≡ Some f
     → AddsList at0 at1 room0 room1 (places_brought journal m i at0) → AddsList at1 at2 room1 room2 (contents_brought journal m i at1 f)
     → AddsList at0 at2 room0 room2 (entered journal m i at0)

@@ -31,7 +31,7 @@ use Rattle.entry_rules.proofs.Steady.{brings}
 
 -- ---- how many pass
 
--- 1 where it holds
+-- 1 where a test holds, else 0
 abbrev tally : Bool → ℕ
 tally b = cond b 1 0
 
@@ -65,7 +65,7 @@ none_pass p (x ∷ xs) none =
       | false ↦ λ h. omega (arith, none_pass p xs h)
     ] none
 
--- each one differs by a test from those behind it
+-- each element differs by a test from those after it
 abbrev differ : {X : Type 0} → (X → X → Bool) → List X → Bool
 differ test [] = true
 differ test (x ∷ xs) = not (list_any (test x) xs) && differ test xs
@@ -74,7 +74,7 @@ not_true : (b : Bool) → not b ≡ true → b ≡ false
 not_true true h = absurd (false≢true h)
 not_true false h = refl
 
--- then at most one is this one
+-- of elements that differ so, at most one is n
 one_passes : {X : Type 0} (test : X → X → Bool) → ((x y : X) → test x y ≡ true → x ≡ y) → (n : X) (xs : List X) → differ test xs ≡ true → passing (test n) xs ≤ 1
 one_passes test sound n [] h = omega arith
 one_passes test sound n (x ∷ xs) h =
@@ -163,7 +163,7 @@ rights_differ : (rs : List RightNo) → are_different rs ≡ differ same_right r
 rights_differ [] = refl
 rights_differ (r ∷ rs) = ap (λ b. not (list_any (same_right r) rs) && b) (rights_differ rs)
 
--- the key of a right that an act creates, and of one that it names
+-- a right that an act creates is counted by its act's number, and one that it names by the right
 made : (g folio m a : ℕ) (r : RightNo) → tally (eqb g folio && (eqb m r.receipt && eqb a r.act)) ≤ tally (eqb a r.act)
 made g folio m a r =
     let outer = behind_and (eqb g folio) (eqb m r.receipt && eqb a r.act) in
@@ -188,7 +188,7 @@ right_by_act journal m i f at0 folio r a (Cancel g right) = omega (arith, named 
 right_by_act journal m i f at0 folio r a (Exchange g recede rise) = omega (arith, named g folio recede r, named g folio rise r)
 right_by_act journal m i f at0 folio r a (Exercise g behind_right spec) = omega (arith, made g folio m a r, named g folio behind_right r)
 
--- an act's number, and those behind it
+-- a number that is at least a is a itself or greater, but not both
 number_once : (a n : ℕ) → tally (eqb a n) + tally (nat_le (a + 1) n) ≤ tally (nat_le a n)
 number_once a n = grind (arith, nat_tests)
 

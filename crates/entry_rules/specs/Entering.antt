@@ -48,7 +48,7 @@ places_brought journal m i at = flat_map (placed_at journal m i at) (keys_in_ord
 
 -- ---- the contents of the acts, once the places stand
 
--- the form in which a creating act enters its right (BGB § 883); of other acts it is never asked
+-- the form in which a creating act enters its right (BGB § 883); it is never asked of other acts
 abbrev pub form_created : Act → RightForm
 form_created (Open folio inventory owners) = form.Full
 form_created (Transfer folio owners) = form.Full
@@ -60,7 +60,7 @@ form_created (Cancel folio right) = form.Full
 form_created (Exchange folio recede rise) = form.Full
 form_created (Exercise folio behind_right spec) = form.Full
 
--- the day of filing m's own among these places; a filing that enters a right has one, and without one it is the day of item i
+-- the day of filing m's own place among these; a filing that enters a right has one, and without one it would be the day of item i
 abbrev pub day_placed : List Receipt → ℕ → ℕ → List TitlePlace → ℕ
 day_placed journal m i standing = option_map_or (λ p. p.day) (own_place m standing) (day_of journal i)
 
@@ -109,7 +109,7 @@ contents_brought journal m i at f =
 
 -- ---- together
 
--- what stands once the places do
+-- what stands at each key once the places are entered
 abbrev pub with_places : List Receipt → ℕ → ℕ → (Key → List Entry) → Key → List Entry
 with_places journal m i at = with_entries at (places_brought journal m i at)
 

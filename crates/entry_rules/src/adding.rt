@@ -15,7 +15,7 @@ pub fn entry(matter: &Matter, key: Key, what: What) -> Entry
     entry_by(matter.journal, matter.item, key, what)
 }
 
-/// Adds two entries, one after the other.
+/// Adds two entries, the first and then the second.
 pub fn add_both<P: Parts>(parts: &mut P, first: Entry, second: Entry)
     requires first_held { IsTrue (P.holds parts.old first.key) }
     requires second_held { IsTrue (P.holds parts.old second.key) }

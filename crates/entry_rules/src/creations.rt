@@ -14,8 +14,8 @@ use act_model::{Act, Matter, RightSpec, has_equal, new_right};
 use folio_sections::{Created, Entry, Parts, RightForm, What, behind, day_of, own_place};
 use gb_base::{Cents, Day, FolioId, Key, RightId};
 
-/// The entry of the right of this description that act a creates, on the places that stand at the
-/// title of its folio.
+/// The entry of the right of this description that act a creates. Its place follows from the places
+/// that stand at the title of its folio.
 pub fn creation<P: Parts>(parts: &P, matter: &Matter, a: u8, act: &Act, spec: RightSpec) -> Entry
     requires from_one { 1 ≤ a }
     requires to_eight { a ≤ most_acts }

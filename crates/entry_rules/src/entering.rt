@@ -13,8 +13,8 @@ use folio_sections::Parts;
 use gb_base::ReceiptNo;
 
 /// Enters a filing by this item: its places, and then the contents of its acts in their order (GBO
-/// §§ 16(2), 45). Official notices come before it (`interim_orders::enter_notices`). It takes no
-/// memory and cannot fail.
+/// §§ 16(2), 45). Official notices of other filings are entered before
+/// (`interim_orders::enter_notices`). It takes no memory and cannot fail.
 pub fn enter<P: Parts>(parts: &mut P, journal: &Journal, item: ReceiptNo, filing: ReceiptNo)
     requires filing { IsSome (filing_at journal.now.receipts filing) }
     requires received { item ≤ length journal.now.receipts }

@@ -27,8 +27,8 @@ pub fn add_places<P: Parts>(parts: &mut P, matter: &Matter)
     }
 }
 
-/// Sets the filing's place at a key, where it is the title of a folio in which the filing creates a
-/// right.
+/// Sets the filing's place at a key, if this is the title of a folio and the filing gets a place
+/// there.
 fn add_place_at<P: Parts>(parts: &mut P, matter: &Matter, key: Key)
     requires received { matter.now.item ≤ length matter.now.journal.now.receipts }
     requires held { IsTrue (P.holds parts.old key) }
@@ -43,7 +43,8 @@ fn add_place_at<P: Parts>(parts: &mut P, matter: &Matter, key: Key)
     }
 }
 
-/// Sets the filing's place in a folio.
+/// Sets the filing's place in a folio, if it creates a right there and no official notice keeps its
+/// place.
 fn add_place<P: Parts>(parts: &mut P, matter: &Matter, folio: FolioId)
     requires received { matter.now.item ≤ length matter.now.journal.now.receipts }
     requires held { IsTrue (P.holds parts.old (Title folio)) }

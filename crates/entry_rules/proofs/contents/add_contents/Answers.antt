@@ -1,4 +1,4 @@
--- A content is no place, so each act's are those on the places as they stood.
+-- A content is no place, so what each act brings is read from the places as they stood.
 use Rattle.std.proofs.Common.{◌≡◌, ◌+◌, ℕ, ◌∷◌, drop, sym, subst}
 use Rattle.std.specs.List.{enumerate_from}
 use Rattle.act_model.specs.Touches.{keys_of_act, keys_of_acts}

@@ -1,4 +1,4 @@
--- The places stand before the contents are read from them.
+-- The contents are read once the places stand.
 use Rattle.std.proofs.Common.{◌≡◌, Some, rules}
 use Rattle.act_model.specs.Touches.{filing_at}
 use Rattle.entry_rules.proofs.Entered.{all_entered}
