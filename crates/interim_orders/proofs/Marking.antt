@@ -1,4 +1,4 @@
--- The same content at each key of a filing.
+-- One content that is entered at each key of a filing.
 use Rattle.std.proofs.Common.{◌≡◌, ℕ, Bool, List, [], ◌∷◌, map, flat_map, Contains, IsTrue, Some, is_some, refl, ap, subst, ◌∙◌, arith}
 use Rattle.std.specs.List.{slice_get}
 use Rattle.std.proofs.lemmas.Bool.{false≢true}

@@ -37,7 +37,7 @@ same_either true false x = refl
 same_either false true x = refl
 same_either false false x = refl
 
--- filters that agree on what is looked for leave what is found
+-- where two filters agree on all that is looked for, the first one that is found is the same
 same_found : (p q r : ℕ → Bool) → ((n : ℕ) → p n ≡ true → q n ≡ r n) → (xs : List ℕ) → find p (filter q xs) ≡ find p (filter r xs)
 same_found p q r agree [] = refl
 same_found p q r agree (x ∷ xs) =
@@ -70,7 +70,7 @@ lacks_same after xs ys all n above =
     let own = all_weaker (LeavesAbove after) (KeepsNotice n) ys (λ e leaves. leaves n above) all in
     λ i. is_some (pending_stays n xs ys own i) && is_none (own_notice_stays n xs ys own i)
 
--- the next is the one that would have been found at first
+-- the next filing is the one that would have been found before these entries were added
 next_same : (after : Option ℕ) (m : ℕ) (xs ys : List Entry) → AllByRecursion (LeavesAbove after) ys → find (is_above after) (waiting_unnoticed m (xs ++ ys)) ≡ find (is_above after) (waiting_unnoticed m xs)
 next_same after m xs ys all =
     ap (find (is_above after)) (unnoticed_is m (xs ++ ys))
@@ -165,7 +165,7 @@ notices_apart : (journal : List Receipt) (i : ℕ) (key : Key) (rest : List Key)
 notices_apart journal i key rest [] apart = tt
 notices_apart journal i key rest (n ∷ ns) apart = (apart, notices_apart journal i key rest ns apart)
 
--- what is entered at the keys before leaves what a key's entry brings
+-- what was entered at the keys before changes nothing of the notices that come at this key
 notices_same : (journal : List Receipt) (m i : ℕ) (keys : List Key) (key : Key) (rest : List Key) (at0 at1 : Key → List Entry) (room0 room1 : Key → ℕ) (holds0 holds1 : Key → Bool)
     → Progress Key (notices_at journal m i) (StandsApart (key ∷ rest)) keys (key ∷ rest) at0 at1 room0 room1 holds0 holds1 → notices_at journal m i at1 key ≡ notices_at journal m i at0 key
 notices_same journal m i keys key rest at0 at1 room0 room1 holds0 holds1 so_far =

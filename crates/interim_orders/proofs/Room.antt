@@ -74,12 +74,12 @@ each_fits f stays room (key ∷ keys) sorted roomy k =
     omega arith)
     (cases_Bool (same_key key k))
 
--- over the keys of a filing
+-- what is brought at each key of a filing fits, where each key has room for what is brought there
 keys_fit : (journal : List Receipt) (m : ℕ) (f : Key → List Entry) → StaysThere f → (room : Key → ℕ) → ((k : Key) → Contains (keys_of_filing journal m) k → length (f k) ≤ room k) → HasRoom room (flat_map f (keys_in_order journal m))
 keys_fit journal m f stays room roomy =
     each_fits f stays room (keys_in_order journal m) (in_key_order_sorted (keys_of_filing journal m)) (λ k there. roomy k ((in_key_order_members (keys_of_filing journal m) k).0 there))
 
--- one entry at each key
+-- one entry at each key fits, where each key has room for one
 pub marks_fit : (journal : List Receipt) (m i : ℕ) (until : Option ℕ) (room : Key → ℕ) → ((k : Key) → Contains (keys_of_filing journal m) k → 1 ≤ room k) → HasRoom room (marks journal m i until)
 marks_fit journal m i until room roomy =
     subst (λ es. HasRoom room es) (each_marked journal i (mark m until) (λ k. []) (keys_in_order journal m))
@@ -89,13 +89,13 @@ notices_there : (journal : List Receipt) (i : ℕ) (key : Key) (ns : List ℕ) �
 notices_there journal i key [] = tt
 notices_there journal i key (n ∷ ns) = (refl, notices_there journal i key ns)
 
--- as many notices at each key as filings wait there without one
+-- the notices fit, where each key has room for as many as filings wait there without one
 pub notices_fit : (journal : List Receipt) (m i : ℕ) (at0 : Key → List Entry) (room : Key → ℕ) → ((k : Key) → Contains (keys_of_filing journal m) k → length (waiting_unnoticed m (at0 k)) ≤ room k) → HasRoom room (notices_brought journal m i at0)
 notices_fit journal m i at0 room roomy =
     keys_fit journal m (notices_at journal m i at0) (λ key. notices_there journal i key (waiting_unnoticed m (at0 key))) room
     (λ k there. subst (λ n. n ≤ room k) (sym (length-map (waiting_unnoticed m (at0 k)) (λ n. entry_by journal i k (what.Notice n)))) (roomy k there))
 
--- no more filings wait than come before
+-- at most m filings before filing m wait without a notice
 pub unnoticed_few : (m : ℕ) (entries : List Entry) → length (waiting_unnoticed m entries) ≤ m
 unnoticed_few m entries =
     let all = ap length (unnoticed_is m entries) in
@@ -109,7 +109,7 @@ unnoticed_few m entries =
 no_entry : (room : Key → ℕ) → HasRoom room []
 no_entry room k = omega arith
 
--- the end of the waiting of an earlier filing, or nothing
+-- what a lapse brings fits: the end of an earlier filing's waiting, for which there is room, or nothing
 answered_fits : (ended : List Entry) (day m i : ℕ) (until : Option ℕ) (room : Key → ℕ) → (m < i → HasRoom room ended) → HasRoom room (brought_by_lapse ended (lapse_by day (state_by (cond (nat_lt m i) until None))))
 answered_fits ended day m i until room roomy =
     elim (nat_lt m i) as (λ b. nat_lt m i ≡ b → HasRoom room (brought_by_lapse ended (lapse_by day (state_by (cond b until None))))) [

@@ -1,4 +1,4 @@
--- Lapses: a filing that still waits behind its deadline is rejected by a lapse, and not by the deadline alone (GBO § 18(1)).
+-- Lapses: a filing that still waits after its deadline is rejected by a lapse, and not by the deadline alone (GBO § 18(1)).
 use Rattle.std.specs.Prelude.{ℕ, nat_lt, if◌then◌else◌, List, [], Option, Some, None, option_and_then}
 use Rattle.std.specs.Option.{option_map_or}
 use Rattle.gb_base.specs.declared.keys.Key.{Key}
@@ -27,7 +27,7 @@ abbrev pub lapse_by : ℕ → FilingState → Lapse
 lapse_by day (state.Pending until) = if nat_lt until day then answer.Rejected else answer.TooEarly until
 lapse_by day state.NotPending = answer.NotPending
 
--- the answer to item i as the lapse of a filing; where it is no lapse, no filing that it names waits
+-- the answer to item i as the lapse of a filing; where the item is no lapse, the answer is that nothing waits
 abbrev pub lapsed : List Receipt → ℕ → (Key → List Entry) → Lapse
 lapsed journal i at = option_map_or (λ m. lapse_by (day_of journal i) (state_of journal m i at)) (lapse_at journal i) answer.NotPending
 

@@ -16,6 +16,6 @@ notices_at journal m i at key = map (λ n. entry_by journal i key (what.Notice n
 abbrev pub notices_brought : List Receipt → ℕ → ℕ → (Key → List Entry) → List Entry
 notices_brought journal m i at = flat_map (notices_at journal m i at) (keys_in_order journal m)
 
--- what stands once the official notices do
+-- what stands at each key once the official notices are entered
 abbrev pub with_notices : List Receipt → ℕ → ℕ → (Key → List Entry) → Key → List Entry
 with_notices journal m i at = with_entries at (notices_brought journal m i at)

@@ -12,7 +12,7 @@ use Rattle.folio_sections.specs.declared.entries.What.TheVariants as what
 use Rattle.interim_orders.specs.declared.states.FilingState.{FilingState}
 use Rattle.interim_orders.specs.declared.states.FilingState.TheVariants as state
 
--- the deadline of filing m: behind it a lapse ends the waiting
+-- the deadline of filing m: after it a lapse ends the waiting
 abbrev pub deadline_of : List Receipt → ℕ → ℕ
 deadline_of journal m = deadline (day_of journal m)
 
@@ -28,7 +28,7 @@ end_brought journal m i = map (λ k. entry_by journal i k (what.Settled m)) (key
 abbrev pub waits_until : List Receipt → ℕ → (Key → List Entry) → Option ℕ
 waits_until journal m at = option_and_then (λ k. pending m (at k)) (slice_get (keys_in_order journal m) 0)
 
--- the state in which a day, or none, leaves a filing
+-- the state of a filing that waits until this day, or of one that does not wait
 abbrev pub state_by : Option ℕ → FilingState
 state_by (Some until) = state.Pending until
 state_by None = state.NotPending

@@ -1,4 +1,4 @@
-//! The lapse of a filing that still waits behind its deadline (GBO § 18(1)).
+//! The lapse of a filing that still waits after its deadline (GBO § 18(1)).
 ghost use Rattle.std.specs.Prelude.{◌≡◌, ◌≤◌, ◌<◌, ℕ, length, Contains, IsTrue, Some};
 ghost use Rattle.gb_base.specs.declared.keys.Key.{Key};
 ghost use Rattle.act_model.specs.Receiving.{day_of};
@@ -15,8 +15,8 @@ use act_model::{Item, Journal};
 use folio_sections::{Parts, day_of};
 use gb_base::{Day, ReceiptNo};
 
-/// Answers a lapse, and where the deadline is over ends the waiting of the filing that it names
-/// (GBO § 18(1)). It takes no memory and cannot fail.
+/// Answers a lapse. Where the deadline is over, it ends the waiting of the filing that the lapse
+/// names (GBO § 18(1)). It takes no memory and cannot fail.
 pub fn lapse<P: Parts>(parts: &mut P, journal: &Journal, item: ReceiptNo) -> Lapse
     requires received { item ≤ length journal.now.receipts }
     requires held { (m : ℕ) → lapse_at journal.now.receipts item ≡ Some m → m < item
@@ -83,7 +83,8 @@ fn lapse_by(day: Day, state: FilingState) -> Lapse
     }
 }
 
-/// The same of a filing that waits until a day.
+/// The answer to a lapse on this day of a filing that waits until the other day: it is rejected only
+/// after that one.
 fn lapse_until(day: Day, until: Day) -> Lapse
     ensures { result ≡ lapse_by day (Pending until) }
 {

@@ -10,8 +10,8 @@ ghost use Rattle.folio_sections.specs.declared.entries.Entry.{Entry};
 ghost use Rattle.interim_orders.specs.Lapses.{lapse_at, lapse_brought};
 ghost use Rattle.interim_orders.specs.Orders.{end_brought, order_brought};
 
-/// Where each key of a filing has room for one entry, there is room for its order, and for the end
-/// of that.
+/// Where each key of a filing has room for one entry, there is room for its order, and there is
+/// room for the end of its waiting.
 pub fn room_for_order()
     ensures order { (journal : List Receipt) (m : ℕ) (room : Key → ℕ)
         → ((k : Key) → Contains (keys_of_filing journal m) k → 1 ≤ room k) → HasRoom room (order_brought journal m) }

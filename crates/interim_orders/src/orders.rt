@@ -38,7 +38,8 @@ pub fn close_order<P: Parts>(parts: &mut P, journal: &Journal, item: ReceiptNo, 
     enter_waiting(parts, journal, item, filing, None);
 }
 
-/// Enters at each key of a filing that it waits until this day, or no longer where there is none.
+/// Enters at each key of a filing that it waits until this day, or that it waits no longer where
+/// there is no day.
 fn enter_waiting<P: Parts>(
     parts: &mut P,
     journal: &Journal,
@@ -58,7 +59,7 @@ fn enter_waiting<P: Parts>(
     }
 }
 
-/// The content that sets a filing to wait until this day, or ends its waiting where there is none.
+/// The content that sets a filing to wait until this day, or ends its waiting where there is no day.
 fn mark(filing: ReceiptNo, until: &Option<Day>) -> What
     ensures { result ≡ mark filing until.now }
 {

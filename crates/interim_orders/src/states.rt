@@ -12,7 +12,7 @@ use gb_base::{Day, ReceiptNo};
 /// Whether a filing waits for cures (GBO § 18).
 #[derive(Clone, Copy, Debug, PartialEq, Eq)]
 pub enum FilingState {
-    /// It waits until this day, and beyond it until a cure or a lapse ends it.
+    /// It waits until this day, and after it too until a cure or a lapse ends its waiting.
     Pending { until: Day },
     /// It does not wait.
     NotPending,
@@ -35,7 +35,7 @@ pub fn state<P: Parts>(
     }
 }
 
-/// The state in which a day, or none, leaves a filing.
+/// The state of a filing that waits until this day, or of one that does not wait.
 fn state_by(until: Option<Day>) -> FilingState
     ensures { result ≡ state_by until }
 {

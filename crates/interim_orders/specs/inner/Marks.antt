@@ -7,7 +7,7 @@ use Rattle.folio_sections.specs.declared.entries.Entry.{Entry}
 use Rattle.folio_sections.specs.declared.entries.What.{What}
 use Rattle.folio_sections.specs.declared.entries.What.TheVariants as what
 
--- the content that sets filing m to wait until a day, or ends its waiting where there is none
+-- the content that sets filing m to wait until a day, or ends its waiting where there is no day
 abbrev pub mark : ℕ → Option ℕ → What
 mark m (Some until) = what.Pending m until
 mark m None = what.Settled m
