@@ -1,4 +1,4 @@
--- The filings of an applicant: they ascend, and are the receipts of which the applicant is that person.
+-- The filings of an applicant: they ascend, and are the receipts whose applicant is that person.
 use Rattle.std.proofs.Common.{◌≡◌, ℕ, suc, ◌+◌, ◌-◌, Bool, true, false, cond, eqb, ◌&&◌, ◌||◌, nat_le, List, [], ◌∷◌, Option, Some, None, option_map, refl, sym, ap, ◌∙◌, arith}
 use Rattle.std.specs.List.{cons_option, enumerate_from, filter_map, list_any, slice_get}
 use Rattle.std.specs.Option.{option_and_then, option_map_or}

@@ -1,5 +1,5 @@
--- How a filing is judged on the register as it stands: rows of grounds for rejection, of which the first that holds is
--- named, and rows of curable defects, of which all that hold are listed (GBO § 18).
+-- How a filing is judged on the register as it stands. Of the grounds for rejection the first that holds is named; of the
+-- curable defects all that are there are listed (GBO § 18).
 use Rattle.std.specs.Prelude.{◌≡◌, ℕ, Bool, true, false, not, ◌&&◌, ◌||◌, ◌==◌, nat_lt, List, [], ◌∷◌, filter, flat_map, find, map, Option, Some, None, option_map, is_some, is_none, All, IfSome}
 use Rattle.std.specs.Option.{option_map_or}
 use Rattle.std.specs.List.{enumerate_from, list_any}
@@ -114,7 +114,7 @@ abbrev pub reserves_less : Option ℕ → ℕ → Bool
 reserves_less (Some reserved) capital = nat_lt reserved capital
 reserves_less None capital = true
 
--- BGB § 881: the right behind has no reservation, has spent it, or reserved less than the new capital
+-- BGB § 881: the right that an exercise names has no reservation, has spent it, or reserved less than the new capital
 abbrev pub lacks_reservation : (Key → List Entry) → Act → Bool
 lacks_reservation at (Exercise folio behind spec) =
     is_spent (at (Right folio behind))

@@ -1,4 +1,4 @@
-//! The curable defects, of which all that hold are listed (GBO § 18).
+//! The curable defects: all that are there are listed (GBO § 18).
 ghost use Rattle.std.specs.Prelude.{◌≡◌, ◌+◌, ◌≤◌, ◌++◌, length, All};
 ghost use Rattle.act_model.specs.Documents.{docs_of};
 ghost use Rattle.consent_rules.specs.Judging.{defects, defects_under, is_defective};

@@ -162,8 +162,8 @@ fn has_reservation(made: Option<Created>) -> bool
     }
 }
 
-/// Whether the right behind has no reservation, has spent it, or reserved less than the new
-/// capital (BGB § 881).
+/// Whether the right that an exercise names has no reservation, has spent it, or reserved less than
+/// the new capital (BGB § 881).
 pub fn lacks_reservation<P: Parts>(parts: &P, act: &Act) -> bool
     requires held { HasParts (P.holds parts.now) (P.at parts.now) act.now }
     ensures { result ≡ lacks_reservation (P.at parts.now) act.now }

@@ -1,4 +1,4 @@
--- The journal is ready for the item of which it keeps a copy.
+-- The journal is ready for the item that it keeps a copy of.
 use Rattle.std.proofs.Common.{IsTrue, arith, subst, sym}
 use Rattle.std.specs.Vec.{vec_capacity, vec_len}
 use Rattle.act_model.specs.Same.{same_item}
