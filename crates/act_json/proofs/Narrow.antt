@@ -20,7 +20,7 @@ element_narrow (v ∷ vs) (suc i) d h = omega (arith, element_narrow vs i d (ome
 pub widest_element : {A : Type 0} (vs : List (Value A)) (i : ℕ) (v : Value A) → i < length vs → v ≡ get_or vs i v → widest (view v) ≤ widest (array (items_view vs))
 widest_element vs i v h is = omega (arith, ap (λ x. widest (view x)) is, element_narrow vs i v h)
 
--- an array has no more elements than the longest array in it
+-- an array has no more elements than the longest array in it, itself included
 pub count_in_array : {A : Type 0} (vs : List (Value A)) → length vs ≤ widest (array (items_view vs))
 count_in_array vs = omega (arith, count_of-items_view vs)
 

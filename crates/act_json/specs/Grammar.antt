@@ -130,7 +130,7 @@ read_inventory d = do
   area ← member (codes "area") (read_whole 1 1000000000) d
   Ok (record { district = district; parcel = parcel; sub = sub; area = area })
 
--- Each of these reads the members of an act after `act` and `folio`.
+-- Each of the readers that follow reads the members of an act after `act` and `folio`.
 
 -- the opening of a folio
 unfoldable pub read_open : ℕ → Data → Read Act

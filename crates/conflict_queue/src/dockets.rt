@@ -166,8 +166,8 @@ fn earlier_filing(journal: &Journal, n: ReceiptNo, filing: ReceiptNo) -> Option<
     Some(filing)
 }
 
-/// The last item that touched the sale of the folio, where it touches as many rights as item n
-/// finds.
+/// The last item that touched all keys of a sale of the folio, where it touches as many rights as
+/// item n finds.
 fn last_of_sale(
     keys: &KeyLists,
     sales: &BTreeMap<u32, ReceiptNo>,

@@ -91,8 +91,8 @@ impl<'a> CaseFront<'a> {
         }
     }
 
-    /// The part, where these are all of its entries: then what it keeps beside its entries holds for
-    /// these too.
+    /// The part, where these are all of its entries: then what it keeps beside its entries holds
+    /// for these too.
     fn whole_part(&self) -> Option<&CasePart>
         ensures { IfSome result (λ part. part.now.entries ≡ self.now) }
     {
