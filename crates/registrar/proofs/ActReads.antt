@@ -19,18 +19,18 @@ use Rattle.folio_sections.specs.Titles.{is_open, owners_for}
 use Rattle.folio_sections.specs.declared.entries.Entry.{Entry}
 use Rattle.registrar.proofs.Agreeing.{chosen_same}
 
--- the title and a right of the folio read the same
+-- the title and this right of the folio have the same entries in both
 pub record SameTitleAndRight (at0 at1 : Key → List Entry) (folio : ℕ) (named : RightNo) : Type 0 where
   pub title : at1 (Title folio) ≡ at0 (Title folio)
   pub right : at1 (Right folio named) ≡ at0 (Right folio named)
 
--- two rights do, and the title where the receding one is of division III
+-- both rights have the same entries in both, and so has the title where the receding right is of division III
 pub record SameTwoRights (at0 at1 : Key → List Entry) (folio : ℕ) (receding rising : RightNo) : Type 0 where
   pub recede : at1 (Right folio receding) ≡ at0 (Right folio receding)
   pub rise : at1 (Right folio rising) ≡ at0 (Right folio rising)
   pub title : stands_in_division_three at0 folio receding ≡ true → at1 (Title folio) ≡ at0 (Title folio)
 
--- all that the act is judged by reads the same
+-- all that the act is judged by is the same in both
 abbrev pub ReadsSame : (Key → List Entry) → (Key → List Entry) → Act → Type 0
 ReadsSame at0 at1 (Open folio inventory owners) = at1 (Title folio) ≡ at0 (Title folio)
 ReadsSame at0 at1 (Transfer folio owners) = at1 (Title folio) ≡ at0 (Title folio)
@@ -60,7 +60,7 @@ barred_same : (journal : List Receipt) (at0 at1 : Key → List Entry) (folio : �
 barred_same journal at0 at1 folio right same =
     ap (λ es. not (is_full es) || shares_its_group journal right || option_map_or (λ made. is_some made.reserve || is_some made.ahead_of) (live_right es) false) same
 
--- the owners, where the receding right is of division III
+-- the owners are the same in both, where the receding right is of division III
 owners_if : (m : ℕ) (at0 at1 : Key → List Entry) (acts : List Act) (a folio : ℕ) (recede rise : RightNo) → SameTwoRights at0 at1 folio recede rise
     → cond (stands_in_division_three at1 folio recede) (owners_then m at1 acts a folio) [] ≡ cond (stands_in_division_three at0 folio recede) (owners_then m at0 acts a folio) []
 owners_if m at0 at1 acts a folio recede rise same =

@@ -13,7 +13,7 @@ use Rattle.folio_sections.proofs.Unchanged.{all_weaker}
 
 -- ---- the entries at a key
 
--- what holds of each entry and its key holds of those at a key and of that one
+-- what holds of each entry with its own key holds of the entries at a key, with that key
 pub all_here : (P : Key → Entry → Type 0) (es : List Entry) (k : Key) → AllByRecursion (λ e. P e.key e) es → AllByRecursion (P k) (at es k)
 all_here P [] k all = tt
 all_here P (e ∷ es) k all =

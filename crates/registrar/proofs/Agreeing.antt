@@ -26,7 +26,7 @@ pub any_same : {X : Type 0} (p q : X → Bool) (xs : List X) → AllByRecursion 
 any_same p q [] all = refl
 any_same p q (x ∷ xs) all = λ j. all.0 j || any_same p q xs all.1 j
 
--- one of two, by tests that are equal, where the first are equal as far as it is chosen
+-- a choice between one value and `none` is the same where the tests are equal, and the values are equal whenever one is chosen
 pub chosen_same : {X : Type 0} (b c : Bool) (x y none : X) → b ≡ c → (c ≡ true → x ≡ y) → cond b x none ≡ cond c y none
 chosen_same b true x y none same wanted = ap (λ t. cond t x none) same ∙ wanted refl
 chosen_same b false x y none same wanted = ap (λ t. cond t x none) same

@@ -1,4 +1,4 @@
--- A case with an award, cut at it: what stood before it, and behind it nothing that seizes, calls or awards.
+-- A case with an award, cut at it: what stood before it, and after it nothing that seizes, calls or awards.
 use Rattle.std.proofs.Common.{◌≡◌, ⊎_elim, ℕ, ◌<◌, nat_lt, Bool, true, false, List, [], ◌∷◌, ◌++◌, fold, Option, Some, None, is_some, refl, sym, ap, subst, ◌∙◌, append_assoc, arith}
 use Rattle.std.specs.List.{AllByRecursion}
 use Rattle.std.specs.Option.{option_map_or}
@@ -23,7 +23,7 @@ use Rattle.registrar.proofs.CasesPushed.{all_are_below}
 
 -- ---- lists that grow
 
--- what holds of no entry, and goes on with each, holds of all
+-- what holds of the empty list, and still holds with one entry more, holds of all lists
 by_pushes : (P : List Entry → Type 0) → P [] → ((xs : List Entry) (x : Entry) → P xs → P (xs ++ x ∷ [])) → (xs : List Entry) → P xs
 by_pushes P start step xs = from [] xs start
   where
@@ -41,7 +41,7 @@ rises_first xs x rises = λ before after e is. rises before (after ++ x ∷ []) 
 ends_first : (xs : List Entry) (x : Entry) → EndWithAward (xs ++ x ∷ []) → EndWithAward xs
 ends_first xs x ends = λ before after e is. ends before (after ++ x ∷ []) e (ap (λ ys. ys ++ x ∷ []) is ∙ append_assoc before (e ∷ after) (x ∷ []))
 
--- one of a later receipt than all stands at the end
+-- receipts still rise where one of a later receipt than all is put at the end
 pub rises_with : (xs : List Entry) (last : Entry) → RisesAt xs → AllByRecursion (λ (d : Entry). d.receipt < last.receipt) xs → RisesAt (xs ++ last ∷ [])
 rises_with xs last rises all = λ before after e is.
     ⊎_elim (λ old. rises before old.0 e old.1)
@@ -63,7 +63,7 @@ leaves_of (what.Bids costs) fails = absurd (false≢true (sym fails))
 leaves_of (what.Awarded buyer bid) fails = absurd (false≢true (sym fails))
 leaves_of other fails = refl
 
--- where the entries rise and none that seizes, calls or awards stands behind an award, they are cut so at their award
+-- where the entries rise and none after an award seizes, calls or awards, the case can be cut at its award in this way
 abbrev IsCut : List Entry → Type 0
 IsCut xs = RisesAt xs → EndWithAward xs → (a : ℕ) → award xs ≡ Some a → IsAwardedIn xs a
 

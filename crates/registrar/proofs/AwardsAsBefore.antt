@@ -1,4 +1,4 @@
--- An award that stands is kept, whatever item is settled behind it: no item adds what the sale reads below the award.
+-- An award that stands is kept, whatever item is settled after it: no item adds anything that the sale reads below the award.
 use Rattle.std.proofs.Common.{◌≡◌, ℕ, ◌<◌, ◌≤◌, nat_lt, Bool, true, false, List, [], ◌++◌, Any, IsSomeAnd, IsTrue, is_none, refl, sym, ap, subst, ◌∙◌, ⊎_elim, arith}
 use Rattle.std.specs.List.{AllByRecursion}
 use Rattle.std.proofs.lemmas.Bool.{cases_Bool, cases_lt, false≢true}
@@ -68,7 +68,7 @@ module _ (journal : List Receipt) (i n folio bid : ℕ) (keys : List Key) (regis
       ⊎_elim (λ before. ap (λ ys. below n (register k ++ ys)) (brings.elsewhere k (no_key before k some)) ∙ ap (below n) (append-nil (register k)))
       (λ later. none_below_item n i later register es brings.by_item k) (cases_lt i n)
 
-  -- a right among the keys was not live: it would have what the award says of it
+  -- a right among the keys was not live: if it were, it would have an entry by receipt n, which says what the award leaves of it
   dead_there : i < n → (right : RightNo) → has (Right folio right) keys ≡ true → is_live (register (Right folio right)) ≡ false
   dead_there before right there =
       let k = Right folio right in
@@ -96,7 +96,7 @@ module _ (journal : List Receipt) (i n folio bid : ℕ) (keys : List Key) (regis
       ⊎_elim (λ before. grown_below n (register k) (with_entries register es k) (record { more = at es k; is = refl; unread = unread_there before right }))
       (λ later. record { more = []; is = none_below_item n i later register es brings.by_item k ∙ sym (append-nil (below n (register k))); unread = tt }) (cases_lt i n)
 
-  -- so it is kept
+  -- so the award is kept
   pub award_stays : IsAwardKept journal (with_entries register es) folio n bid
   award_stays =
       let case = stays_where (Case folio) stands in

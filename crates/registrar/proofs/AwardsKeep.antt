@@ -1,4 +1,4 @@
--- What an item brings leaves a register that keeps its awards.
+-- What an item brings to a register that keeps its awards leaves one that keeps them.
 use Rattle.std.proofs.Common.{◌≡◌, ℕ, List, [], Some, None, option_map, refl, sym, subst}
 use Rattle.std.specs.Option.{option_map_or}
 use Rattle.std.proofs.lemmas.List.{append-nil}
@@ -22,7 +22,7 @@ use Rattle.registrar.proofs.EachItemKeeps.{item_leaves}
 use Rattle.registrar.proofs.Elsewhere.{nothing_elsewhere}
 use Rattle.registrar.proofs.UnreadThere.{item_unread}
 
--- the empty register has none
+-- the empty register has no award
 pub none_kept : (journal : List Receipt) → AwardsKept journal (λ _. [])
 none_kept journal = record {
   awards = λ folio. All-nil (λ e. AwardsAsKept journal (λ _. []) folio e.receipt e.what);
@@ -52,7 +52,7 @@ item_keeps journal i register w stands kept awards is before =
       ends = λ folio. ends_behind journal register es folio (item_adds journal i register w folio stands kept is before) (awards.ends folio);
     }
 
--- so what receipt i brings; where there is none, nothing is brought
+-- what receipt i brings leaves the awards kept; where there is no receipt i, nothing is brought
 pub brings_keep : (journal : List Receipt) (i : ℕ) (register : Key → List Entry) → IsJournal journal → Kept journal register → AwardsKept journal register → AreEarlier i register (keys_of_item journal i)
     → AwardsKept journal (with_entries register (brings journal i register).entries)
 brings_keep journal i register stands kept awards =

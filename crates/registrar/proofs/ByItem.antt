@@ -46,7 +46,7 @@ at_title : (journal : List Receipt) (m i folio : ℕ) (w : What) → Contains (k
 at_title journal m i folio w there placed waits cents =
     record { by_item = refl; on_day = refl; there = there; placed = placed; waits = waits; created = tt; cents = cents }
 
--- a content at a right, which is no later than the item where it is created
+-- a content at a right; where it creates the right, that right is no later than the item
 at_right : (journal : List Receipt) (m i folio : ℕ) (right : RightNo) (w : What) → Contains (keys_of_filing journal m) (Right folio right)
     → WaitsInTime i w → IsCreatedInTime i (Right folio right) w → LeavesCents w
     → IsBrought journal m i (entry_by journal i (Right folio right) w)
@@ -61,7 +61,7 @@ set_to_wait journal m i n until (Right folio right) within there = at_right jour
 set_to_wait journal m i n until (Case folio) within there =
     record { by_item = refl; on_day = refl; there = there; placed = tt; waits = within; created = tt; cents = tt }
 
--- it waits no longer
+-- filing n is set to wait no longer, at any key of the filing
 set_to_end : (journal : List Receipt) (m i n : ℕ) (key : Key) → Contains (keys_of_filing journal m) key
     → IsBrought journal m i (entry_by journal i key (what.Settled n))
 set_to_end journal m i n (Title folio) there = at_title journal m i folio (what.Settled n) there tt tt tt

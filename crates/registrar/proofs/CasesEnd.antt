@@ -1,4 +1,4 @@
--- What an item adds at a case: one entry at most, and none that seizes, calls or awards behind an award.
+-- What an item adds at a case: one entry at most, and none that seizes, calls or awards after an award.
 use Rattle.std.proofs.Common.{◌≡◌, ⊎_elim, ◌⊎◌, inl, inr, ℕ, ◌<◌, nat_lt, Bool, true, false, cond, List, [], ◌∷◌, ◌++◌, All, IsTrue, Some, None, is_some, refl, sym, ap, subst, ◌∙◌}
 use Rattle.std.specs.Option.{option_map_or}
 use Rattle.std.proofs.lemmas.Bool.{false≢true}
@@ -57,7 +57,7 @@ pub none_around : (before after : List Entry) (e : Entry) → [] ≡ before ++ e
 none_around [] after e is = false≢true (ap is_any is)
 none_around (x ∷ before) after e is = false≢true (ap is_any is)
 
--- an entry of a list with one more stands in the list, or is that one
+-- an entry of a list with one more at its end stands in the list, or is that one
 pub in_pushed : (xs before after : List Entry) (last e : Entry) → xs ++ last ∷ [] ≡ before ++ e ∷ after → ((rest : List Entry) × (xs ≡ before ++ e ∷ rest)) ⊎ ((xs ≡ before) × (last ≡ e))
 in_pushed [] [] after last e is = inr (refl, ap (first_or last) is)
 in_pushed [] (b ∷ before) after last e is = absurd (none_around before after e (ap behind_first is))
@@ -83,7 +83,7 @@ pub ends_behind : (journal : List Receipt) (register : Key → List Entry) (es :
 ends_behind journal register es folio (nothing none) ends = subst EndWithAward (sym (ap (λ ys. register (Case folio) ++ ys) none ∙ append-nil (register (Case folio)))) ends
 ends_behind journal register es folio (one_more e is open_yet given) ends = subst (λ ys. EndWithAward (register (Case folio) ++ ys)) (sym is) (ends_with (register (Case folio)) e ends open_yet)
 
--- what the awards that stand keep, those with it keep
+-- where the awards that stood are kept in the register with what is brought, all awards of that register are
 pub awards_behind : (journal : List Receipt) (register : Key → List Entry) (es : List Entry) (folio : ℕ) → AddsAtCase journal register es folio
     → All (λ e. AwardsAsKept journal (with_entries register es) folio e.receipt e.what) (register (Case folio))
     → All (λ e. AwardsAsKept journal (with_entries register es) folio e.receipt e.what) (with_entries register es (Case folio))

@@ -1,4 +1,4 @@
--- A forced sale in order stays so with one entry more that goes with its case.
+-- A forced sale that is in order stays in order with one entry more that goes with its case.
 use Rattle.std.proofs.Common.{◌≡◌, ⊎_elim, ◌⊎◌, ℕ, ◌+◌, ◌<◌, ◌≤◌, nat_lt, true, false, cond, List, [], ◌∷◌, ◌++◌, All, AllPairs, count_by, slice_get, IfSome, IsSome, IsTrue, refl, sym, ap, subst, ◌∙◌, arith}
 use Rattle.std.specs.List.{AllByRecursion}
 use Rattle.std.proofs.lemmas.Bool.{false≢true}
@@ -25,7 +25,7 @@ pub record CaseHolds (journal : List Receipt) (xs : List Entry) : Type 0 where
   pub arrears : AllPairs (λ e later. register_same_arrears journal e later ≡ false) xs
   pub older : IfSome (slice_get xs 0) (λ first. All (SeizesFromOlder journal first.receipt) xs)
 
--- an entry that goes with a case
+-- what makes an entry go with a case
 pub record GoesWith (journal : List Receipt) (xs : List Entry) (e : Entry) : Type 0 where
   pub begins : IsSome (slice_get xs 0) ⊎ IsTrue (is_seizure e.what)
   pub seizures : IsTrue (is_seizure e.what) → count_by (λ d. is_seizure d.what) xs < most_seizures
@@ -71,7 +71,7 @@ case_with journal xs e was goes = record {
   older = older_of journal xs e was.older goes.older;
 }
 
--- behind an entry that goes with it the case still holds
+-- with one more entry that goes with it the case still holds
 pub goes_behind : (journal : List Receipt) (entries : List Entry) (e : Entry) → is_distribution e.what ≡ false → GoesWith journal (case entries) e → CaseHolds journal (case entries)
     → CaseHolds journal (case (entries ++ e ∷ []))
 goes_behind journal entries e goes_on goes was =
@@ -81,7 +81,7 @@ goes_behind journal entries e goes_on goes was =
 none_hold : (journal : List Receipt) → CaseHolds journal []
 none_hold journal = record { begins = tt; seizures = omega arith; registrations = omega arith; arrears = λ i j d less within. absurd (omega (arith, less, within)); older = tt }
 
--- and so does the one behind a distribution
+-- and so does the case after a distribution, which has no entry
 pub case_ends : (journal : List Receipt) (entries : List Entry) (e : Entry) → is_distribution e.what ≡ true → CaseHolds journal (case (entries ++ e ∷ []))
 case_ends journal entries e ends = subst (CaseHolds journal) (sym (behind_another (λ d. is_distribution d.what) entries e ends)) (none_hold journal)
 

@@ -49,7 +49,7 @@ leaves_as_filed : (journal : List Receipt) (at0 : Key → List Entry) (folio : �
 leaves_as_filed journal at0 folio right receipt (what.Created made) leaves = absurd leaves
 leaves_as_filed journal at0 folio right receipt other leaves = tt
 
--- an entry enters no right but as it was filed, at its key
+-- at its key, an entry creates a right only as it was filed
 abbrev pub EntersAt : List Receipt → (Key → List Entry) → Key → Entry → Type 0
 EntersAt journal at0 (Right folio right) e = EntersAsFiled journal at0 folio right e.receipt e.what
 EntersAt journal at0 (Title folio) e = Unit {0}
@@ -60,7 +60,7 @@ leaves_at journal at0 (Right folio right) e leaves = leaves_as_filed journal at0
 leaves_at journal at0 (Title folio) e leaves = tt
 leaves_at journal at0 (Case folio) e leaves = tt
 
--- what each new entry keeps at its key, all together keep
+-- where each new entry creates rights only as they were filed, at its key, all rights stand as they were filed
 pub created_by_new : (journal : List Receipt) (at0 : Key → List Entry) (es : List Entry) → ((folio : ℕ) (right : RightNo) → AllByRecursion (EntersAt journal (with_entries at0 es) (Right folio right)) (at es (Right folio right))) → CreatedAsFiled journal at0 → CreatedAsFiled journal (with_entries at0 es)
 created_by_new journal at0 es new kept = record {
   filed = λ folio right.
@@ -84,12 +84,12 @@ ranked : (P : ℕ → Type 0) (o : Option ℕ) → is_some o ≡ true → IfSome
 ranked P None some has = absurd (false≢true some)
 ranked P (Some n) some has = has
 
--- the journal has a rank for the right that an act of it creates
+-- the journal has a rank for the right that an act of the filing creates
 has_its_rank : (journal : List Receipt) (m a : ℕ) (act : Act) (spec : RightSpec) → act_of_right journal (new_right m a) ≡ Some act → right_created act ≡ Some spec → is_some (creating_rank journal (new_right m a)) ≡ true
 has_its_rank journal m a act spec filed is =
     has_rank journal (new_right m a) ∙ ap (λ o. is_some (option_and_then folio_of_creation o)) filed ∙ ap (λ o. is_some (cond (is_some o) (Some (folio_of act)) None)) is
 
--- among the first creations of its folio
+-- the rank of the right is among the first creations of its folio
 abbrev FewCreations : List Receipt → ℕ → ℕ → Type 0
 FewCreations journal m a = IfSome (creating_rank journal (new_right m a)) (λ n. n ≤ most_creations)
 
@@ -133,7 +133,7 @@ title_touched journal m a (Cancel folio right) spec is = absurd (cc is)
 title_touched journal m a (Exchange folio recede rise) spec is = absurd (cc is)
 title_touched journal m a (Exercise folio behind_right described) spec is = (0, omega arith, refl)
 
--- the place stands once the notices and the places do
+-- the place of filing m stands once the notices and the places are entered
 pub place_standing : (journal : List Receipt) (m : ℕ) (f : Filing) (i : ℕ) (at0 : Key → List Entry) (a : ℕ) (act : Act) (spec : RightSpec) → Deals journal m f i at0 → IsActOf f a act → right_created act ≡ Some spec → PlaceStands journal (standing journal m i at0) m i act
 place_standing journal m f i at0 a act spec deals own is =
     let title = Title (folio_of act) in
@@ -141,7 +141,7 @@ place_standing journal m f i at0 a act spec deals own is =
     let creates = filing_creates journal m f a act spec deals.filing own is in
     place_stands journal m i (folio_of act) at0 touched creates (deals.earlier title touched)
 
--- and so in the register behind
+-- it stands, too, in the register after the whole entry
 place_behind : (journal : List Receipt) (m : ℕ) (f : Filing) (i : ℕ) (at0 : Key → List Entry) (a : ℕ) (act : Act) (spec : RightSpec) → Deals journal m f i at0 → IsActOf f a act → right_created act ≡ Some spec → PlaceStands journal (with_entries at0 (enters journal m i at0)) m i act
 place_behind journal m f i at0 a act spec deals own is =
     let title = Title (folio_of act) in

@@ -29,7 +29,7 @@ use Rattle.registrar.proofs.WaitingStates.{found_waiting, waiting_is_a_filing}
 use Rattle.registrar.specs.Brings.{brought_by_cure, brought_in_state, nothing_pending}
 use Rattle.conflict_queue.specs.ItemKeys.{keys_of_named}
 
--- a receipt of which the item is known is there
+-- there is a receipt where its item is known
 pub there_is : (o : Option Receipt) (w : Item) → option_map (λ r. r.item) o ≡ Some w → IsSome o
 there_is (Some r) w is = refl
 there_is None w is = absurd (false≢true (ap is_some is))
@@ -53,7 +53,7 @@ some_is : (o : Option Filing) (there : IsSome o) → o ≡ Some (some_filing o t
 some_is (Some f) there = refl
 some_is None there = absurd (false≢true there)
 
--- it waits at each of its keys, since it waits at one
+-- the filing waits at each of its keys, since it waits at one
 pub found : (journal : List Receipt) (m i : ℕ) (at : Key → List Entry) (until : ℕ) → IsSome (receipt_at journal i) → IsJournal journal → Kept journal at → AreEarlier i at (keys_of_named journal i m)
     → state_of journal m i at ≡ Pending until → Found journal m i at
 found journal m i at until received stands kept before is =

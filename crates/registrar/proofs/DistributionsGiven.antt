@@ -1,4 +1,4 @@
--- A distribution that is not refused is covered by its money: the award was given at no less than the part in cash, and behind it nothing
+-- A distribution that is not refused is covered by its money: the award was given at no less than the part in cash, and after it nothing
 -- changes that.
 use Rattle.std.proofs.Common.{◌≡◌, ℕ, ◌+◌, ◌<◌, ◌≤◌, Bool, true, false, cond, not, ◌||◌, ◌==◌, List, [], ◌∷◌, All, filter, length, map, slice_get, IsSome, IsSomeAnd, IsTrue, Option, Some, None, is_none, is_some, option_and_then, refl, sym, ap, subst, ◌∙◌, arith}
 use Rattle.std.specs.List.{AllByRecursion, list_any}
@@ -52,7 +52,7 @@ some_of : (o : Option ℕ) → is_none o ≡ false → is_some o ≡ true
 some_of (Some n) is = refl
 some_of None is = sym is
 
--- some entry passes, so the first number of those that pass is there
+-- where some entry passes, there is a first among the receipts of those that pass
 first_number : (p : Entry → Bool) (xs : List Entry) → not (list_any p xs) ≡ false → IsSome (slice_get (map (λ (e : Entry). e.receipt) (filter p xs)) 0)
 first_number p [] none = sym none
 first_number p (x ∷ xs) some =
@@ -75,7 +75,7 @@ award_item folio buyer bid (Some other) is = absurd is
 
 module _ (journal : List Receipt) (register : Key → List Entry) (folio n : ℕ) (kept : Kept journal register) (awards : AwardsKept journal register) (rise : CasesRise register)
     (earlier : All (λ e. e.receipt < n) (register (Case folio))) (distributes : item_at journal n ≡ Some (item.Distribute folio)) where
-  -- behind the award by receipt a
+  -- the case has an award, by receipt a
   module _ (a : ℕ) (award_is : award (below n (register (Case folio))) ≡ Some a) (runs : lacks_case (sale_at journal register folio n) ≡ false) where
     now : below n (register (Case folio)) ≡ register (Case folio)
     now = whole register n (Case folio) earlier
@@ -83,7 +83,7 @@ module _ (journal : List Receipt) (register : Key → List Entry) (folio n : ℕ
     awarded : IsAwardedIn (register (Case folio)) a
     awarded = cut_at_award (register (Case folio)) (rise folio) (awards.ends folio) a (ap award (sym now) ∙ award_is)
 
-    -- what holds of each entry at the case holds of the award
+    -- what holds of each entry at the case holds of the entry of the award
     of_award : (P : Entry → Type 0) → All P (register (Case folio)) → P awarded.entry
     of_award P all =
         (second_of_both P awarded.before (awarded.entry ∷ awarded.after) (subst (λ xs. AllByRecursion P xs) awarded.is (recursion_from_All P (register (Case folio)) all))).0

@@ -1,4 +1,4 @@
--- What an item brings leaves a register, settled in the order of receipts, whose distributions are covered.
+-- A register that was settled in the order of receipts, and whose distributions are covered, stays such a one with what an item brings.
 use Rattle.std.proofs.Common.{◌≡◌, ℕ, ◌<◌, ◌≤◌, true, false, cond, ◌==◌, List, [], ◌∷◌, ◌++◌, All, IsSomeAnd, IsTrue, Some, None, option_map, refl, sym, ap, subst, ◌∙◌, arith}
 use Rattle.std.specs.List.{AllByRecursion}
 use Rattle.std.specs.Option.{option_map_or}
@@ -45,7 +45,7 @@ pub record Distributes (journal : List Receipt) (at : Key → List Entry) : Type
   pub distributed : DistributionsKept journal at
   pub rise : CasesRise at
 
--- the empty register has none
+-- the empty register has no distribution and no case
 pub none_distributed : (journal : List Receipt) → Distributes journal (λ _. [])
 none_distributed journal = record {
   distributed = λ folio. All-nil (λ e. IsTrue (is_distribution e.what) → IsDistributionKept journal (λ _. []) folio e.receipt);
@@ -54,7 +54,7 @@ none_distributed journal = record {
 
 -- ---- what stands
 
--- the sale of an item is the same behind a later one
+-- the sale that item n finds stays the same once item i, which is no earlier than n, has added its entries
 pub sale_stays : (journal : List Receipt) (i folio n : ℕ) → n ≤ i → (register : Key → List Entry) (es : List Entry) → AllByRecursion (λ e. e.receipt ≡ i) es
     → sale_at journal (with_entries register es) folio n ≡ sale_at journal register folio n
 sale_stays journal i folio n within register es by_item = λ j. record { journal = journal; at = λ k. none_below_item n i within register es by_item k j; folio = folio; item = n }
@@ -71,7 +71,7 @@ distribution_stays journal i folio n within register es by_item was =
 
 -- ---- what comes
 
--- no other item distributes
+-- the entry is no distribution
 abbrev IsQuiet : Entry → Type 0
 IsQuiet e = is_distribution e.what ≡ false
 
@@ -162,7 +162,7 @@ item_distributes journal i register w stands kept awards was is earlier =
       rise = λ folio. rises_behind journal register es i folio (item_adds journal i register w folio stands kept is (λ k there. earlier k)) (here folio) (before folio) (was.rise folio);
     }
 
--- so what receipt i brings; where there is none, nothing is brought
+-- what receipt i brings leaves such a register; where there is no receipt i, nothing is brought
 pub brings_distribute : (journal : List Receipt) (i : ℕ) (register : Key → List Entry) → IsJournal journal → Kept journal register → AwardsKept journal register → Distributes journal register
     → ((k : Key) → All (λ e. e.receipt < i) (register k)) → Distributes journal (with_entries register (brings journal i register).entries)
 brings_distribute journal i register stands kept awards was earlier =

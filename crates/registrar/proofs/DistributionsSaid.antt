@@ -165,7 +165,7 @@ said_stays journal i m cents register es earlier by_item said =
       },
     )
 
--- a verdict among some and one more
+-- a verdict that is found among some verdicts and one more is found among the first ones, or is that one
 pushed_verdict : (vs : List (ℕ × Verdict)) (i m : ℕ) (v w : Verdict) → verdict_among (vs ++ (i, v) ∷ []) m ≡ Some w → (verdict_among vs m ≡ Some w) ⊎ ((i ≡ m) × (v ≡ w))
 pushed_verdict vs i m v w is =
     let numbered : ℕ × Verdict → Bool = λ x. x.0 == m in

@@ -30,7 +30,7 @@ none_of_length : (es : List Entry) → length es ≤ 0 → es ≡ []
 none_of_length [] few = refl
 none_of_length (e ∷ es) few = absurd (omega arith)
 
--- what is brought for a filing fits into room at the item's keys alone
+-- what is brought for a filing needs room at the item's keys alone
 filed_elsewhere : (journal : List Receipt) (i : ℕ) (register : Key → List Entry) (w : Item) (k : Key) → IsFiled w → IsJournal journal → item_at journal i ≡ Some w
     → has k (keys_by_item journal i w) ≡ false → at_key (brought_by_item journal i register w).entries k ≡ []
 filed_elsewhere journal i register w k filed is_one is lacks =

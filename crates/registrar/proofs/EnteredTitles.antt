@@ -64,7 +64,7 @@ ranked_quiet journal folio xs ys old quiet =
     ranked_on journal folio xs ys old (quiet_none journal folio ys quiet)
     (λ m n has less waits. sym (waits_as_before n xs ys (quiet_keeps ys quiet)) ∙ waits)
 
--- they leave a title in order
+-- quiet entries leave a title in order
 pub title_quiet : (journal : List Receipt) (folio : ℕ) (xs ys : List Entry) → InOrder journal folio xs → AllByRecursion (λ e. IsQuiet e.what) ys → InOrder journal folio (xs ++ ys)
 title_quiet journal folio xs ys old quiet = record {
   ranked = ranked_quiet journal folio xs ys old.ranked quiet;
@@ -102,7 +102,7 @@ settled_before : (b : Bool) (before : Option ℕ) → is_some (cond b None befor
 settled_before true before waits = absurd (false≢true waits)
 settled_before false before waits = (refl, waits)
 
--- filing m waits no longer, and no other has a place but by its notice
+-- filing m waits no longer, and no other filing that waits has a place but by its notice
 pub title_ended_but : (journal : List Receipt) (folio m i : ℕ) (key : Key) (xs : List Entry) → Ranked journal folio xs → PlacedByNoticeBut m xs
     → InOrder journal folio (xs ++ entry_by journal i key (what.Settled m) ∷ [])
 title_ended_but journal folio m i key xs ranked old =
@@ -157,7 +157,7 @@ ranked_placed journal folio m i mid ready =
       | false ↦ λ other. nothing
     ] refl
 
--- its place neither begins nor ends waiting, and is that of filing m
+-- the entry of its place neither begins nor ends waiting
 place_keeps : (journal : List Receipt) (folio m i : ℕ) (b : Bool) (second third : Bool) → AllByRecursion (λ e. KeepsWaiting e.what) (cond b (entry_by journal i (Title folio) (what.Placed m second third) ∷ []) [])
 place_keeps journal folio m i true second third = (tt, tt)
 place_keeps journal folio m i false second third = tt

@@ -22,7 +22,7 @@ use Rattle.registrar.proofs.Dealing.{Deals, IsBrought}
 pub all_there : (journal : List Receipt) (m i : ℕ) (es : List Entry) → AllByRecursion (IsBrought journal m i) es → AllByRecursion (λ e. Contains (keys_of_filing journal m) e.key) es
 all_there journal m i es all = all_weaker (IsBrought journal m i) (λ e. Contains (keys_of_filing journal m) e.key) es (λ e brought. brought.there) all
 
--- what holds of the entries before and of each that is brought, at its key, holds of all at a key
+-- what holds of the entries before and of each entry that is brought, at its key, holds of all that then stand at a key
 pub kept_here : (P : Key → Entry → Type 0) (journal : List Receipt) (m i : ℕ) (before : Key → List Entry) (es : List Entry)
     → ((e : Entry) → IsBrought journal m i e → P e.key e) → AllByRecursion (IsBrought journal m i) es
     → (k : Key) → All (P k) (before k) → All (P k) (with_entries before es k)

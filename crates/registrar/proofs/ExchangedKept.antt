@@ -1,4 +1,4 @@
--- Plain rights alone stay exchanged, and a reservation stays used at most once.
+-- Only plain rights stay exchanged, and a reservation stays used at most once.
 use Rattle.std.proofs.Common.{ℕ, ◌+◌, ◌≤◌, List, ◌++◌, sym, subst, arith}
 use Rattle.std.specs.List.{AllByRecursion}
 use Rattle.std.proofs.lemmas.List.Elements.{All-append, All-from_recursion, All-weaker}
@@ -24,7 +24,7 @@ use Rattle.registrar.proofs.NewContents.{with_both}
 use Rattle.registrar.proofs.NewExchanges.{all_act, read_on}
 use Rattle.registrar.proofs.RightReads.{SameReads, created_left, same_itself}
 
--- what each new entry keeps at its key, all together keep
+-- where each new entry exchanges and exercises as it may, at its key, all that is exchanged stays plain, and no reservation is used twice
 pub exchanged_by_new : (journal : List Receipt) (at0 : Key → List Entry) (es : List Entry) → ReadOn at0 (with_entries at0 es)
     → ((folio : ℕ) (right : RightNo) → AllByRecursion (ActsAt journal (with_entries at0 es) (Right folio right)) (at es (Right folio right)))
     → ((folio : ℕ) (right : RightNo) → exercises (at0 (Right folio right)) + exercises (at es (Right folio right)) ≤ 1)

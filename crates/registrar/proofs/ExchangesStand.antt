@@ -1,4 +1,4 @@
--- What stands once of exchanges and reservations stands on, and how many entries use a reservation.
+-- What holds once of exchanges and reservations goes on to hold; and how many entries use a reservation.
 use Rattle.std.proofs.Common.{◌≡◌, ℕ, ◌+◌, Bool, cond, List, [], ◌∷◌, ◌++◌, IsSome, IsSomeAnd, Option, Some, None, count_by, is_some, refl, ap, ◌∙◌, arith}
 use Rattle.std.specs.List.{AllByRecursion}
 use Rattle.std.proofs.lemmas.List.Sums.{sum_by-append, sum_by_from}
@@ -15,7 +15,7 @@ use Rattle.folio_sections.specs.declared.entries.What.TheVariants as what
 use Rattle.registrar.proofs.LeavingRights.{LeavesRights}
 use Rattle.registrar.proofs.RightReads.{SameReads}
 
--- ---- what stands once stands on, as long as the rights read as they did
+-- ---- what holds once goes on to hold, as long as the rights read as they did
 
 abbrev pub ReadOn : (Key → List Entry) → (Key → List Entry) → Type 0
 ReadOn at0 at1 = (folio : ℕ) (right : RightNo) → SameReads (created (at0 (Right folio right))) (created (at1 (Right folio right)))
@@ -51,7 +51,7 @@ kind_stays journal at0 at1 folio right other same is = tt
 
 -- ---- new entries
 
--- an entry acts on its kind, at its key
+-- at its key, an entry exchanges and exercises only what it may
 abbrev pub ActsAt : List Receipt → (Key → List Entry) → Key → Entry → Type 0
 ActsAt journal at0 (Right folio right) e = ActsOnItsKind journal at0 folio right e.what
 ActsAt journal at0 (Title folio) e = Unit {0}

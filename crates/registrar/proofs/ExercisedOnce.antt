@@ -90,7 +90,7 @@ none_exercise (e ∷ es) all =
 none_used : (k : Key) (es : List Entry) → AllByRecursion (λ e. is_exercise e.what ≡ false) es → uses k es ≡ 0
 none_used k es all = none_exercise (at es k) (all_at (λ e. is_exercise e.what ≡ false) es k all)
 
--- no more than named, and none of a reservation that is spent
+-- how many may use the reservation of a right: none where it is spent, else one for each time that the right is named
 abbrev bound : Bool → RightNo → List RightNo → ℕ
 bound spent r rs = cond spent 0 (named r rs)
 
@@ -98,11 +98,11 @@ bound_both : (spent : Bool) (r : RightNo) (rs ss : List RightNo) → bound spent
 bound_both true r rs ss = omega arith
 bound_both false r rs ss = named_both r rs ss
 
--- an act that brings no such entry uses none
+-- an act whose entries use no reservation is within any bound
 no_use : (journal : List Receipt) (m i : ℕ) (acts : List Act) (docs : List Doc) (at1 : Key → List Entry) (k : Key) (a : ℕ) (act : Act) (most : ℕ) → AllByRecursion (λ e. is_exercise e.what ≡ false) (content journal m acts docs i at1 a act) → uses k (content journal m acts docs i at1 a act) ≤ most
 no_use journal m i acts docs at1 k a act most all = let none = none_used k (content journal m acts docs i at1 a act) all in omega arith
 
--- the entry that uses the reservation of a right
+-- the entry that uses the reservation of a right is within that right's bound
 used : (journal : List Receipt) (m i a g folio : ℕ) (b r : RightNo) (at0 : Key → List Entry) → is_spent (at0 (Right g b)) ≡ false
     → uses (Right folio r) (entry_by journal i (Right g b) (what.Exercised (new_right m a)) ∷ []) ≤ bound (is_spent (at0 (Right folio r))) r (b ∷ [])
 used journal m i a g folio b r at0 unspent =
@@ -154,7 +154,7 @@ by_acts journal m i f at0 at1 folio r a (act ∷ acts) left =
 
 -- ---- together
 
--- notices and places use none
+-- notices and places use no reservation, so what the contents use is all
 by_contents : (journal : List Receipt) (m : ℕ) (f : Filing) (i : ℕ) (at0 : Key → List Entry) (k : Key) → filing_at journal m ≡ Some f → uses k (enters journal m i at0) ≡ uses k (contents_brought journal m i (standing journal m i at0) f)
 by_contents journal m f i at0 k filing =
     let before = with_notices journal m i at0 in

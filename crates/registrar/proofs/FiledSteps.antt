@@ -34,7 +34,7 @@ module _ (journal : List Receipt) (i : ℕ) (w : Item) (holds : Key → Bool) (a
     added = λ register stands kept. subst (λ (b : Brought). AddsList at at1 room room1 b.entries) (parts_bring journal i holds at register w filed step.item stands kept step.parts.held step.parts.earlier) added;
   }
 
--- how filing f is judged that item i is
+-- the judgement of filing f, which is item i itself, is that of its own receipt
 pub judged_so : (journal : List Receipt) (i : ℕ) (f : Filing) (at : Key → List Entry) (judgement : Judgement) → item_at journal i ≡ Some (item.Filing f) → judged journal i i at ≡ Some judgement
     → judgement ≡ judged_filing journal i f i at
 judged_so journal i f at judgement is found =

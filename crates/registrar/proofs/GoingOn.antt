@@ -39,7 +39,7 @@ use Rattle.registrar.specs.inner.SettledTo.{SettledTo}
 
 -- ---- no item more
 
--- all that is settled stands, and no keys are held besides but those of the next item
+-- where nothing settled has changed, and no keys are held besides but those of the next item, the settlement remains
 pub still_settled : (journal : List Receipt) (before after : Settled) (i : ℕ) (keys : List Key) → i ≡ length before.verdicts.items + 1 → keys ≡ keys_touched journal i
     → WidensBy (is_given keys) before.parts after.parts → entries_at after.parts ≡ entries_at before.parts → after.verdicts.items ≡ before.verdicts.items → after.folios.items ≡ before.folios.items
     → Remains journal before after
@@ -146,7 +146,7 @@ is_behind journal s stands empty has =
 
 -- ---- open folios
 
--- a list that has got no longer has got nothing more
+-- where a list with more at its end is no longer than before, nothing was added
 pub nothing_added : (before more all : List ℕ) → all ≡ before ++ more → length all ≤ length before → all ≡ before
 nothing_added before [] all whole short = whole ∙ append-nil before
 nothing_added before (f ∷ fs) all whole short =

@@ -45,7 +45,7 @@ still_enters : (journal : List Receipt) (ps qs : List TitlePlace) (right : Right
 still_enters journal ps qs right (what.Created made) stands = still_in_place journal ps qs right made stands
 still_enters journal ps qs right other stands = tt
 
--- behind more entries at the title
+-- a right enters in place, too, with more entries at the title
 enters_on : (journal : List Receipt) (at0 : Key → List Entry) (es : List Entry) (folio : ℕ) (right : RightNo) (w : What) → EntersInPlace journal (places journal at0 folio) right w
     → EntersInPlace journal (places journal (with_entries at0 es) folio) right w
 enters_on journal at0 es folio right w stands =
@@ -54,7 +54,7 @@ enters_on journal at0 es folio right w stands =
 
 -- ---- new entries
 
--- an entry enters no right but at its place, at its key
+-- at its key, an entry creates a right only at the right's place
 abbrev EntersThere : List Receipt → (Key → List Entry) → Key → Entry → Type 0
 EntersThere journal at0 (Right folio right) e = EntersInPlace journal (places journal at0 folio) right e.what
 EntersThere journal at0 (Title folio) e = Unit {0}
@@ -69,7 +69,7 @@ leaves_there journal at0 (Right folio right) e leaves = leaves_place journal (pl
 leaves_there journal at0 (Title folio) e leaves = tt
 leaves_there journal at0 (Case folio) e leaves = tt
 
--- what each new entry keeps at its key, all together keep
+-- where each new entry creates rights only at their places, at its key, all rights stand at their places
 in_place_by_new : (journal : List Receipt) (at0 : Key → List Entry) (es : List Entry) → ((folio : ℕ) (right : RightNo) → AllByRecursion (EntersThere journal (with_entries at0 es) (Right folio right)) (at es (Right folio right)))
     → EnteredInPlace journal at0 → EnteredInPlace journal (with_entries at0 es)
 in_place_by_new journal at0 es new kept = record {
@@ -100,7 +100,7 @@ is_equal journal m f a act filing own =
     sym (ap (λ o. option_map_or (λ (g : Filing). option_map_or (has_equal g.acts a) (act_at g a) false) o false) filing
     ∙ ap (λ o. option_map_or (has_equal f.acts a) o false) (act_is f a act own))
 
--- the right that an act creates stands at its place, once the places do
+-- once the places are entered, the right that an act creates stands at its place
 stands_in_place : (journal : List Receipt) (m : ℕ) (f : Filing) (i : ℕ) (at0 : Key → List Entry) (a : ℕ) (act : Act) (spec : RightSpec) → Deals journal m f i at0 → IsActOf f a act → right_created act ≡ Some spec
     → StandsAtItsPlace journal (places journal (standing journal m i at0) (folio_of act)) (new_right m a) (as_entered journal m f.acts i (places journal (standing journal m i at0) (folio_of act)) a act spec)
 stands_in_place journal m f i at0 a act spec deals own is =
@@ -109,7 +109,7 @@ stands_in_place journal m f i at0 a act spec deals own is =
     let has = has_its_place journal folio m i (standing journal m i at0 (Title folio)) (place_standing journal m f i at0 a act spec deals own is) in
     record { on_day = own_day (day_of journal i) (own_place m ps) has; stands_behind = refl; shares_group = is_equal journal m f a act deals.filing own }
 
--- the right of this description, as the act creates it on these places
+-- the right that the act creates, as it is entered with the places of at0, stands at its place among those of at1
 abbrev NewInPlace : List Receipt → (Key → List Entry) → (Key → List Entry) → ℕ → ℕ → List Act → ℕ → Act → RightSpec → Type 0
 NewInPlace journal at0 at1 m i acts a act spec =
     StandsAtItsPlace journal (places journal at1 (folio_of act)) (new_right m a) (as_entered journal m acts i (places journal at0 (folio_of act)) a act spec)
@@ -126,7 +126,7 @@ content_in_place journal m i acts docs at0 at1 a (Cancel folio right) new = (tt,
 content_in_place journal m i acts docs at0 at1 a (Exchange folio recede rise) new = (tt, (tt, tt))
 content_in_place journal m i acts docs at0 at1 a (Exercise folio behind_right spec) new = (new spec refl, (tt, tt))
 
--- and in the register behind, since contents are entered behind the places
+-- it stands there in the register after the whole entry, too, since contents are entered after the places
 new_in_place : (journal : List Receipt) (m : ℕ) (f : Filing) (i : ℕ) (at0 : Key → List Entry) (a : ℕ) (act : Act) (spec : RightSpec) → Deals journal m f i at0 → IsActOf f a act → right_created act ≡ Some spec
     → NewInPlace journal (standing journal m i at0) (with_entries at0 (enters journal m i at0)) m i f.acts a act spec
 new_in_place journal m f i at0 a act spec deals own is =

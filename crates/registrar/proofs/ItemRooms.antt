@@ -1,4 +1,4 @@
--- Where each key of an item has the room that it wants, there is room for what the item brings.
+-- Where each key of an item has the room that the item needs, there is room for what it brings.
 use Rattle.std.proofs.Common.{◌≡◌, ℕ, ◌<◌, ◌≤◌, true, cond, nat_lt, List, [], Contains, Option, Some, None, option_and_then, option_map, refl, sym, ap, subst, ◌∙◌, arith}
 use Rattle.std.specs.Option.{option_map_or}
 use Rattle.std.proofs.lemmas.Bool.Decides.{nat_tests}
@@ -40,7 +40,7 @@ waiting_fits journal m i at room (Some (Reject section)) stands roomy = marks_fi
 waiting_fits journal m i at room (Some (Interim defects)) stands roomy = no_entry room
 waiting_fits journal m i at room None stands roomy = no_entry room
 
--- the keys of an earlier filing are those of the item that names it
+-- the keys of an earlier filing are among those of the item that names it
 pub named : (journal : List Receipt) (i m : ℕ) (k : Key) → m < i → Contains (keys_of_filing journal m) k → Contains (keys_of_named journal i m) k
 named journal i m k earlier there =
     let less : nat_lt m i ≡ true = grind (arith, nat_tests, earlier) in
@@ -53,7 +53,7 @@ cure_in_state_fits journal m i at room (Pending until) is stands roomy =
     waiting_fits journal m i at room (judged journal m i at) stands (λ k there. roomy k (named journal i m k earlier there))
 cure_in_state_fits journal m i at room NotPending is stands roomy = no_entry room
 
--- what is read of a receipt's item, by the item
+-- what is read of a receipt's item is what is read of the item, where that is known
 pub read_of_item : {X : Type 0} (f : Item → Option X) (o : Option Receipt) (what : Item) → option_map (λ r. r.item) o ≡ Some what → option_and_then (λ r. f r.item) o ≡ f what
 read_of_item f (Some r) what is = ap (λ x. option_and_then f x) is
 read_of_item f None what is = ap (λ x. option_and_then f x) is
@@ -63,7 +63,7 @@ lapse_names journal i m n is names =
     let same : Some m ≡ Some n = sym (read_of_item lapse_in (receipt_at journal i) (item.Lapse m) is) ∙ names in
     ap (λ o. option_map_or (λ x. x) o 0) same
 
--- of an item that is about a filing
+-- there is room for what an item about a filing brings
 pub item_fits : (journal : List Receipt) (i : ℕ) (at : Key → List Entry) (room : Key → ℕ) (what : Item) → IsFiled what → IsJournal journal → option_map (λ r. r.item) (receipt_at journal i) ≡ Some what
     → ((k : Key) → Contains (keys_by_item journal i what) k → room_by_item i what (at k) ≤ room k) → HasRoom room (brought_by_item journal i at what).entries
 item_fits journal i at room (item.Filing f) filed stands is roomy = filing_fits journal i at room (judged_filing journal i f i at) stands roomy

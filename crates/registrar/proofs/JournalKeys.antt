@@ -26,7 +26,7 @@ use Rattle.registrar.specs.Rooms.{HasItsRoom, most_brought, room_by_item, room_w
 
 -- ---- the keys that are held
 
--- a key is among those in order just where it is among all of them
+-- a key is among those in order exactly where it is among all of them
 given_in_order : (journal : List Receipt) (i : ℕ) (k : Key) → is_given (keys_touched journal i) k ≡ is_given (keys_of_item journal i) k
 given_in_order journal i k =
     let members = in_key_order_members (keys_of_item journal i) k in
@@ -40,7 +40,7 @@ first_and_next journal n =
     ∙ flat_map-append (keys_of_item journal) (range_with_len 1 n) ((1 + n) ∷ [])
     ∙ ap (λ ks. keys_of_first journal n ++ ks) (append-nil (keys_of_item journal (1 + n)) ∙ ap (keys_of_item journal) (omega arith))
 
--- those of one item more
+-- a key is among those of the first n items or those of the next one exactly where it is among those of the first n + 1
 pub given_next : (journal : List Receipt) (n i : ℕ) (keys : List Key) (k : Key) → i ≡ n + 1 → keys ≡ keys_touched journal i
     → (is_given (keys_of_first journal n) k || is_given keys k) ≡ is_given (keys_of_first journal (n + 1)) k
 given_next journal n i keys k next are =
@@ -58,7 +58,7 @@ touched_is_given journal i keys k are there =
 pub not_given_is_apart : (journal : List Receipt) (i : ℕ) (keys : List Key) (k : Key) → keys ≡ keys_touched journal i → is_given keys k ≡ false → Contains (keys_of_item journal i) k → ⊥
 not_given_is_apart journal i keys k are apart there = false≢true (sym apart ∙ touched_is_given journal i keys k are there)
 
--- what may be held besides, of the keys in order, may be of all keys of the item
+-- where the keys in order of an item may be held besides, that says as much of all keys of the item
 pub widens_by_item : (journal : List Receipt) (i n : ℕ) (keys : List Key) (before after : List PartState) → i ≡ n + 1 → keys ≡ keys_touched journal i
     → WidensBy (is_given keys) before after → WidensBy (is_given (keys_of_item journal (n + 1))) before after
 widens_by_item journal i n keys before after next are wide = record {
@@ -69,7 +69,7 @@ widens_by_item journal i n keys before after next are wide = record {
 
 -- ---- the room at them
 
--- what any item wants at a key: three entries, and as many as stand there
+-- what any item needs at a key is at most three entries, and as many as stand there
 enough_by_item : (i : ℕ) (w : Item) (entries : List Entry) → room_by_item i w entries ≤ length entries + most_brought
 enough_by_item i (item.Filing f) entries = let few = unnoticed_at_most i entries in omega arith
 enough_by_item i (item.Cure m docs) entries = let few = unnoticed_at_most m entries in omega arith

@@ -34,7 +34,7 @@ use Rattle.registrar.proofs.LaterReceipts.{applicant_stays, documents_stay, grou
 use Rattle.registrar.proofs.NamedReceipts.{waiting_up_to}
 use Rattle.registrar.specs.NamesUpTo.{AllNameUpTo, NamesUpTo}
 
--- two functions that give the same of each element
+-- two functions that give the same for each element give the same list
 pub filter_map_alike : {X Y : Type 0} (f g : X → Option Y) (xs : List X) → AllByRecursion (λ x. f x ≡ g x) xs → filter_map f xs ≡ filter_map g xs
 filter_map_alike f g [] all = refl
 filter_map_alike f g (x ∷ xs) all = λ j. cons_option (all.0 j) (filter_map_alike f g xs all.1 j)
@@ -50,7 +50,7 @@ of_creation : (n : ℕ) (right : RightNo) (es : List Entry) (o : Option Created)
 of_creation n right es (Some made) names full = names
 of_creation n right es None names full = absurd (false≢true full)
 
--- a full right is one that the register creates
+-- a right that is full in a register that names receipts up to n is of receipt n or an earlier one
 full_up_to : (n folio : ℕ) (right : RightNo) (es : List Entry) → AllByRecursion (λ e. NamesUpTo n e.what (Right folio right)) es → is_full es ≡ true → right.receipt ≤ n
 full_up_to n folio right es names full =
     of_creation n right es (created es)

@@ -51,7 +51,7 @@ known_by_act journal m folio right made earlier filed =
     ] filed in
     subst (λ b. cond b (option_and_then (created_in folio) (act_of_right journal right)) None ≡ Some made.spec) (sym less) there
 
--- each Created at a right is of an earlier filing than m
+-- each entry at a right that creates it says that the right is of an earlier filing than m
 abbrev CreatesEarlier : ℕ → RightNo → List Entry → Type 0
 CreatesEarlier m right es = AllByRecursion (λ e. OfCreation (λ made. right.receipt < m) e.what) es
 
@@ -91,7 +91,7 @@ all_by_receipt m folio right (e ∷ es) earlier created = (by_receipt m folio e.
 
 -- ---- the acts of a filing
 
--- what makes the receding right of an act one of earlier filings
+-- the receding right of an act that exchanges is of a filing earlier than m
 abbrev RecedesEarlier : ℕ → (Key → List Entry) → Act → Type 0
 RecedesEarlier m at (Exchange folio recede rise) = CreatesEarlier m recede (at (Right folio recede))
 RecedesEarlier m at other = Unit {0}
@@ -113,13 +113,13 @@ all_wait_earlier : (at : Key → List Entry) (m : ℕ) (acts : List Act) → All
 all_wait_earlier at m [] named = tt
 all_wait_earlier at m (act ∷ acts) named = (waits_earlier at m act named.0, all_wait_earlier at m acts named.1)
 
--- a filing that waits at one of its keys
+-- a judge knows the exchanges of a filing that waits at one of its keys
 pub known_while_waiting : (journal : List Receipt) (at : Key → List Entry) (m : ℕ) (k : Key) → Kept journal at → Contains (keys_of_filing journal m) k → IsTrue (is_pending m (at k)) → KnowsExchanges journal m at
 known_while_waiting journal at m k kept there waits =
     All-from_recursion _ (acts_of journal m) (acts_known journal at m (acts_of journal m) kept
     (all_wait_earlier at m (acts_of journal m) (recursion_from_All _ (acts_of journal m) (kept.pending_everywhere.names_earlier m k there waits))))
 
--- a filing on entries of earlier items at its keys
+-- the receding right of an act is of an earlier filing, where all that stands at the act's keys is by earlier items
 earlier_act : (journal : List Receipt) (at : Key → List Entry) (m a : ℕ) (act : Act) → Kept journal at → ((k : Key) → Contains (keys_of_act journal m a act) k → All (λ e. e.receipt < m) (at k)) → RecedesEarlier m at act
 earlier_act journal at m a (Exchange folio recede rise) kept earlier =
     let here = at (Right folio recede) in

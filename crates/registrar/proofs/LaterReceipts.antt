@@ -28,7 +28,7 @@ none_passes : {X : Type 0} (p : X → Bool) (xs : List X) → AllByRecursion (λ
 none_passes p [] fail = refl
 none_passes p (x ∷ xs) fail = λ j. fail.0 j || none_passes p xs fail.1 j
 
--- the first that passes stands where it stood, where none of those behind passes
+-- the first element that passes stands where it stood, where none of the further ones passes
 position_stays : {X : Type 0} (p : X → Bool) (xs ys : List X) → AllByRecursion (λ y. p y ≡ false) ys → position p (xs ++ ys) ≡ position p xs
 position_stays p [] ys fail = is_none_of (position p ys) (is_some-position p ys ∙ none_passes p ys fail)
 position_stays p (x ∷ xs) ys fail =

@@ -98,7 +98,7 @@ lapse_locally journal i m at0 at1 is agrees =
 
 -- ---- an item
 
--- one that is about a filing brings the same to anything that agrees with a kept register at its keys
+-- an item about a filing brings the same to anything that agrees with a kept register at the item's keys
 pub filed_locally : (journal : List Receipt) (i : ℕ) (at0 at1 : Key → List Entry) (w : Item) → IsFiled w → Kept journal at0 → item_at journal i ≡ Some w → AreEarlier i at0 (keys_by_item journal i w)
     → AgreesAt (keys_by_item journal i w) at0 at1 → brought_by_item journal i at1 w ≡ brought_by_item journal i at0 w
 filed_locally journal i at0 at1 (item.Filing f) about kept is before agrees =

@@ -52,7 +52,7 @@ use Rattle.registrar.specs.NamesUpTo.{AllNameUpTo, NamesUpTo}
 abbrev pub Names : ℕ → Entry → Type 0
 Names n e = NamesUpTo n e.what e.key
 
--- what names receipts up to n names them up to each later one
+-- what names receipts up to m names receipts up to each later number, too
 later_at : (m n : ℕ) (w : What) (k : Key) → m ≤ n → NamesUpTo m w k → NamesUpTo n w k
 later_at m n (what.Created made) (Right folio right) up names = omega arith
 later_at m n (what.Created made) (Title folio) up names = tt
@@ -63,7 +63,7 @@ later_at m n other k up names = tt
 pub names_later : (m n : ℕ) (es : List Entry) → m ≤ n → AllByRecursion (Names m) es → AllByRecursion (Names n) es
 names_later m n es up all = all_weaker (Names m) (Names n) es (λ e names. later_at m n e.what e.key up names) all
 
--- what stands names them, with entries that do
+-- where what stands names receipts up to n, and the new entries do, both together do
 pub name_together : (n : ℕ) (stands : Key → List Entry) (es : List Entry) → AllNameUpTo n stands → AllByRecursion (Names n) es → AllNameUpTo n (with_entries stands es)
 name_together n stands es names all k =
     All-append (λ e. NamesUpTo n e.what k) (stands k) (at es k) (names k)
@@ -148,7 +148,7 @@ cure_named journal m i stands Enter earlier =
 cure_named journal m i stands (Reject section) earlier = end_named i journal m i
 cure_named journal m i stands (Interim defects) earlier = tt
 
--- a cure finds a filing waiting in some state, which it does where the filing is earlier
+-- what a cure of an earlier filing brings names receipts up to the cure, in whatever state it finds the filing
 state_named : (journal : List Receipt) (m i : ℕ) (stands : Key → List Entry) (state : FilingState) → m < i → AllByRecursion (Names i) (brought_in_state journal m i stands state).entries
 state_named journal m i stands (Pending until) earlier =
     elim (judged journal m i stands) as (λ o. AllByRecursion (Names i) (option_map_or (brought_by_cure journal m i stands) o nothing_pending).entries) [

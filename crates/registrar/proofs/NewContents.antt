@@ -35,14 +35,14 @@ pub brought_is : (journal : List Receipt) (m : ℕ) (f : Filing) (i : ℕ) (at0 
 brought_is journal m f i at0 is =
     ap (λ o. notices_brought journal m i at0 ++ option_map_or (λ g. places_brought journal m i (with_notices journal m i at0) ++ contents_brought journal m i (standing journal m i at0) g) o []) is
 
--- entries that are added together, and one after the other
+-- entries that are added together are as if the second list were added after the first
 pub with_both : (at0 : Key → List Entry) (xs ys : List Entry) → with_entries at0 (xs ++ ys) ≡ with_entries (with_entries at0 xs) ys
 with_both at0 xs ys = λ j k. at_each k j
   where
     at_each : (k : Key) → at0 k ++ at (xs ++ ys) k ≡ (at0 k ++ at xs k) ++ at ys k
     at_each k = ap (λ zs. at0 k ++ zs) (at-append xs ys k) ∙ sym (append_assoc (at0 k) (at xs k) (at ys k))
 
--- the contents come last
+-- the contents come last, on the register that has the notices and the places
 pub contents_last : (journal : List Receipt) (m : ℕ) (f : Filing) (i : ℕ) (at0 : Key → List Entry) → filing_at journal m ≡ Some f
     → with_entries at0 (enters journal m i at0) ≡ with_entries (standing journal m i at0) (contents_brought journal m i (standing journal m i at0) f)
 contents_last journal m f i at0 is =
@@ -53,7 +53,7 @@ contents_last journal m f i at0 is =
     ∙ with_both at0 (notices_brought journal m i at0) (places ++ contents)
     ∙ with_both before places contents
 
--- what holds of all that leaves rights, and of the contents, holds of all that is brought
+-- what holds of each entry that leaves rights as they are, and of the contents, holds of all that is brought
 pub all_brought : (P : Entry → Type 0) (journal : List Receipt) (m : ℕ) (f : Filing) (i : ℕ) (at0 : Key → List Entry) → filing_at journal m ≡ Some f → ((e : Entry) → LeavesRights e.what → P e)
     → AllByRecursion P (contents_brought journal m i (standing journal m i at0) f) → AllByRecursion P (enters journal m i at0)
 all_brought P journal m f i at0 is leaving contents =
@@ -96,7 +96,7 @@ act_number f a act well own =
 pub act_of_new_right : (journal : List Receipt) (m : ℕ) (f : Filing) (a : ℕ) (act : Act) → filing_at journal m ≡ Some f → IsActOf f a act → act_of_right journal (new_right m a) ≡ Some act
 act_of_new_right journal m f a act filing own = ap (option_and_then (λ g. act_at g a)) filing ∙ act_is f a act own
 
--- what each act brings has it, where it is one of the filing's and this is known of it
+-- what holds of all that an act brings, for each act of the filing of which so much is known, holds of all contents
 pub all_contents : (P : Entry → Type 0) (Q : ℕ → Act → Type 0) (journal : List Receipt) (m i : ℕ) (at0 : Key → List Entry) (f : Filing)
     → ((a : ℕ) (act : Act) → IsActOf f a act → Q a act → Contains (enumerate_from 1 f.acts) (a, act) → AllByRecursion P (content journal m f.acts (documents journal m f i) i at0 a act))
     → AllByRecursion (λ numbered. Q numbered.0 numbered.1) (enumerate_from 1 f.acts) → AllByRecursion P (contents_brought journal m i at0 f)

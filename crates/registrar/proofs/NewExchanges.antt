@@ -55,7 +55,7 @@ as_acts journal at0 folio right filed =
     (λ e is. as_its_act journal at0 folio right e.receipt e.what is)
     (recursion_from_All (λ (e : Entry). EntersAsFiled journal at0 folio right e.receipt e.what) (at0 (Right folio right)) (filed.filed folio right))
 
--- where all rights are as filed with new entries, the old ones read on
+-- where all rights are as filed with the new entries too, the old ones read as before
 pub read_on : (journal : List Receipt) (at0 : Key → List Entry) (es : List Entry) → CreatedAsFiled journal (with_entries at0 es) → ReadOn at0 (with_entries at0 es)
 read_on journal at0 es filed = λ folio right.
     same_reads journal folio right (at0 (Right folio right)) (at es (Right folio right)) (as_acts journal (with_entries at0 es) folio right filed)

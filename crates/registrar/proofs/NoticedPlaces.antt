@@ -22,7 +22,7 @@ use Rattle.registrar.proofs.RankedTitles.{InOrder, IsUnplaced, Ranked, ranked_on
 
 -- ---- numbers in ascending order
 
--- each number is below those behind it
+-- each number is below all further ones
 abbrev pub Rises : List ℕ → Type 0
 Rises [] = Unit {0}
 Rises (x ∷ xs) = AllByRecursion (λ y. x < y) xs × Rises xs
@@ -114,11 +114,11 @@ pub record Noticing (journal : List Receipt) (folio m : ℕ) (rest : List ℕ) (
   pub lack : AllByRecursion (LacksNotice entries) rest
   pub left : (n : ℕ) → n < m → creates_there journal folio n ≡ true → LacksNotice entries n → In n rest
 
--- one notice more
+-- with one notice more, a filing has a notice where it had one or this is its own
 noticed_on : (journal : List Receipt) (i : ℕ) (key : Key) (n x : ℕ) (entries : List Entry) → is_noticed x (entries ++ notice_entry journal i key n ∷ []) ≡ (is_noticed x entries || (eqb n x || false))
 noticed_on journal i key n x entries = list_any-append (λ (e : Entry). is_notice_of x e.what) entries (notice_entry journal i key n ∷ [])
 
--- each filing behind lacks its notice still
+-- each of the further filings still lacks its notice
 lack_on : (journal : List Receipt) (i : ℕ) (key : Key) (n : ℕ) (rest : List ℕ) (entries : List Entry) → AllByRecursion (λ x. n < x) rest → AllByRecursion (LacksNotice entries) rest
     → AllByRecursion (LacksNotice (entries ++ notice_entry journal i key n ∷ [])) rest
 lack_on journal i key n [] entries up lack = tt
@@ -132,7 +132,7 @@ lack_on journal i key n (x ∷ rest) entries up lack =
       lack_on journal i key n rest entries up.1 lack.1,
     )
 
--- a filing before the next that waits and creates a right there has its place
+-- where the notices have come as far as filing n, each earlier filing that waits and creates a right there has its place
 earlier_placed : (journal : List Receipt) (folio m n : ℕ) (rest : List ℕ) (entries : List Entry) → n < m → Rises (n ∷ rest) → Noticing journal folio m (n ∷ rest) entries
     → (x : ℕ) → x < n → is_pending x entries ≡ true → creates_there journal folio x ≡ true → is_ranked x (places_among journal folio entries) ≡ true
 earlier_placed journal folio m n rest entries within up so_far x less waits creates =
@@ -221,7 +221,7 @@ noticed_before journal folio m i key [] less = tt
 noticed_before journal folio m i key (n ∷ ns) less =
     one_noticed journal folio m (notice_entry journal i key n).day n (places_among journal folio (map (notice_entry journal i key) ns)) less.0 (noticed_before journal folio m i key ns less.1)
 
--- they are of earlier filings than m
+-- the places that notices set are of earlier filings than m
 pub notices_before : (journal : List Receipt) (folio m i : ℕ) (key : Key) (entries : List Entry)
     → AllByRecursion (λ p. p.filing < m) (places_among journal folio (map (notice_entry journal i key) (waiting_unnoticed m entries)))
 notices_before journal folio m i key entries =

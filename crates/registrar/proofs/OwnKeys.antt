@@ -36,7 +36,7 @@ none_behind : (b : Bool) (e : Entry) (es : List Entry) → cond b (e ∷ es) es 
 none_behind true e es none = absurd (grind arith)
 none_behind false e es none = none
 
--- one that has nothing at other keys has entries at these keys alone
+-- a list that has nothing at keys other than these has entries at these keys alone
 keys_among : (keys : List Key) (es : List Entry) → ((k : Key) → has k keys ≡ false → at es k ≡ []) → AllByRecursion (λ e. Contains keys e.key) es
 keys_among keys [] elsewhere = tt
 keys_among keys (e ∷ es) elsewhere = (

@@ -1,4 +1,4 @@
--- Which items stand ahead of another in a permitted order, of those that touch one of its keys.
+-- Which items come before another in a permitted order, of those that touch one of its keys.
 use Rattle.std.proofs.Common.{◌≡◌, ⊎_elim, inl, ℕ, zero, suc, ◌+◌, ◌-◌, ◌<◌, ◌≤◌, Bool, true, false, cond, List, [], ◌∷◌, ◌++◌, length, filter, flat_map, AllPairs, refl, sym, ap, subst, ◌∙◌, arith}
 use Rattle.std.specs.List.{AllByRecursion, range_with_len}
 use Rattle.std.proofs.lemmas.List.Elements.{recursion_from_All}
@@ -26,7 +26,7 @@ pairs_of R (n ∷ ns) pairs = (
   pairs_of R ns (λ i j d less within. pairs (suc i) (suc j) d (omega arith) (omega arith)),
 )
 
--- of the front of a list
+-- so it is of the front of a list
 pairs_ahead : (R : ℕ → ℕ → Type 0) (ns ks : List ℕ) → Pairs R (ns ++ ks) → Pairs R ns
 pairs_ahead R [] ks pairs = tt
 pairs_ahead R (n ∷ ns) ks pairs = (
@@ -38,7 +38,7 @@ pairs_behind : (R : ℕ → ℕ → Type 0) (ns ks : List ℕ) → Pairs R (ns +
 pairs_behind R [] ks pairs = pairs
 pairs_behind R (n ∷ ns) ks pairs = pairs_behind R ns ks pairs.1
 
--- of a number in the front and one behind it
+-- R holds of a number in the front and a number further on
 pairs_across : (R : ℕ → ℕ → Type 0) (ns ks : List ℕ) (n k : ℕ) → Pairs R (ns ++ ks) → In n ns → In k ks → R n k
 pairs_across R [] ks n k pairs there behind = absurd there
 pairs_across R (m ∷ ns) ks n k pairs there behind =
@@ -69,7 +69,7 @@ rising_pairs p a (suc n) = (
   rising_pairs p (a + 1) n,
 )
 
--- what they give, where the others give nothing
+-- where numbers that fail give nothing, all numbers give what those that pass give
 given_where : {Y : Type 0} (p : ℕ → Bool) (f : ℕ → List Y) → ((j : ℕ) → p j ≡ false → f j ≡ []) → (ns : List ℕ) → flat_map f ns ≡ flat_map f (filter p ns)
 given_where p f nothing [] = refl
 given_where p f nothing (n ∷ ns) =
@@ -78,7 +78,7 @@ given_where p f nothing (n ∷ ns) =
       | false ↦ λ fails. ap (λ ys. ys ++ flat_map f ns) (nothing n fails) ∙ given_where p f nothing ns
     ] refl
 
--- the same numbers pass of both lists, and in both they ascend
+-- the same numbers of both lists pass, and in both lists they ascend
 pub record SameWhere (p : ℕ → Bool) (ns ks : List ℕ) : Type 0 where
   pub rises : Pairs (λ n later. p n ≡ true → p later ≡ true → n < later) ns
   pub rise : Pairs (λ n later. p n ≡ true → p later ≡ true → n < later) ks
@@ -103,20 +103,20 @@ conflict_of journal k i j here there =
     let first = (has_decides k (keys_of_item journal i)).0 here in
     (first.0, k, first.1, first.2, (has_decides k (keys_of_item journal j)).0 there)
 
--- of two items that touch a key the one ahead is the smaller
+-- of two items that touch a key, the one that comes first in the order has the smaller number
 in_turn_at : (journal : List Receipt) (order : List ℕ) (k : Key) → IsPermitted journal order → Pairs (λ n later. touches journal k n ≡ true → touches journal k later ≡ true → n < later) order
 in_turn_at journal order k permitted =
     pairs_of (λ n later. touches journal k n ≡ true → touches journal k later ≡ true → n < later) order
     (λ i j d less within here there. permitted.in_turn i j d less within (conflict_of journal k _ _ here there))
 
--- an item of the journal stands in the order, and no other number
+-- each item of the journal stands in the order
 pub in_order : (journal : List Receipt) (order : List ℕ) (j : ℕ) → IsPermitted journal order → 1 ≤ j → j ≤ length journal → In j order
 in_order journal order j permitted low high = in_of_contains order j ((permitted.all j).1 (low, high))
 
 pub of_order : (journal : List Receipt) (order : List ℕ) (j : ℕ) → IsPermitted journal order → In j order → (1 ≤ j) × (j ≤ length journal)
 of_order journal order j permitted there = (permitted.all j).0 (contains_of_in order j there)
 
--- ahead of an item that touches the key stand just those before it that do
+-- of the items that touch a key, those before item i in the order are those with a smaller number
 pub ahead_of : (journal : List Receipt) (before after : List ℕ) (i : ℕ) (k : Key) → IsPermitted journal (before ++ i ∷ after) → touches journal k i ≡ true
     → SameWhere (touches journal k) before (range_with_len 1 (i - 1))
 ahead_of journal before after i k permitted touched =
@@ -144,7 +144,7 @@ ahead_of journal before after i k permitted touched =
           (of_append before (i ∷ after) j (in_order journal order j permitted low (omega (arith, less, own.1))));
     }
 
--- of the whole order those of the journal touch a key
+-- of the whole order, the items that touch a key are those of the journal that do
 pub all_ahead : (journal : List Receipt) (order : List ℕ) (k : Key) → IsPermitted journal order → SameWhere (touches journal k) order (range_with_len 1 (length journal))
 all_ahead journal order k permitted = record {
   rises = in_turn_at journal order k permitted;

@@ -91,7 +91,7 @@ firsts journal (suc n) stands empty =
 
 -- ---- one item more of a permitted order
 
--- at a key that it does not touch an item brings nothing in the order of receipts
+-- at a key that it does not touch, an item brings nothing when the items are settled in the order of receipts
 pub nothing_first : (journal : List Receipt) (k : Key) (j : ℕ) → IsJournal journal → Kept journal (λ k. []) → touches journal k j ≡ false → at (as_first journal j).entries k ≡ []
 nothing_first journal k j stands empty lacks =
     ap (λ (b : Brought). at b.entries k) (as_first_is journal j)

@@ -36,7 +36,7 @@ places_both journal folio xs ys = filter_map-append (λ (e : Entry). place_by jo
 pub ranked_both : (n : ℕ) (ps qs : List TitlePlace) → is_ranked n (ps ++ qs) ≡ (is_ranked n ps || is_ranked n qs)
 ranked_both n ps qs = list_any-append (λ (p : TitlePlace). p.filing == n) ps qs
 
--- one that is ranked is below a bound of all
+-- a filing that has a place is below any bound of all that have one
 pub ranked_below : (bound n : ℕ) (ps : List TitlePlace) → AllByRecursion (λ p. p.filing < bound) ps → is_ranked n ps ≡ true → n < bound
 ranked_below bound n [] less has = absurd (false≢true has)
 ranked_below bound n (p ∷ ps) less has =
@@ -45,7 +45,7 @@ ranked_below bound n (p ∷ ps) less has =
     (λ later. ranked_below bound n ps less.1 later)
     (or_cases (eqb p.filing n) (is_ranked n ps) has)
 
--- a place in front of others
+-- a filing keeps its place where another is put in front
 ranked_behind : (n : ℕ) (o : Option TitlePlace) (ps : List TitlePlace) → is_ranked n ps ≡ true → is_ranked n (cons_option o ps) ≡ true
 ranked_behind n None ps has = has
 ranked_behind n (Some p) ps has = or_right (eqb p.filing n) (is_ranked n ps) has
@@ -110,7 +110,7 @@ lacks_is n es waits =
 pub waits_as_before : (n : ℕ) (xs ys : List Entry) → AllByRecursion (λ e. KeepsWaiting e.what) ys → is_pending n (xs ++ ys) ≡ is_pending n xs
 waits_as_before n xs ys keeps = ap is_some (pending_kept n xs ys keeps)
 
--- what one entry at the end makes of it
+-- one entry at the end changes a filing's waiting as its content says
 pub waits_behind : (n : ℕ) (xs : List Entry) (e : Entry) → pending n (xs ++ e ∷ []) ≡ until_by n (pending n xs) e.what
 waits_behind n xs e = fold-append (λ b e. until_by n b e.what) None xs (e ∷ [])
 

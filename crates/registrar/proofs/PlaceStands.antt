@@ -75,7 +75,7 @@ has_notice false found h = absurd (false≢true (sym h))
 
 -- ---- the place that stands
 
--- at the title all is of receipt i or earlier
+-- once the notices stand, all entries at a key of the filing are by receipt i or an earlier one
 title_in_time : (journal : List Receipt) (m i : ℕ) (at0 : Key → List Entry) (k : Key) → All (λ e. e.receipt < i) (at0 k) → AllByRecursion (λ e. e.receipt ≤ i) (with_notices journal m i at0 k)
 title_in_time journal m i at0 k earlier =
     all_both (λ (e : Entry). e.receipt ≤ i) (at0 k) (at (notices_brought journal m i at0) k)

@@ -67,7 +67,7 @@ marked_titles journal m i w at0 kept each =
       | false ↦ λ other. subst (InOrder journal folio) (sym (append-nil old)) (title_of journal at0 kept folio)
     ] refl))
 
--- an interim order
+-- a filing is set to wait by an interim order
 pub places_ordered : (journal : List Receipt) (m : ℕ) (f : Filing) (at : Key → List Entry) → Deals journal m f m at → PlacesAscend journal (with_entries at (order_brought journal m))
 places_ordered journal m f at0 deals =
     marked_titles journal m m (what.Pending m (deadline_of journal m)) at0 deals.kept.places_ascend
@@ -76,7 +76,7 @@ places_ordered journal m f at0 deals =
     (earlier_places journal at0 folio m deals.kept.receipts_rise (deals.earlier (Title folio) there))
     (earlier_unplaced journal at0 folio m deals.kept.receipts_rise (deals.earlier (Title folio) there)))
 
--- the end of waiting
+-- the waiting of a filing ends
 pub places_ended : (journal : List Receipt) (m : ℕ) (f : Filing) (i : ℕ) (at : Key → List Entry) → Deals journal m f i at → PlacesAscend journal (with_entries at (end_brought journal m i))
 places_ended journal m f i at0 deals =
     marked_titles journal m i (what.Settled m) at0 deals.kept.places_ascend
@@ -88,14 +88,14 @@ notices_keep : (journal : List Receipt) (i : ℕ) (key : Key) (ns : List ℕ) �
 notices_keep journal i key [] = tt
 notices_keep journal i key (n ∷ ns) = (tt, notices_keep journal i key ns)
 
--- filing m waits as before once the notices stand
+-- once the notices stand, filing m waits as it did before
 noticed_waits : (journal : List Receipt) (m i : ℕ) (at0 : Key → List Entry) (folio : ℕ) → is_pending m (noticed_title journal m i at0 folio) ≡ is_pending m (at0 (Title folio))
 noticed_waits journal m i at0 folio =
     let old = at0 (Title folio) in
     let ns = waiting_unnoticed m old in
     waits_as_before m old (map (notice_entry journal i (Title folio)) ns) (notices_keep journal i (Title folio) ns)
 
--- filing m is of this receipt: all places are of earlier filings
+-- where filing m is of this receipt, all places are of earlier filings
 ready_at_once : (journal : List Receipt) (m i : ℕ) (at0 : Key → List Entry) (folio : ℕ) → Kept journal at0 → All (λ e. e.receipt < m) (at0 (Title folio))
     → IsReady journal folio m (noticed_title journal m i at0 folio)
 ready_at_once journal m i at0 folio kept earlier =
@@ -110,7 +110,7 @@ ready_at_once journal m i at0 folio kept earlier =
           (earlier_places journal at0 folio m kept.receipts_rise earlier) (notices_before journal folio m i (Title folio) old)));
     }
 
--- filing m waits: where it creates a right and has no notice, it has no place, and so no later filing has one
+-- where filing m waits, creates a right and has no notice, it has no place, and so no later filing has one
 ready_for_cure : (journal : List Receipt) (m i : ℕ) (at0 : Key → List Entry) (folio : ℕ) → Kept journal at0 → is_pending m (at0 (Title folio)) ≡ true
     → IsReady journal folio m (noticed_title journal m i at0 folio)
 ready_for_cure journal m i at0 folio kept waits =
@@ -152,7 +152,7 @@ waits_there : (journal : List Receipt) (m i : ℕ) (at0 : Key → List Entry) �
 waits_there journal m i at0 later (is_it same) k there = let is : m ≡ i = same in absurd (omega arith)
 waits_there journal m i at0 later (finds less waits) k there = waits k there
 
--- the notices, places and contents, and then the end of the filing's waiting
+-- the notices, places and contents are entered, and then the filing's waiting ends
 then_ended : (journal : List Receipt) (m i : ℕ) (at0 : Key → List Entry) (es : List Entry) (k : Key)
     → with_entries at0 (es ++ end_brought journal m i) k ≡ with_entries at0 es k ++ cond (has k (keys_in_order journal m)) (entry_by journal i k (what.Settled m) ∷ []) []
 then_ended journal m i at0 es k =

@@ -20,7 +20,7 @@ use Rattle.folio_sections.proofs.Unchanged.{all_both}
 use Rattle.registrar.proofs.Dealing.{KeepsWaiting}
 use Rattle.registrar.proofs.PlaceReads.{has_no_place, is_noticed, is_ranked, places_both, ranked_both, ranked_is, waits_as_before}
 
--- The places of a folio ascend, and where a later filing has one, each that waits and creates a right there has its own.
+-- The places of a folio ascend. Where a filing has a place, each earlier one that waits and creates a right there has one, too.
 pub record Ranked (journal : List Receipt) (folio : ℕ) (entries : List Entry) : Type 0 where
   pub ascend : AllPairs (λ p later. p.filing < later.filing) (places_among journal folio entries)
   pub divisions : All (λ e. SaysDivisions journal folio e.what) entries
@@ -35,11 +35,11 @@ IsUnplaced x es = AllByRecursion (λ e. is_placed x e.what ≡ false) es
 abbrev pub PlacedByNoticeBut : ℕ → List Entry → Type 0
 PlacedByNoticeBut m entries = (x : ℕ) → (x ≡ m → ⊥) → is_pending x entries ≡ true → IsUnplaced x entries
 
--- so of every filing
+-- no filing that waits has a place but by its notice
 abbrev pub PlacedByNotice : List Entry → Type 0
 PlacedByNotice entries = (x : ℕ) → is_pending x entries ≡ true → IsUnplaced x entries
 
--- All of it.
+-- The title is in order: both of these hold of it.
 pub record InOrder (journal : List Receipt) (folio : ℕ) (entries : List Entry) : Type 0 where
   pub ranked : Ranked journal folio entries
   pub by_notice : PlacedByNotice entries
@@ -125,7 +125,7 @@ ranked_with journal folio xs e p old sets says keeps before waited =
 itself : (n : ℕ) → eqb n n ≡ true
 itself n = grind (arith, nat_tests)
 
--- all places are of earlier filings than one that waits, creates a right there and has none
+-- all places are of filings earlier than one that waits, creates a right there and has no place
 pub all_before : (journal : List Receipt) (folio : ℕ) (xs : List Entry) (n : ℕ) → Ranked journal folio xs → is_pending n xs ≡ true → creates_there journal folio n ≡ true
     → is_ranked n (places_among journal folio xs) ≡ false → All (λ p. p.filing < n) (places_among journal folio xs)
 all_before journal folio xs n old waits creates none k d within =
@@ -140,7 +140,7 @@ all_before journal folio xs n old waits creates none k d within =
     (cases_eq x n)))
     (cases_lt x n)
 
--- so than one that waits without a notice, which has no place
+-- all places are of filings earlier than one that waits and creates a right there without a notice, since that has no place
 pub all_before_unnoticed : (journal : List Receipt) (folio : ℕ) (xs : List Entry) (n : ℕ) → InOrder journal folio xs → is_pending n xs ≡ true → creates_there journal folio n ≡ true
     → is_noticed n xs ≡ false → All (λ p. p.filing < n) (places_among journal folio xs)
 all_before_unnoticed journal folio xs n old waits creates unnoticed =
@@ -153,7 +153,7 @@ pub by_notice_on : (m : ℕ) (xs ys : List Entry) → PlacedByNoticeBut m xs
 by_notice_on m xs ys old more x other waits =
     let h = more x other waits in all_both (λ e. is_placed x e.what ≡ false) xs ys (old x other h.0) h.1
 
--- and of filing m itself
+-- where filing m has no place but by its notice either, no filing that waits has
 pub by_notice_all : (m : ℕ) (es : List Entry) → PlacedByNoticeBut m es → (is_pending m es ≡ true → IsUnplaced m es) → PlacedByNotice es
 by_notice_all m es others own x waits =
     ⊎_elim

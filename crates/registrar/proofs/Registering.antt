@@ -28,7 +28,7 @@ use Rattle.registrar.specs.inner.SettledTo.{SettledTo}
 
 -- ---- one step
 
--- what a step adds, on parts that say the same as before
+-- a step on parts that say what they said before adds what the item brings to these
 pub added_to : (journal : List Receipt) (i : ℕ) (at0 at1 at2 : Key → List Entry) → at1 ≡ at0 → AddsAll at1 at2 (brings journal i at1).entries → at2 ≡ with_entries at0 (brings journal i at0).entries
 added_to journal i at0 at1 at2 same added =
     let there : at2 ≡ with_entries at1 (brings journal i at1).entries = λ j k. added k j in
@@ -77,7 +77,7 @@ all_before n before more earlier now =
     (λ j e within. let less = earlier j e within in omega arith)
     (All-from_recursion (λ e. e.receipt < (n + 1) + 1) more (all_weaker (λ e. e.receipt ≡ n + 1) (λ e. e.receipt < (n + 1) + 1) more (λ e is. omega arith) now))
 
--- one more
+-- one item more is settled
 pub one_settled : (journal : List Receipt) (n : ℕ) (at0 at1 : Key → List Entry) (vs : List Verdict) (v : Verdict) → IsJournal journal → SettledTo journal n at0 vs
     → at1 ≡ with_entries at0 (brings journal (n + 1) at0).entries → v ≡ (brings journal (n + 1) at0).verdict → Kept journal at1 → AwardsKept journal at1 → Distributes journal at1
     → SettledTo journal (n + 1) at1 (vs ++ v ∷ [])
@@ -103,14 +103,14 @@ one_settled journal n at0 at1 vs v stands so_far added is kept awards distribute
           (all_before n (at0 k) (at brought.entries k) (so_far.earlier k) (all_at (λ e. e.receipt ≡ n + 1) brought.entries k leaves.by_item));
     }
 
--- the same, where the item's number and the list of verdicts are known by equations
+-- One item more is settled. Its number, and the list of verdicts with its own, are known by equations.
 pub next_settled : (journal : List Receipt) (n i : ℕ) (at0 at1 : Key → List Entry) (vs all : List Verdict) (v : Verdict) → i ≡ n + 1 → IsJournal journal → SettledTo journal n at0 vs
     → at1 ≡ with_entries at0 (brings journal i at0).entries → v ≡ (brings journal i at0).verdict → Kept journal at1 → AwardsKept journal at1 → Distributes journal at1 → all ≡ vs ++ v ∷ [] → SettledTo journal (n + 1) at1 all
 next_settled journal n i at0 at1 vs all v next stands so_far added is kept awards distributes whole =
     subst (SettledTo journal (n + 1) at1) (sym whole)
     (one_settled journal n at0 at1 vs v stands so_far (added ∙ ap (λ x. with_entries at0 (brings journal x at0).entries) next) (is ∙ ap (λ x. (brings journal x at0).verdict) next) kept awards distributes)
 
--- what it keeps of distributions
+-- the first n items leave a register whose distributions are covered
 pub distributes_so_far : (journal : List Receipt) (n : ℕ) (at0 : Key → List Entry) (vs : List Verdict) → SettledTo journal n at0 vs → Distributes journal at0
 distributes_so_far journal n at0 vs so_far = record { distributed = so_far.distributed; rise = so_far.rise }
 
@@ -118,7 +118,7 @@ distributes_so_far journal n at0 vs so_far = record { distributed = so_far.distr
 pub registrar_is : (journal : List Receipt) → settled_in_order journal (range_with_len 1 (length journal)) ≡ registrar journal
 registrar_is journal = refl
 
--- so the first n items always leave a kept register
+-- Settling the first n items always leaves a kept register.
 pub record Leaving (journal : List Receipt) (n : ℕ) : Type 0 where
   pub verdicts : List Verdict
   pub settled : SettledTo journal n (at (settled_in_order journal (range_with_len 1 n)).entries) verdicts
@@ -140,15 +140,15 @@ left_by journal (suc n) stands empty =
           (subst (λ stands_now. SettledTo journal (n + 1) stands_now (before.verdicts ++ brought.verdict ∷ [])) more.entries more);
     }
 
--- the register of each journal
+-- the register of each journal is kept
 pub registrar_kept : (journal : List Receipt) → IsJournal journal → Kept journal (λ k. []) → Kept journal (at (registrar journal).entries)
 registrar_kept journal stands empty =
     subst (λ (s : Settlement). Kept journal (at s.entries)) (registrar_is journal) (left_by journal (length journal) stands empty).settled.kept
 
--- so is that of its first items, and it keeps its awards
+-- the register of a journal's first items keeps its awards
 pub first_keep_awards : (journal : List Receipt) (n : ℕ) → IsJournal journal → Kept journal (λ k. []) → AwardsKept journal (at (settled_first journal n).entries)
 first_keep_awards journal n stands empty = (left_by journal n stands empty).settled.awards
 
--- and its distributions are covered
+-- the register of a journal's first items has its distributions covered
 pub first_are_covered : (journal : List Receipt) (n : ℕ) → IsJournal journal → Kept journal (λ k. []) → DistributionsKept journal (at (settled_first journal n).entries)
 first_are_covered journal n stands empty = (left_by journal n stands empty).settled.distributed

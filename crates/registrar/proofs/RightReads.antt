@@ -28,7 +28,7 @@ pub some_from : (before : Option Created) (es : List Entry) → is_some before �
 some_from before [] some = some
 some_from before (e ∷ es) some = some_from (created_by before e.what) es (some_next before e.what some)
 
--- contents that create no right leave it
+-- contents that create no right leave a right as it was created
 left_by : (before : Option Created) (w : What) → LeavesRights w → created_by before w ≡ before
 left_by before (what.Created made) leaves = absurd leaves
 left_by before other leaves = refl
@@ -50,7 +50,7 @@ created_here : (before : Option Created) (w : What) → is_creation w ≡ true �
 created_here before (what.Created made) creates = refl
 created_here before other creates = absurd (false≢true creates)
 
--- an entry that creates it is enough
+-- one entry that creates a right is enough for it to be created
 pub created_where : (es : List Entry) (e : Entry) → is_creation e.what ≡ true → Contains es e → is_some (created es) ≡ true
 created_where es e creates among = by None es among.0 among.1 among.2
   where
@@ -81,7 +81,7 @@ live_right_is es live = ap (λ b. cond b (created es) None) live
 
 -- ---- two readings of one right
 
--- where the right was created, it is still, with the same reserve and in the same rank
+-- where the right was created before, it is still created, with the same reserve and in the same rank
 abbrev pub SameReads : Option Created → Option Created → Type 0
 SameReads None after = Unit {0}
 SameReads (Some made) None = ⊥
@@ -91,7 +91,7 @@ pub same_itself : (before : Option Created) → SameReads before before
 same_itself None = tt
 same_itself (Some made) = (refl, refl)
 
--- the right is as its act in the journal creates it here
+-- the right is created here as its act in the journal says
 abbrev pub AsItsAct : List Receipt → ℕ → RightNo → Created → Type 0
 AsItsAct journal folio right made = IsSomeAnd (act_of_right journal right) (IsAsFiled folio made)
 
@@ -102,7 +102,7 @@ both_filed folio None (Some made) (Some again) some old new = absurd old
 both_filed folio (Some act) (Some made) (Some again) some old new =
     (new.reserve ∙ sym old.reserve, new.ahead_of ∙ sym old.ahead_of)
 
--- where each creation is as its act, the first one tells what the last one does
+-- where each entry that creates the right does so as its act says, the first says the same as the last
 pub same_reads : (journal : List Receipt) (folio : ℕ) (right : RightNo) (xs ys : List Entry) → AllByRecursion (λ e. OfCreation (AsItsAct journal folio right) e.what) (xs ++ ys) → SameReads (created xs) (created (xs ++ ys))
 same_reads journal folio right xs ys all =
     by (created xs) refl

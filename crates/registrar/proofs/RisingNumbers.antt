@@ -40,7 +40,7 @@ above : (n k : ℕ) (ns : List ℕ) → In k ns → AllByRecursion (λ j. n < j)
 above n k [] there all = absurd there
 above n k (j ∷ ns) there all = ⊎_elim (λ same. subst (λ i. n < i) same all.0) (λ later. above n k ns later all.1) there
 
--- the same numbers behind the same first one
+-- where the first list, from its first number on, is among the second, and both begin with the same number, the rest is among the rest
 behind : (n k : ℕ) (ns ks : List ℕ) → n ≡ k → AllByRecursion (λ j. n < j) ns → ((j : ℕ) → In j (n ∷ ns) → In j (k ∷ ks)) → (j : ℕ) → In j ns → In j ks
 behind n k ns ks same all there j later =
     ⊎_elim

@@ -1,4 +1,4 @@
--- Keys are held, and room is made at one after another.
+-- Keys are held and get their room one after another.
 use Rattle.std.proofs.Common.{◌≡◌, ℕ, suc, zero, ◌+◌, ◌<◌, ◌≤◌, Bool, true, false, ◌||◌, List, [], ◌∷◌, ◌++◌, length, get_or, take, Contains, refl, sym, ap, subst, ◌∙◌, ⊎_elim, arith}
 use Rattle.std.proofs.lemmas.Bool.{cases_eq, false≢true}
 use Rattle.std.proofs.lemmas.Grind.{take_at_read}
@@ -35,7 +35,7 @@ given_next keys i key k within is =
     ∙ list_any-append (λ j. same_key j k) (take i keys) (key ∷ [])
     ∙ ap (λ b. is_given (take i keys) k || b) (or_nothing (same_key key k))
 
--- one key more
+-- one key more is held, and has its room
 pub room_at_next : (before parts after : List PartState) (keys : List Key) (i : ℕ) (key : Key) → RoomSoFar before parts keys i → i < length keys → key ≡ get_or keys i key
     → ((k : Key) → is_held after k ≡ (is_held parts k || same_key key k)) → entries_at after ≡ entries_at parts
     → length (entries_at after key) + most_brought ≤ room_at after key → ((k : Key) → room_at parts k ≤ room_at after k) → RoomSoFar before after keys (i + 1)
@@ -75,7 +75,7 @@ none_of_first (suc i) (key ∷ keys) k none =
     ap (λ b. b || is_given (take i keys) k) (left_no (same_key key k) (is_given keys k) none)
     ∙ none_of_first i keys k (right_no (same_key key k) (is_given keys k) none)
 
--- also where one more may have been
+-- no key but these is added, also where one key more may have been
 pub widens_next : (before parts after : List PartState) (keys : List Key) (i : ℕ) (key : Key) → RoomSoFar before parts keys i → i < length keys → key ≡ get_or keys i key
     → WidensBy (same_key key) parts after → WidensBy (is_given keys) before after
 widens_next before parts after keys i key so_far within is wide =

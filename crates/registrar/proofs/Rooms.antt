@@ -1,4 +1,4 @@
--- Where the keys of a filing have room for its entry, there is room for that, for the end of its waiting, and for its order.
+-- Where the keys of a filing have room for its entry, there is room for the entry, for the end of its waiting and for its interim order.
 use Rattle.std.proofs.Common.{◌≡◌, ℕ, ◌+◌, ◌≤◌, Bool, true, false, cond, List, ◌++◌, length, Contains, Option, None, refl, sym, subst, arith}
 use Rattle.gb_base.specs.declared.keys.Key.{Key}
 use Rattle.act_model.proofs.KeyOrder.{has, has_decides}
@@ -19,14 +19,14 @@ use Rattle.interim_orders.specs.Orders.{end_brought}
 use Rattle.interim_orders.specs.inner.Marks.{marks}
 use Rattle.registrar.specs.inner.RoomToEnter.{HasRoomToEnter}
 
--- so much at these keys, and nothing elsewhere
+-- a number at each of these keys, and 0 elsewhere
 abbrev only_at : List Key → (Key → ℕ) → Key → ℕ
 only_at keys n k = cond (has k keys) (n k) 0
 
 at_its_keys : (keys : List Key) (n : Key → ℕ) (k : Key) → Contains keys k → n k ≤ only_at keys n k
 at_its_keys keys n k there = subst (λ b. n k ≤ cond b (n k) 0) (sym ((has_decides k keys).1 there)) (omega arith)
 
--- what the entry of filing m brings, and the end of its waiting, at each key
+-- How many entries come at each key by the entry of filing m and the end of its waiting.
 record Counts (journal : List Receipt) (m i : ℕ) (at : Key → List Entry) : Type 0 where
   notices : HasRoom (only_at (keys_of_filing journal m) (λ k. length (waiting_unnoticed m (at k)))) (notices_brought journal m i at)
   entered : HasRoom (only_at (keys_of_filing journal m) (λ k. 2)) (entered journal m i (with_notices journal m i at))
@@ -46,7 +46,7 @@ within : (n room : ℕ) (b : Bool) (a c e : ℕ) → a ≤ cond b n 0 → c ≤ 
 within n room true a c e ha hc he roomy = let wide = roomy refl in omega arith
 within n room false a c e ha hc he roomy = omega arith
 
--- all that a cure brings by which filing m is entered
+-- there is room for all that a cure brings that enters filing m
 pub cure_fits : (journal : List Receipt) (m i : ℕ) (at : Key → List Entry) (room : Key → ℕ) → IsJournal journal → HasRoomToEnter journal m at room → HasRoom room (enters journal m i at ++ end_brought journal m i)
 cure_fits journal m i at room stands roomy k =
     let counts = counted journal m i at stands in
@@ -59,13 +59,13 @@ cure_fits journal m i at room stands roomy k =
     (counts.notices k) (counts.entered k) (counts.ended k) (λ there. roomy k ((has_decides k (keys_of_filing journal m)).0 there)) in
     omega arith
 
--- the entry alone
+-- there is room for the entry alone
 pub entry_fits : (journal : List Receipt) (m i : ℕ) (at : Key → List Entry) (room : Key → ℕ) → IsJournal journal → HasRoomToEnter journal m at room → HasRoom room (enters journal m i at)
 entry_fits journal m i at room stands roomy k =
     let all = cure_fits journal m i at room stands roomy k in
     let both = length-at (enters journal m i at) (end_brought journal m i) k in
     omega arith
 
--- what brings one entry at each key
+-- there is room for one entry at each key of the filing
 pub marks_fit_too : (journal : List Receipt) (m i : ℕ) (until : Option ℕ) (at : Key → List Entry) (room : Key → ℕ) → HasRoomToEnter journal m at room → HasRoom room (marks journal m i until)
 marks_fit_too journal m i until at room roomy = marks_fit journal m i until room (λ k there. let wide = roomy k there in omega arith)

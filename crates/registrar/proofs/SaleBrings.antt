@@ -62,13 +62,13 @@ pub record IsOfItem (journal : List Receipt) (i : ℕ) (keys : List Key) (e : En
 
 -- ---- rights
 
--- a right that the sale reads as live was created below the item
+-- a right that the sale reads as live was created before the item
 live_created : (at : Key → List Entry) (folio : ℕ) (x : CreatedRight) → In x (live_by_act at folio) → created (at (Right folio x.id)) ≡ Some x.made
 live_created at folio x there =
     let from = of_flat_map (rights_of is_live_with at folio) receipt_numbers x there in
     (of_filing is_live_with at folio from.0 x from.2).made
 
--- what is among some rights has its key among theirs
+-- a right that is among some has its key among theirs
 pub in_keys : (folio : ℕ) (ids : List RightNo) (id : RightNo) → In id ids → Contains (map (Right folio) ids) (Right folio id)
 in_keys folio [] id there = absurd there
 in_keys folio (x ∷ xs) id there =
@@ -80,7 +80,7 @@ among_keys folio ids id is =
     let found = of_any (same_right id) ids is in
     subst (λ r. Contains (map (Right folio) ids) (Right folio r)) (sym (right_is id found.0 found.2)) (in_keys folio ids found.0 found.1)
 
--- the keys of the sale behind its first
+-- the keys of the sale but for the first: the title and the rights
 abbrev pub title_and_rights : List Receipt → ℕ → ℕ → List Key
 title_and_rights journal i folio = Title folio ∷ map (Right folio) (earlier_rights journal i folio)
 
@@ -99,7 +99,7 @@ created_is_key journal register folio i id made kept stands is =
 
 -- ---- what each kind brings
 
--- nothing where it is refused
+-- what holds of each of these entries holds of what is brought, which is nothing where the item is refused
 pub unless : {R : Type 0} (P : Entry → Type 0) (o : Option R) (es : List Entry) → AllByRecursion P es → AllByRecursion P (unless_refused o es)
 unless P None es all = all
 unless P (Some refusal) es all = tt

@@ -90,7 +90,7 @@ any_from P [] x there has = absurd there
 quiet_arrears : (journal : List Receipt) (xs : List Entry) (e : Entry) → is_registration e.what ≡ false → AllByRecursion (λ d. register_same_arrears journal d e ≡ false) xs
 quiet_arrears journal xs e none = each_entry (λ d. register_same_arrears journal d e ≡ false) xs (λ d. and_between (is_registration d.what) (is_registration e.what) _ none)
 
--- an entry that is no seizure goes with a case that runs, where it does not register too much
+-- an entry that is neither a seizure nor a registration goes with a case that runs
 goes_where_running : (journal : List Receipt) (xs : List Entry) (e : Entry) → is_seizure e.what ≡ false → list_any (λ d. is_seizure d.what) xs ≡ true
     → is_registration e.what ≡ false → GoesWith journal xs e
 goes_where_running journal xs e none runs unregistered = record {
@@ -103,7 +103,7 @@ goes_where_running journal xs e none runs unregistered = record {
 
 -- ---- the right from which is seized
 
--- it was created below the item
+-- a live right was created before the item
 created_of_live : (es : List Entry) → is_some (live_right es) ≡ true → IsSomeAnd (created es) (λ made. created es ≡ Some made)
 created_of_live es some =
     elim (is_live es) as (λ b. is_some (cond b (created es) None) ≡ true → IsSomeAnd (created es) (λ made. created es ≡ Some made)) [
@@ -122,13 +122,13 @@ pub seizable_created : (es : List Entry) → is_seizable es ≡ true → IsSomeA
 seizable_created es is =
     created_of_live es (some_of_map (λ (made : Created). is_in_division_three made.spec.kind) (live_right es) (and_parts (is_full es) (option_map_or (λ (made : Created). is_in_division_three made.spec.kind) (live_right es) false) is).1)
 
--- among the rights that stay of a list, each passes
+-- each right that stays in a list by a test passes the test
 among_passes : (p : RightNo → Bool) (xs : List RightNo) (id : RightNo) → is_among (filter p xs) id ≡ true → p id ≡ true
 among_passes p xs id is =
     let found = of_any (same_right id) (filter p xs) is in
     ap p (right_is id found.0 found.2) ∙ (of_filter p xs found.0 found.1).1
 
--- no seizure's receipt is a filing's
+-- no receipt is both a seizure and a filing
 not_both : (folio : ℕ) (o : Option Receipt) → IsSomeAnd (option_map (λ (r : Receipt). r.item) o) (IsItsItem folio what.Seized) → is_some (option_and_then (λ (r : Receipt). filing_in r.item) o) ≡ true → ⊥
 not_both folio None its some = absurd its
 not_both folio (Some r) its some = by r.item its some
@@ -148,7 +148,7 @@ seized_by_item : (journal : List Receipt) (folio receipt : ℕ) (w : What) → S
 seized_by_item journal folio receipt what.Seized stands is = stands
 seized_by_item journal folio receipt other stands is = absurd (false≢true is)
 
--- a right that is not behind the first seizure, and is of another receipt, is older than it
+-- a right that is not of a later receipt than the first seizure, nor of the same, is older than it
 older_than_first : (right : RightNo) (xs : List Entry) (e : Entry) → right.receipt < e.receipt → IfSome (slice_get xs 0) (λ d. IsTrue (is_seizure d.what))
     → option_map_or (λ first. nat_lt first right.receipt) (slice_get (map (λ (d : Entry). d.receipt) (filter (λ d. is_seizure d.what) xs)) 0) false ≡ false
     → AllByRecursion (λ d. is_seizure d.what ≡ true → d.receipt ≡ right.receipt → ⊥) xs
@@ -161,7 +161,7 @@ older_than_first right (x ∷ xs) e less begins behind apart =
     let up : right.receipt ≤ x.receipt = grind (arith, nat_tests, first) in
     ⊎_elim (λ before. before) (λ from. absurd (apart.0 begins (omega (arith, up, from)))) (cases_lt right.receipt x.receipt)
 
--- ---- what is read below the item is what stands
+-- ---- what is read of the receipts before the item is what stands
 
 module _ (journal : List Receipt) (register : Key → List Entry) (folio i : ℕ) (kept : Kept journal register) (stands : IsJournal journal)
     (whole : below i (register (Case folio)) ≡ register (Case folio)) where

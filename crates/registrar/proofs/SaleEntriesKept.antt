@@ -112,7 +112,7 @@ created_in_time receipt (what.AwardOwner buyer) (Right folio right) is = absurd 
 created_in_time receipt what.Distributed (Right folio right) is = absurd is
 created_in_time receipt other (Right folio right) is = absurd is
 
--- ---- the register behind them
+-- ---- the register after them
 
 -- Item i brings these entries of a sale at these keys of a kept register, whose entries there are by earlier items.
 pub record IsSaleStep (journal : List Receipt) (i : ℕ) (keys : List Key) (register : Key → List Entry) (es : List Entry) : Type 0 where
@@ -128,7 +128,7 @@ module _ (journal : List Receipt) (i : ℕ) (keys : List Key) (register : Key �
   all_there : AllByRecursion (λ e. Contains keys e.key) es
   all_there = all_weaker (IsOfItem journal i keys) (λ e. Contains keys e.key) es (λ e is. is.there) step.brought
 
-  -- what holds of the entries before and of each that is brought, at its key, holds of all at a key
+  -- what holds of the entries before and of each entry that is brought, at its key, holds of all that then stand at a key
   pub all_behind : (P : Key → Entry → Type 0) → ((e : Entry) → IsOfItem journal i keys e → P e.key e) → (k : Key) → All (P k) (register k) → All (P k) (with_entries register es k)
   all_behind P each k old =
       All-append (P k) (register k) (at es k) old

@@ -37,7 +37,7 @@ seizure_let_in s b none =
     ((lacks_folio s, section.Gbo3) ∷ (is_awarded s, section.Zvg81) ∷ (has_all_seizures s, section.Limit) ∷ (lacks_right s b, section.Bgb873) ∷ (is_filed_behind s b, section.Zvg23) ∷ []) none in
     record { folio = all.0; awarded = all.1.0; many = all.1.1.0; right = all.1.1.1.0; behind = all.1.1.1.1.0 }
 
--- those of a registration
+-- the grounds of a registration
 pub record IsRegistrationLetIn (s : Sale) (r : Registration) : Type 0 where
   pub runs : lacks_case s ≡ false
   pub many : has_all_registrations s ≡ false
@@ -49,7 +49,7 @@ registration_let_in s r none =
     let limit = or_fails (has_all_registrations s) (repeats_arrears s r) all.1.0 in
     record { runs = all.0; many = limit.0; again = limit.1 }
 
--- those of a call to bid
+-- the grounds of a call to bid
 pub record IsCallLetIn (s : Sale) : Type 0 where
   pub runs : lacks_case s ≡ false
   pub awarded : is_awarded s ≡ false
@@ -60,7 +60,7 @@ call_let_in s none =
     let all = all_fail ((lacks_case s, section.Zvg15) ∷ (is_awarded s, section.Zvg81) ∷ (lacks_served_claim s, section.Zvg43) ∷ []) none in
     record { runs = all.0; awarded = all.1.0; served = all.1.1.0 }
 
--- those of an award
+-- the grounds of an award
 pub record IsAwardLetIn (s : Sale) (bid : ℕ) : Type 0 where
   pub runs : lacks_case s ≡ false
   pub awarded : is_awarded s ≡ false

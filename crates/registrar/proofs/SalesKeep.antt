@@ -49,7 +49,7 @@ use Rattle.sale_rules.specs.SaleGrounds.{lowest, refusal_of_award, refusal_of_ca
 
 -- ---- the forced sales of all folios
 
--- what holds of the forced sale of a folio, one by one
+-- what a kept register says of the forced sale of each folio, gathered for one of them
 sale_stands : (journal : List Receipt) (register : Key → List Entry) → CaseInOrder journal register → (folio : ℕ) → SaleStands journal folio (register (Title folio)) (register (Case folio))
 sale_stands journal register was folio = record {
   opened = was.opened folio;
@@ -63,7 +63,7 @@ sale_stands journal register was folio = record {
   };
 }
 
--- and of all of them, with what remains of rights
+-- where it holds of each folio's forced sale, and rights have so much left as they may, all cases are in order
 in_order : (journal : List Receipt) (register : Key → List Entry) → ((folio : ℕ) (right : _) → All (λ e. LeavesCents e.what) (register (Right folio right)))
     → ((folio : ℕ) → SaleStands journal folio (register (Title folio)) (register (Case folio))) → CaseInOrder journal register
 in_order journal register remains each = record {
@@ -141,7 +141,7 @@ step_leaves journal i folio keys register w rest step earlier adds =
 
 -- ---- each kind
 
--- what is read below the item at a key of it is what stands there
+-- where all entries at a key are by earlier receipts, what is read of those before the item is all that stands
 pub whole : (register : Key → List Entry) (i : ℕ) (k : Key) → All (λ e. e.receipt < i) (register k) → below i (register k) ≡ register k
 whole register i k earlier = all_are_below i (register k) (recursion_from_All (λ (e : Entry). e.receipt < i) (register k) earlier)
 

@@ -1,5 +1,5 @@
--- An item of a forced sale looks at its own keys alone: what it brings to a kept register it brings to each other one that agrees
--- with it there.
+-- An item of a forced sale looks at its own keys alone: it brings the same to each kept register that says the same as another
+-- at these keys.
 use Rattle.std.proofs.Common.{◌≡◌, ⊎_elim, inl, inr, ℕ, true, false, not, ◌&&◌, ◌||◌, List, [], ◌∷◌, filter_map, flat_map, map, nat_lt, nat_le, slice_get, Some, None, is_none, is_some, option_and_then, refl, sym, ap, subst, ◌∙◌, ◌≤◌, arith}
 use Rattle.std.specs.List.{list_any}
 use Rattle.std.specs.Option.{option_map_or}
@@ -60,7 +60,7 @@ module _ (journal : List Receipt) (at0 at1 : Key → List Entry) (folio i : ℕ)
   same_title : below i (at1 (Title folio)) ≡ below i (at0 (Title folio))
   same_title = ap (below i) (agrees (Title folio) (title_is_key journal i folio))
 
-  -- a right whose key is none of the sale was not created before a receipt
+  -- a right whose key is none of the sale's was not created by an earlier receipt than the item
   not_created : (n : ℕ) (at : Key → List Entry) (id : RightNo) → n ≤ i → Kept journal at → has (Right folio id) (keys_of_sale journal i folio) ≡ false
       → created (below n (below i (at (Right folio id)))) ≡ None
   not_created n at id within kept lacks =
@@ -70,7 +70,7 @@ module _ (journal : List Receipt) (at0 at1 : Key → List Entry) (folio i : ℕ)
             (false≢true (sym lacks ∙ (has_decides (Right folio id) (keys_of_sale journal i folio)).1 (created_is_key_before journal at folio n i id made kept stands within is)))
       ] refl
 
-  -- so the rights are read alike, as of any receipt up to the item
+  -- so the rights read alike in both, as they stood before any receipt up to the item
   alike_before : (n : ℕ) → n ≤ i → ReadAlike folio (λ k. below n (below i (at0 k))) (λ k. below n (below i (at1 k)))
   alike_before n within id =
       elim (has (Right folio id) (keys_of_sale journal i folio)) as (λ b. has (Right folio id) (keys_of_sale journal i folio) ≡ b
@@ -79,7 +79,7 @@ module _ (journal : List Receipt) (at0 at1 : Key → List Entry) (folio i : ℕ)
         | false ↦ λ lacks. inr (not_created n at0 id within kept0 lacks, not_created n at1 id within kept1 lacks)
       ] refl
 
-  -- as the item finds them
+  -- they read alike as the item finds them
   alike : ReadAlike folio (λ k. below i (at0 k)) (λ k. below i (at1 k))
   alike id =
       let first = below_twice i i (at0 (Right folio id)) (omega arith) in
@@ -87,7 +87,7 @@ module _ (journal : List Receipt) (at0 at1 : Key → List Entry) (folio i : ℕ)
       subst (AreAlike (below i (at0 (Right folio id)))) second
       (subst (λ es. AreAlike es (below i (below i (at1 (Right folio id))))) first (alike_before i (omega arith) id))
 
-  -- and as the sale reads them
+  -- they read alike as the sale reads them
   read_alike : ReadAlike folio (read (sale_at journal at0 folio i)) (read (sale_at journal at1 folio i))
   read_alike =
       let from : read_before (sale_at journal at0 folio i) ≡ read_before (sale_at journal at1 folio i) = ap (λ es. option_map_or (λ (n : ℕ). n) (award es) i) (sym same_case) in

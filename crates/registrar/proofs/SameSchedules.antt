@@ -33,7 +33,7 @@ same_entries journal order k stands empty permitted =
 
 -- ---- verdicts
 
--- of a number that is there its verdict is found
+-- a number that is among these has its verdict found
 found_among : (g : ℕ → Verdict) (ns : List ℕ) (n : ℕ) → In n ns → verdict_among (map (λ j. (j, g j)) ns) n ≡ Some (g n)
 found_among g [] n there = absurd there
 found_among g (m ∷ ns) n there =
@@ -42,7 +42,7 @@ found_among g (m ∷ ns) n there =
       | false ↦ λ other. found_among g ns n (⊎_elim (λ same. absurd (eqb-false m n other same)) (λ later. later) there)
     ] refl
 
--- and of no other
+-- a number that is not among these has none
 none_among : (g : ℕ → Verdict) (ns : List ℕ) (n : ℕ) → (In n ns → ⊥) → verdict_among (map (λ j. (j, g j)) ns) n ≡ None
 none_among g [] n off = refl
 none_among g (m ∷ ns) n off =

@@ -1,5 +1,5 @@
--- A scratch that has room for the rights of a folio that are held, and for the exchanges by which they rise, is roomy enough for an
--- item that reckons there.
+-- A scratch that has room for the rights of a folio that are held, and for the exchanges by which they rise, is large enough for an
+-- item that computes a lowest bid there.
 use Rattle.std.proofs.Common.{◌≡◌, ℕ, ◌≤◌, Bool, true, cond, List, [], ◌∷◌, ◌++◌, Contains, IfSome, IsTrue, filter_map, length, map, OnOk, Some, None, Result, Ok, Err, option_and_then, option_map, refl, sym, ap, subst, inl, inr}
 use Rattle.std.specs.Option.{option_map_or}
 use Rattle.gb_base.specs.RightNo.{RightNo}
@@ -48,7 +48,7 @@ not_reckoned journal i at scratch (item.OpenBids f costs) is = absurd (cc is)
 not_reckoned journal i at scratch (item.Award f buyer bid) is = absurd (cc is)
 not_reckoned journal i at scratch other is = tt
 
--- the keys of an item that reckons in a folio are those of its sale
+-- the keys of an item that computes the lowest bid in a folio are those of its sale
 keys_reckoned : (journal : List Receipt) (i folio : ℕ) (w : Item) → folio_reckoned w ≡ Some folio → keys_by_item journal i w ≡ keys_of_sale journal i folio
 keys_reckoned journal i folio (item.OpenBids f costs) is = ap (λ o. keys_of_sale journal i (option_map_or (λ (x : ℕ). x) o folio)) is
 keys_reckoned journal i folio (item.Award f buyer bid) is = ap (λ o. keys_of_sale journal i (option_map_or (λ (x : ℕ). x) o folio)) is
@@ -83,7 +83,7 @@ roomy_elsewhere journal i at scratch =
       | Some r ↦ λ is. not_reckoned journal i at scratch r.item is
     ]
 
--- what follows of two that hold on Ok
+-- what follows from two statements holds on Ok where both hold on Ok
 pub both_on_ok : {T E : Type 0} (r : Result T E) (P Q S : Type 0) → (P → Q → S) → OnOk r P → OnOk r Q → OnOk r S
 both_on_ok (Ok x) P Q S f first second = f first second
 both_on_ok (Err e) P Q S f first second = tt

@@ -1,4 +1,4 @@
--- A register that has settled the first items of a journal has settled them of each journal that begins so.
+-- A register that has settled the first items of a journal has settled them of each longer journal that begins with these items.
 use Rattle.std.proofs.Common.{◌≡◌, ℕ, zero, suc, ◌+◌, ◌<◌, ◌≤◌, List, ◌++◌, length, refl, sym, ap, subst, ◌∙◌, arith}
 use Rattle.std.specs.List.{AllByRecursion, range_with_len}
 use Rattle.std.proofs.lemmas.List.Elements.{All-from_recursion}

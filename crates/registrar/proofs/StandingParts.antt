@@ -68,7 +68,7 @@ item_agrees journal i at0 at1 (item.Distribute folio) agrees known = tt
 
 -- ---- parts that stand for a register
 
--- they agree with it at the keys of the item, which are held
+-- parts that stand for a register agree with it at the keys of the item, which are held
 pub stand_agree : (holds : Key → Bool) (stands register : Key → List Entry) (keys : List Key) → StandsFor holds stands register → ((k : Key) → Contains keys k → IsTrue (holds k)) → AgreesAt keys register stands
 stand_agree holds stands register keys same held k there = same k (held k there)
 
@@ -88,19 +88,19 @@ parts_bring journal i holds stands register w filed is same kept held before =
     let agrees = stand_agree holds stands register (keys_by_item journal i w) same held in
     filed_locally journal i register stands w filed kept is (stand_earlier i stands register (keys_by_item journal i w) agrees before) agrees
 
--- ---- the parts behind an item
+-- ---- the parts after an item
 
--- they stand for the register with these entries
+-- parts to which the entries are added stand for the register to which they are added
 pub stand_behind : (holds0 holds1 : Key → Bool) (at0 at1 register : Key → List Entry) (es : List Entry) → StandsFor holds0 at0 register → holds1 ≡ holds0 → AddsAll at0 at1 es → StandsFor holds1 at1 (with_entries register es)
 stand_behind holds0 holds1 at0 at1 register es stands still added k held_now =
     let held_before : IsTrue (holds0 k) = subst (λ holds. IsTrue (holds k)) still held_now in
     added k ∙ ap (λ xs. xs ++ at es k) (stands k held_before)
 
--- what stands for a kept register that keeps its awards stands for a kept one
+-- what stands for a kept register that keeps its awards stands for a kept register
 pub for_kept : (journal : List Receipt) (holds : Key → Bool) (at : Key → List Entry) → StandsForKeptAwards journal holds at → StandsForKept journal holds at
 for_kept journal holds at whole = record { register = whole.register; stands = whole.stands; kept = whole.kept }
 
--- and so for a kept one that keeps its awards
+-- with what the item brings, the parts stand again for a kept register that keeps its awards
 pub still_stand : (journal : List Receipt) (i : ℕ) (holds0 holds1 : Key → Bool) (at0 at1 : Key → List Entry) (before : StandsForKeptAwards journal holds0 at0) → IsJournal journal → ((k : Key) → Contains (keys_of_item journal i) k → IsTrue (holds0 k))
     → AreEarlier i at0 (keys_of_item journal i) → holds1 ≡ holds0 → AddsAll at0 at1 (brings journal i before.register).entries → StandsForKeptAwards journal holds1 at1
 still_stand journal i holds0 holds1 at0 at1 before journaled held earlier still added =

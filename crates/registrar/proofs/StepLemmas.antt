@@ -35,7 +35,7 @@ wants journal i r entries is = ap (λ o. option_map_or (λ x. room_by_item i x.i
 pub item_is : (journal : List Receipt) (i : ℕ) (r : Receipt) → receipt_at journal i ≡ Some r → item_at journal i ≡ Some r.item
 item_is journal i r is = ap (option_map (λ x. x.item)) is
 
--- each kind of item wants room for an entry
+-- each kind of item needs room for one entry at least
 room_from : (i : ℕ) (w : Item) (entries : List Entry) → 1 ≤ room_by_item i w entries
 room_from i (item.Filing f) entries = omega arith
 room_from i (item.Cure m docs) entries = omega arith
@@ -77,7 +77,7 @@ exchanges_known journal i at (item.OpenBids folio costs) kept before = tt
 exchanges_known journal i at (item.Award folio buyer bid) kept before = tt
 exchanges_known journal i at (item.Distribute folio) kept before = tt
 
--- what receipt i brings leaves a kept register; where there is none, nothing is brought
+-- what receipt i brings leaves a kept register; where there is no receipt i, nothing is brought
 pub brings_leaves : (journal : List Receipt) (i : ℕ) (at : Key → List Entry) → IsJournal journal → Kept journal at → AreEarlier i at (keys_of_item journal i) → Leaves journal i at (brings journal i at).entries
 brings_leaves journal i at stands kept =
     elim (receipt_at journal i) as (λ o. receipt_at journal i ≡ o → AreEarlier i at (option_map_or (λ r. keys_by_item journal i r.item) o []) → Leaves journal i at (option_map_or (λ r. brought_by_item journal i at r.item) o nothing_pending).entries) [

@@ -29,7 +29,7 @@ wider p q h (n ∷ ns) =
       ]
     ] refl
 
--- those that pass one of two tests
+-- those that pass one of two tests are no more than those that pass the first and those that pass the second
 either : (p q : ℕ → Bool) (ns : List ℕ) → length (filter (λ n. p n || q n) ns) ≤ length (filter p ns) + length (filter q ns)
 either p q [] = omega arith
 either p q (n ∷ ns) =
@@ -52,7 +52,7 @@ abbrev sets : What → ℕ → Bool
 sets (what.Pending f until) n = eqb f n
 sets other n = false
 
--- some entry does
+-- some entry sets this filing to wait
 abbrev is_set : List Entry → ℕ → Bool
 is_set entries n = list_any (λ e. sets e.what n) entries
 

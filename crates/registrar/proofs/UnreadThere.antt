@@ -61,7 +61,7 @@ is_right_key (Case folio) = false
 no_right : (k : Key) (folio : ℕ) (right : RightNo) → is_right_key k ≡ false → k ≡ Right folio right → ⊥
 no_right k folio right none same = false≢true (sym none ∙ ap is_right_key same)
 
--- a right among the keys of a folio has the title beside it
+-- a right whose key is among those of a folio has the folio's title among the keys, too
 beside_title : (folio f : ℕ) (right : RightNo) (rights : List RightNo) → In (Right f right) (Title folio ∷ map (Right folio) rights) → (In (Title f) (Title folio ∷ map (Right folio) rights) → ⊥) → ⊥
 beside_title folio f right rights there untitled =
     ⊎_elim (λ same. no_right (Title folio) f right refl same)
@@ -113,7 +113,7 @@ acts_name journal m a at (act ∷ acts) f right fits there untitled =
     ⊎_elim (λ here. act_names journal m a at act f right fits.0 here (λ title. untitled (in_append_left own rest (Title f) title)))
     (λ later. acts_name journal m (a + 1) at acts f right fits.1 later (λ title. untitled (in_append_right own rest (Title f) title))) (of_append own rest (Right f right) there)
 
--- so one that is not live is named by none
+-- so a right that is not live is named by no filing that is fit
 never_fit : (journal : List Receipt) (m : ℕ) (filing : Filing) (at : Key → List Entry) (f : ℕ) (right : RightNo) → filing_at journal m ≡ Some filing → IsDeadAmong (keys_of_filing journal m) at f right
     → IsFit journal m filing at → ⊥
 never_fit journal m filing at f right is named fit =

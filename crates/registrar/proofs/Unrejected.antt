@@ -68,7 +68,7 @@ few_from journal m n (act ∷ acts) all = (in_limit (creating_rank journal (new_
 
 -- ---- rights that acts name are of earlier filings
 
--- behind a content a right is live that is older than the item
+-- a right that is live after a content is older than the item
 older_by : (folio i receipt : ℕ) (right : RightNo) (before : Bool) (w : What) → IsCreatedInTime receipt (Right folio right) w → receipt < i
     → (before ≡ true → right.receipt < i) → live_by before w ≡ true → right.receipt < i
 older_by folio i receipt right before (what.Created made) created earlier older is = omega arith
@@ -138,7 +138,7 @@ first_key journal m a (Cancel folio right) = (Title folio, (0, omega arith, refl
 first_key journal m a (Exchange folio recede rise) = (Right folio recede, (0, omega arith, refl))
 first_key journal m a (Exercise folio behind spec) = (Title folio, (0, omega arith, refl))
 
--- what follows at any key of some acts holds of all of them
+-- what follows from any key of some acts holds of all of them, since each act has a key
 by_some_key : (P : Act → Type 0) (journal : List Receipt) (m a : ℕ) (acts : List Act)
     → ((k : Key) → Contains (keys_of_acts journal m a acts) k → AllByRecursion P acts) → AllByRecursion P acts
 by_some_key P journal m a [] all = tt

@@ -1,4 +1,4 @@
--- A filing waits at all its keys until one day, or at none, whatever an item brings for one.
+-- Whatever an item brings for a filing, each filing waits at all its keys until one day, or at none.
 use Rattle.std.proofs.Common.{◌≡◌, ℕ, Bool, true, false, cond, eqb, is_some, List, [], ◌++◌, map, arith, All, Contains, IsTrue, Option, Some, None, refl, sym, ap, subst, ◌∙◌, append_assoc, ⊎_elim}
 use Rattle.std.specs.List.{AllByRecursion}
 use Rattle.std.specs.Option.{option_map_or}
@@ -33,7 +33,7 @@ waiting_same journal before after same was = record {
   names_earlier = λ n k there waits. was.names_earlier n k there (sym (ap is_some (same n k)) ∙ waits);
 }
 
--- behind all that an entry brings
+-- a filing waits as before after all that an entry brings
 entered_same : (journal : List Receipt) (m i n : ℕ) (before : Key → List Entry) (k : Key) → pending n (with_entries before (enters journal m i before) k) ≡ pending n (before k)
 entered_same journal m i n before k =
     pending_kept n (before k) (at (enters journal m i before) k) (all_at (λ e. KeepsWaiting e.what) (enters journal m i before) k (enters_keep_waiting journal m i before))
@@ -44,7 +44,7 @@ waiting_entered journal m f i at deals =
 
 -- ---- a filing that is set to wait at each of its keys, or waits no longer
 
--- the content is about filing m alone, and says the same a second time
+-- The content is about filing m alone; said twice, it says what it says once.
 pub record Marks (m : ℕ) (w : What) : Type 0 where
   pub others : (n : ℕ) (b : Option ℕ) → eqb m n ≡ false → until_by n b w ≡ b
   pub twice : (n : ℕ) (b : Option ℕ) → until_by n (until_by n b w) w ≡ until_by n b w
@@ -116,7 +116,7 @@ waiting_ordered journal m f at deals earlier =
     waiting_marked journal m m (what.Pending m (deadline_of journal m)) at (order_marks m (deadline_of journal m)) deals.kept.pending_everywhere
     (λ b waits. subst (λ o. All (NamesEarlier m) (option_map_or (λ g. g.acts) o [])) (sym deals.filing) (All-from_recursion (NamesEarlier m) f.acts earlier))
 
--- once filing m is settled it does not wait
+-- a filing does not wait once its waiting is ended
 ended : (m : ℕ) (b : Option ℕ) → is_some (until_by m b (what.Settled m)) ≡ true → ⊥
 ended m b waits = false≢true (sym (ap (λ c. is_some (cond c None b)) (itself m)) ∙ waits)
   where

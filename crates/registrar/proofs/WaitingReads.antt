@@ -1,4 +1,4 @@
--- Which filings wait at a key, behind entries that leave it and behind marks that set or end it.
+-- Which filings wait at a key, after entries that do not change it and after marks that set or end it.
 use Rattle.std.proofs.Common.{◌≡◌, ℕ, true, false, ◌&&◌, ◌||◌, cond, is_none, List, [], ◌∷◌, ◌++◌, map, fold, Option, Some, None, refl, ap, ◌∙◌}
 use Rattle.std.specs.List.{AllByRecursion, enumerate_from}
 use Rattle.std.specs.Option.{option_map_or}
@@ -27,7 +27,7 @@ use Rattle.folio_sections.proofs.Unchanged.{all_both}
 use Rattle.registrar.proofs.ContainedParts.{all_flat_mapped, all_mapped, cond_same, each_so}
 use Rattle.registrar.proofs.Dealing.{KeepsWaiting}
 
--- ---- contents that leave it
+-- ---- contents that do not change who waits
 
 until_kept : (n : ℕ) (before : Option ℕ) (w : What) → KeepsWaiting w → until_by n before w ≡ before
 until_kept n before (what.Pending filing until) keeps = absurd keeps
@@ -42,7 +42,7 @@ fold_kept n before (e ∷ es) all = ap (λ b. fold (λ b e. until_by n b e.what)
 pub pending_kept : (n : ℕ) (xs es : List Entry) → AllByRecursion (λ e. KeepsWaiting e.what) es → pending n (xs ++ es) ≡ pending n xs
 pending_kept n xs es all = fold-append (λ b e. until_by n b e.what) None xs es ∙ fold_kept n (pending n xs) es all
 
--- ---- all that an entry brings leaves it
+-- ---- nothing that an entry brings changes who waits
 
 -- the content of each entry neither sets a filing to wait nor ends its waiting
 abbrev pub KeepWaiting : List Entry → Type 0
@@ -113,7 +113,7 @@ marked n before journal i w k (j ∷ keys) twice =
       | false ↦ marked n before journal i w k keys twice
     ]
 
--- behind such a content at each of these keys
+-- after such a content at each of these keys
 pub pending_marked : (n : ℕ) (before : List Entry) (journal : List Receipt) (i : ℕ) (w : What) (k : Key) (keys : List Key) → ((b : Option ℕ) → until_by n (until_by n b w) w ≡ until_by n b w)
     → pending n (before ++ at (map (λ j. entry_by journal i j w) keys) k) ≡ cond (has k keys) (until_by n (pending n before) w) (pending n before)
 pending_marked n before journal i w k keys twice =

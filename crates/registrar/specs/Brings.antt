@@ -47,7 +47,7 @@ brought_by_filing journal i at (Reject section) = record { entries = []; verdict
 brought_by_filing journal i at (Interim defects) =
     record { entries = order_brought journal i; verdict = verdict.Interim (deadline_of journal i) defects }
 
--- Filing m, judged anew with what cure i brings, is entered or rejected, and waits no longer. With defects that are left it
+-- Filing m, judged again with what cure i brings, is entered or rejected, and waits no longer. With defects that are left it
 -- waits on.
 abbrev pub brought_by_cure : List Receipt → ℕ → ℕ → (Key → List Entry) → Judgement → Brought
 brought_by_cure journal m i at Enter =
@@ -56,8 +56,8 @@ brought_by_cure journal m i at (Reject section) =
     record { entries = end_brought journal m i; verdict = verdict.CureRejected section }
 brought_by_cure journal m i at (Interim defects) = record { entries = []; verdict = verdict.StillOpen defects }
 
--- The same, by the state in which cure i finds filing m. Only a filing has keys at which it waits, so what waits is judged, and
--- that there is no judgement never comes about.
+-- What cure i brings, by the state in which it finds filing m. Only a filing has keys at which it waits, so a filing that waits is
+-- judged, and the case without a judgement never comes about.
 abbrev pub brought_in_state : List Receipt → ℕ → ℕ → (Key → List Entry) → FilingState → Brought
 brought_in_state journal m i at (Pending until) =
     option_map_or (brought_by_cure journal m i at) (judged journal m i at) nothing_pending
@@ -80,7 +80,7 @@ verdict_unless (Some section) let_in = verdict.Rejected section
 abbrev pub brought_by_seizure : Sale → Basis → Brought
 brought_by_seizure s b = record { entries = seizure_brought s b; verdict = verdict_unless (refusal_of_seizure s b) verdict.Seized }
 
--- so does a registration (ZVG § 37)
+-- a registration stands at the case, or is refused (ZVG § 37)
 abbrev pub brought_by_registration : Sale → Registration → Brought
 brought_by_registration s r = record { entries = registration_brought s r; verdict = verdict_unless (refusal_of_registration s r) verdict.Registered }
 

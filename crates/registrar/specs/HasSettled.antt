@@ -1,4 +1,4 @@
--- A register behind the first items of a journal.
+-- A register after the first items of a journal.
 use Rattle.std.specs.Prelude.{◌≡◌, ℕ, List, length}
 use Rattle.std.specs.List.{range_with_len}
 use Rattle.gb_base.specs.declared.keys.Key.{Key}
@@ -14,7 +14,7 @@ use Rattle.registrar.specs.Settling.{Settlement, settled_in_order}
 abbrev pub settled_first : List Receipt → ℕ → Settlement
 settled_first journal n = settled_in_order journal (range_with_len 1 n)
 
--- the register is what the one registrar has behind the first items, as many as have a verdict
+-- the register is what the one registrar has after the first items, as many as have a verdict
 pub record HasSettled (journal : List Receipt) (register : RegisterState) : Type 0 where
   pub entries : entries_at register.parts ≡ at (settled_first journal (length register.verdicts)).entries
   pub verdicts : register.verdicts ≡ (settled_first journal (length register.verdicts)).verdicts

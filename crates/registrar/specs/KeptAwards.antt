@@ -25,7 +25,7 @@ says_what_is_left (what.Remains capital) = true
 says_what_is_left what.Expired = true
 says_what_is_left other = false
 
--- a content seizes the land, calls to bid or awards, which none does behind an award of its case (ZVG § 81)
+-- a content seizes the land, calls to bid or awards, which no content does after an award of its case (ZVG § 81)
 abbrev pub ends_with_award : What → Bool
 ends_with_award what.Seized = true
 ends_with_award (what.Bids costs) = true
@@ -45,16 +45,16 @@ pub record IsAwardKept (journal : List Receipt) (at : Key → List Entry) (folio
   pub owned : StandsBy makes_owner n (at (Title folio))
   pub left : (right : RightNo) → IsTrue (is_live (below n (at (Right folio right)))) → StandsBy says_what_is_left n (at (Right folio right))
 
--- a content by receipt n that awards the land is such an award
+-- a content by receipt n that awards the land is an award that is kept
 abbrev pub AwardsAsKept : List Receipt → (Key → List Entry) → ℕ → ℕ → What → Type 0
 AwardsAsKept journal at folio n (what.Awarded buyer bid) = IsAwardKept journal at folio n bid
 AwardsAsKept journal at folio n other = Unit {0}
 
--- ahead of each seizure, call and award its case has no award, which only a distribution ends (ZVG §§ 81, 105)
+-- before each seizure, call and award stands no award of its case; only a distribution ends a case (ZVG §§ 81, 105)
 abbrev pub EndWithAward : List Entry → Type 0
 EndWithAward entries = (before after : List Entry) (e : Entry) → entries ≡ before ++ e ∷ after → IsTrue (ends_with_award e.what) → award before ≡ None
 
--- Each award stands as it was given, and no case is seized, called or awarded behind its award.
+-- Each award stands as it was given, and no case is seized, called or awarded after its award.
 pub record AwardsKept (journal : List Receipt) (at : Key → List Entry) : Type 0 where
   pub awards : (folio : ℕ) → All (λ e. AwardsAsKept journal at folio e.receipt e.what) (at (Case folio))
   pub ends : (folio : ℕ) → EndWithAward (at (Case folio))

@@ -11,14 +11,14 @@ use Rattle.auction_classes.specs.Sales.{IsFound, sale_at}
 use Rattle.sale_rules.specs.SaleGrounds.{lowest}
 use Rattle.sale_rules.specs.SaleMoney.{money}
 
--- A distribution by receipt n stands by its item, in a case that runs and was called, and its money covers the part in cash of the
--- lowest bid, which there is: so it can be paid by a plan.
+-- A distribution by receipt n stands by its item, in a case that runs and has a call to bid. There is a lowest bid, and the money
+-- covers its part in cash: so it can be paid by a plan.
 pub record IsDistributionKept (journal : List Receipt) (at : Key → List Entry) (folio n : ℕ) : Type 0 where
   pub item : item_at journal n ≡ Some (item.Distribute folio)
   pub found : IsFound (sale_at journal at folio n)
   pub covered : IsSomeAnd (lowest (sale_at journal at folio n)) (λ least. least.cash ≤ money (sale_at journal at folio n))
 
--- each distribution of a register is so
+-- each distribution of a register is kept in this way
 abbrev pub DistributionsKept : List Receipt → (Key → List Entry) → Type 0
 DistributionsKept journal at =
     (folio : ℕ) → All (λ e. IsTrue (is_distribution e.what) → IsDistributionKept journal at folio e.receipt) (at (Case folio))

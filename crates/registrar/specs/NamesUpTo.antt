@@ -13,6 +13,6 @@ NamesUpTo n (what.Created made) (Right folio right) = right.receipt ≤ n
 NamesUpTo n (what.Notice filing) key = filing ≤ n
 NamesUpTo n other key = Unit {0}
 
--- so does each entry of a register
+-- each entry of a register names no receipt later than n
 abbrev pub AllNameUpTo : ℕ → (Key → List Entry) → Type 0
 AllNameUpTo n at = (k : Key) → All (λ e. NamesUpTo n e.what k) (at k)

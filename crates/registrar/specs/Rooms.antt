@@ -23,7 +23,7 @@ most_brought = 3
 abbrev pub room_to_enter : ℕ → List Entry → ℕ
 room_to_enter m entries = most_brought + length (waiting_unnoticed m entries)
 
--- what item i wants at one of its keys: a lapse the end of a waiting, an item of a forced sale one entry
+-- what item i needs at one of its keys: a lapse the end of a waiting, an item of a forced sale one entry
 abbrev pub room_by_item : ℕ → Item → List Entry → ℕ
 room_by_item i (item.Filing f) entries = room_to_enter i entries
 room_by_item i (item.Cure m docs) entries = room_to_enter m entries
@@ -34,27 +34,27 @@ room_by_item i (item.OpenBids folio costs) entries = 1
 room_by_item i (item.Award folio buyer bid) entries = 1
 room_by_item i (item.Distribute folio) entries = 1
 
--- the same of receipt i; what is settled is an item of the journal, so there is one
+-- what receipt i needs at one of its keys; only an item of the journal is settled, so the receipt is there
 abbrev pub room_wanted : List Receipt → ℕ → List Entry → ℕ
 room_wanted journal i entries = option_map_or (λ r. room_by_item i r.item entries) (receipt_at journal i) 1
 
--- each of the item's keys has it
+-- each of the item's keys has the room that the item needs
 abbrev pub HasItsRoom : List Receipt → ℕ → (Key → List Entry) → (Key → ℕ) → Type 0
 HasItsRoom journal i at room = (k : Key) → Contains (keys_of_item journal i) k → room_wanted journal i (at k) ≤ room k
 
 -- ---- the scratch
 
--- a scratch for the rights of the folio among the keys of item i, and for the exchanges by which they rise
+-- A scratch has room for the rights of the folio among the keys of item i, and for the exchanges by which they rise.
 pub record IsForFolio (journal : List Receipt) (i folio : ℕ) (at : Key → List Entry) (scratch : ScratchRoom) : Type 0 where
   pub rights : length (earlier_rights journal i folio) ≤ scratch.rights
   pub exchanges : length (all_rises at folio (earlier_rights journal i folio)) ≤ scratch.exchanges
 
--- it is roomy enough for the item: a call to bid and an award reckon with the folio's rights, any other item with nothing
+-- the scratch has room for the item: a call to bid and an award compute with the folio's rights, any other item with nothing
 abbrev pub IsRoomy : List Receipt → ℕ → (Key → List Entry) → Item → ScratchRoom → Type 0
 IsRoomy journal i at (item.OpenBids folio costs) scratch = IsForFolio journal i folio at scratch
 IsRoomy journal i at (item.Award folio buyer bid) scratch = IsForFolio journal i folio at scratch
 IsRoomy journal i at other scratch = Unit {0}
 
--- the same of receipt i
+-- the scratch has room for receipt i
 abbrev pub HasItsScratch : List Receipt → ℕ → (Key → List Entry) → ScratchRoom → Type 0
 HasItsScratch journal i at scratch = IfSome (receipt_at journal i) (λ r. IsRoomy journal i at r.item scratch)

@@ -16,16 +16,16 @@ pub record Settlement : Type 0 where
 abbrev pub nothing_settled : Settlement
 nothing_settled = record { entries = []; verdicts = [] }
 
--- the register behind what item i brings
+-- the register after what item i brings
 abbrev pub settled_by : Settlement → ℕ → Brought → Settlement
 settled_by before i brought =
     record { entries = before.entries ++ brought.entries; verdicts = before.verdicts ++ (i, brought.verdict) ∷ [] }
 
--- the register behind item i
+-- the register after item i
 abbrev pub settled_next : List Receipt → Settlement → ℕ → Settlement
 settled_next journal before i = settled_by before i (brings journal i (at before.entries))
 
--- the register behind the items of these numbers, in this order
+-- the register after the items of these numbers, in this order
 abbrev pub settled_in_order : List Receipt → List ℕ → Settlement
 settled_in_order journal order = fold (settled_next journal) nothing_settled order
 

@@ -32,7 +32,7 @@ fn closed_folio_of_title(parts: &MapParts, key: &Key) -> Option<FolioId>
     }
 }
 
-/// Lists those of these folios that are open, behind the others. It takes no memory.
+/// Lists those of these folios that are open, after the others. It takes no memory.
 pub(crate) fn list_open(list: &mut Vec<FolioId>, parts: &MapParts, folios: &[FolioId])
     requires room { vec_len list.old + length folios.now ≤ vec_capacity list.old }
     ensures { list.new.items ≡ list.old.items ++ filter (λ folio. is_open (entries_at parts.now (Title folio))) folios.now }

@@ -35,9 +35,9 @@ ghost use Rattle.registrar.specs.declared.verdicts.Verdict.TheVariants.{Cured, E
 
 use kept_registers::laws::empty_register_is_kept;
 
-/// A filing that nothing speaks against is entered: where no ground for rejection and no defect
-/// holds of it, its own item enters it, and where it waits, a cure with which this is so enters it
-/// and ends its waiting (GBO § 18). So it is on any register, kept or not.
+/// A filing that nothing speaks against is entered. Where no ground for rejection and no defect
+/// holds of it, its own item enters it; and where it waits, a cure with which none holds enters it
+/// and ends its waiting (GBO § 18). This is so on any register, kept or not.
 pub fn fit_filings_are_entered()
     ensures at_once { (journal : List Receipt) (m : ℕ) (f : Filing) (register : Key → List Entry) → filing_at journal m ≡ Some f
         → rejection journal m f (documents journal m f m) register ≡ None → defects journal m f (documents journal m f m) register ≡ []
@@ -56,9 +56,9 @@ pub fn items_keep()
         → Kept journal (with_entries register (brings journal i register).entries) }
 {}
 
-/// And what it brings to one that keeps its awards leaves one that does: each was given behind a
-/// call, at no less than the part in cash of the lowest bid as it found the sale, and no case goes
-/// on behind its award (ZVG §§ 66, 81, 90, 91).
+/// What an item brings to a register that keeps its awards leaves one that does: each award came
+/// after a call, at no less than the part in cash of the lowest bid as it found the sale, and no case
+/// goes on after its award (ZVG §§ 66, 81, 90, 91).
 pub fn awards_stay()
     ensures awards { (journal : List Receipt) (i : ℕ) (register : Key → List Entry) → IsJournal journal → Kept journal register → AwardsKept journal register
         → ((k : Key) → Contains (keys_of_item journal i) k → All (λ e. e.receipt < i) (register k))
@@ -72,7 +72,7 @@ pub fn registers_are_kept()
     empty_register_is_kept();
 }
 
-/// And one that keeps its awards, behind the first items of a journal, however many.
+/// After the first items of a journal, however many, that register keeps its awards, too.
 pub fn registers_keep_awards()
     ensures awards { (journal : List Receipt) (n : ℕ) → IsJournal journal → AwardsKept journal (at (settled_first journal n).entries) }
 {
@@ -105,14 +105,14 @@ pub fn locality()
         → brings journal i other ≡ brings journal i register }
 {}
 
-/// Nor does it write anywhere else: each entry that it brings to a kept register stands at a key that
-/// it touches.
+/// An item writes at its own keys alone: each entry that it brings to a kept register stands at a
+/// key that it touches.
 pub fn frame()
     ensures own { (journal : List Receipt) (i : ℕ) (register : Key → List Entry) → IsJournal journal → Kept journal register
         → All (λ e. Contains (keys_of_item journal i) e.key) (brings journal i register).entries }
 {}
 
-/// Each front of a permitted order leaves a kept register that keeps its awards; and there all that
+/// Each front of a permitted order leaves a kept register that keeps its awards; in it all that
 /// stands at the keys of the next item is by earlier ones (GBO § 17).
 pub fn permitted_runs()
     ensures kept { (journal : List Receipt) (before after : List ℕ) → IsJournal journal → IsPermitted journal (before ++ after)
@@ -140,8 +140,8 @@ pub fn schedules()
 }
 
 /// What an item brings follows from the receipts up to it: later receipts change nothing of it, on a
-/// register that names no later ones, as the register behind the first items of a journal. So one
-/// that has settled these has settled them of each journal that begins so.
+/// register that names no later ones, such as the register after the first items of a journal. So one
+/// that has settled these items has settled them of each longer journal that begins with them.
 pub fn later_receipts_change_nothing()
     ensures named { (journal : List Receipt) (n : ℕ) → AllNameUpTo n (at (settled_first journal n).entries) }
     ensures brings { (journal more : List Receipt) (i : ℕ) (register : Key → List Entry) → i ≤ length journal → AllNameUpTo (length journal) register

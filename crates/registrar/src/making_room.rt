@@ -19,10 +19,10 @@ use std::alloc::Global;
 const MOST_BROUGHT: usize = 3;
 
 /// Holds the keys of an item, and keeps room at each of them for what it may bring: three entries,
-/// and an official notice for each filing that waits there. Room for as many as stand there serves
-/// these notices, since each such filing has an entry there; and so a key that grows is moved
-/// seldom. No key is lost or has less room than before, and none is added but these, also where no
-/// memory is found.
+/// and an official notice for each filing that waits there. Room for as many entries as stand there is
+/// enough for these notices, since each such filing has an entry there; and so a key that grows is
+/// moved seldom. No key is lost or has less room than before, and no other key is added, also where
+/// no memory is found.
 pub fn make_room(parts: &mut MapParts, keys: &[Key]) -> Result<(), NoMemory>
     ensures entries { entries_at parts.new ≡ entries_at parts.old }
     ensures held { OnOk result ((k : Key) → is_held parts.new k ≡ (is_held parts.old k || is_given keys.now k)) }
@@ -36,8 +36,9 @@ pub fn make_room(parts: &mut MapParts, keys: &[Key]) -> Result<(), NoMemory>
     Ok(())
 }
 
-/// Keeps the room in a scratch that an item reckons in: for the rights of the folio in which it
-/// calls to bid or awards, and for the exchanges that they are in. Other items want none.
+/// Keeps the room in a scratch that an item needs to compute a lowest bid: for the rights of the
+/// folio in which it calls to bid or awards, and for the exchanges that they are in. Other items
+/// need none.
 pub fn make_scratch(
     alloc: Global,
     scratch: &mut Scratch,
@@ -63,7 +64,7 @@ pub fn make_scratch(
     }
 }
 
-/// The folio in whose sale an item reckons: it calls to bid there, or awards.
+/// The folio in whose sale an item computes the lowest bid: it calls to bid there, or awards.
 fn folio_reckoned(journal: &Journal, item: ReceiptNo) -> Option<FolioId>
     ensures { result ≡ option_and_then folio_reckoned (item_at journal.now.receipts item) }
 {

@@ -23,7 +23,7 @@ use kept_registers::laws::empty_register_is_kept;
 use std::alloc::Global;
 use std::marker::Model;
 
-/// The register behind the items that are settled: its parts at their keys and at no other, what
+/// The register after the items that are settled: its parts at their keys and at no other, what
 /// became of each item, and the open folios.
 #[derive(Drop)]
 pub struct Register {
@@ -68,10 +68,10 @@ impl Register {
         })
     }
 
-    /// Settles the next item of the journal, behind those that are settled (GBO § 17). It keeps the
-    /// room for it first: where no memory is found, nothing is settled and no entry, verdict or open
-    /// folio changes, but keys of the item, and no others, may be held besides then, so such a
-    /// register is to be made anew.
+    /// Settles the next item of the journal, after those that are settled (GBO § 17). It keeps the
+    /// room for it first: where memory runs out, nothing is settled and no entry, verdict or open
+    /// folio changes. But keys of the item, and no others, may then be held besides, so such a
+    /// register is to be rebuilt.
     pub fn settle_next(&mut self, scratch: &mut Scratch, journal: &Journal) -> Result<(), NoMemory>
         requires more { length self.old.verdicts < length journal.now.receipts }
         requires settled { HasSettled journal.now.receipts self.old }
@@ -106,7 +106,7 @@ impl Register {
         self.settled.verdicts.as_slice()
     }
 
-    /// The open folios, ascending, behind the items that are settled (GBO § 3): this list does not
+    /// The open folios, ascending, after the items that are settled (GBO § 3): this list does not
     /// follow what is appended.
     pub fn folios(&self) -> &[FolioId]
         ensures value { result.now ≡ self.now.folios }

@@ -43,7 +43,7 @@ impl Settled {
         })
     }
 
-    /// Settles the next item, in room that it keeps for it first. Where no memory is found nothing
+    /// Settles the next item, in room that it keeps for it first. Where memory runs out nothing
     /// is settled.
     pub fn settle_next(&mut self, scratch: &mut Scratch, journal: &Journal) -> Result<(), NoMemory>
         requires more { length self.old.verdicts.items < length journal.now.receipts }
@@ -57,7 +57,7 @@ impl Settled {
         let keys = touches(self.alloc, journal, item)?;
         make_room(&mut self.parts, keys.as_slice())?;
         make_scratch(self.alloc, scratch, &self.parts, journal, item)?;
-        // A folio opens once: those that are closed now and open behind the step are new.
+        // A folio opens once: those that are closed now and open after the step are new.
         let closed = closed_folios(self.alloc, &self.parts, keys.as_slice())?;
         self.folios.reserve(closed.len())?;
         self.verdicts.reserve(1)?;
@@ -67,8 +67,8 @@ impl Settled {
         Ok(())
     }
 
-    /// The same, and the open folios stay in ascending order: they are sorted behind an item that
-    /// opens one.
+    /// Settles the next item, and keeps the open folios in ascending order: they are sorted after an
+    /// item that opens one.
     pub fn settle_in_order(
         &mut self,
         scratch: &mut Scratch,
@@ -100,7 +100,7 @@ impl Settled {
     }
 }
 
-/// The number behind the first so many receipts.
+/// The number of the receipt that comes after the first so many.
 fn number_behind(journal: &Journal, count: usize) -> ReceiptNo
     requires { count < length journal.now.receipts }
     ensures value { result ≡ count + 1 }

@@ -76,7 +76,7 @@ fn settle_received<P: Parts>(
     settle_filing(parts, journal, item, judgement)
 }
 
-/// A cure has the filing that it names judged anew, where that waits.
+/// A cure has the filing that it names judged again, where that filing waits.
 fn settle_cured<P: Parts>(
     parts: &mut P,
     journal: &Journal,
@@ -231,7 +231,7 @@ fn settle_filing<P: Parts>(
     }
 }
 
-/// A cure of a filing that waits has it judged anew.
+/// A cure of a filing that waits has it judged again.
 fn settle_cure<P: Parts>(
     parts: &mut P,
     journal: &Journal,
@@ -264,7 +264,7 @@ fn settle_cure<P: Parts>(
     }
 }
 
-/// A filing that waits, and is judged anew with a cure, is entered, rejected or waits on.
+/// A filing that waits, and is judged again with a cure, is entered, rejected or waits on.
 fn settle_waiting<P: Parts>(parts: &mut P, matter: &Matter, judgement: Judgement) -> Verdict
     requires filing { filing_at matter.now.journal.now.receipts matter.now.number ≡ Some matter.now.filing.now }
     requires received { matter.now.item ≤ length matter.now.journal.now.receipts }
@@ -304,7 +304,7 @@ fn enter_with_notices<P: Parts>(parts: &mut P, matter: &Matter)
     enter(parts, matter.journal, matter.item, matter.number);
 }
 
-/// What becomes of a lapse by its answer.
+/// What becomes of a lapse, by the answer to it.
 fn verdict_on_lapse(answer: Lapse) -> Verdict
     ensures { result ≡ verdict_on_lapse answer }
 {
@@ -315,7 +315,7 @@ fn verdict_on_lapse(answer: Lapse) -> Verdict
     }
 }
 
-/// What becomes of an item of a sale: it is rejected under a section, or this.
+/// What becomes of an item of a forced sale: it is rejected under a section, or gets this verdict.
 fn verdict_unless(refused: Option<Section>, let_in: Verdict) -> Verdict
     ensures { result ≡ verdict_unless refused let_in }
 {

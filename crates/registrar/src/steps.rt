@@ -1,4 +1,4 @@
-//! One step of a registrar: an item settled on parts that stand for a register that comes about.
+//! One step of a registrar: an item settled on parts that stand for a register.
 ghost use Rattle.std.specs.Prelude.{◌≡◌, List, ◌≤◌, ◌<◌, Some, length, All, Contains, IsTrue};
 ghost use Rattle.gb_base.specs.declared.keys.Key.{Key};
 ghost use Rattle.act_model.specs.Receiving.{IsJournal, receipt_at};
@@ -50,7 +50,7 @@ pub fn step<P: Parts>(
     settle(parts, scratch, journal, item, &receipt.item)
 }
 
-/// The receipt of this number; and the list is a journal.
+/// The receipt of this number; besides, the list is a journal.
 pub(crate) fn receipt_of(journal: &Journal, item: ReceiptNo) -> &Receipt
     requires { item ≤ length journal.now.receipts }
     ensures value { receipt_at journal.now.receipts item ≡ Some result.now }

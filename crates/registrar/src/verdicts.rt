@@ -9,7 +9,7 @@ pub enum Verdict {
     Entered,
     /// The filing is rejected, or the item of a forced sale is refused, under this section (GBO § 18).
     Rejected(Section),
-    /// The filing waits for cures of these defects; behind this day a lapse ends its waiting (GBO
+    /// The filing waits for cures of these defects; after this day a lapse ends its waiting (GBO
     /// § 18).
     Interim { until: Day, defects: Defects },
     /// By this cure the filing that it names is entered.

@@ -1,4 +1,4 @@
--- How far a settlement has come that goes on.
+-- How far a settlement has come, which may go on.
 use Rattle.std.specs.Prelude.{◌≡◌, ◌+◌, List, length}
 use Rattle.std.specs.List.{enumerate_from}
 use Rattle.gb_base.specs.declared.keys.Key.{Key}
@@ -17,11 +17,11 @@ pub record IsBehind (journal : List Receipt) (s : Settled) : Type 0 where
   pub held : (k : Key) → is_held s.parts k ≡ is_given (keys_of_first journal (length s.verdicts.items)) k
   pub listed : AreListed s.folios.items (entries_at s.parts)
 
--- the register that it is
+-- the settlement as a register
 abbrev pub register_of : Settled → RegisterState
 register_of s = record { parts = s.parts; verdicts = enumerate_from 1 s.verdicts.items; folios = s.folios.items }
 
--- nothing that is settled has changed, and of the keys those of the next item alone may be held besides
+-- nothing that is settled has changed; only keys of the next item may be held besides
 pub record Remains (journal : List Receipt) (before after : Settled) : Type 0 where
   pub keys : WidensBy (is_given (keys_of_item journal (length before.verdicts.items + 1))) before.parts after.parts
   pub entries : entries_at after.parts ≡ entries_at before.parts

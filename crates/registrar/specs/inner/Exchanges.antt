@@ -9,7 +9,7 @@ use Rattle.folio_sections.specs.declared.entries.Entry.{Entry}
 use Rattle.interim_orders.specs.Orders.{state_of}
 use Rattle.interim_orders.specs.declared.states.FilingState.TheVariants.{Pending}
 
--- of the filing that item i is, or of the one that it finds waiting and cures
+-- a judge knows the exchanges of the filing that item i is, or of the one that it finds waiting and cures
 abbrev pub KnowsItsExchanges : List Receipt → ℕ → (Key → List Entry) → Item → Type 0
 KnowsItsExchanges journal i at (item.Filing f) = KnowsExchanges journal i at
 KnowsItsExchanges journal i at (item.Cure m docs) = (until : ℕ) → state_of journal m i at ≡ Pending until → KnowsExchanges journal m at

@@ -1,4 +1,4 @@
--- In whose sale an item reckons.
+-- In whose sale an item computes a lowest bid.
 use Rattle.std.specs.Prelude.{ℕ, Option, Some, None}
 use Rattle.act_model.specs.declared.items.Item.{Item}
 use Rattle.act_model.specs.declared.items.Item.TheVariants as item

@@ -21,7 +21,7 @@ filing_item f = item.Filing f
 abbrev pub lapse_item : ℕ → Item
 lapse_item m = item.Lapse m
 
--- The list is a journal, the item is that of its receipt i, its keys are held with the room that it wants, all that stands there is by earlier items, and the
+-- The list is a journal, the item is that of its receipt i, its keys are held with the room that it needs, all that stands there is by earlier items, and the
 -- parts stand for a kept register.
 pub record CanStep (journal : List Receipt) (i : ℕ) (w : Item) (holds : Key → Bool) (at : Key → List Entry) (spare : Key → ℕ) : Type 0 where
   pub receives : IsJournal journal

@@ -3,7 +3,7 @@ use Rattle.std.specs.Option.{option_copied}
 use Rattle.registrar.proofs.WaitingStates.{waiting_is_a_filing}
 use Rattle.registrar.proofs.settling.settle_cure.Goals as goal
 
--- what is there is lent
+-- an option has a value where its copy has one
 lent : {T : Type 0} (o : Option (Bor T)) → IsSome (option_copied o) → IsSome o
 lent (Some x) there = there
 lent None there = there
