@@ -9,7 +9,7 @@ use Rattle.desk_pool.specs.declared.folio_parts.KeyRoom.{KeyRoom}
 use Rattle.desk_pool.specs.inner.KeyRooms.{room_in}
 use Rattle.desk_pool.specs.inner.RoomsCounted.{is_listed, room_if, sum_at}
 
--- ---- the next one of a list
+-- ---- the next key of a list
 
 pub sum_next : (list : List KeyRoom) (i : ℕ) (r : KeyRoom) (k : Key) → i < length list → r ≡ get_or list i r → sum_at (drop i list) k ≡ room_if r.key r.room k + sum_at (drop (i + 1) list) k
 sum_next list i r k within is = ap (λ rs. sum_at rs k) (cut list i r within is) ∙ sum_by-cons (λ x. room_if x.key x.room k) r (drop (i + 1) list)
@@ -17,7 +17,7 @@ sum_next list i r k within is = ap (λ rs. sum_at rs k) (cut list i r within is)
 pub listed_next : (list : List KeyRoom) (i : ℕ) (r : KeyRoom) (k : Key) → i < length list → r ≡ get_or list i r → is_listed (drop i list) k ≡ (same_key r.key k || is_listed (drop (i + 1) list) k)
 listed_next list i r k within is = ap (λ rs. is_listed rs k) (cut list i r within is)
 
--- ---- where it has another key, the sum in hand is added
+-- ---- where the next one is another key, the sum in hand is added
 
 pub more_room : (b : Bool) (kept room : ℕ) → cond b (kept + room) kept ≡ kept + cond b room 0
 more_room true kept room = refl
@@ -35,7 +35,7 @@ pub in_turn : (a b c d : Bool) → ((a || b) || (c || d)) ≡ (a || (b || (c || 
 in_turn true b c d = refl
 in_turn false b c d = refl
 
--- ---- where it has the same key, its room is added to that
+-- ---- where the next one is the same key, its room is added to the sum in hand
 
 both_kept : (b : Bool) (sum room : ℕ) → cond b (sum + room) 0 ≡ cond b sum 0 + cond b room 0
 both_kept true sum room = refl

@@ -1,4 +1,4 @@
--- An item is roomy enough in a scratch by what stands at its own keys.
+-- Whether a scratch has room for an item depends on what stands at the item's own keys alone.
 use Rattle.std.proofs.Common.{◌≡◌, ℕ, ◌≤◌, List, [], ◌∷◌, ◌++◌, Contains, IfSome, filter_map, length, Some, None, refl, sym, subst, inl, inr}
 use Rattle.std.specs.Option.{option_map_or}
 use Rattle.gb_base.specs.RightNo.{RightNo}
@@ -50,7 +50,7 @@ scratch_same journal i at0 at1 scratch =
       | Some r ↦ λ same roomy. roomy_same journal i at0 at1 scratch r.item same roomy
     ]
 
--- ---- an item that touches no key reckons with nothing
+-- ---- an item that touches no key computes with nothing
 
 none_of_sale : (journal : List Receipt) (i folio : ℕ) → keys_of_sale journal i folio ≡ [] → ⊥
 none_of_sale journal i folio none = absurd (cc none)

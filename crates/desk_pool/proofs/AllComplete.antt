@@ -31,7 +31,7 @@ use Rattle.desk_pool.proofs.NothingBetween.{nothing_between}
 use Rattle.desk_pool.proofs.PreparedScratches.{given_at}
 use Rattle.desk_pool.proofs.Settling.{verdict_said}
 
--- what was prepared, with other parts and other verdicts
+-- the frame that was prepared, with other parts and other verdicts
 abbrev pub put_together : RegisterFrame → List PartState → Vec Verdict Global → RegisterFrame
 put_together s parts verdicts = record { alloc = s.alloc; parts = parts; scratch = s.scratch; verdicts = verdicts; folios = s.folios }
 
@@ -40,7 +40,7 @@ pub frame_together : (journal : List Receipt) (s : RegisterFrame) (parts : List 
 frame_together journal s parts verdicts frame held count =
     record { held = λ k. (λ i. held i k) ∙ frame.held k; scratch = frame.scratch; verdicts = count; folios = frame.folios }
 
--- what holds of each of these keys holds of one that is given among them
+-- what holds of each key of a list holds of a key that is given among them
 pub given_listed : (keys : List KeyRoom) (k : Key) (P : Key → Type 0) → is_given (map (λ w. w.key) keys) k ≡ true → All (λ w. P w.key) keys → P k
 given_listed [] k P given all = absurd (false≢true given)
 given_listed (w ∷ ws) k P given all =
@@ -50,7 +50,7 @@ given_listed (w ∷ ws) k P given all =
     (cases_Bool (same_key w.key k))
 
 module _ (journal : List Receipt) (numbered : IsJournal journal) (empty : Kept journal (λ k. [])) where
-  -- at a key that no item touches nothing stands
+  -- nothing stands at a key that no item touches
   untouched_is_empty : (k : Key) → is_given (keys_of_first journal (length journal)) k ≡ false → at (registrar journal).entries k ≡ []
   untouched_is_empty k none = nothing_between journal k numbered empty 0 (length journal) (omega arith)
       (λ i low high.

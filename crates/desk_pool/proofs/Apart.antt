@@ -1,4 +1,4 @@
--- Two folios that hold together what they held before hold each what it held, as the first has the lower number.
+-- Two folios that together hold what they held before hold each what it held, as the first has the lower number.
 use Rattle.std.proofs.Common.{◌≡◌, ⊎_elim, ℕ, Bool, true, false, ◌||◌, cond, List, refl, sym, ap, subst, ◌∙◌, arith}
 use Rattle.std.specs.Cmp.{both_ways}
 use Rattle.std.proofs.lemmas.Bool.{cases_Bool, or_cases, or_left, or_right}
@@ -6,7 +6,7 @@ use Rattle.gb_base.specs.declared.keys.Key.{Key}
 use Rattle.folio_sections.specs.declared.entries.Entry.{Entry}
 use Rattle.desk_pool.specs.inner.FolioPairs.{AreApart, of_either}
 
--- no key is of both
+-- no key is held by both
 pub not_both : (first second : Key → Bool) (k : Key) → AreApart first second → first k ≡ true → second k ≡ true → ⊥
 not_both first second k apart here there = let less = apart.rise k k here there in absurd (omega arith)
 
@@ -21,7 +21,7 @@ module _ (first second first1 second1 : Key → Bool) (apart : AreApart first se
   held_before : (k : Key) → (first1 k || second1 k) ≡ true → (first k || second k) ≡ true
   held_before k is = sym (same k) ∙ is
 
-  -- the key of the first stands in the first still
+  -- the first still holds the key that it held
   still_first : first1 a ≡ true
   still_first =
       ⊎_elim (λ here. here)
@@ -32,7 +32,7 @@ module _ (first second first1 second1 : Key → Bool) (apart : AreApart first se
       (or_cases (first1 b) (second1 b) (held_now b (or_right (first b) (second b) of_second))))
       (or_cases (first1 a) (second1 a) (held_now a (or_left (first a) (second a) of_first)))
 
-  -- and that of the second in the second
+  -- the second still holds the key that it held
   still_second : second1 b ≡ true
   still_second =
       ⊎_elim
@@ -72,7 +72,7 @@ module _ (first second first1 second1 : Key → Bool) (apart : AreApart first se
   pub second_same : second1 ≡ second
   second_same = λ i k. both_ways (second1 k) (second k) (second_was k) (second_is k) i
 
--- ---- what holds of the entries and the room at each key of the one and of the other
+-- ---- what holds of the entries and the room at each key of the first and of the second
 
 pub at_either : (P : Key → List Entry → ℕ → Type 0) (first second : Key → Bool) (x y : Key → List Entry) (r s : Key → ℕ) → ((k : Key) → first k ≡ true → P k (x k) (r k)) → ((k : Key) → second k ≡ true → P k (y k) (s k))
     → (k : Key) → (first k || second k) ≡ true → P k (of_either first x y k) (of_either first r s k)

@@ -1,4 +1,4 @@
--- The queues of folios grow by an item, and their list has each folio that a key is of.
+-- The queues of folios grow item by item, and their list has the folio of each key that an item touches.
 use Rattle.std.proofs.Common.{◌≡◌, ⊎_elim, ℕ, zero, suc, ◌+◌, ◌-◌, ◌<◌, ◌≤◌, Bool, true, false, cond, ◌||◌, ◌==◌, List, [], ◌∷◌, ◌++◌, Option, Some, None, IsTrue, Vec, drop, filter, flat_map, get_or, length, map, slice_get, refl, sym, ap, subst, ◌∙◌, length-append, arith}
 use Rattle.std.specs.BTreeMap.{BTreeMap, IsOrdered, Updates, get, is_at}
 use Rattle.std.specs.List.{last_or, list_any, range_with_len}
@@ -35,7 +35,7 @@ use Rattle.folio_sections.specs.Held.{is_given}
 use Rattle.registrar.proofs.Registering.{range_more}
 use Rattle.registrar.specs.HeldKeys.{keys_of_first}
 
--- ---- an item behind others, once
+-- ---- an item is put at the end of others, once
 
 pub same_number : (n : ℕ) → (n == n) ≡ true
 same_number n = grind (arith, nat_tests)
@@ -61,7 +61,7 @@ both_same : {X : Type 0} (b : Bool) (x y : X) → x ≡ y → cond b x y ≡ y
 both_same true x y e = e
 both_same false x y e = refl
 
--- behind all keys of an item it stands once where one of them is of the folio
+-- after all keys of an item, the item stands in the queue once, where one of the keys is of the folio
 all_at : (ks : List Key) (folio item : ℕ) (q : List ℕ) → with_item_at ks folio item q ≡ cond (list_any (λ k. folio_of_key k == folio) ks) (with_item item q) q
 all_at [] folio item q = refl
 all_at (k ∷ ks) folio item q =
@@ -73,7 +73,7 @@ all_at (k ∷ ks) folio item q =
 
 -- ---- key by key
 
--- what a write at one folio leaves at each
+-- what a write at one folio leaves at each folio
 pub moved : (old : ℕ → List ℕ) (g f item : ℕ) → cond (g == f) (with_item item (old g)) (old f) ≡ cond (g == f) (with_item item (old f)) (old f)
 moved old g f item =
     elim (g == f) as (λ b. (g == f) ≡ b → cond b (with_item item (old g)) (old f) ≡ cond b (with_item item (old f)) (old f)) [
@@ -81,7 +81,7 @@ moved old g f item =
       | false ↦ λ e. refl
     ] refl
 
--- a folio that has the item last already
+-- where a folio has the item last already, writing nothing is the same as writing it
 pub unmoved : (old : ℕ → List ℕ) (g f item : ℕ) → is_last item (old g) ≡ true → old f ≡ cond (g == f) (with_item item (old f)) (old f)
 unmoved old g f item ends =
     elim (g == f) as (λ b. (g == f) ≡ b → old f ≡ cond b (with_item item (old f)) (old f)) [
@@ -146,7 +146,7 @@ pub or_none : (a : Bool) → (a || false) ≡ a
 or_none true = refl
 or_none false = refl
 
--- any test of keys, asked of them in order
+-- some key in order passes a test exactly where some key passes it
 pub any_in_order : (p : Key → Bool) (ks : List Key) → list_any p (in_key_order ks) ≡ list_any p ks
 any_in_order p ks = ap (list_any p) (sym (placed_in_order ks)) ∙ any_with_keys p ks [] ∙ or_none (list_any p ks)
 
@@ -167,7 +167,7 @@ next_item journal folio n item keys old new number are was is =
     ∙ ap (λ m. rows ++ cond (p m) (m ∷ []) []) number
     ∙ sym (ap (filter p) (range_more 1 n) ∙ filter-append p (range_with_len 1 n) ((1 + n) ∷ []))
 
--- the first item of a folio
+-- the first item of a folio is put into the map
 pub put_first : (old new : BTreeMap ℕ (Vec ℕ Global)) (folio item other : ℕ) (queue : Vec ℕ Global) → get nat_cmp old folio ≡ None → queue.items ≡ with_item item []
     → Updates nat_cmp old new folio (Some queue) → items_at new other ≡ cond (folio == other) (with_item item (items_at old folio)) (items_at old other)
 put_first old new folio item other queue none is updates =
@@ -196,7 +196,7 @@ folios_are : (queues : List FolioQueue) → keys_of (map as_entry queues) ≡ ma
 folios_are [] = refl
 folios_are (q ∷ qs) = ap (λ fs. q.folio ∷ fs) (folios_are qs)
 
--- a folio of a key that items touch has one of them in its queue
+-- the queue of a folio is not empty where items touch a key of the folio
 not_empty : (journal : List Receipt) (k : Key) (ns : List ℕ) → is_given (flat_map (keys_of_item journal) ns) k ≡ true → filter (touches_folio journal (folio_of_key k)) ns ≡ [] → ⊥
 not_empty journal k [] given none = false≢true given
 not_empty journal k (n ∷ ns) given none =

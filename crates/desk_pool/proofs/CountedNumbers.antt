@@ -7,7 +7,7 @@ use Rattle.gb_base.proofs.Members.{In}
 use Rattle.conflict_queue.proofs.Fronts.{passing_ascend}
 use Rattle.folio_sections.proofs.FilteredLists.{filter_skips, filter_takes, of_filter}
 
--- one number more
+-- with one number more, no fewer pass
 no_fewer : (p : ℕ → Bool) (n : ℕ) (ns : List ℕ) → length (filter p ns) ≤ length (filter p (n ∷ ns))
 no_fewer p n ns =
     ⊎_elim
@@ -26,7 +26,7 @@ pub no_more : (p : ℕ → Bool) (ns : List ℕ) → length (filter p ns) ≤ le
 no_more p [] = omega arith
 no_more p (n ∷ ns) = let rest = no_more p ns in let most = one_more p n ns in omega arith
 
--- what passes one test passes one of two others
+-- where each number that passes q passes r or p, those that pass q are no more than those of r and those of p
 pub one_of_two : (p q r : ℕ → Bool) → ((n : ℕ) → q n ≡ true → (r n ≡ true) ⊎ (p n ≡ true)) → (ns : List ℕ) → length (filter q ns) ≤ length (filter r ns) + length (filter p ns)
 one_of_two p q r either [] = omega arith
 one_of_two p q r either (n ∷ ns) =
@@ -43,7 +43,7 @@ one_of_two p q r either (n ∷ ns) =
     (λ fails. let here = ap length (filter_skips q n ns fails) in omega arith)
     (cases_Bool (q n))
 
--- what passes q passes p and not b: so those of p that pass b are others
+-- where what passes q passes p but not b, those that pass q and those of p that pass b are no more than those of p
 pub others : (p q b : ℕ → Bool) (ns : List ℕ) → ((n : ℕ) → In n ns → q n ≡ true → (p n ≡ true) × (b n ≡ false)) → length (filter q ns) + length (filter b (filter p ns)) ≤ length (filter p ns)
 others p q b [] apart = omega arith
 others p q b (n ∷ ns) apart =
@@ -73,7 +73,7 @@ others p q b (n ∷ ns) apart =
     (cases_Bool (p n)))
     (cases_Bool (q n))
 
--- numbers that ascend and are all the same are one at most
+-- there is at most one number where they ascend and are all the same
 same_alone : (f a : ℕ) (ns : List ℕ) → AscendsBy (λ n. n) a ns → ((n : ℕ) → In n ns → eqb f n ≡ true) → length ns ≤ 1
 same_alone f a [] up same = omega arith
 same_alone f a (n ∷ []) up same = omega arith

@@ -1,4 +1,4 @@
--- How much room items keep at a key at most.
+-- How much room items keep at a key, at most.
 use Rattle.std.proofs.Common.{◌≡◌, ℕ, zero, suc, ◌+◌, ◌*◌, ◌<◌, ◌≤◌, Bool, true, false, cond, List, ◌∷◌, Some, None, drop, get_or, length, sym, subst, ◌∙◌, drop-cons, arith}
 use Rattle.std.specs.Option.{option_map_or}
 use Rattle.gb_base.specs.declared.keys.Key.{Key}
@@ -11,13 +11,13 @@ use Rattle.conflict_queue.specs.ItemKeys.{keys_of_item}
 use Rattle.desk_pool.proofs.RoomsSuffice.{room_next}
 use Rattle.desk_pool.specs.RoundRooms.{room_for, room_for_item, room_of_first}
 
--- what is left of a list is its next one and what is left behind that
+-- what is left of a list is its next element and what is left after that
 pub cut : {X : Type 0} (xs : List X) (i : ℕ) (x : X) → i < length xs → x ≡ get_or xs i x → drop i xs ≡ x ∷ drop (i + 1) xs
 cut xs i x within is =
     let next : suc i ≡ i + 1 = omega arith in
     drop-cons xs i x within ∙ (λ j. sym is j ∷ drop (next j) xs)
 
--- ---- no more than four a receipt
+-- ---- at most four entries for each receipt
 
 item_few : (w : Item) → room_for_item w ≤ 4
 item_few (item.Filing f) = omega arith

@@ -9,7 +9,7 @@ use Rattle.gb_base.proofs.Members.{In, in_append_right}
 use Rattle.folio_sections.proofs.FilteredLists.{all_in}
 use Rattle.registrar.proofs.RisingNumbers.{contains_of_in}
 
--- a list with one of its numbers, what is ahead of that and what is behind it
+-- a list that is cut at one of its numbers: what stands before the number, and what stands after it
 pub record CutAt (x : ℕ) (xs : List ℕ) : Type 0 where
   pub ahead : List ℕ
   pub behind : List ℕ
@@ -23,7 +23,7 @@ cut_at x (y ∷ ys) there =
     (λ later. let rest = cut_at x ys later in record { ahead = y ∷ rest.ahead; behind = rest.behind; is = ap (λ zs. y ∷ zs) rest.is })
     there
 
--- what holds of each number and each that stands behind it
+-- what holds of each number and each further one holds of all pairs
 pub pairs_by : (R : ℕ → ℕ → Type 0) (done rest : List ℕ) → ((before after : List ℕ) (x y : ℕ) → done ++ rest ≡ before ++ x ∷ after → In y after → R x y) → AllPairs R rest
 pairs_by R done [] each = λ i j d less within. absurd (omega arith)
 pairs_by R done (x ∷ rest) each =
@@ -31,7 +31,7 @@ pairs_by R done (x ∷ rest) each =
     (All-from_recursion (R x) rest (all_in (R x) rest (λ y there. each done rest x y refl there)))
     (pairs_by R (done ++ x ∷ []) rest (λ before after z y is there. each before after z y (sym (append_assoc done (x ∷ []) rest) ∙ is) there))
 
--- a number that stands once is not both ahead and behind
+-- a number that stands once does not stand both before and after a place
 pub stands_once : (before after : List ℕ) (y : ℕ) → AllPairs (λ i later. i ≡ later → ⊥) (before ++ after) → In y before → In y after → ⊥
 stands_once [] after y once there later = absurd there
 stands_once (x ∷ before) after y once there later =
@@ -42,7 +42,7 @@ stands_once (x ∷ before) after y once there later =
 
 -- ---- the last one
 
--- it is one of them
+-- the last of these numbers is one of them
 last_behind : (x y : ℕ) (ys : List ℕ) → last_or (Some y) ys ≡ Some x → In x (y ∷ ys)
 last_behind x y [] is = inl (some_is y x is)
 last_behind x y (z ∷ zs) is = inr (last_behind x z zs is)
@@ -65,7 +65,7 @@ greatest j a y (z ∷ zs) up there =
     (λ later. greatest j (y + 1) z zs up.1 later)
     there
 
--- where numbers ascend, none is above the last
+-- where numbers ascend, none is above the last one
 pub last_is_greatest : (j a : ℕ) (xs : List ℕ) → AscendsBy (λ n. n) a xs → In j xs → LastFrom j (last_or None xs)
 last_is_greatest j a [] up there = absurd there
 last_is_greatest j a (y ∷ ys) up there = greatest j a y ys up there

@@ -62,7 +62,7 @@ order_starts journal m =
 own_notice : (n : ℕ) → is_notice_of n (what.Notice n) ≡ true
 own_notice n = grind (arith, nat_tests)
 
--- each filing that waits at the key without a notice has it among what the entry brings, and more
+-- each filing that waits at the key without a notice gets its notice by what the entry brings
 noticed_there : (journal : List Receipt) (m i : ℕ) (at : Key → List Entry) (more : List Entry) (k : Key) (n : ℕ) → has k (keys_of_filing journal m) ≡ true → In n (waiting_unnoticed m (at k))
     → is_noticed n (at_key (notices_brought journal m i at ++ more) k) ≡ true
 noticed_there journal m i at more k n own there =
@@ -103,7 +103,7 @@ filing_takes journal i at k (Interim defects) stands own =
 
 -- ---- a cure
 
--- the filing is entered, and waits no longer
+-- the entry of a filing and the end of its waiting take at most so much room
 cured_takes : (journal : List Receipt) (m i : ℕ) (at : Key → List Entry) (k : Key) → IsJournal journal → has k (keys_of_filing journal m) ≡ true
     → TakesAtMost (at k) (at_key (enters journal m i at ++ end_brought journal m i) k) most_brought
 cured_takes journal m i at k stands own =
@@ -124,7 +124,7 @@ judged_takes journal m i at k (Some (Reject section)) stands own =
 judged_takes journal m i at k (Some (Interim defects)) stands own = nothing_takes (at k) most_brought
 judged_takes journal m i at k None stands own = nothing_takes (at k) most_brought
 
--- the keys of an item that names a filing are those of the filing
+-- the keys of an item that names a filing are keys of the filing
 of_named : (journal : List Receipt) (i m : ℕ) (k : Key) → has k (keys_of_named journal i m) ≡ true → has k (keys_of_filing journal m) ≡ true
 of_named journal i m k own =
     elim (nat_lt m i) as (λ b. has k (cond b (keys_of_filing journal m) []) ≡ true → has k (keys_of_filing journal m) ≡ true) [

@@ -6,7 +6,7 @@ use Rattle.std.proofs.lemmas.Bool.Decides.{nat_tests}
 use Rattle.desk_pool.specs.declared.folio_queues.FolioQueue.{FolioQueue}
 use Rattle.desk_pool.specs.inner.AllQueues.{is_queued}
 
--- a queue of the folio stands somewhere
+-- a folio that has a queue has it at some place
 queued_at : (queues : List FolioQueue) (f : ℕ) (d : FolioQueue) → is_queued queues f ≡ true → (j : ℕ) × (j < length queues) × ((get_or queues j d).folio ≡ f)
 queued_at [] f d queued = absurd (false≢true queued)
 queued_at (q ∷ qs) f d queued =
@@ -16,7 +16,7 @@ queued_at (q ∷ qs) f d queued =
     ] refl queued
 
 module _ (queues : List FolioQueue) (f : ℕ) (rise : AllPairs (λ q later. q.folio < later.folio) queues) where
-  -- those of lower numbers stand ahead of the others
+  -- queues of lower numbers stand before the others
   pub lower_ahead : IsPartitionedBy (λ (q : FolioQueue). nat_lt q.folio f) queues
   lower_ahead i j d ahead within lower =
       ⊎_elim
@@ -29,7 +29,7 @@ module _ (queues : List FolioQueue) (f : ℕ) (rise : AllPairs (λ q later. q.fo
       lower_still : (a b : ℕ) → a < b → nat_lt b f ≡ true → nat_lt a f ≡ true
       lower_still a b less below = grind (arith, nat_tests, less, below)
 
-  -- so the folio stands behind them
+  -- so the folio's queue stands right after those of lower numbers
   pub stands_behind : (place : ℕ) (d : FolioQueue) → is_queued queues f ≡ true → IsPartitionPoint (λ (q : FolioQueue). nat_lt q.folio f ≡ true) (λ q. nat_lt q.folio f ≡ false) queues place
       → (place < length queues) × ((get_or queues place d).folio ≡ f)
   stands_behind place d queued point =
@@ -60,6 +60,6 @@ pub within_behind : (queues : List FolioQueue) (f place : ℕ) → AllPairs (λ 
 within_behind [] f place rise queued point = absurd (false≢true queued)
 within_behind (q ∷ qs) f place rise queued point = (stands_behind (q ∷ qs) f rise place q queued point).0
 
--- so one is found there
+-- so a queue is found there
 pub found_at : (place count : ℕ) (found : Bool) → found ≡ nat_lt place count → place < count → found ≡ true
 found_at place count found is within = grind (arith, nat_tests, is, within)

@@ -1,4 +1,4 @@
--- What items touch in a folio adds up to the room of its keys, and that of all folios to the room of all keys.
+-- What items touch in a folio adds up to the room of its keys, and the rooms of all folios add up to the room of all keys.
 use Rattle.std.proofs.Common.{◌≡◌, ℕ, zero, suc, ◌+◌, ◌<◌, Bool, true, false, cond, ◌&&◌, ◌||◌, ◌==◌, List, [], ◌∷◌, AllPairs, filter, flat_map, get_or, length, sum_by, refl, sym, ap, subst, ◌∙◌, arith}
 use Rattle.std.specs.List.{list_any, range_with_len}
 use Rattle.std.specs.List.Sorted.{IsPermutation, IsStrictlySortedBy}
@@ -168,11 +168,11 @@ of_sorted journal folio items list sorted k are listed permutation = (
 
 -- ---- all folios
 
--- the room that the items keep at a key, by the folios of these queues
+-- the room that the items keep at a key, counted over the folios of these queues
 abbrev pub room_of_folios : List Receipt → List FolioQueue → Key → ℕ
 room_of_folios journal queues k = sum_by (λ q. room_of_folio journal q.folio k) queues
 
--- the key is given, and of one of these folios
+-- the key is one of the journal's, and of one of these folios
 abbrev pub is_key_of_any : List Receipt → List FolioQueue → Key → Bool
 is_key_of_any journal queues k = list_any (λ q. is_key_of journal q.folio k) queues
 

@@ -34,7 +34,7 @@ use Rattle.desk_pool.specs.RoundRooms.{room_of_first}
 
 -- ---- the folio's keys
 
--- the keys of a journal's item that are of a folio are among the folio's
+-- where an item of the journal touches a key of the folio, the key is among the folio's
 pub key_of_folio : (journal : List Receipt) (folio i : ℕ) (k : Key) → 1 ≤ i → i ≤ length journal → folio_of_key k ≡ folio → Contains (keys_of_item journal i) k → is_key_of journal folio k ≡ true
 key_of_folio journal folio i k low high own there =
     let row = range_with_len 1 (length journal) in
@@ -47,28 +47,28 @@ pub folio_of_its_key : (journal : List Receipt) (folio : ℕ) (k : Key) → IsTr
 folio_of_its_key journal folio k is = eqb-true (folio_of_key k) folio (and_parts (folio_of_key k == folio) (is_given (keys_of_first journal (length journal)) k) is).0
 
 module _ (journal : List Receipt) (s : FolioState) (behind : IsBehindLock journal s) where
-  -- what is held is the folio's
+  -- a key that is held is the folio's
   pub own_key : (k : Key) → IsTrue (is_held s.parts k) → folio_of_key k ≡ s.folio
   own_key k held = folio_of_its_key journal s.folio k (sym (behind.held k) ∙ held)
 
-  -- the keys of a journal's item that are of the folio are held
+  -- a key of the folio that an item of the journal touches is held
   pub holds_key : (i : ℕ) (k : Key) → 1 ≤ i → i ≤ length journal → folio_of_key k ≡ s.folio → Contains (keys_of_item journal i) k → IsTrue (is_held s.parts k)
   holds_key i k low high own there = behind.held k ∙ key_of_folio journal s.folio i k low high own there
 
-  -- ---- ahead of the step
+  -- ---- before the step
 
   pub ahead_of_step : (i : ℕ) → Kept journal (λ k. []) → TurnComes journal s.folio s.taken i → StandsAt journal (i - 1) (is_held s.parts) (entries_at s.parts)
   ahead_of_step i empty turn =
       stands_on journal s.folio (last_taken (queue_of journal s.folio) s.taken) (i - 1) (is_held s.parts) (entries_at s.parts) behind.numbered empty turn.before turn.none own_key behind.stands
 
-  -- where all of the folio's items are settled, what the one registrar leaves stands at its keys
+  -- where all of the folio's items are settled, its keys have what the one registrar leaves there
   pub stands_when_done : Kept journal (λ k. []) → s.taken ≡ length (queue_of journal s.folio) → (k : Key) → IsTrue (is_held s.parts k) → entries_at s.parts k ≡ at (registrar journal).entries k
   stands_when_done empty all k held =
       let done = all_done journal s.folio s.taken all in
       stands_on journal s.folio (last_taken (queue_of journal s.folio) s.taken) (length journal) (is_held s.parts) (entries_at s.parts) behind.numbered empty done.within done.none own_key behind.stands k held
       ∙ ap (λ (all : Settlement). at all.entries k) (registrar_is journal)
 
-  -- ---- behind the step
+  -- ---- after the step
 
   pub behind_step : (i : ℕ) (parts : List PartState) (scratch : ScratchRoom) → TurnComes journal s.folio s.taken i → is_held parts ≡ is_held s.parts → StandsAt journal i (is_held s.parts) (entries_at parts)
       → HasAllRoom journal (is_held s.parts) (entries_at parts) (room_at parts) → scratch ≡ s.scratch → IsBehindLock journal (record { folio = s.folio; taken = s.taken + 1; parts = parts; scratch = scratch })
@@ -80,7 +80,7 @@ module _ (journal : List Receipt) (s : FolioState) (behind : IsBehindLock journa
     scratch = λ n touched. subst (HasItsScratch journal n (at (settled_first journal (n - 1)).entries)) (sym same) (behind.scratch n touched);
   }
 
--- the same of a journal by its name
+-- the folio is behind its lock after the step, where the journal is known by its name
 pub behind_named : (names journal : List Receipt) (s : FolioState) (i taken : ℕ) (parts : List PartState) (scratch : ScratchRoom) → journal ≡ names → IsBehindLock journal s → TurnComes journal s.folio s.taken i
     → taken ≡ s.taken + 1 → is_held parts ≡ is_held s.parts → StandsAt journal i (is_held s.parts) (entries_at parts) → HasAllRoom journal (is_held s.parts) (entries_at parts) (room_at parts) → scratch ≡ s.scratch
     → IsBehindLock names (record { folio = s.folio; taken = taken; parts = parts; scratch = scratch })
@@ -89,7 +89,7 @@ behind_named names journal s i taken parts scratch named behind turn one_more he
     (subst (λ n. IsBehindLock journal (record { folio = s.folio; taken = n; parts = parts; scratch = scratch })) (sym one_more)
     (behind_step journal s behind i parts scratch turn held there roomy same))
 
--- a folio whose parts are empty and have room for all is behind its lock, with none of its items settled
+-- a folio whose parts are empty and have room for all items is behind its lock, with none of its items settled
 pub behind_at_first : (journal : List Receipt) (folio : ℕ) (parts : List PartState) (scratch : ScratchRoom) → IsJournal journal → ((k : Key) → is_held parts k ≡ is_key_of journal folio k)
     → ((k : Key) → entries_at parts k ≡ []) → ((k : Key) → IsTrue (is_held parts k) → room_of_first journal (length journal) k ≤ room_at parts k) → HasAllScratch journal folio scratch
     → IsBehindLock journal (record { folio = folio; taken = 0; parts = parts; scratch = scratch })
@@ -103,7 +103,7 @@ behind_at_first journal folio parts scratch numbered held empty roomy scratch_su
 
 -- ---- an item that touches one folio
 
--- All that its step asks of a folio whose turn has come.
+-- All that the item's step asks of a folio whose turn has come.
 pub record IsReady (journal : List Receipt) (s : FolioState) (i : ℕ) : Type 0 where
   pub behind : IsBehindLock journal s
   pub turn : TurnComes journal s.folio s.taken i
@@ -131,14 +131,14 @@ is_ready journal s i behind empty next own =
       kept = (left_by journal (i - 1) behind.numbered empty).settled.kept;
     }
 
--- the same of a journal by its name, and of a folio by its fields
+-- a folio whose turn has come is ready, where the journal is known by its name and the folio by its fields
 pub ready_named : (names journal : List Receipt) (s self : FolioState) (queue : List ℕ) (i : ℕ) → journal ≡ names → IsBehindLock names s → Kept names (λ k. []) → s ≡ self → queue ≡ queue_of names self.folio
     → true ≡ is_next queue self.taken i → All (λ k. folio_of_key k ≡ self.folio) (keys_of_item names i) → IsReady journal s i
 ready_named names journal s self queue i named behind empty fields are next own =
     let ready = is_ready names self i (subst (IsBehindLock names) fields behind) empty (subst (λ q. IsTrue (is_next q self.taken i)) are (sym next)) own in
     subst (λ j. IsReady j s i) (sym named) (subst (λ x. IsReady names x i) (sym fields) ready)
 
--- the step leaves the folio behind its lock
+-- after the step the folio is behind its lock again
 pub behind_its_step : (names journal : List Receipt) (s : FolioState) (i taken : ℕ) (parts : List PartState) (scratch : ScratchRoom) → journal ≡ names → IsReady journal s i → taken ≡ s.taken + 1 → is_held parts ≡ is_held s.parts
     → AddsList (entries_at s.parts) (entries_at parts) (room_at s.parts) (room_at parts) (brings journal i (at (settled_first journal (i - 1)).entries)).entries → scratch ≡ s.scratch
     → IsBehindLock names (record { folio = s.folio; taken = taken; parts = parts; scratch = scratch })

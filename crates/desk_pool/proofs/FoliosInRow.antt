@@ -15,7 +15,7 @@ abbrev pub tail : {X : Type 0} → List X → List X
 tail [] = []
 tail (x ∷ xs) = xs
 
--- what is found stands within
+-- a place where something is found is within the list
 pub found_within : {X : Type 0} (xs : List X) (i : ℕ) (x : X) → slice_get xs i ≡ Some x → i < length xs
 found_within [] i x there = absurd (grind (arith, there))
 found_within (y ∷ ys) zero x there = omega arith
@@ -27,7 +27,7 @@ below_apart i count below apart = grind (arith, nat_tests, below, apart)
 pub none_is_some : {X : Type 0} (x : X) → None ≡ Some x → ⊥
 none_is_some x same = absurd (grind (arith, same))
 
--- where nothing stands, one more stands once it is put there
+-- where nothing stands at a place, putting one there makes one more
 count_put : {X : Type 0} (xs : List (Option X)) (i : ℕ) (x : X) → slice_get xs i ≡ Some None → count_here (set xs i (Some x)) ≡ count_here xs + 1
 count_put [] i x none = absurd (grind (arith, none))
 count_put (None ∷ xs) zero x none = refl
@@ -40,7 +40,7 @@ few_here [] = omega arith
 few_here (None ∷ xs) = let rest = few_here xs in omega (arith, rest)
 few_here (Some x ∷ xs) = let rest = few_here xs in omega (arith, rest)
 
--- where nothing stands anywhere, none stands
+-- where nothing stands at any place, the count is 0
 pub none_here : {X : Type 0} (xs : List (Option X)) → ((i : ℕ) → i < length xs → slice_get xs i ≡ Some None) → count_here xs ≡ 0
 none_here [] away = refl
 none_here (None ∷ xs) away = none_here xs (λ i within. away (suc i) (omega (arith, within)))
@@ -54,7 +54,7 @@ row_length [] (p ∷ ps) are = absurd (grind (arith, are))
 row_length (r ∷ rs) [] are = absurd (grind (arith, are))
 row_length (r ∷ rs) (p ∷ ps) are = ap suc (row_length rs ps (ap tail are))
 
--- what stands at a place of a full row
+-- at each place of a full row stands a marked folio, which is as the row says
 pub in_row_at : {N : Type 0} (row : List FolioMark) (places : List (Option (MarkedFolio N))) (i : ℕ) → AreInRow row places → i < length places
     → (m : MarkedFolio N) × (slice_get places i ≡ Some (Some m)) × (slice_get row i ≡ Some (mark_of m))
 in_row_at row [] i are within = absurd (omega (arith, within))
@@ -64,7 +64,7 @@ in_row_at (r ∷ rs) (Some m ∷ ps) zero are within =
     (m, refl, sym (same_inside (Some (mark_of m)) (Some r) (ap (λ xs. slice_get xs 0) are)))
 in_row_at (r ∷ rs) (Some m ∷ ps) (suc i) are within = in_row_at rs ps i (ap tail are) (omega (arith, within))
 
--- one more is put back at its place, where none stands
+-- one folio more is put back at its place, where none stands yet
 pub put_in_row : {N : Type 0} (row : List FolioMark) (places : List (Option (MarkedFolio N))) (i n : ℕ) (m : MarkedFolio N)
     → slice_get places i ≡ Some None → slice_get row i ≡ Some (mark_of m) → AreSomeInRow row places n → AreSomeInRow row (set places i (Some m)) (n + 1)
 put_in_row row places i n m none here are =
@@ -80,12 +80,12 @@ put_in_row row places i n m none here are =
       places_are = length-set places i (Some m) ∙ are.places_are;
     }
 
--- two folios of one place have one mark
+-- two folios of the same place have the same mark
 pub same_mark : {N : Type 0} (row : List FolioMark) (places : List (Option (MarkedFolio N))) (i n : ℕ) (m other : MarkedFolio N)
     → slice_get places i ≡ Some (Some other) → slice_get row i ≡ Some (mark_of m) → AreSomeInRow row places n → m.mark.token.name ≡ other.mark.token.name
 same_mark row places i n m other there here are = ap (λ (a : FolioMark). a.mark) (same_inside (mark_of m) (mark_of other) (sym here ∙ are.placed i other there))
 
--- where all are back, each stands at its place
+-- where all folios are back, each stands at its place
 pub all_in_row : {N : Type 0} (row : List FolioMark) (places : List (Option (MarkedFolio N))) → AreSomeInRow row places (length row) → AreInRow row places
 all_in_row [] [] are = refl
 all_in_row [] (p ∷ ps) are = absurd (let count = are.places_are in omega (arith, count))
@@ -101,7 +101,7 @@ all_in_row (r ∷ rs) (Some m ∷ ps) are =
     let rest : AreSomeInRow rs ps (length rs) = record { placed = λ i f there. are.placed (suc i) f there; many = omega (arith, many); places_are = omega (arith, count) } in
     λ j. Some (same_inside (mark_of m) r (sym (are.placed 0 m refl)) j) ∷ all_in_row rs ps rest j
 
--- all that leave their places, one after the other: the first so many are away, and the others stand where they stood
+-- The folios leave their places one after the other: the first so many are away, and the others stand where they stood.
 pub record AreLeaving {N : Type 0} (before now : List (Option (MarkedFolio N))) (count : ℕ) : Type 0 where
   pub away : (i : ℕ) → i < count → slice_get now i ≡ Some None
   pub stay : (i : ℕ) → count ≤ i → slice_get now i ≡ slice_get before i
@@ -124,7 +124,7 @@ one_leaves before now count left none within are =
       places_are = length-set now count None ∙ are.places_are;
     })
 
--- what is taken from its place is what the row says
+-- a folio that is taken from its place is the one that the row says
 pub taken_in_row : {N : Type 0} (row : List FolioMark) (before now : List (Option (MarkedFolio N))) (i : ℕ) (m : MarkedFolio N) → AreInRow row before → AreLeaving before now i → i < length before
     → slice_get now i ≡ Some (Some m) → slice_get row i ≡ Some (mark_of m)
 taken_in_row row before now i m are leaving within there =
@@ -132,14 +132,14 @@ taken_in_row row before now i m are leaving within there =
     let same : Some found.0 ≡ Some m = same_inside (Some found.0) (Some m) (sym found.1 ∙ sym (leaving.stay i (omega arith)) ∙ there) in
     found.2 ∙ ap (λ f. Some (mark_of f)) (same_inside found.0 m same)
 
--- it cannot be away already
+-- a folio whose turn it is to leave cannot be away already
 pub still_there : {N : Type 0} (row : List FolioMark) (before now : List (Option (MarkedFolio N))) (i : ℕ) (o : Option (MarkedFolio N)) → AreInRow row before → AreLeaving before now i → i < length before
     → slice_get now i ≡ Some o → ((m : MarkedFolio N) → o ≡ Some m → ⊥) → ⊥
 still_there row before now i o are leaving within there none =
     let found = in_row_at row before i are within in
     none found.0 (same_inside o (Some found.0) (sym there ∙ leaving.stay i (omega arith) ∙ found.1))
 
--- all are away
+-- once all have left, none stands at its place
 pub all_left : {N : Type 0} (row : List FolioMark) (before now : List (Option (MarkedFolio N))) (count : ℕ) → AreInRow row before → length before ≤ count → AreLeaving before now count → AreSomeInRow row now 0
 all_left row before now count are whole leaving =
     record {
@@ -148,7 +148,7 @@ all_left row before now count are whole leaving =
       places_are = leaving.places_are ∙ row_length row before are;
     }
 
--- the row of folios that stand at their places
+-- the marks of folios that stand at their places are a row in which they stand
 pub row_of_places : {N : Type 0} (queues : List FolioQueue) (places : List (Option (MarkedFolio N))) → AreInPlaces queues places → AreInRow (filter_map (option_map mark_of) places) places
 row_of_places [] [] are = refl
 row_of_places [] (p ∷ ps) are = absurd (grind (arith, are))
@@ -161,7 +161,7 @@ folios_of_row [] = refl
 folios_of_row (None ∷ ps) = λ j. None ∷ folios_of_row ps j
 folios_of_row (Some m ∷ ps) = λ j. Some m.folio.folio ∷ folios_of_row ps j
 
--- they stand there again
+-- folios that are back in their row stand at the places of their queues again
 pub places_kept : {N : Type 0} (row : List FolioMark) (queues : List FolioQueue) (before now : List (Option (MarkedFolio N))) → AreInRow row before → AreInRow row now → AreInPlaces queues before → AreInPlaces queues now
 places_kept row queues before now one other are =
     folios_of_row now ∙ ap (map (option_map (λ (a : FolioMark). a.folio))) (other ∙ sym one) ∙ sym (folios_of_row before) ∙ are
@@ -170,7 +170,7 @@ take_front : {X : Type 0} (xs ys : List X) → take (length xs) (xs ++ ys) ≡ x
 take_front [] ys = refl
 take_front (x ∷ xs) ys = ap (λ zs. x ∷ zs) (take_front xs ys)
 
--- so they do where they were lent from a longer list
+-- so they do where their places were lent as the front of a longer list
 pub places_lent : {N : Type 0} (row : List FolioMark) (queues : List FolioQueue) (before now lent : List (Option (MarkedFolio N))) (count : ℕ) → lent ≡ before → AreInRow row lent → AreInRow row now → count ≡ length before
     → AreInPlaces queues before → AreInPlaces queues (take count (now ++ drop (length now) before))
 places_lent row queues before now lent count same one other whole are =

@@ -54,7 +54,7 @@ sale_takes journal i keys before es k few all =
 
 -- ---- any item
 
--- on a kept register, all of whose entries are by earlier items
+-- What an item takes of the room at a key is at most what it keeps there, on a kept register whose entries are all by earlier items.
 item_takes : (journal : List Receipt) (i : ℕ) (at : Key → List Entry) (w : Item) (k : Key) → IsJournal journal → Kept journal at → ((j : Key) → All (λ e. e.receipt < i) (at j))
     → has k (keys_by_item journal i w) ≡ true → TakesAtMost (at k) (at_key (brought_by_item journal i at w).entries k) (room_for_item w)
 item_takes journal i at (item.Filing f) k stands kept earlier own = filing_takes journal i at k (judged_filing journal i f i at) stands own
@@ -71,7 +71,7 @@ item_takes journal i at (item.Award folio buyer bid) k stands kept earlier own =
 item_takes journal i at (item.Distribute folio) k stands kept earlier own =
     sale_takes journal i (keys_of_sale journal i folio) (at k) _ k (one_at_most (refusal_of_distribution (sale_at journal at folio i)) _ k) (distribution_is_of_item journal at folio i)
 
--- the same of receipt i
+-- What receipt i takes of the room at a key is at most what it keeps there, on a kept register whose entries are all by earlier items.
 pub receipt_takes : (journal : List Receipt) (i : ℕ) (at : Key → List Entry) (k : Key) → IsJournal journal → Kept journal at → ((j : Key) → All (λ e. e.receipt < i) (at j))
     → touches journal k i ≡ true → TakesAtMost (at k) (at_key (brings journal i at).entries k) (room_for journal i)
 receipt_takes journal i at k stands kept earlier own =
@@ -81,7 +81,7 @@ receipt_takes journal i at k stands kept earlier own =
       | None ↦ λ none. absurd (false≢true none)
     ] own
 
--- ---- what it wants
+-- ---- what an item needs
 
 item_wants : (i : ℕ) (es : List Entry) (room : ℕ) (w : Item) → FitWithNotices es room → length es + room_by_item i w es ≤ room + room_for_item w
 item_wants i es room (item.Filing f) fit = let fits = fit i in omega arith
@@ -93,7 +93,7 @@ item_wants i es room (item.OpenBids folio costs) fit = let fits = fit 0 in omega
 item_wants i es room (item.Award folio buyer bid) fit = let fits = fit 0 in omega arith
 item_wants i es room (item.Distribute folio) fit = let fits = fit 0 in omega arith
 
--- where the entries and the notices to come fit, the room that the item keeps serves what it wants besides
+-- where the entries and the notices to come fit into a room, that room and what the item keeps are enough for what the item needs
 pub receipt_wants : (journal : List Receipt) (i : ℕ) (es : List Entry) (room : ℕ) (k : Key) → FitWithNotices es room → touches journal k i ≡ true → length es + room_wanted journal i es ≤ room + room_for journal i
 receipt_wants journal i es room k fit own =
     elim (receipt_at journal i) as (λ o. has k (option_map_or (λ r. keys_by_item journal i r.item) o []) ≡ true

@@ -36,7 +36,7 @@ can_step_nowhere journal i parts numbered empty none nothing =
       earlier = λ k own. absurd (no_key (keys_of_item journal i) k none own);
     }
 
--- parts that hold nothing are none
+-- parts that hold no key are an empty list
 none_hold : (after : List PartState) → is_held after ≡ is_held [] → after ≡ []
 none_hold [] same = refl
 none_hold (p ∷ ps) same = absurd (false≢true (sym (ap (λ holds. holds p.key) same) ∙ or_left (same_key p.key p.key) (is_held ps p.key) (itself p.key)))

@@ -15,7 +15,7 @@ use Rattle.registrar.specs.Brings.{brings}
 use Rattle.registrar.specs.HasSettled.{settled_first}
 use Rattle.registrar.specs.Settling.{Settlement}
 
--- behind item n + 1 stands at a key what stood there, and what the item brings
+-- after item n + 1, what stands at a key is what stood there before, and then what the item brings
 pub at_next : (journal : List Receipt) (n : ℕ) (k : Key)
     → at (settled_first journal (n + 1)).entries k ≡ at (settled_first journal n).entries k ++ at (brings journal (n + 1) (at (settled_first journal n).entries)).entries k
 at_next journal n k =
@@ -23,7 +23,7 @@ at_next journal n k =
     ∙ at-append (settled_first journal n).entries (brings journal (n + 1) (at (settled_first journal n).entries)).entries k
 
 module _ (journal : List Receipt) (k : Key) (stands : IsJournal journal) (empty : Kept journal (λ j. [])) where
-  -- an item that does not touch the key leaves it
+  -- an item that does not touch the key leaves it as it was
   pub one_leaves : (n : ℕ) → touches journal k (n + 1) ≡ false → at (settled_first journal (n + 1)).entries k ≡ at (settled_first journal n).entries k
   one_leaves n lacks =
       let before = at (settled_first journal n).entries in

@@ -6,7 +6,7 @@ use Rattle.act_model.proofs.KeyOrder.{itself}
 use Rattle.folio_sections.specs.Held.{is_held}
 use Rattle.folio_sections.specs.PartState.{PartState}
 
--- there are none
+-- parts that hold no key are an empty list
 pub nothing_held : (parts : List PartState) → ((k : Key) → is_held parts k ≡ false) → parts ≡ []
 nothing_held [] none = refl
 nothing_held (p ∷ ps) none = absurd (false≢true (sym (none p.key) ∙ ap (λ b. b || is_held ps p.key) (itself p.key)))

@@ -1,4 +1,4 @@
--- A walk over an order tells just the permitted ones.
+-- A walk over an order accepts exactly the permitted ones.
 use Rattle.std.proofs.Common.{◌≡◌, ◌↔◌, ℕ, suc, zero, ◌+◌, ◌-◌, ◌<◌, ◌≤◌, Bool, true, false, not, nat_le, ◌&&◌, List, [], ◌∷◌, ◌++◌, All, AllPairs, Contains, IsTrue, Option, Some, None, drop, filter, get_or, length, set, slice_get, inl, inr, refl, sym, ap, subst, ◌∙◌, ⊎_elim, append_assoc, arith}
 use Rattle.std.specs.List.{list_all, range_with_len}
 use Rattle.std.specs.Option.{option_map_or}
@@ -25,7 +25,7 @@ use Rattle.desk_pool.specs.inner.OrderWalks.{has_turn, is_free, is_item, is_sett
 
 -- ---- what is noted
 
--- just these items are noted as settled, of as many as there are
+-- of so many items, exactly these are noted as settled
 record Notes (count : ℕ) (done : List ℕ) (settled : List Bool) : Type 0 where
   len : length settled ≡ count
   into : (n : ℕ) → 1 ≤ n → is_settled settled n ≡ true → In n done
@@ -105,7 +105,7 @@ one_passes t (y ∷ ys) x all there =
 keys_are : (journal : List Receipt) (i : ℕ) → 1 ≤ i → i ≤ length journal → keys_in (docket_of journal) i ≡ keys_touched journal i
 keys_are journal i low high = ap (λ o. option_map_or (λ (ks : List Key). ks) o []) (numbered_at (keys_touched journal) (length journal) i low high)
 
--- all that an item's turn says
+-- all that follows where an item has its turn
 record Turn (journal : List Receipt) (settled : List Bool) (i : ℕ) : Type 0 where
   low : 1 ≤ i
   high : i ≤ length journal
@@ -157,7 +157,7 @@ says_turn journal settled i turn =
 
 -- ---- an order that is walked to its end
 
--- the parts of an equation of lists that are not empty
+-- lists that are equal and not empty have equal first elements and equal rests
 first_same : (x y : ℕ) (xs ys : List ℕ) → x ∷ xs ≡ y ∷ ys → x ≡ y
 first_same x y xs ys is = ap (λ ns. get_or ns 0 x) is
 
@@ -181,7 +181,7 @@ noted_all (b ∷ bs) each =
     let rest = noted_all bs (λ m within. each (suc m) (omega (arith, within))) in
     λ j. here j && rest j
 
--- an item's turn, what is noted behind it, and the walk on
+-- an item has its turn, it is noted as settled, and the walk goes on
 record Goes (journal : List Receipt) (done : List ℕ) (settled : List Bool) (i : ℕ) (rest : List ℕ) : Type 0 where
   turn : Turn journal settled i
   notes : Notes (length journal) (done ++ i ∷ []) (set settled (i - 1) true)
@@ -194,7 +194,7 @@ module _ (journal : List Receipt) where
       let turn = turn_says journal settled i both.0 in
       record { turn = turn; notes = noted_next (length journal) done settled i turn.low turn.high notes; walk = both.1 }
 
-  -- each is of the journal
+  -- each item that is walked is of the journal
   walked_within : (done rest : List ℕ) (settled : List Bool) (n : ℕ) → Notes (length journal) done settled → walks (docket_of journal) settled rest ≡ true → In n rest → (1 ≤ n) × (n ≤ length journal)
   walked_within done [] settled n notes is there = absurd there
   walked_within done (i ∷ rest) settled n notes is there =
@@ -206,7 +206,7 @@ module _ (journal : List Receipt) where
       (λ later. walked_within (done ++ i ∷ []) rest (set settled (i - 1) true) n on.notes on.walk later)
       there
 
-  -- none is done already
+  -- no item that is walked was settled before
   walked_apart : (done rest : List ℕ) (settled : List Bool) (n : ℕ) → Notes (length journal) done settled → walks (docket_of journal) settled rest ≡ true → In n done → In n rest → ⊥
   walked_apart done [] settled n notes is ahead there = there
   walked_apart done (i ∷ rest) settled n notes is ahead there =
@@ -225,7 +225,7 @@ module _ (journal : List Receipt) where
       (λ y there same. walked_apart (done ++ i ∷ []) rest (set settled (i - 1) true) y on.notes on.walk (in_append_right done (i ∷ []) y (inl same)) there)))
       (walked_once (done ++ i ∷ []) rest (set settled (i - 1) true) on.notes on.walk)
 
-  -- all are there
+  -- all items of the journal are there
   walked_all : (done rest : List ℕ) (settled : List Bool) (n : ℕ) → Notes (length journal) done settled → walks (docket_of journal) settled rest ≡ true → 1 ≤ n → n ≤ length journal → In n (done ++ rest)
   walked_all done [] settled n notes is low high =
       let long = notes.len in
@@ -234,7 +234,7 @@ module _ (journal : List Receipt) where
       let on = goes done settled i rest notes is in
       subst (In n) (append_assoc done (i ∷ []) rest) (walked_all (done ++ i ∷ []) rest (set settled (i - 1) true) n on.notes on.walk low high)
 
-  -- the item before it at each key stands ahead
+  -- for each key of an item, the item before it there was walked earlier
   walked_waits : (done rest : List ℕ) (settled : List Bool) (before after : List ℕ) (i p : ℕ) (k : Key) → Notes (length journal) done settled → walks (docket_of journal) settled rest ≡ true
       → rest ≡ before ++ i ∷ after → Contains (keys_of_item journal i) k → previous journal i k ≡ Some p → In p (done ++ before)
   walked_waits done [] settled [] after i p k notes is cut own last = absurd (cc cut)
@@ -252,7 +252,7 @@ module _ (journal : List Receipt) where
       (subst (In p) (append_assoc done (r ∷ []) before)
       (walked_waits (done ++ r ∷ []) rest (set settled (r - 1) true) before after i p k on.notes on.walk (rest_same r b rest (before ++ i ∷ after) cut) own last))
 
-  -- ---- an order that waits is walked to its end
+  -- ---- an order in which items wait is walked to its end
 
   waiting_walks : (order done rest : List ℕ) (settled : List Bool) → WaitsInTurn journal order → order ≡ done ++ rest → Notes (length journal) done settled → walks (docket_of journal) settled rest ≡ true
   waiting_walks order done [] settled waits is notes =

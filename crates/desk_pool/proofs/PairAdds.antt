@@ -1,4 +1,4 @@
--- An entry that is added to the one or the other of two folios is added to both together.
+-- An entry that is added to one of two folios is added to both together.
 use Rattle.std.proofs.Common.{◌≡◌, ◌+◌, Bool, true, false, cond, ◌||◌, List, [], ◌∷◌, ◌++◌, sym, ap, ◌∙◌}
 use Rattle.std.proofs.lemmas.Bool.{false≢true}
 use Rattle.gb_base.specs.declared.keys.Key.{Key}
@@ -37,7 +37,7 @@ adds_to_second first second second1 e adds there = record {
   others_room = λ k other. λ i. cond (is_held first k) (room_at first k) (adds.others_room k other i);
 }
 
--- both hold what they held
+-- where the first still holds what it held, so do both together
 pub holds_with_first : (first first1 second : List PartState) → is_held first1 ≡ is_held first → either_holds (record { first = first1; second = second }) ≡ either_holds (record { first = first; second = second })
 holds_with_first first first1 second same = λ i k. same i k || is_held second k
 

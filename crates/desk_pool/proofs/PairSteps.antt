@@ -28,11 +28,11 @@ use Rattle.desk_pool.specs.FolioStates.{FolioState, HasAllRoom, IsBehindLock, St
 use Rattle.desk_pool.specs.RoundRooms.{room_of_first}
 use Rattle.desk_pool.specs.inner.FolioPairs.{AreApart, PairState, either_at, either_holds, either_room}
 
--- the parts of both
+-- the parts of both folios
 abbrev pub pair_of : FolioState → FolioState → PairState
 pair_of s t = record { first = s.parts; second = t.parts }
 
--- two folios of different numbers hold nothing together
+-- two folios of different numbers hold no key together
 pub apart_by_number : (journal : List Receipt) (s t : FolioState) → IsBehindLock journal s → IsBehindLock journal t → s.folio < t.folio → AreApart (is_held s.parts) (is_held t.parts)
 apart_by_number journal s t one other less =
     let of_one = own_key journal s one in
@@ -43,7 +43,7 @@ apart_by_number journal s t one other less =
       rise = λ k j here there. let low = of_one k here in let high = of_other j there in omega (arith, low, high, less);
     }
 
--- an item that touches a folio touches a key that it holds
+-- the folio holds a key that the item touches
 pub record TouchesHeld (journal : List Receipt) (s : FolioState) (i : ℕ) : Type 0 where
   pub key : Key
   pub held : is_held s.parts key ≡ true
@@ -56,9 +56,9 @@ touches_held journal s i behind turn =
       held = holds_key journal s behind i found.0 turn.low turn.high (eqb-true (folio_of_key found.0) s.folio found.2) (contains_of_in (keys_of_item journal i) found.0 found.1);
     }
 
--- ---- ahead of the step
+-- ---- before the step
 
--- All that its step asks of two folios whose turn has come, and of the pair of their parts.
+-- All that an item's step asks of two folios whose turn has come, and of the pair of their parts.
 pub record ArePairReady (journal : List Receipt) (s t : FolioState) (pair : PairState) (i : ℕ) : Type 0 where
   pub pair_is : pair ≡ pair_of s t
   pub one : IsBehindLock journal s
@@ -104,7 +104,7 @@ pair_is_ready journal s t i one other empty less next_one next_other own =
       kept = (left_by journal (i - 1) one.numbered empty).settled.kept;
     }
 
--- the same of a journal by its name, and of folios by their fields
+-- two folios whose turn has come are ready, where the journal is known by its name and the folios by their fields
 pub pair_ready_named : (names journal : List Receipt) (s t first second : FolioState) (pair : PairState) (first_queue second_queue : List ℕ) (i : ℕ) → journal ≡ names → IsBehindLock names s → IsBehindLock names t → Kept names (λ k. [])
     → s ≡ first → t ≡ second → first.folio < second.folio → first_queue ≡ queue_of names first.folio → second_queue ≡ queue_of names second.folio
     → true ≡ is_next first_queue first.taken i → true ≡ is_next second_queue second.taken i
@@ -117,14 +117,14 @@ pair_ready_named names journal s t first second pair first_queue second_queue i 
     (subst (λ j. ArePairReady j s t (pair_of s t) i) (sym named)
     (subst (λ x. ArePairReady names x t (pair_of x t) i) (sym one_is) (subst (λ y. ArePairReady names first y (pair_of first y) i) (sym other_is) ready)))
 
--- ---- behind the step
+-- ---- after the step
 
 -- Both are behind their locks again.
 pub record AreBehind (names : List Receipt) (s t : FolioState) (taken_one taken_other : ℕ) (parts_one parts_other : List PartState) (scratch : ScratchRoom) : Type 0 where
   pub one : IsBehindLock names (record { folio = s.folio; taken = taken_one; parts = parts_one; scratch = scratch })
   pub other : IsBehindLock names (record { folio = t.folio; taken = taken_other; parts = parts_other; scratch = t.scratch })
 
--- what the step leaves at the keys of both, it leaves at those of each
+-- what the step leaves at the keys of both together, it leaves at the keys of each
 module _ (journal : List Receipt) (s t : FolioState) (i : ℕ) (after : PairState) (ready : ArePairReady journal s t (pair_of s t) i) (apart : AreApart (is_held after.first) (is_held after.second))
     (held : either_holds after ≡ either_holds (pair_of s t))
     (added : AddsList (either_at (pair_of s t)) (either_at after) (either_room (pair_of s t)) (either_room after) (brings journal i (at (settled_first journal (i - 1)).entries)).entries) where

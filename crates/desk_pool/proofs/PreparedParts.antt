@@ -36,7 +36,7 @@ pub record AreHeldSoFar (parts : List PartState) (keys : List KeyRoom) (done : �
   pub held : (k : Key) → is_held parts k ≡ is_given (map key_of (take done keys)) k
   pub empty : (k : Key) → entries_at parts k ≡ []
 
--- They have their room too.
+-- The first so many of these keys are held and empty, and have their room.
 pub record HeldSoFar (parts : List PartState) (keys : List KeyRoom) (done : ℕ) : Type 0 where
   pub so_far : AreHeldSoFar parts keys done
   pub room : (i : ℕ) (d : KeyRoom) → i < done → (get_or keys i d).room ≤ room_at parts (get_or keys i d).key
@@ -98,7 +98,7 @@ held_next parts held after keys i r so_far within is holds stays wider same entr
 
 -- ---- parts for those keys of a map that pass a test
 
--- a key among these has its room
+-- a key that is given among these has an element with its room
 pub in_list : (P : KeyRoom → Type 0) (list : List KeyRoom) (k : Key) → All P list → is_given (map key_of list) k ≡ true → (r : KeyRoom) × (P r × (r.key ≡ k))
 in_list P [] k all there = absurd (false≢true there)
 in_list P (r ∷ rs) k all there =
@@ -151,7 +151,7 @@ listed_rooms rooms es all = λ i d within.
 pub all_listed : (rooms : BTreeMap Key ℕ) → IsOrdered key_cmp rooms → AreRoomsAt rooms (λ k. true) (map room_of_entry rooms.entries)
 all_listed rooms ordered = record { keys = given_is rooms.entries; rooms_are = listed_rooms rooms rooms.entries (entries_found rooms ordered) }
 
--- ---- those of a folio
+-- ---- the keys of a folio
 
 pub title_first : (folio : ℕ) → IsLeBy key_cmp (Title folio) (Case folio)
 title_first folio = grind (arith, nat_tests)

@@ -1,4 +1,4 @@
--- The register that prepared parts are behind the items of a whole permitted order.
+-- The register that prepared parts are after the items of a whole permitted order.
 use Rattle.std.proofs.Common.{◌≡◌, ℕ, suc, ◌+◌, ◌-◌, ◌<◌, Bool, true, false, cond, List, [], ◌∷◌, IsTrue, Some, filter, length, map, slice_get, refl, sym, ap, subst, ◌∙◌, arith}
 use Rattle.std.specs.List.{enumerate_from, range_with_len}
 use Rattle.std.proofs.lemmas.List.FromFn.{length-enumerate_from}
@@ -37,7 +37,7 @@ use Rattle.desk_pool.specs.inner.TheRegister.{IsTheRegister}
 
 -- ---- verdicts
 
--- a list that has at each place what is said of its number
+-- a list that has at each place what a function gives for its number is the list of what the function gives
 enumerated : (f : ℕ → Verdict) (a : ℕ) (vs : List Verdict) → ((k : ℕ) → k < length vs → slice_get vs k ≡ Some (f (a + k))) → enumerate_from a vs ≡ map (λ n. (n, f n)) (range_with_len a (length vs))
 enumerated f a [] each = refl
 enumerated f a (v ∷ vs) each =

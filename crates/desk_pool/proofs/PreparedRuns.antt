@@ -1,4 +1,4 @@
--- RegisterFrame parts in which the items of a permitted order are settled, one after the other.
+-- Prepared parts in which the items of a permitted order are settled, one after the other.
 use Rattle.std.proofs.Common.{◌≡◌, ℕ, ◌+◌, ◌-◌, ◌<◌, ◌≤◌, List, [], ◌∷◌, ◌++◌, All, Contains, IsTrue, Some, drop, get_or, length, set, slice_get, take, inl, refl, sym, ap, subst, ◌∙◌, ⊎_elim, length-append, arith}
 use Rattle.std.specs.List.{range_with_len}
 use Rattle.std.proofs.lemmas.Bool.{cases_eq}
@@ -43,7 +43,7 @@ none_taken journal s prepared = record {
   verdicts = λ n there. absurd (in_of_contains [] n there);
 }
 
--- the verdict of an item in the order of receipts
+-- the verdict that an item has in the order of receipts
 abbrev pub verdict_first : List Receipt → ℕ → Verdict
 verdict_first journal n = (brings journal n (at (settled_first journal (n - 1)).entries)).verdict
 
@@ -64,7 +64,7 @@ unwritten vs n i v w low high above unlike is =
     ∙ sym (slice_get-get_or vs (n - 1) v (omega (arith, low, high)))
     ∙ is
 
--- all that a step asks of what it is lent
+-- all that an item's step asks of the frame in which it is made
 pub record CanTake (journal : List Receipt) (i : ℕ) (s : RegisterFrame) : Type 0 where
   pub low : 1 ≤ i
   pub high : i ≤ length journal
@@ -74,7 +74,7 @@ pub record CanTake (journal : List Receipt) (i : ℕ) (s : RegisterFrame) : Type
   pub kept : StandsForKeptAwards journal (is_held s.parts) (entries_at s.parts)
   pub earlier : (k : Key) → Contains (keys_of_item journal i) k → All (λ e. e.receipt < i) (entries_at s.parts k)
 
--- what a step leaves of an item that brings something to the register behind those that are done
+-- what the step of an item leaves, by what the item brings to the register after those that are done
 pub record IsStep (journal : List Receipt) (done : List ℕ) (i : ℕ) (before after : RegisterFrame) (v : Verdict) : Type 0 where
   pub held : is_held after.parts ≡ is_held before.parts
   pub added : AddsList (entries_at before.parts) (entries_at after.parts) (room_at before.parts) (room_at after.parts) (brings journal i (at (settled_in_order journal done).entries)).entries
@@ -169,11 +169,11 @@ module _ (journal : List Receipt) (done left : List ℕ) (i : ℕ) (numbered : I
 
 -- ---- at a place of an order
 
--- with the item there one more is done
+-- with the item at this place one more is done
 pub one_more : (order : List ℕ) (place i : ℕ) → place < length order → i ≡ get_or order place i → take (place + 1) order ≡ take place order ++ i ∷ []
 one_more order place i within is = take_more order place i within ∙ ap (λ n. take place order ++ n ∷ []) (sym is)
 
--- the order is cut at it
+-- the order is cut at the item
 pub cut_at_place : (journal : List Receipt) (order : List ℕ) (place i : ℕ) → place < length order → i ≡ get_or order place i → IsPermitted journal order
     → IsPermitted journal (take place order ++ i ∷ drop (place + 1) order)
 cut_at_place journal order place i within is permitted =

@@ -1,4 +1,4 @@
--- A scratch with room for the rights of each folio that has a sale serves each item.
+-- A scratch with room for the rights of each folio that has a sale has room for each item.
 use Rattle.std.proofs.Common.{◌≡◌, ⊎_elim, ℕ, zero, suc, ◌+◌, ◌*◌, ◌-◌, ◌<◌, ◌≤◌, nat_lt, Bool, true, false, cond, ◌||◌, ◌==◌, List, [], ◌∷◌, Some, None, All, IfSome, filter, flat_map, get_or, length, map, slice_get, sum_by, take, refl, sym, ap, subst, ◌∙◌, arith}
 use Rattle.std.specs.BTreeMap.{BTreeMap}
 use Rattle.std.specs.List.{list_any, range_with_len}
@@ -41,7 +41,7 @@ use Rattle.registrar.specs.HeldKeys.{keys_of_first}
 use Rattle.registrar.specs.Rooms.{IsForFolio, IsRoomy}
 use Rattle.sale_rules.specs.ScratchRoom.{ScratchRoom}
 
--- ---- the room of a folio's rights serves each item that reckons there
+-- ---- the room for a folio's rights is enough for each item that computes a lowest bid there
 
 fewer_pass : {X : Type 0} (p : X → Bool) (xs : List X) → length (filter p xs) ≤ length xs
 fewer_pass p [] = omega arith
@@ -52,7 +52,7 @@ fewer_pass p (x ∷ xs) =
       | false ↦ omega (arith, rest)
     ]
 
--- a sum over those that pass, of no more each
+-- a sum over those that pass is no more than the sum over all of numbers that are no smaller
 smaller_sum : {X : Type 0} (f g : X → ℕ) (p : X → Bool) (xs : List X) → ((x : X) → f x ≤ g x) → sum_by f (filter p xs) ≤ sum_by g xs
 smaller_sum f g p [] less = omega arith
 smaller_sum {X} f g p (x ∷ xs) less =
@@ -100,7 +100,7 @@ few_filed journal folio ids are =
     let count = ap length are in
     omega (arith, few, count)
 
--- ---- a larger scratch serves too
+-- ---- a larger scratch has room, too
 
 pub larger_serves : (journal : List Receipt) (k : Key) (old new : ScratchRoom) → IsNoSmaller old new → ServesAt journal k old → ServesAt journal k new
 larger_serves journal (Case folio) old new kept serves = λ i within.
@@ -119,7 +119,7 @@ next_serves journal keys i r old new within is kept here so_far j d less =
     (λ other. larger_serves journal (get_or keys j d).key old new kept (so_far j d (omega (arith, other, less))))
     (cases_eq j i)
 
--- ---- an item that reckons touches the sale of its folio
+-- ---- an item that computes a lowest bid touches the sale of its folio
 
 case_first : (journal : List Receipt) (i folio : ℕ) → has_key (Case folio) (keys_of_sale journal i folio) ≡ true
 case_first journal i folio = ap (λ b. b || has_key (Case folio) (Title folio ∷ map (Right folio) (earlier_rights journal i folio))) (itself (Case folio))
@@ -128,7 +128,7 @@ no_right : (folio f : ℕ) (ids : List RightNo) → (f == folio) ≡ false → l
 no_right folio f [] apart = refl
 no_right folio f (id ∷ ids) apart = ap (λ b. b || list_any (λ k. folio_of_key k == folio) (map (Right f) ids)) apart ∙ no_right folio f ids apart
 
--- all keys of a sale are of its folio
+-- the keys of a sale are all of its folio
 of_sale : (journal : List Receipt) (i folio f : ℕ) → list_any (λ k. folio_of_key k == folio) (keys_of_sale journal i f) ≡ true → f ≡ folio
 of_sale journal i folio f touched =
     let ids = earlier_rights journal i f in
@@ -197,7 +197,7 @@ module _ (journal : List Receipt) (scratch : ScratchRoom) where
         | Some r ↦ λ is there given. in_folio journal i folio (before i) scratch r.item there (given (received journal i r is))
       ] refl touched (λ within has. serves (given_case i within folio has) i within)
 
--- the sale of a folio is among the keys of a list of all
+-- a scratch that has room for all keys has room for a folio whose sale an item touches
 pub at_case : (journal : List Receipt) (rooms : BTreeMap Key ℕ) (keys : List KeyRoom) (scratch : ScratchRoom) (folio : ℕ) → AreRooms journal rooms → AreRoomsAt rooms (λ k. true) keys
     → All (λ r. ServesAt journal r.key scratch) keys → is_given (keys_of_first journal (length journal)) (Case folio) ≡ true → ServesFolio journal folio scratch
 at_case journal rooms keys scratch folio are all serves given =

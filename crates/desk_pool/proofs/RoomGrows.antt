@@ -1,4 +1,4 @@
--- How much room the entries at a key and the notices still to come there take together, behind more entries.
+-- How much room the entries at a key and the notices still to come there take together, as entries are added.
 use Rattle.std.proofs.Common.{◌≡◌, ℕ, ◌+◌, ◌-◌, ◌≤◌, true, eqb, List, ◌++◌, length, length-append, arith}
 use Rattle.std.specs.List.{AllByRecursion}
 use Rattle.gb_base.proofs.Members.{In}
@@ -9,11 +9,11 @@ use Rattle.registrar.specs.Rooms.{most_brought}
 use Rattle.desk_pool.proofs.CountedNumbers.{none_pass, one_alone}
 use Rattle.desk_pool.proofs.WaitingBehind.{Starts, less_by, more_by, nobody}
 
--- the entries, and a notice for each filing that waits without one, fit into the room, whichever receipts are asked
+-- the entries, and a notice for each filing before receipt m that waits without one, fit into the room, for any m
 abbrev pub FitWithNotices : List Entry → ℕ → Type 0
 FitWithNotices es room = (m : ℕ) → length es + length (waiting_unnoticed m es) ≤ room
 
--- The entries behind take so much room at most: whichever receipts are asked behind them, there are some of whom it is so that were asked before.
+-- The new entries take at most so much room: for any receipt m there is a receipt n so that the entries and the notices to come before m are at most those that were there before n, and so much more.
 abbrev pub TakesAtMost : List Entry → List Entry → ℕ → Type 0
 TakesAtMost before es most = (m : ℕ) → (n : ℕ) × (length (before ++ es) + length (waiting_unnoticed m (before ++ es)) ≤ (length before + length (waiting_unnoticed n before)) + most)
 
@@ -28,7 +28,7 @@ takes_less before es few most less takes m = let so = takes m in (so.0, omega (a
 
 -- ---- entries by what they set to wait
 
--- none
+-- the new entries set no filing to wait
 pub takes_its_entries : (before es : List Entry) (most : ℕ) → length es ≤ most → AllByRecursion (λ e. Starts nobody e.what) es → TakesAtMost before es most
 takes_its_entries before es most few all m =
     let both = length-append before es in
@@ -36,7 +36,7 @@ takes_its_entries before es most few all m =
     let none = none_pass (receipts_before m) in
     (m, omega arith)
 
--- one filing: its notice is still to come
+-- the new entry sets one filing to wait, whose notice is still to come
 pub takes_a_notice : (f : ℕ) (before es : List Entry) → length es ≤ 1 → AllByRecursion (λ e. Starts (eqb f) e.what) es → TakesAtMost before es 2
 takes_a_notice f before es few all m =
     let both = length-append before es in
@@ -44,7 +44,7 @@ takes_a_notice f before es few all m =
     let one = one_alone f 1 (m - 1) in
     (m, omega arith)
 
--- none, and each that waited without a notice has it among these entries
+-- the new entries set no filing to wait, and have the notice of each filing that waited without one
 pub notices_have_room : (f : ℕ) (before es : List Entry) → length es ≤ most_brought + length (waiting_unnoticed f before) → AllByRecursion (λ e. Starts nobody e.what) es
     → ((n : ℕ) → In n (waiting_unnoticed f before) → is_noticed n es ≡ true) → TakesAtMost before es most_brought
 notices_have_room f before es few all noticed m =

@@ -1,4 +1,4 @@
--- The room that the items up to one keep at a key serves what stands there, and the exchanges by which rights rise.
+-- The room that the items up to one keep at a key is enough for what stands there, and for the exchanges by which rights rise.
 use Rattle.std.proofs.Common.{◌≡◌, ⊎_elim, ℕ, zero, suc, ◌+◌, ◌-◌, ◌≤◌, Bool, true, false, cond, List, [], ◌∷◌, ◌++◌, Option, Some, None, filter, filter_map, length, sum_by, Contains, refl, sym, ap, subst, ◌∙◌, length-append, arith}
 use Rattle.std.specs.List.{cons_option, range_with_len}
 use Rattle.std.proofs.lemmas.Bool.{cases_Bool}
@@ -79,7 +79,7 @@ module _ (journal : List Receipt) (k : Key) (stands : IsJournal journal) (empty 
       (subst (λ (all : List Entry). FitWithNotices all room) (sym (one_leaves journal k stands empty n lacks)) fit))
       (cases_Bool (touches journal k (n + 1)))
 
-  -- the entries behind the first n items, and the notices that are still to come, fit into the room that these keep
+  -- the entries after the first n items, and the notices that are still to come, fit into the room that these items keep
   first_fit : (n : ℕ) → FitWithNotices (at (settled_first journal n).entries k) (room_of_first journal n k)
   first_fit zero = λ m. let none = unnoticed_at_most m [] in omega arith
   first_fit (suc n) =
@@ -98,7 +98,7 @@ module _ (journal : List Receipt) (k : Key) (stands : IsJournal journal) (empty 
       ∙ ap (λ b. room + cond b (room_for journal i) 0) own in
       omega (arith, wants, next)
 
-  -- the entries alone
+  -- so the entries alone fit into it
   pub entries_fit : (n : ℕ) → length (at (settled_first journal n).entries k) ≤ room_of_first journal n k
   entries_fit n = let fits = first_fit n 0 in omega arith
 

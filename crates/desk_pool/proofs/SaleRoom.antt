@@ -1,4 +1,4 @@
--- An item of a forced sale brings one entry at a key at most.
+-- An item of a forced sale brings at most one entry at a key.
 use Rattle.std.proofs.Common.{◌≡◌, ⊎_elim, ℕ, ◌<◌, ◌≤◌, All, Bool, true, false, cond, ◌&&◌, ◌==◌, List, [], ◌∷◌, ◌++◌, flat_map, length, Option, Some, None, refl, sym, ap, subst, ◌∙◌, arith}
 use Rattle.std.specs.List.{AllByRecursion}
 use Rattle.std.specs.Option.{option_map_or}
@@ -47,7 +47,7 @@ different x y before = grind (arith, nat_tests, before)
 apart_keys : (folio : ℕ) (x y : RightNo) → is_numbered_before x y ≡ true → same_key (Right folio x) (Right folio y) ≡ false
 apart_keys folio x y before = ap (λ b. (folio == folio) && (true && b)) (different x y before) ∙ neither_way (folio == folio)
 
--- a key is not that of two rights
+-- a key is not that of two different rights
 other_right : (folio : ℕ) (x y : RightNo) (k : Key) → is_numbered_before x y ≡ true → same_key (Right folio x) k ≡ true → same_key (Right folio y) k ≡ false
 other_right folio x y k before is =
     ⊎_elim
@@ -94,7 +94,7 @@ module _ (journal : List Receipt) (i folio : ℕ) (claimed : SaleClaims) (cover 
       omega arith)
       (cases_Bool (same_key (Right folio id) k))
 
-  -- with an entry at the case and one at the title
+  -- what is left of rights, an entry at the case and one at the title are at most one entry at a key
   with_award : (case title : Entry) (ids : List RightNo) (k : Key) → case.key ≡ Case folio → title.key ≡ Title folio → AscendByNumber ids → length (at (case ∷ title ∷ flat_map left ids) k) ≤ 1
   with_award case title ids (Case other) own_case own_title up =
       let k = Case other in
@@ -123,7 +123,7 @@ module _ (journal : List Receipt) (i folio : ℕ) (claimed : SaleClaims) (cover 
 
 -- ---- awards
 
--- on a kept register, all of whose entries are by earlier items
+-- an award brings at most one entry at a key, on a kept register whose entries are all by earlier items
 pub award_few : (journal : List Receipt) (register : Key → List Entry) (folio i buyer bid : ℕ) (k : Key) → IsJournal journal → Kept journal register → ((j : Key) → All (λ e. e.receipt < i) (register j))
     → length (at (award_brought (sale_at journal register folio i) buyer bid) k) ≤ 1
 award_few journal register folio i buyer bid k stands kept earlier =

@@ -1,4 +1,4 @@
--- A verdict more is said of the items of a journal.
+-- One verdict more is said of the items of a journal.
 use Rattle.std.proofs.Common.{◌≡◌, ⊎_elim, ℕ, zero, suc, ◌+◌, ◌-◌, ◌<◌, ◌≤◌, Bool, false, true, get_or, List, [], ◌∷◌, length, set, Some, slice_get, refl, sym, ap, ◌∙◌, arith}
 use Rattle.std.specs.List.{list_all}
 use Rattle.std.specs.Option.{option_map_or}
@@ -11,7 +11,7 @@ use Rattle.registrar.specs.declared.verdicts.Verdict.{Verdict}
 use Rattle.registrar.specs.declared.verdicts.Verdict.TheVariants.{NotPending}
 use Rattle.desk_pool.specs.inner.Boards.{AreSaid}
 
--- at its place a written element is found, and elsewhere what was there
+-- an element that is written at a place is found there
 pub written_there : {X : Type 0} (xs : List X) (i : ℕ) (y : X) → i < length xs → slice_get (set xs i y) i ≡ Some y
 written_there [] i y within = absurd (omega arith)
 written_there (x ∷ xs) zero y within = refl
@@ -37,7 +37,7 @@ said_set journal verdicts said item i v number within is before = λ n verdict t
     (λ apart. before n verdict (sym (written_apart said i n true apart) ∙ told) (sym (written_apart verdicts i n v apart) ∙ there))
     (cases_eq n i)
 
--- where each is said, the verdicts are those of the one registrar
+-- where all verdicts are said, the one at any place is
 all_told : (said : List Bool) (n : ℕ) → list_all (λ b. b) said ≡ true → n < length said → slice_get said n ≡ Some true
 all_told [] n all within = absurd (omega arith)
 all_told (true ∷ bs) zero all within = refl

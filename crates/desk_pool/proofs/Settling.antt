@@ -1,4 +1,4 @@
--- What a step of an item finds where its turn has come, and what it leaves.
+-- What the step of an item finds where its turn has come, and what it leaves.
 use Rattle.std.proofs.Common.{◌≡◌, ℕ, zero, suc, ◌+◌, ◌-◌, ◌<◌, ◌≤◌, Bool, true, false, cond, eqb, ◌==◌, List, [], ◌++◌, All, Contains, IsTrue, find, length, map, Some, option_map, sym, ap, subst, ◌∙◌, length-append, arith}
 use Rattle.std.specs.List.{range_with_len}
 use Rattle.std.proofs.lemmas.Bool.Decides.{nat_tests}
@@ -27,17 +27,17 @@ use Rattle.desk_pool.proofs.NothingBetween.{at_next, nothing_between}
 use Rattle.desk_pool.proofs.RoomsSuffice.{room_grows, room_suffices}
 use Rattle.desk_pool.proofs.Turns.{key_untouched}
 
--- the number of an item, from the one before it
+-- the number before an item's, and 1, is the item's number
 number_back : (i : ℕ) → 1 ≤ i → (i - 1) + 1 ≡ i
 number_back i low = omega (arith, low)
 
--- where no item from one number to another touches the folio, its parts say at the other what they say at the one
+-- where no item after n and up to m touches the folio, its parts have at item m what they have at item n
 pub stands_on : (journal : List Receipt) (folio n m : ℕ) (holds : Key → Bool) (stands : Key → List Entry) → IsJournal journal → Kept journal (λ k. []) → n ≤ m → ((i : ℕ) → n < i → i ≤ m → touches_folio journal folio i ≡ false)
     → ((k : Key) → IsTrue (holds k) → folio_of_key k ≡ folio) → StandsAt journal n holds stands → StandsAt journal m holds stands
 stands_on journal folio n m holds stands numbered empty within none own before = λ k held.
     before k held ∙ sym (nothing_between journal k numbered empty n m within (λ i above most. key_untouched journal folio i k (own k held) (none i above most)))
 
--- all that a step asks of what it is lent
+-- all that an item's step asks of what it is lent
 pub record CanStep (journal : List Receipt) (i : ℕ) (holds : Key → Bool) (stands : Key → List Entry) (room : Key → ℕ) : Type 0 where
   pub wide : HasItsRoom journal i stands room
   pub kept : StandsForKeptAwards journal holds stands
@@ -65,7 +65,7 @@ can_step journal i holds stands room numbered empty low high held there roomy =
           (subst (λ m. All (λ e. e.receipt < m) (at (settled_first journal (i - 1)).entries k)) (number_back i low) (left.settled.earlier k));
     }
 
--- behind the step the parts say what stands behind the item
+-- after the step the parts have what the one registrar leaves after the item
 pub stands_behind : (journal : List Receipt) (i : ℕ) (holds : Key → Bool) (stands after : Key → List Entry) (room left : Key → ℕ) → 1 ≤ i
     → StandsAt journal (i - 1) holds stands → AddsList stands after room left (brings journal i (at (settled_first journal (i - 1)).entries)).entries → StandsAt journal i holds after
 stands_behind journal i holds stands after room left low there added = λ k held.
@@ -76,7 +76,7 @@ stands_behind journal i holds stands after room left low there added = λ k held
     ∙ sym (at_next journal (i - 1) k)
     ∙ ap (λ n. at (settled_first journal n).entries k) (number_back i low)
 
--- and have place for as much as before
+-- after the step the parts still have place for all that the journal's items enter
 pub room_behind : (journal : List Receipt) (holds : Key → Bool) (stands after : Key → List Entry) (room left : Key → ℕ) (entries : List Entry)
     → HasAllRoom journal holds stands room → AddsList stands after room left entries → HasAllRoom journal holds after left
 room_behind journal holds stands after room left entries roomy added = λ k held.
@@ -87,7 +87,7 @@ room_behind journal holds stands after room left entries roomy added = λ k held
 
 -- ---- the verdict
 
--- among verdicts that follow from their numbers, those of a row have each its own
+-- where each verdict follows from its number, each number of a row has its own verdict
 verdict_at : (g : ℕ → Verdict) (a n d : ℕ) → d < n → verdict_among (map (λ j. (j, g j)) (range_with_len a n)) (a + d) ≡ Some (g (a + d))
 verdict_at g a zero d within = absurd (omega (arith, within))
 verdict_at g a (suc n) zero within =

@@ -27,12 +27,12 @@ use Rattle.desk_pool.proofs.Saying.{same_inside, written_apart, written_there}
 
 -- ---- one key
 
--- The parts have place at the key, and where a premise holds what the one registrar leaves there.
+-- The parts have place at the key; and where a premise holds, they have what the one registrar leaves there.
 pub record IsBackAt (journal : List Receipt) (P : Type 0) (parts : List PartState) (k : Key) : Type 0 where
   pub stands : P → entries_at parts k ≡ at (registrar journal).entries k
   pub room : room_of_first journal (length journal) k ≤ length (entries_at parts k) + room_at parts k
 
--- so do those of the key's folio
+-- The parts of the key's folio have place at the key; and where a premise holds, they have what the one registrar leaves there.
 abbrev pub IsBackFor : List Receipt → Type 0 → List FolioQueue → List (List PartState) → Key → Type 0
 IsBackFor journal P queues back k =
     (place : ℕ) (parts : List PartState) → option_map (λ q. q.folio) (slice_get queues place) ≡ Some (folio_of_key k) → slice_get back place ≡ Some parts → IsBackAt journal P parts k
@@ -45,7 +45,7 @@ taken_back journal P parts after from key takes back =
     let entries : length (entries_at after key) ≡ length (entries_at from key) = ap length takes.there in
     record { stands = λ p. takes.there ∙ back.stands p; room = omega (arith, entries, places, enough) }
 
--- at the other keys all stays
+-- at the other keys the parts stay as they were
 back_elsewhere : (journal : List Receipt) (P : Type 0) (parts after from : List PartState) (key : Key) → TakesAt parts after from key
     → (k : Key) → same_key key k ≡ false → IsBackAt journal P parts k → IsBackAt journal P after k
 back_elsewhere journal P parts after from key takes k apart back =
@@ -69,12 +69,12 @@ back_later journal P queues parts after back left key k over apart are = λ at f
 
 -- ---- all keys
 
--- each folio's parts are at its keys
+-- the parts of each folio are held at the folio's keys
 abbrev pub AreHeldBack : List Receipt → List FolioQueue → List (List PartState) → Type 0
 AreHeldBack journal queues back =
     (place : ℕ) (folio : ℕ) (parts : List PartState) → option_map (λ q. q.folio) (slice_get queues place) ≡ Some folio → slice_get back place ≡ Some parts → (k : Key) → is_held parts k ≡ is_key_of journal folio k
 
--- So far the first i keys are taken over, and the others are still back.
+-- The first i keys are taken over, and the others are still back in the parts of their folios.
 pub record AreTakenOver (journal : List Receipt) (P : Type 0) (queues : List FolioQueue) (before parts : List PartState) (lent : List (List PartState)) (keys : List KeyRoom) (i : ℕ) : Type 0 where
   pub held : is_held parts ≡ is_held before
   pub count : length lent ≡ length queues
@@ -82,22 +82,22 @@ pub record AreTakenOver (journal : List Receipt) (P : Type 0) (queues : List Fol
   pub taken : (j : ℕ) (d : KeyRoom) → j < i → IsBackAt journal P parts (get_or keys j d).key
   pub back : (j : ℕ) (d : KeyRoom) → i ≤ j → j < length keys → IsBackFor journal P queues lent (get_or keys j d).key
 
--- the queue at a place has the folio
+-- where the queue at a place is of the folio, there is a queue, and it has the folio's number
 queued : (o : Option FolioQueue) (folio : ℕ) → option_map (λ q. q.folio) o ≡ Some folio → (queue : FolioQueue) × (o ≡ Some queue) × (queue.folio ≡ folio)
 queued None folio is = absurd (grind (arith, is))
 queued (Some queue) folio is = (queue, refl, same_inside queue.folio folio is)
 
--- an element that is found is that of the place
+-- an element that is found at a place is the one that is read there
 found_is : {X : Type 0} (xs : List X) (i : ℕ) (d x : X) → slice_get xs i ≡ Some x → get_or xs i d ≡ x
 found_is xs i d x there = same_inside (get_or xs i d) x (sym (slice_get-get_or xs i d (found_within xs i x there)) ∙ there)
 
--- the key of an element is among the keys
+-- the key of an element of the list is given among its keys
 key_given : (keys : List KeyRoom) (i : ℕ) (d : KeyRoom) → i < length keys → is_given (map (λ w. w.key) keys) (get_or keys i d).key ≡ true
 key_given [] i d within = absurd (omega arith)
 key_given (w ∷ ws) zero d within = ap (λ b. b || is_given (map (λ v. v.key) ws) w.key) (itself w.key)
 key_given (w ∷ ws) (suc i) d within = or_right (same_key w.key (get_or ws i d).key) (is_given (map (λ v. v.key) ws) (get_or ws i d).key) (key_given ws i d (omega arith))
 
--- in a folio's parts there is place at each of the journal's keys
+-- the parts of a folio have place at each of its keys that the journal's items touch
 back_at_start : (journal : List Receipt) (queues : List FolioQueue) (back : List (List PartState)) (k : Key) → AllBack journal queues back → is_given (keys_of_first journal (length journal)) k ≡ true
     → IsBackFor journal (AreSettled journal back) queues back k
 back_at_start journal queues back k all given = λ place parts folio there.
@@ -122,7 +122,7 @@ none_taken_over journal queues parts back keys all are =
       back = λ j d above within. back_at_start journal queues back (get_or keys j d).key all (sym (are.all (get_or keys j d).key) ∙ key_given keys j d within);
     }
 
--- the same element, whatever stands in for none
+-- within a list the element read does not depend on the default
 any_default : {X : Type 0} (xs : List X) (i : ℕ) (d e : X) → i < length xs → get_or xs i d ≡ get_or xs i e
 any_default xs i d e within = same_inside (get_or xs i d) (get_or xs i e) (sym (slice_get-get_or xs i d within) ∙ slice_get-get_or xs i e within)
 
@@ -130,7 +130,7 @@ apart_back : (j k : Key) → same_key j k ≡ false → same_key k j ≡ false
 apart_back j k apart =
     ⊎_elim (λ same. absurd (true≢false (sym (itself k) ∙ ap (λ x. same_key x k) (same_is k j same) ∙ apart))) (λ other. other) (cases_Bool (same_key k j))
 
--- what was exchanged still has the folio's keys
+-- parts that were exchanged at a key still have the folio's keys
 held_later : (journal : List Receipt) (queues : List FolioQueue) (parts after : List PartState) (back left : List (List PartState)) (key : Key) → IsTakenOver queues parts after back left key
     → AreHeldBack journal queues back → AreHeldBack journal queues left
 held_later journal queues parts after back left key over are = λ at folio found is here k.
@@ -143,7 +143,7 @@ held_later journal queues parts after back left key over are = λ at folio found
     (λ other. are at folio found is (sym (written_apart back over.place at over.given other) ∙ there) k)
     (cases_eq at over.place)
 
--- one key more
+-- one key more is taken over
 pub one_more_taken : (journal : List Receipt) (P : Type 0) (queues : List FolioQueue) (before parts after : List PartState) (lent left : List (List PartState)) (keys : List KeyRoom) (i : ℕ) (w : KeyRoom)
     → AllPairs (λ v later. same_key v.key later.key ≡ false) keys → i < length keys → w ≡ get_or keys i w → AreTakenOver journal P queues before parts lent keys i
     → IsTakenOver queues parts after lent left w.key → AreTakenOver journal P queues before after left keys (i + 1)
@@ -187,9 +187,9 @@ module _ (journal : List Receipt) (P : Type 0) (queues : List FolioQueue) (befor
   pub settled_taken : P → StandsSettled journal parts
   settled_taken settled = λ k held. (at_held k held).stands settled
 
--- ---- what one key wants
+-- ---- what one key needs
 
--- something stands at a place within
+-- at a place within a list something is found
 there_within : {X : Type 0} (xs : List X) (i : ℕ) → i < length xs → (x : X) × (slice_get xs i ≡ Some x)
 there_within [] i within = absurd (omega arith)
 there_within (x ∷ xs) zero within = (x, refl)
@@ -209,7 +209,7 @@ held_in_folio journal P queues before parts lent keys i k over given = λ place 
           ∙ given,
     )
 
--- the key of an element is one of the journal's
+-- the key of an element of the list is one that the journal's items touch
 pub given_at_place : (journal : List Receipt) (keys : List KeyRoom) (i : ℕ) (w : KeyRoom) → AreAllKeys journal keys → i < length keys → w ≡ get_or keys i w → is_given (keys_of_first journal (length journal)) w.key ≡ true
 given_at_place journal keys i w are within is =
     subst (λ v. is_given (keys_of_first journal (length journal)) v.key ≡ true) (sym is) (sym (are.all (get_or keys i w).key) ∙ key_given keys i w within)

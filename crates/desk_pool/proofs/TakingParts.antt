@@ -14,7 +14,7 @@ use Rattle.desk_pool.proofs.Saying.{same_inside}
 
 -- ---- places
 
--- the folio of the queue at a place stands there
+-- at the place of a queue stands the folio of the queue
 in_place : {N : Type 0} (queues : List FolioQueue) (places : List (Option (MarkedFolio N))) (i : ℕ) → AreInPlaces queues places → i < length queues
     → (m : MarkedFolio N) × (q : FolioQueue) × (slice_get places i ≡ Some (Some m)) × (slice_get queues i ≡ Some q) × (m.folio.folio ≡ q.folio)
 in_place [] places i are within = absurd (omega (arith, within))
@@ -30,7 +30,7 @@ places_length [] (p ∷ ps) are = absurd (grind (arith, are))
 places_length (q ∷ qs) [] are = absurd (grind (arith, are))
 places_length (q ∷ qs) (p ∷ ps) are = ap suc (places_length qs ps (ap tail are))
 
--- what is found behind a push stood there, or is what was pushed
+-- what is found in a list with one element pushed stood there before, or is the one that was pushed
 found_behind : {X : Type 0} (xs : List X) (x : X) (i : ℕ) (y : X) → slice_get (xs ++ x ∷ []) i ≡ Some y → (slice_get xs i ≡ Some y) ⊎ ((i ≡ length xs) × (x ≡ y))
 found_behind [] x zero y there = inr (refl, same_inside x y there)
 found_behind [] x (suc i) y there = absurd (grind (arith, there))
@@ -54,14 +54,14 @@ no_parts journal queues places back none = record {
   settled_are = λ _ j d within. absurd (let count = ap length none in omega (arith, within, count));
 }
 
--- it cannot be away already
+-- a folio whose turn it is to be taken cannot be away already
 pub still_in_place : {N : Type 0} (queues : List FolioQueue) (before now : List (Option (MarkedFolio N))) (i : ℕ) (o : Option (MarkedFolio N)) → AreInPlaces queues before → AreLeaving before now i → i < length queues
     → slice_get now i ≡ Some o → ((m : MarkedFolio N) → o ≡ Some m → ⊥) → ⊥
 still_in_place queues before now i o are leaving within there none =
     let found = in_place queues before i are within in
     none found.0 (same_inside o (Some found.0) (sym there ∙ leaving.stay i (omega arith) ∙ found.2))
 
--- the parts of one folio more
+-- the parts of one folio more are taken
 pub one_more_parts : {N : Type 0} (journal : List Receipt) (queues : List FolioQueue) (before now : List (Option (MarkedFolio N))) (back left : List (List PartState)) (settled done all : Bool) (i : ℕ)
     (m : MarkedFolio N) (queue : FolioQueue) (items : List ℕ) (away : Option (MarkedFolio N)) (parts : List PartState)
     → AreQueues journal queues → AreInPlaces queues before → i < length queues → queue ≡ get_or queues i queue → items ≡ queue.items.items → slice_get now i ≡ Some (Some m) → away ≡ None

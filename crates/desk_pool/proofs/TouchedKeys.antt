@@ -1,4 +1,4 @@
--- Of which folios keys are, by the first of them and the first that is of another folio.
+-- Of which folios some keys are, as read from the first of them and the first that is of another folio.
 use Rattle.std.proofs.Common.{◌≡◌, ◌⊎◌, ⊎_elim, inl, inr, ℕ, ◌<◌, ◌≤◌, true, false, cond, ◌==◌, nat_lt, not, List, [], ◌∷◌, All, Contains, find, Some, None, refl, sym, subst, ◌∙◌, arith}
 use Rattle.std.specs.List.{AllByRecursion}
 use Rattle.std.proofs.lemmas.Bool.{cases_lt, eqb-false, eqb-true, not-true}

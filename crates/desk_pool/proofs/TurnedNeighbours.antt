@@ -8,7 +8,7 @@ use Rattle.conflict_queue.specs.Schedules.{Conflicts, IsPermitted}
 use Rattle.folio_sections.proofs.FilteredLists.{all_in}
 use Rattle.registrar.proofs.RisingNumbers.{contains_of_in, in_of_contains}
 
--- what holds of each number and each that stands behind it
+-- R holds of each number and each further one
 abbrev Pairs : (ℕ → ℕ → Type 0) → List ℕ → Type 0
 Pairs R [] = ℕ
 Pairs R (x ∷ xs) = ((y : ℕ) → In y xs → R x y) × Pairs R xs
@@ -24,7 +24,7 @@ of_pairs : (R : ℕ → ℕ → Type 0) (xs : List ℕ) → Pairs R xs → AllPa
 of_pairs R [] pairs = λ i j d less within. absurd (omega arith)
 of_pairs R (x ∷ xs) pairs = AllPairs-cons R x xs (All-from_recursion (R x) xs (all_in (R x) xs pairs.0)) (of_pairs R xs pairs.1)
 
--- the same numbers stand there
+-- two neighbours that change places leave the same numbers in the list
 in_turned : (before after : List ℕ) (i j y : ℕ) → In y (before ++ j ∷ i ∷ after) → In y (before ++ i ∷ j ∷ after)
 in_turned [] after i j y there = ⊎_elim (λ same. inr (inl same)) (λ later. ⊎_elim (λ same. inl same) (λ behind. inr (inr behind)) later) there
 in_turned (x ∷ before) after i j y there = ⊎_elim (λ same. inl same) (λ later. inr (in_turned before after i j y later)) there

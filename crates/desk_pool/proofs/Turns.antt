@@ -12,11 +12,11 @@ use Rattle.conflict_queue.specs.Dockets.{has_key}
 use Rattle.conflict_queue.specs.ItemKeys.{keys_of_item}
 use Rattle.desk_pool.specs.FolioQueues.{is_next, last_taken, queue_of, touches_folio}
 
--- the number at place t, or 0
+-- the number at place t, or 0 where there is none
 abbrev number_at : List ℕ → ℕ → ℕ
 number_at ns t = option_map_or (λ m. m) (slice_get ns t) 0
 
--- Number i stands at place t of these, which are those of a row that pass: it is of the row, and none passes between it and the one before it.
+-- Number i stands at place t of those numbers of a row that pass: it is in the row, and no number passes between it and the one at the place before.
 record IsNext (p : ℕ → Bool) (ns : List ℕ) (b a n t i : ℕ) : Type 0 where
   low : a ≤ i
   high : i < a + n
@@ -24,7 +24,7 @@ record IsNext (p : ℕ → Bool) (ns : List ℕ) (b a n t i : ℕ) : Type 0 wher
   after : number_at (b ∷ ns) t < i
   none : (m : ℕ) → number_at (b ∷ ns) t < m → m < i → p m ≡ false
 
--- the first of the row passes: it is next itself, or one of the others is
+-- where the first of a row passes, it is the next itself, or one of the others is
 passing : (p : ℕ → Bool) (ns : List ℕ) (b a n t i : ℕ) → p a ≡ true → b < a → ((j : ℕ) → b < j → j < a → p j ≡ false)
     → ((s : ℕ) → slice_get ns s ≡ Some i → IsNext p ns a (a + 1) n s i) → slice_get (a ∷ ns) t ≡ Some i → IsNext p (a ∷ ns) b a (suc n) t i
 passing p ns b a n zero i is low fails later got =
@@ -59,7 +59,7 @@ not_second : (x y : Bool) → (x || y) ≡ false → y ≡ false
 not_second true y h = absurd (false≢true (sym h))
 not_second false y h = h
 
--- what passes the stricter test passes the other
+-- where no element passes a test, none passes a stricter one
 any_wider : {X : Type 0} (p q : X → Bool) → ((x : X) → p x ≡ true → q x ≡ true) → (xs : List X) → list_any q xs ≡ false → list_any p xs ≡ false
 any_wider p q wider [] none = refl
 any_wider p q wider (x ∷ xs) none =
@@ -70,7 +70,7 @@ any_wider p q wider (x ∷ xs) none =
 
 -- ---- a folio's queue
 
--- The item is the next of the folio: it touches the folio, and none between it and the last that is settled does.
+-- The item is the next of the folio: it touches the folio, and no item between it and the last that is settled does.
 pub record TurnComes (journal : List Receipt) (folio taken i : ℕ) : Type 0 where
   pub low : 1 ≤ i
   pub high : i ≤ length journal
@@ -93,7 +93,7 @@ turn_comes journal folio taken i got =
       taken_next = ap (number_at (0 ∷ queue_of journal folio)) one_more ∙ ap (λ o. option_map_or (λ m. m) o 0) got;
     }
 
--- what is tested is that the item stands there
+-- the test says that the item stands at its place in the queue
 pub next_found : (queue : List ℕ) (taken i : ℕ) → is_next queue taken i ≡ true → slice_get queue taken ≡ Some i
 next_found queue taken i =
     elim (slice_get queue taken) as (λ o. option_map_or (λ n. n == i) o false ≡ true → o ≡ Some i) [
@@ -103,7 +103,7 @@ next_found queue taken i =
 
 -- ---- a folio that is done
 
--- Behind the last number of those of a row that pass none passes.
+-- In a row, no number passes after the last one that does.
 record IsLast (p : ℕ → Bool) (ns : List ℕ) (b a n : ℕ) : Type 0 where
   high : number_at (b ∷ ns) (length ns) < a + n
   none : (m : ℕ) → number_at (b ∷ ns) (length ns) < m → m < a + n → p m ≡ false
@@ -121,7 +121,7 @@ last p b a (suc n) low fails =
           record { high = let high = rest.high in omega (arith, high); none = λ m above below. rest.none m above (omega (arith, below)) }
     ] refl
 
--- No item of the journal behind the folio's last touches it.
+-- No item of the journal after the folio's last touches it.
 pub record IsDone (journal : List Receipt) (folio taken : ℕ) : Type 0 where
   pub within : last_taken (queue_of journal folio) taken ≤ length journal
   pub none : (m : ℕ) → last_taken (queue_of journal folio) taken < m → m ≤ length journal → touches_folio journal folio m ≡ false

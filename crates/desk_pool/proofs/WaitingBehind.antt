@@ -1,4 +1,4 @@
--- Which filings wait at a key without a notice, behind more entries.
+-- Which filings wait at a key without a notice, after more entries.
 use Rattle.std.proofs.Common.{◌≡◌, ⊎_elim, ◌⊎◌, ℕ, ◌+◌, ◌-◌, ◌<◌, ◌≤◌, Bool, true, false, cond, eqb, ◌&&◌, nat_lt, List, [], ◌∷◌, ◌++◌, filter, fold, length, Option, Some, None, is_none, is_some, inl, inr, refl, sym, ap, subst, ◌∙◌, arith}
 use Rattle.std.specs.List.{AllByRecursion, range_with_len}
 use Rattle.std.proofs.lemmas.Bool.{and_parts, cases_Bool, false≢true, not-true, not_from_false, or_parts}
@@ -21,11 +21,11 @@ use Rattle.desk_pool.proofs.CountedNumbers.{no_more, one_of_two, others}
 
 -- ---- contents
 
--- a filing that waits behind the content is one of these, or waited before
+-- a filing that waits after the content is one of these, or waited before
 abbrev pub Starts : (ℕ → Bool) → What → Type 0
 Starts some w = (n : ℕ) (before : Option ℕ) → is_some (until_by n before w) ≡ true → (some n ≡ true) ⊎ (is_some before ≡ true)
 
--- no filing
+-- none of the filings
 abbrev pub nobody : ℕ → Bool
 nobody n = false
 
@@ -82,7 +82,7 @@ still_unnoticed some n xs es all is =
 
 -- ---- how many
 
--- no more wait without a notice than did, and those that the entries set to wait
+-- those that wait without a notice are no more than before, and those that the entries set to wait
 pub more_by : (some : ℕ → Bool) (m : ℕ) (xs es : List Entry) → AllByRecursion (λ e. Starts some e.what) es
     → length (waiting_unnoticed m (xs ++ es)) ≤ length (filter some (receipts_before m)) + length (waiting_unnoticed m xs)
 more_by some m xs es all =
@@ -94,7 +94,7 @@ more_by some m xs es all =
 is_nobody : (n : ℕ) (b : Bool) → (nobody n ≡ true) ⊎ (b ≡ true) → b ≡ true
 is_nobody n b either = ⊎_elim (λ none. absurd (false≢true none)) (λ is. is) either
 
--- where each of those before filing i gets its notice, so many less wait without one
+-- where each filing before i that waits gets its notice, so many fewer wait without one
 pub less_by : (i m : ℕ) (xs es : List Entry) → AllByRecursion (λ e. Starts nobody e.what) es → ((n : ℕ) → In n (waiting_unnoticed i xs) → is_noticed n es ≡ true)
     → length (waiting_unnoticed m (xs ++ es)) + length (waiting_unnoticed i xs) ≤ length (waiting_unnoticed (m + i + 1) xs)
 less_by i m xs es all noticed =

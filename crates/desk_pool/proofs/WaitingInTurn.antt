@@ -1,4 +1,4 @@
--- Who waits for the item before at each key takes a permitted order, and the other way round.
+-- Whoever waits, at each key, for the item before it there takes the items in a permitted order, and the other way round.
 use Rattle.std.proofs.Common.{◌≡◌, ℕ, zero, suc, ◌-◌, ◌<◌, ◌≤◌, true, List, [], ◌∷◌, ◌++◌, filter, AllPairs, Some, Contains, inl, inr, sym, ap, subst, ◌∙◌, ⊎_elim, append_assoc, arith}
 use Rattle.std.specs.List.{range_with_len}
 use Rattle.std.proofs.lemmas.Bool.{cases_eq, cases_lt}
@@ -16,7 +16,7 @@ use Rattle.registrar.proofs.RisingNumbers.{contains_of_in, in_of_contains}
 use Rattle.desk_pool.proofs.CutLists.{cut_at, last_in, last_is_greatest, pairs_by, stands_once}
 use Rattle.desk_pool.specs.Turns.{WaitsInTurn}
 
--- ---- a permitted order waits
+-- ---- in a permitted order items wait
 
 waits_there : (journal : List Receipt) (order before after : List ℕ) (i p : ℕ) (k : Key) → IsPermitted journal order → order ≡ before ++ i ∷ after → Contains (keys_of_item journal i) k
     → previous journal i k ≡ Some p → Contains before p
@@ -25,9 +25,9 @@ waits_there journal order before after i p k permitted is there last =
     let ahead = ahead_of journal before after i k (subst (IsPermitted journal) is permitted) ((has_decides k (keys_of_item journal i)).1 there) in
     contains_of_in before p (ahead.from p passed.1 passed.0)
 
--- ---- an order that waits is permitted
+-- ---- an order in which items wait is permitted
 
--- an order that is cut twice
+-- an order whose front is cut is cut itself
 cut_again : (order before rest ahead behind : List ℕ) (p : ℕ) → order ≡ before ++ rest → before ≡ ahead ++ p ∷ behind → order ≡ ahead ++ p ∷ (behind ++ rest)
 cut_again order before rest ahead behind p is cut = is ∙ ap (λ ns. ns ++ rest) cut ∙ append_assoc ahead (p ∷ behind) rest
 
@@ -35,7 +35,7 @@ in_front : (before ahead behind : List ℕ) (p j : ℕ) → before ≡ ahead ++ 
 in_front before ahead behind p j cut there = subst (In j) (sym cut) (in_append_left ahead (p ∷ behind) j there)
 
 module _ (journal : List Receipt) (order : List ℕ) (waits : WaitsInTurn journal order) (k : Key) where
-  -- going down from item to item, each earlier one that touches the key stands ahead
+  -- going down from item to item, each earlier one that touches the key stands before it in the order
   down : (most i j : ℕ) (before after : List ℕ) → i ≤ most → order ≡ before ++ i ∷ after → touches journal k i ≡ true → touches journal k j ≡ true → 1 ≤ j → j < i → In j before
   down zero i j before after within is here there low less = absurd (omega arith)
   down (suc most) i j before after within is here there low less =

@@ -18,15 +18,15 @@ has_folio keys folio = list_any (λ k. folio_of_key k == folio) keys
 abbrev pub touches_folio : List Receipt → ℕ → ℕ → Bool
 touches_folio journal folio i = has_folio (keys_of_item journal i) folio
 
--- the items that do, ascending
+-- the items that touch a key of the folio, ascending
 abbrev pub queue_of : List Receipt → ℕ → List ℕ
 queue_of journal folio = filter (touches_folio journal folio) (range_with_len 1 (length journal))
 
--- the last of the first so many of them; 0 ahead of the first
+-- the last of the first so many of these items; 0 where none is taken yet
 abbrev pub last_taken : List ℕ → ℕ → ℕ
 last_taken queue taken = option_map_or (λ n. n) (slice_get (0 ∷ queue) taken) 0
 
--- the item is the next of them, where the first so many are taken
+-- the item is the next of the queue, where the first so many are taken
 abbrev pub is_next : List ℕ → ℕ → ℕ → Bool
 is_next queue taken item = option_map_or (λ n. n == item) (slice_get queue taken) false
 
@@ -34,6 +34,6 @@ is_next queue taken item = option_map_or (λ n. n == item) (slice_get queue take
 abbrev pub is_key_of : List Receipt → ℕ → Key → Bool
 is_key_of journal folio k = (folio_of_key k == folio) && is_given (keys_of_first journal (length journal)) k
 
--- these are the queues of their folios
+-- each of these queues has the items that touch its folio
 abbrev pub AreQueues : List Receipt → List FolioQueue → Type 0
 AreQueues journal queues = All (λ q. q.items.items ≡ queue_of journal q.folio) queues

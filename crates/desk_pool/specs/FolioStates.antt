@@ -13,7 +13,7 @@ use Rattle.registrar.specs.HasSettled.{settled_first}
 use Rattle.registrar.specs.Rooms.{HasItsScratch}
 use Rattle.sale_rules.specs.ScratchRoom.{ScratchRoom}
 
--- the folio, how many of its items are settled, its parts, and the room of the scratch in which its sales are reckoned
+-- the folio, how many of its items are settled, its parts, and the room of the scratch in which the lowest bids of its sales are computed
 pub record FolioState : Type 0 where
   pub folio : ℕ
   pub taken : ℕ
@@ -25,7 +25,7 @@ abbrev pub scratch_of : Option ScratchRoom → ScratchRoom
 scratch_of (Some scratch) = scratch
 scratch_of None = record { rights = 0; exchanges = 0; capacity = 0 }
 
--- at each key that is held stands what the one registrar leaves there behind the first n items
+-- each key that is held has the entries that the one registrar leaves there after the first n items
 abbrev pub StandsAt : List Receipt → ℕ → (Key → Bool) → (Key → List Entry) → Type 0
 StandsAt journal n holds stands = (k : Key) → IsTrue (holds k) → stands k ≡ at (settled_first journal n).entries k
 
@@ -38,7 +38,7 @@ abbrev pub HasAllScratch : List Receipt → ℕ → ScratchRoom → Type 0
 HasAllScratch journal folio scratch =
     (i : ℕ) → IsTrue (touches_folio journal folio i) → HasItsScratch journal i (at (settled_first journal (i - 1)).entries) scratch
 
--- The folio's parts are at its keys, and say what the one registrar leaves there behind the last of the folio's items that are settled.
+-- The folio's parts are at its keys, and say what the one registrar leaves there after the last of the folio's items that are settled.
 pub record IsBehindLock (journal : List Receipt) (s : FolioState) : Type 0 where
   pub numbered : IsJournal journal
   pub held : (k : Key) → is_held s.parts k ≡ is_key_of journal s.folio k

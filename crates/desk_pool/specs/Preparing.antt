@@ -12,7 +12,7 @@ use Rattle.sale_rules.specs.ScratchRoom.{ScratchRoom}
 use Rattle.desk_pool.specs.FolioStates.{HasAllRoom}
 use Rattle.desk_pool.specs.declared.register_frames.RegisterFrame.{RegisterFrame}
 
--- just the folios whose title an item of the journal touches, ascending: no other folio is open behind it
+-- exactly the folios whose title an item of the journal touches, ascending; no other folio is open after the journal
 pub record AreTitledFolios (journal : List Receipt) (folios : List ℕ) : Type 0 where
   pub ascending : AllPairs (λ folio later. folio < later) folios
   pub members : (folio : ℕ) → Contains folios folio ↔ IsTrue (is_given (keys_of_first journal (length journal)) (Title folio))
@@ -30,12 +30,12 @@ pub record HasFrame (journal : List Receipt) (s : RegisterFrame) : Type 0 where
   pub verdicts : length s.verdicts.items ≡ length journal
   pub folios : AreTitledFolios journal s.folios.items
 
--- with place at each key for all that the items bring there
+-- A frame that has place at each key for all that the items bring there.
 pub record HasPlaces (journal : List Receipt) (s : RegisterFrame) : Type 0 where
   pub frame : HasFrame journal s
   pub room : HasAllRoom journal (is_held s.parts) (entries_at s.parts) (room_at s.parts)
 
--- and nothing stands in the parts yet
+-- A frame with these places, and with nothing in its parts yet.
 pub record IsPrepared (journal : List Receipt) (s : RegisterFrame) : Type 0 where
   pub places : HasPlaces journal s
   pub empty : (k : Key) → entries_at s.parts k ≡ []

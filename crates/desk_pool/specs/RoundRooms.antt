@@ -17,10 +17,10 @@ room_for_item (item.Filing f) = most_brought + 1
 room_for_item (item.Cure m docs) = most_brought
 room_for_item other = 1
 
--- the same of receipt i
+-- the room that receipt i keeps at each key that it touches; 0 where there is no such receipt
 abbrev pub room_for : List Receipt → ℕ → ℕ
 room_for journal i = option_map_or (λ r. room_for_item r.item) (receipt_at journal i) 0
 
--- the room that the first n items keep at a key: the sum over those that touch it
+-- the room that the first n items keep at a key: the sum over those items that touch it
 abbrev pub room_of_first : List Receipt → ℕ → Key → ℕ
 room_of_first journal n k = sum_by (room_for journal) (filter (λ i. has_key k (keys_of_item journal i)) (range_with_len 1 n))

@@ -5,7 +5,7 @@ use Rattle.conflict_queue.specs.Schedules.{in_receipt_order}
 use Rattle.desk_pool.specs.Preparing.{HasFrame}
 use Rattle.desk_pool.specs.declared.register_frames.RegisterFrame.{RegisterFrame}
 
--- All is of the named journal: the journal that is lent, and the frame of its register; 64 desks have a place, and no order was looked through.
+-- All is of the named journal: the journal that is lent, and the frame of its register; there are seats for 64 desks, and no item is marked as seen in an order.
 pub record IsRound (journal lent : List Receipt) (frame : RegisterFrame) (seats : ℕ) (receipts : List ℕ) (passed : List Bool) : Type 0 where
   pub named : lent ≡ journal
   pub frame_is : HasFrame journal frame

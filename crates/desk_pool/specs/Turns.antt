@@ -5,7 +5,7 @@ use Rattle.act_model.specs.declared.receipts.Receipt.{Receipt}
 use Rattle.conflict_queue.specs.Dockets.{previous}
 use Rattle.conflict_queue.specs.ItemKeys.{keys_of_item}
 
--- Each number of the journal stands once, and ahead of it, for each of its keys, the item before it that touches the key.
+-- Each number of the journal stands once, and before it stands, for each of its keys, the item before it that touches the key.
 pub record WaitsInTurn (journal : List Receipt) (order : List ℕ) : Type 0 where
   pub all : (n : ℕ) → Contains order n ↔ (1 ≤ n) × (n ≤ length journal)
   pub once : AllPairs (λ i later. i ≡ later → ⊥) order

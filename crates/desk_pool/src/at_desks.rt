@@ -23,11 +23,11 @@ use std::thread::Threads;
 
 /// Settles a journal at as many desks as are asked for, 1 to 64, or at one: a journal of one folio,
 /// and one whose filings have many acts, is settled by one desk. Several work each in a thread of its
-/// own where one can be had. `gate` is called with each item ahead of its entries, while its desk has
+/// own where one can be had. `gate` is called with each item before its entries, while its desk has
 /// the item's folios to itself: one desk alone has all of them, others lock them. Whatever the desks
-/// do, the register is the one that `registrar::alone` gives (GBO § 17). Wants memory (NoMemory);
-/// several desks want all of it before the first item is settled, as a round has it, with seats for 64
-/// desks.
+/// do, the register is the one that `registrar::alone` gives (GBO § 17). May run out of memory
+/// (NoMemory); several desks take all of it before the first item is settled, as a round does, with
+/// seats for 64 desks.
 pub fn settle_at_desks<R: AllocGlobal + Threads + Wait + Sync, G: DeskGate>(
     rt: &R,
     journal: &Journal,
@@ -45,7 +45,7 @@ pub fn settle_at_desks<R: AllocGlobal + Threads + Wait + Sync, G: DeskGate>(
     ensures awards { IfOk result (λ register. AwardsKept journal.now.receipts (entries_at register.parts)) }
 {
     if is_for_one_desk(journal, desks) {
-        // It has every folio from the start, and wants no room ahead.
+        // It has every folio from the start, and needs no room beforehand.
         call_with_each(journal, gate);
         return alone(rt.alloc(), journal);
     }
@@ -59,7 +59,7 @@ fn call_with_each<G: DeskGate>(journal: &Journal, gate: &G) {
     }
 }
 
-/// The same of a journal that has a name, by a round.
+/// Settles a journal that has a name at so many desks, by a round.
 fn settle_named<N: JournalName + Send + Sync, R: AllocGlobal + Threads + Wait + Sync, G: DeskGate>(
     rt: &R,
     journal: &Journal,

@@ -47,9 +47,9 @@ impl<N: JournalName> Model for Board<N> {
 }
 
 impl<N: JournalName> Board<N> {
-    /// The board of a journal, on which nothing is said, and the items are these: those that touch no
-    /// key are ready, and so is the first of each folio, as far as its other folio lets it. Wants
-    /// memory (NoMemory).
+    /// The board of a journal, on which nothing is said yet; these are the journal's items. Those that touch
+    /// no key are ready, and so is the first of each folio, as far as its other folio lets it. May run out
+    /// of memory (NoMemory).
     pub fn new(
         alloc: Global,
         docket: &Docket,
@@ -101,12 +101,12 @@ impl<N: JournalName> Board<N> {
     }
 
     /// Whether a desk that asks for an item has to wait: none is ready, and others have items in
-    /// hand behind which some may be.
+    /// hand after which some may be.
     pub fn must_wait(&self) -> bool {
         self.ready.is_empty() && self.in_hand > 0
     }
 
-    /// Whether desks wait that have to no longer.
+    /// Whether desks wait that no longer have to.
     pub fn wakes_others(&self) -> bool {
         self.waiting > 0 && !self.must_wait()
     }
@@ -185,7 +185,7 @@ impl<N: JournalName> Board<N> {
         }
     }
 
-    /// The item's turn comes in one more of its folios: in the last one it is ready.
+    /// The item's turn comes in one more of its folios; with the last of them it is ready.
     fn comes(&mut self, item: ReceiptNo) {
         let Some(waits) = self.waits.get_mut(item.get() as usize - 1) else {
             return;
@@ -204,7 +204,7 @@ impl<N: JournalName> Board<N> {
     }
 }
 
-/// Whether each is said.
+/// Whether the verdict of each item is said.
 fn are_all_said(said: &[bool]) -> bool
     ensures { result ≡ list_all (λ one. one) said.now }
 {

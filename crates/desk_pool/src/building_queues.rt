@@ -14,8 +14,8 @@ use gb_base::{FolioId, Key, NoMemory, ReceiptNo};
 use std::alloc::Global;
 use std::collections::BTreeMap;
 
-/// The queue of each folio that an item of the journal touches, ascending by folio. Wants memory
-/// (NoMemory).
+/// The queue of each folio that an item of the journal touches, ascending by folio. May run out of
+/// memory (NoMemory).
 pub(crate) fn build_queues(
     alloc: Global,
     journal: &Journal,
@@ -45,7 +45,7 @@ fn items_by_folio(
     Ok(items)
 }
 
-/// Puts an item behind the others of each folio of these keys. Keys of one folio that stand
+/// Puts an item at the end of the queue of each folio of these keys. Keys of one folio that stand
 /// together, as those of a sale, are looked up once.
 fn push_all(
     alloc: Global,
@@ -55,7 +55,7 @@ fn push_all(
 ) -> Result<(), NoMemory>
     ensures { OnOk result ((folio : ℕ) → items_at items.new folio ≡ with_item_at keys.now folio item (items_at items.old folio)) }
 {
-    // The number of the folio of the last key; 0 ahead of the first.
+    // The number of the folio of the last key; 0 before the first.
     let mut last = 0;
     for key in keys {
         let folio = key.folio();
@@ -67,7 +67,7 @@ fn push_all(
     Ok(())
 }
 
-/// Puts an item behind the others of the folio.
+/// Puts an item at the end of the folio's queue.
 fn push(
     alloc: Global,
     items: &mut BTreeMap<FolioId, Vec<ReceiptNo>>,
@@ -87,7 +87,7 @@ fn push(
     }
 }
 
-/// Puts an item behind these, unless it is the last of them.
+/// Puts an item at the end of the queue, unless it is the last of it already.
 fn push_once(queue: &mut Vec<ReceiptNo>, item: ReceiptNo) -> Result<(), NoMemory>
     ensures { OnOk result (queue.new.items ≡ with_item item queue.old.items) }
 {

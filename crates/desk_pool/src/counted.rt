@@ -12,7 +12,7 @@ use gb_base::{Key, NoMemory, ReceiptNo};
 use std::alloc::Global;
 use std::collections::BTreeMap;
 
-/// The keys of each item, the items of each folio, and the room that all of them want at each key.
+/// The keys of each item, the items of each folio, and the room that all of them need at each key.
 #[derive(Drop)]
 pub(crate) struct Counted {
     pub docket: Docket,
@@ -20,7 +20,7 @@ pub(crate) struct Counted {
     pub rooms: BTreeMap<Key, usize>,
 }
 
-/// The same of a journal. Wants memory (NoMemory).
+/// Counts the keys, the queues and the room of a journal. May run out of memory (NoMemory).
 pub(crate) fn count(alloc: Global, journal: &Journal) -> Result<Counted, NoMemory>
     ensures { IfOk result (IsCounted journal.now.receipts) }
 {
@@ -34,7 +34,7 @@ pub(crate) fn count(alloc: Global, journal: &Journal) -> Result<Counted, NoMemor
     })
 }
 
-/// The items of a journal, in the order of their receipts. Wants memory (NoMemory).
+/// The items of a journal, in the order of their receipts. May run out of memory (NoMemory).
 pub(crate) fn list_receipts(alloc: Global, journal: &Journal) -> Result<Vec<ReceiptNo>, NoMemory>
     ensures { IfOk result (λ receipts. receipts.items ≡ in_receipt_order journal.now.receipts) }
 {

@@ -23,7 +23,7 @@ use gb_outside::DeskGate;
 use registrar::{Scratch, Verdict};
 use std::sync::{MutexGuard, Wait};
 
-/// Settles items until none is left: while others have items in hand behind which more may be, it
+/// Settles items until none is left: while others have items in hand after which more may be ready, it
 /// waits.
 pub(crate) fn work<N: JournalName, W: RowName, R: Wait, G: DeskGate>(
     rt: &R,
@@ -130,7 +130,7 @@ fn settle<N: JournalName, W: RowName, R: Wait, G: DeskGate>(
     }
 }
 
-/// The same of an item that touches no key, and so no folio.
+/// Settles an item that touches no key, and so no folio.
 fn settle_here<N: JournalName, W: RowName, G: DeskGate>(
     round: &SharedRound<'_, N, W>,
     gate: &G,
@@ -145,7 +145,7 @@ fn settle_here<N: JournalName, W: RowName, G: DeskGate>(
     settle_nowhere(&mut seat.nothing, &mut seat.scratch, round.journal, item)
 }
 
-/// The same of an item that touches one folio alone; `spare` serves where the folio has no scratch.
+/// Settles an item of one folio alone, in `spare` where the folio has no scratch; None where its turn has not come.
 fn settle_in_one<N: JournalName, W: RowName, R: Wait, G: DeskGate>(
     rt: &R,
     round: &SharedRound<'_, N, W>,
@@ -168,7 +168,7 @@ fn settle_in_one<N: JournalName, W: RowName, R: Wait, G: DeskGate>(
     here.settle(spare, round.journal, queue, item)
 }
 
-/// The same of an item that touches two folios.
+/// Settles an item that touches two folios; None where its turn has not come.
 fn settle_in_two<N: JournalName, W: RowName, R: Wait, G: DeskGate>(
     rt: &R,
     round: &SharedRound<'_, N, W>,

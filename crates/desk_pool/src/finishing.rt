@@ -1,4 +1,4 @@
-//! What the desks have settled is put together, or all is settled anew.
+//! What the desks have settled is put together, or all is settled again.
 //! Why so: docs/DECISIONS.md, "Folios carry marks behind their locks".
 ghost use Rattle.std.specs.Prelude.{◌≡◌, IfSome, IsTrue};
 ghost use Rattle.act_model.specs.Receiving.{IsJournal};
@@ -18,7 +18,7 @@ use kept_registers::laws::empty_register_is_kept;
 use registrar::Register;
 
 /// The register of the journal: of what desks have settled where all of it is there, else of the
-/// whole journal, settled anew in the order of the receipts. It takes no memory.
+/// whole journal, settled again in the order of the receipts. It takes no memory.
 pub(crate) fn finish<N: JournalName>(
     journal: &Journal,
     mut frame: RegisterFrame,
@@ -41,8 +41,8 @@ pub(crate) fn finish<N: JournalName>(
     frame.settle_in(journal, receipts)
 }
 
-/// Puts the verdicts and what stands in the folios into the frame. Whether all is there; else some of
-/// it may stand in the frame, which has the room of all folios either way.
+/// Puts the verdicts and what stands in the folios into the frame, and says whether all is there. If not,
+/// some of it may stand in the frame, which has the room of all folios either way.
 fn is_complete<N: JournalName>(frame: &mut RegisterFrame, worked: Worked<N>) -> bool
     requires numbered { IsJournal N.receipts }
     requires frame { HasFrame N.receipts frame.old }

@@ -20,7 +20,7 @@ pub(crate) struct KeyRoom {
     pub room: usize,
 }
 
-/// Empty parts at those of the keys that are of the folio. Wants memory (NoMemory).
+/// Empty parts at those of the keys that are of the folio. May run out of memory (NoMemory).
 pub(crate) fn parts_for_folio(
     alloc: Global,
     rooms: &BTreeMap<Key, usize>,
@@ -32,7 +32,7 @@ pub(crate) fn parts_for_folio(
     parts_at(alloc, keys.as_slice())
 }
 
-/// All keys with their rooms, ascending. Wants memory (NoMemory).
+/// All keys with their rooms, ascending. May run out of memory (NoMemory).
 pub(crate) fn list_rooms(
     alloc: Global,
     rooms: &BTreeMap<Key, usize>,
@@ -46,7 +46,7 @@ pub(crate) fn list_rooms(
         .collect(alloc)
 }
 
-/// Those from the first to the last of these two.
+/// The keys with their rooms, from the first to the last of these two keys.
 fn rooms_between(
     alloc: Global,
     rooms: &BTreeMap<Key, usize>,
@@ -73,7 +73,7 @@ fn key_room(key: &Key, room: &usize) -> KeyRoom
     }
 }
 
-/// Empty parts at these keys, with their room. Wants memory (NoMemory).
+/// Empty parts at these keys, with their room. May run out of memory (NoMemory).
 fn parts_at(alloc: Global, keys: &[KeyRoom]) -> Result<MapParts, NoMemory>
     ensures held { IfOk result (λ parts. (k : Key) → is_held parts k ≡ is_given (map (λ r. r.key) keys.now) k) }
     ensures empty { IfOk result (λ parts. (k : Key) → entries_at parts k ≡ []) }
@@ -87,7 +87,7 @@ fn parts_at(alloc: Global, keys: &[KeyRoom]) -> Result<MapParts, NoMemory>
     Ok(parts)
 }
 
-/// Empty parts at these keys, without room. Wants memory (NoMemory).
+/// Empty parts at these keys, without room. May run out of memory (NoMemory).
 pub(crate) fn parts_without_room(alloc: Global, keys: &[KeyRoom]) -> Result<MapParts, NoMemory>
     ensures held { IfOk result (λ parts. (k : Key) → is_held parts k ≡ is_given (map (λ r. r.key) keys.now) k) }
     ensures empty { IfOk result (λ parts. (k : Key) → entries_at parts k ≡ []) }

@@ -28,7 +28,7 @@ pub(crate) struct FolioRow<N: JournalName> {
     pub places: Vec<Option<MarkedFolio<N>>>,
     /// All keys that the items touch, each once.
     pub keys: Vec<KeyRoom>,
-    /// Empty, with room for the parts of all folios: so none is wanted where they are taken from their
+    /// Empty, with room for the parts of all folios: so none is needed when they are taken from their
     /// places.
     pub back: Vec<MapParts>,
     pub ghost queues_are: { AreAllQueues N.receipts queues.items },
@@ -39,8 +39,8 @@ pub(crate) struct FolioRow<N: JournalName> {
 }
 
 impl<N: JournalName> FolioRow<N> {
-    /// The folios of the journal of which these are the queues and the rooms, none of whose items is
-    /// settled. Wants memory (NoMemory).
+    /// The folios of the journal with these queues and rooms; none of their items is
+    /// settled. May run out of memory (NoMemory).
     pub fn prepare(
         alloc: Global,
         journal: &Journal,
@@ -59,8 +59,8 @@ impl<N: JournalName> FolioRow<N> {
         })
     }
 
-    /// Puts what stands in the parts of all folios into the frame, and their room. Whether all items
-    /// are settled: what stands in the frame is then what the one registrar leaves.
+    /// Puts what stands in the parts of all folios into the frame, with their room, and says whether all
+    /// items are settled: what stands in the frame is then what the one registrar leaves.
     pub fn put_into(self, frame: &mut RegisterFrame) -> bool
         requires { HasFrame N.receipts frame.old }
         ensures places { HasPlaces N.receipts frame.new }

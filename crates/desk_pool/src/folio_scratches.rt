@@ -1,4 +1,4 @@
-//! The scratch in which an item reckons under the locks of its folios.
+//! The scratch in which an item computes a lowest bid under the locks of its folios.
 //! Why so: docs/DECISIONS.md, "A scratch stands with its folio".
 ghost use Rattle.std.specs.Prelude.{◌≡◌, List, ◌≤◌, ◌<◌, length, All, Contains, IsTrue};
 ghost use Rattle.gb_base.specs.declared.keys.Key.{Key};
@@ -19,8 +19,8 @@ use gb_base::ReceiptNo;
 use registrar::{Scratch, Verdict, step};
 
 /// The step of the one registrar (`step` of registrar), in the folio's own scratch. Where the folio
-/// has none, none of its items reckons, and the step is made in the spare scratch, whose room may be
-/// any.
+/// has none, none of its items computes a lowest bid, and the step is made in the spare scratch,
+/// whatever its room is.
 pub(crate) fn step_in_own<P: Parts>(
     parts: &mut P,
     own: &mut Option<Scratch>,

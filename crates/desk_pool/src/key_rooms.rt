@@ -20,7 +20,7 @@ use std::alloc::Global;
 use std::collections::BTreeMap;
 
 /// The room that the journal's items keep at each of their keys; no other key is in it. `queues` are
-/// those of all folios that the journal touches. Wants memory (NoMemory).
+/// those of all folios that the journal touches. May run out of memory (NoMemory).
 ///
 /// The map is asked once for each key, and not at each touch: what the items touch in a folio is
 /// listed and sorted, so that the same keys stand together.
@@ -45,7 +45,7 @@ pub(crate) fn count_rooms(
     Ok(rooms)
 }
 
-/// Keeps the room of the folio at each of its keys. What stands in `touched` is of no matter.
+/// Keeps the room of the folio at each of its keys. What stands in `touched` does not matter.
 fn add_folio(
     rooms: &mut BTreeMap<Key, usize>,
     touched: &mut Vec<KeyRoom>,
@@ -65,7 +65,7 @@ fn add_folio(
     add_sums(rooms, touched.as_slice())
 }
 
-/// Lists the keys of the folio that its items touch behind these, each with its item's room.
+/// Puts the keys of the folio that its items touch at the end of this list, each with its item's room.
 fn list_items(
     touched: &mut Vec<KeyRoom>,
     journal: &Journal,
@@ -83,7 +83,7 @@ fn list_items(
     Ok(())
 }
 
-/// Lists those of the keys that are of the folio behind these, each with so much room.
+/// Puts those of the keys that are of the folio at the end of this list, each with so much room.
 fn list_keys(
     touched: &mut Vec<KeyRoom>,
     keys: &[Key],
@@ -112,7 +112,7 @@ fn add_sums(rooms: &mut BTreeMap<Key, usize>, touched: &[KeyRoom]) -> Result<(),
     }
 }
 
-/// The same of a key with its room, and the list behind it.
+/// Adds to the room at each key the sum of its rooms in a list, of which this is the first key with its room.
 fn add_from(
     rooms: &mut BTreeMap<Key, usize>,
     first: Key,
@@ -124,7 +124,7 @@ fn add_from(
     ensures keys { OnOk result ((k : Key) → is_some (get key_cmp rooms.new k) ≡ (is_some (get key_cmp rooms.old k) || (same_key first k || is_listed rest.now k))) }
 {
     let mut key = first;
-    // The room of the last keys, which are all this one.
+    // The room of the latest keys of the list, which are all `key`.
     let mut sum = room;
     for next in rest {
         if next.key != key {
@@ -171,8 +171,8 @@ fn room_for(journal: &Journal, item: ReceiptNo) -> usize
     }
 }
 
-/// The same of what it is: three entries of a filing and an official notice, three of a cure, one
-/// of any other item.
+/// The room that an item keeps at each key that it touches: three entries of a filing and an official
+/// notice, three of a cure, one of any other item.
 fn room_for_item(item: &Item) -> usize
     ensures { result ≡ room_for_item item.now }
 {

@@ -19,7 +19,7 @@ ghost use Rattle.registrar.specs.Rooms.{room_wanted};
 
 use kept_registers::laws::empty_register_is_kept;
 
-/// Who lets each item wait for the item before it at each of its keys takes just the permitted
+/// Whoever lets each item wait for the item before it at each of its keys takes exactly the permitted
 /// orders (GBO § 17).
 pub fn waiting_in_turn()
     ensures just { (journal : List Receipt) (order : List ℕ) → IsPermitted journal order ↔ WaitsInTurn journal order }
@@ -38,8 +38,8 @@ pub fn neighbours_may_change_places()
         → (Conflicts journal i j → ⊥) → IsPermitted journal (before ++ j ∷ i ∷ after) }
 {}
 
-/// An item touches two folios at most: where two of its keys are of different ones, any other is of
-/// the one or the other.
+/// An item touches two folios at most: where two of its keys are of different folios, any other is of
+/// one of these two.
 pub fn items_touch_few_folios()
     ensures few { (journal : List Receipt) (i : ℕ) (j k l : Key) → IsJournal journal → Contains (keys_of_item journal i) j → Contains (keys_of_item journal i) k → Contains (keys_of_item journal i) l
         → (folio_of_key j ≡ folio_of_key k → ⊥) → (folio_of_key l ≡ folio_of_key j) ⊎ (folio_of_key l ≡ folio_of_key k) }
@@ -55,8 +55,8 @@ pub fn nothing_between()
     empty_register_is_kept();
 }
 
-/// The room that the items up to one keep at its keys serves what the one registrar enters there,
-/// and what the item wants besides.
+/// The room that the items up to one keep at its keys is enough for what the one registrar enters there,
+/// and for what the item needs besides.
 pub fn rooms_suffice()
     ensures room { (journal : List Receipt) (i : ℕ) (k : Key) → IsJournal journal → 1 ≤ i → i ≤ length journal → Contains (keys_of_item journal i) k
         → length (at (settled_first journal (i - 1)).entries k) + room_wanted journal i (at (settled_first journal (i - 1)).entries k) ≤ room_of_first journal i k }

@@ -21,7 +21,7 @@ use registrar::{Scratch, Verdict};
 use std::marker::{Model, PhantomData};
 
 /// A folio of a journal. Whenever its lock is free, its parts say what the one registrar of the named
-/// journal leaves there behind the last of the folio's items that are settled: so a desk that
+/// journal leaves there after the last of the folio's items that are settled: so a desk that
 /// settles an item out of turn, leaves an entry out or makes one up has no value to put back.
 #[derive(Drop)]
 pub(crate) struct LockedFolio<N: JournalName> {
@@ -29,8 +29,8 @@ pub(crate) struct LockedFolio<N: JournalName> {
     /// How many of the folio's items are settled.
     taken: usize,
     parts: MapParts,
-    /// What its sales are reckoned in; None where no item of the journal reckons there, and then
-    /// that of the desk serves.
+    /// The scratch in which its lowest bids are computed; None where no item of the journal computes
+    /// one there, and then the desk's scratch is used.
     scratch: Option<Scratch>,
     of: PhantomData<N>,
 }

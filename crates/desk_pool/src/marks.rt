@@ -5,7 +5,7 @@ ghost use Rattle.std.specs.Prelude.{◌≡◌};
 use std::marker::Brand;
 use std::sync::ledger::{Blank, Ledger};
 
-/// A mark, of which no second one has the same name. It has no bytes, and names stand in contracts
+/// A mark; no other mark has its name. It has no bytes, and names stand in contracts
 /// alone.
 #[derive(Drop)]
 pub(crate) struct Mark {
@@ -31,7 +31,7 @@ impl Mark {
     }
 }
 
-/// The same of two tokens that would open one ledger.
+/// Nobody has two tokens that would open one ledger: from them anything would follow.
 fn open_both<L: Ledger>(one: Blank, other: Blank)
     requires one { (one.name ≡ L.name) × (one.parts ≡ L.parts) }
     requires other { (other.name ≡ L.name) × (other.parts ≡ L.parts) }

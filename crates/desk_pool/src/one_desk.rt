@@ -9,7 +9,7 @@ use gb_base::FolioId;
 const MANY_ACTS: usize = 4;
 
 /// Whether one desk settles the journal: there is no other; or all items are of one folio, so that
-/// the others would wait for it; or the items have many acts, whose keys want much room ahead.
+/// the others would wait for it; or the items have many acts, whose keys need much room beforehand.
 pub(crate) fn is_for_one_desk(journal: &Journal, desks: u16) -> bool {
     desks == 1 || names_one_folio(journal.receipts()) || has_many_acts(journal.receipts())
 }

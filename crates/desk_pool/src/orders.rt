@@ -9,7 +9,7 @@ ghost use Rattle.desk_pool.specs.inner.OrderWalks.{has_turn, is_free, is_item, i
 use conflict_queue::Docket;
 use gb_base::{Key, ReceiptNo};
 
-/// Whether the items of the docket's journal may be settled in this order (GBO § 17). It wants no
+/// Whether the items of the docket's journal may be settled in this order (GBO § 17). It takes no
 /// memory: in `settled` it notes which of the items it has seen, and none is noted at first.
 pub(crate) fn is_permitted(docket: &Docket, order: &[ReceiptNo], settled: &mut [bool]) -> bool
     requires len { length settled.old ≡ length docket.now }

@@ -18,9 +18,9 @@ use registrar::Verdict;
 use std::alloc::Global;
 use std::collections::BTreeMap;
 
-/// What the parts of all folios are put together in: parts at all keys that have no room, as those of
-/// the folios bring theirs, and what else a register wants; `rooms` is the room at each of the
-/// journal's keys. Wants memory (NoMemory).
+/// What the parts of all folios are put together in: parts at all keys, without room, since those of
+/// the folios bring theirs, and what else a register needs; `rooms` is the room at each of the
+/// journal's keys. May run out of memory (NoMemory).
 pub(crate) fn prepare_frame(
     alloc: Global,
     journal: &Journal,
@@ -40,7 +40,7 @@ pub(crate) fn prepare_frame(
 }
 
 /// The folios of the journal's queues, in their order, each with its mark; `rooms` is the room at each
-/// of the journal's keys. Wants memory (NoMemory).
+/// of the journal's keys. May run out of memory (NoMemory).
 pub(crate) fn mark_folios<N: JournalName>(
     alloc: Global,
     journal: &Journal,

@@ -22,7 +22,7 @@ use std::mem;
 use std::sync::{Mutex, Wait};
 use std::thread::Threads;
 
-/// All that desks settle the items of the named journal in: from here on they want no memory.
+/// All that desks settle the items of the named journal in: from here on they need no memory.
 #[derive(Drop)]
 pub(crate) struct ReadyDesks<N: JournalName> {
     pub docket: Docket,
@@ -44,8 +44,8 @@ pub(crate) struct Worked<N: JournalName> {
 }
 
 impl<N: JournalName> ReadyDesks<N> {
-    /// So many desks, ready for the journal of which this was counted and whose items these are.
-    /// Wants memory (NoMemory).
+    /// So many desks, ready for the journal that was counted here and whose items these are.
+    /// May run out of memory (NoMemory).
     pub fn prepare(
         alloc: Global,
         journal: &Journal,
@@ -134,8 +134,8 @@ pub(crate) fn desks_wanted(desks: u16, folios: usize) -> usize
     (desks as usize).min(folios.max(1))
 }
 
-/// An arena with room for the locks of so many folios, which takes no memory later on. Wants memory
-/// (NoMemory).
+/// An arena with room for the locks of so many folios, so that locking takes no memory. May run out of
+/// memory (NoMemory).
 fn arena_for<N: JournalName>(alloc: Global, folios: usize) -> Result<Bump<Global>, NoMemory> {
     let lock = mem::size_of::<Mutex<PlacedFolio<N, Brand>>>();
     let arena = Bump::try_with_capacity(alloc, folios.saturating_mul(lock))?;

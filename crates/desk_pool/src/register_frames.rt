@@ -66,7 +66,7 @@ impl RegisterFrame {
         }
     }
 
-    /// Settles the item at a place of the order, where those ahead of it are settled.
+    /// Settles the item at a place of the order, where those before it are settled.
     fn settle_at(&mut self, journal: &Journal, order: &[ReceiptNo], place: usize)
         requires numbered { IsJournal journal.now.receipts }
         requires permitted { IsPermitted journal.now.receipts order.now }
@@ -82,7 +82,7 @@ impl RegisterFrame {
     }
 
     /// Takes away what stands in the parts, so that a journal for which they have the places is
-    /// settled anew. It takes no memory.
+    /// settled again. It takes no memory.
     pub fn reset(&mut self)
         ensures prepared { (journal : List Receipt) → HasPlaces journal self.old → IsPrepared journal self.new }
     {

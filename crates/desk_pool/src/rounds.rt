@@ -31,7 +31,7 @@ use std::thread::Threads;
 /// How many desks there are at most.
 const MOST_DESKS: usize = 64;
 
-/// All that the items of the named journal are settled in. From here on settling wants no memory and
+/// All that the items of the named journal are settled in. From here on settling takes no memory and
 /// cannot fail. In contracts it is the numbers of the journal's receipts.
 #[derive(Drop)]
 pub struct Round<'a, N: JournalName> {
@@ -58,7 +58,7 @@ impl<'a, N: JournalName> Model for Round<'a, N> {
 }
 
 impl<'a, N: JournalName> Round<'a, N> {
-    /// All that the items of the journal are settled in. Wants memory (NoMemory).
+    /// All that the items of the journal are settled in. May run out of memory (NoMemory).
     pub fn prepare(alloc: Global, journal: &'a Journal) -> Result<Round<'a, N>, NoMemory>
         requires { journal.now.receipts ≡ N.receipts }
     {
@@ -98,8 +98,8 @@ impl<'a, N: JournalName> Round<'a, N> {
         settle_in_row(journal, frame, ready.row, receipts.as_slice())
     }
 
-    /// Settles the journal in a given order, without threads and without memory; None just where the
-    /// order is not a permitted one (GBO § 17).
+    /// Settles the journal in a given order, without threads and without memory; None exactly where the
+    /// order is not permitted (GBO § 17).
     pub fn in_order(self, order: &[ReceiptNo]) -> Option<Register>
         ensures permitted { IsSome result ↔ IsPermitted N.receipts order.now }
         ensures settled { IfSome result (HasSettled N.receipts) }
@@ -130,7 +130,7 @@ impl<'a, N: JournalName + Send + Sync> Round<'a, N> {
     /// had; more desks than folios would have nothing to do, so they do not begin. `gate` is called
     /// with each item while its folios are locked. Whatever the desks do, the register is that of
     /// one registrar (GBO § 17): where they leave something undone, the whole journal is settled
-    /// anew, and then no gate is called.
+    /// again, and then no gate is called.
     pub fn run<R: Threads + Wait + Sync, G: DeskGate>(
         self,
         rt: &R,
@@ -160,7 +160,7 @@ impl<'a, N: JournalName + Send + Sync> Round<'a, N> {
     }
 }
 
-/// So many items that no order was seen to have yet.
+/// A mark for each of so many items: none was seen in an order yet.
 fn list_unpassed(alloc: Global, count: usize) -> Result<Vec<bool>, NoMemory>
     ensures none { IfOk result (λ passed. All (λ b. b ≡ false) passed.items) }
     ensures count { IfOk result (λ passed. length passed.items ≡ count) }

@@ -1,4 +1,4 @@
-//! The scratches in which sales are reckoned.
+//! The scratches in which the lowest bids of sales are computed.
 ghost use Rattle.std.specs.Prelude.{◌≡◌, ◌*◌, ◌≤◌, true, length, sum_by, IfOk, OnOk};
 ghost use Rattle.gb_base.specs.declared.keys.Key.{Key};
 ghost use Rattle.gb_base.specs.declared.keys.Key.TheVariants.{Right};
@@ -19,7 +19,7 @@ use registrar::Scratch;
 use std::alloc::Global;
 use std::collections::BTreeMap;
 
-/// A scratch for each item of the journal, of which these are all keys. Wants memory (NoMemory).
+/// A scratch for each item of the journal, of which these are all keys. May run out of memory (NoMemory).
 pub(crate) fn scratch_for_all(
     alloc: Global,
     journal: &Journal,
@@ -38,7 +38,7 @@ pub(crate) fn scratch_for_all(
 }
 
 /// A scratch for the items that touch a folio: for its rights where it has a sale, and None where it
-/// has none, since one without room takes memory all the same. Wants memory (NoMemory).
+/// has none, since one without room takes memory all the same. May run out of memory (NoMemory).
 pub(crate) fn scratch_for_folio(
     alloc: Global,
     journal: &Journal,
@@ -57,7 +57,7 @@ pub(crate) fn scratch_for_folio(
     Ok(Some(scratch))
 }
 
-/// Keeps the room in a scratch that a sale wants, where the key is one: for the rights of its folio,
+/// Keeps the room in a scratch that the key's sale needs, where it is the key of one: for the rights of its folio,
 /// and for the exchanges by which they may rise.
 fn reserve_at(
     alloc: Global,
@@ -83,7 +83,7 @@ fn reserve_at(
     }
 }
 
-/// The room that is kept at these rights of a folio: so many exchanges stand there at most.
+/// The room that is kept at these rights of a folio: at most so many exchanges stand there.
 fn exchange_room(rooms: &BTreeMap<Key, usize>, folio: FolioId, rights: &[RightId]) -> usize
     requires few { (k : Key) → room_in rooms.now k ≤ 4 * most_receipts }
     requires rights { length rights.now ≤ most_creations }

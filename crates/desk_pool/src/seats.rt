@@ -20,7 +20,7 @@ pub(crate) struct Seat {
 }
 
 impl Seat {
-    /// What a desk works with. Wants memory (NoMemory).
+    /// What a desk works with. May run out of memory (NoMemory).
     pub fn new(alloc: Global) -> Result<Seat, NoMemory> {
         Ok(Seat {
             nothing: MapParts::new(alloc, &[])?,

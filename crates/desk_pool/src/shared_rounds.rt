@@ -17,7 +17,7 @@ pub(crate) struct SharedRound<'a, N: JournalName, W: RowName> {
     pub journal: &'a Journal,
     pub docket: &'a Docket,
     pub queues: &'a [FolioQueue],
-    /// Each at the place of its queue. No clause says so here: who locks one looks whether it is the
+    /// Each at the place of its queue. No clause says so here: whoever locks one checks whether it is the
     /// folio that is meant.
     pub folios: &'a [Mutex<PlacedFolio<N, W>>],
     pub board: &'a Mutex<Board<N>>,

@@ -9,8 +9,8 @@ use crate::marked_folios::MarkedFolio;
 use act_model::JournalName;
 use folio_sections::MapParts;
 
-/// Takes the parts of the folios from their places into this list, in the order of their queues.
-/// Whether all items of each folio are settled.
+/// Takes the parts of the folios from their places into this list, in the order of their queues,
+/// and says whether all items of each folio are settled.
 pub(crate) fn take_parts<N: JournalName>(
     places: &mut [Option<MarkedFolio<N>>],
     queues: &[FolioQueue],

@@ -13,7 +13,7 @@ use Rattle.registrar.specs.HeldKeys.{keys_of_first}
 abbrev pub is_queued : List FolioQueue → ℕ → Bool
 is_queued queues folio = list_any (λ q. folio == q.folio) queues
 
--- The queues of their folios, the folios ascending, and each folio of a key that an item touches is among them.
+-- These are the queues of their folios, with the folios ascending, and the folio of each key that an item touches is among them.
 pub record AreAllQueues (journal : List Receipt) (queues : List FolioQueue) : Type 0 where
   pub own : AreQueues journal queues
   pub ascending : AllPairs (λ q later. q.folio < later.folio) queues

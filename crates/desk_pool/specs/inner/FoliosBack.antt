@@ -24,11 +24,11 @@ pub record AllBack (journal : List Receipt) (queues : List FolioQueue) (back : L
   pub parts_are : (place : ℕ) (queue : FolioQueue) (parts : List PartState) → slice_get queues place ≡ Some queue → slice_get back place ≡ Some parts
       → AreFolioParts journal queue.folio parts
 
--- at each key that is held stands what the one registrar leaves there
+-- each key that is held has the entries that the one registrar leaves there
 abbrev pub StandsSettled : List Receipt → List PartState → Type 0
 StandsSettled journal parts = (k : Key) → IsTrue (is_held parts k) → entries_at parts k ≡ at (registrar journal).entries k
 
--- so in the parts of each folio
+-- the parts of each folio have these entries
 abbrev pub AreSettled : List Receipt → List (List PartState) → Type 0
 AreSettled journal back = All (StandsSettled journal) back
 

@@ -12,7 +12,7 @@ mark_of m = record { folio = m.folio.folio; mark = m.mark.token.name }
 abbrev pub AreInRow : {N : Type 0} → List FolioMark → List (Option (MarkedFolio N)) → Type 0
 AreInRow row places = map (option_map mark_of) places ≡ map Some row
 
--- those that are back stand at their places, and so many are
+-- the folios that are back stand at their places, and so many are back
 pub record AreSomeInRow {N : Type 0} (row : List FolioMark) (places : List (Option (MarkedFolio N))) (count : ℕ) : Type 0 where
   pub placed : (place : ℕ) (m : MarkedFolio N) → slice_get places place ≡ Some (Some m) → slice_get row place ≡ Some (mark_of m)
   pub many : count_here places ≡ count

@@ -5,11 +5,11 @@ use Rattle.std.specs.Option.{option_map_or}
 use Rattle.gb_base.specs.declared.keys.Key.{Key}
 use Rattle.conflict_queue.specs.Dockets.{previous_in}
 
--- item n, from 1, is settled, by what is noted of each
+-- item n, from 1 on, is noted as settled
 abbrev pub is_settled : List Bool → ℕ → Bool
 is_settled settled n = option_map_or (λ one. one) (slice_get settled (n - 1)) false
 
--- so is the item for which another waits, where there is one
+-- the item for which another waits is settled, where there is one
 abbrev pub is_free : List Bool → Option ℕ → Bool
 is_free settled before = option_map_or (is_settled settled) before true
 
@@ -21,7 +21,7 @@ keys_in docket i = option_map_or (λ keys. keys) (slice_get docket (i - 1)) []
 abbrev pub is_item : List (List Key) → ℕ → Bool
 is_item docket i = nat_le 1 i && nat_le i (length docket)
 
--- item i has its turn: it is one of the docket's, is not settled, and at each of its keys the item before it is
+-- item i has its turn: it is one of the docket's, is not settled, and at each of its keys the item before it is settled
 abbrev pub has_turn : List (List Key) → List Bool → ℕ → Bool
 has_turn docket settled i =
     is_item docket i && (not (is_settled settled i) && list_all (λ k. is_free settled (previous_in docket i k)) (keys_in docket i))

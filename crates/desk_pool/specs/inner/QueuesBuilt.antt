@@ -21,11 +21,11 @@ items_at items folio = items_in (get nat_cmp items folio)
 abbrev pub is_last : ℕ → List ℕ → Bool
 is_last item queue = option_map_or (λ n. n == item) (slice_get queue (length queue - 1)) false
 
--- with the item behind these, unless it is the last of them
+-- the queue with the item at its end, unless it is the last already
 abbrev pub with_item : ℕ → List ℕ → List ℕ
 with_item item queue = if is_last item queue then queue else queue ++ item ∷ []
 
--- what a folio has of these keys' item, key by key
+-- the queue of a folio with the item of these keys, key by key
 abbrev pub with_item_at : List Key → ℕ → ℕ → List ℕ → List ℕ
 with_item_at [] folio item queue = queue
 with_item_at (k ∷ ks) folio item queue = with_item_at ks folio item (if folio_of_key k == folio then with_item item queue else queue)

@@ -8,7 +8,7 @@ use Rattle.conflict_queue.specs.Dockets.{keys_touched}
 use Rattle.desk_pool.specs.RoundRooms.{room_for, room_of_first}
 use Rattle.desk_pool.specs.declared.folio_parts.KeyRoom.{KeyRoom}
 
--- so much room at one key, as another key has it
+-- the room that key j brings at key k: so much where they are the same, else 0
 abbrev pub room_if : Key → ℕ → Key → ℕ
 room_if j room k = if same_key j k then room else 0
 
@@ -20,7 +20,7 @@ sum_at list k = sum_by (λ r. room_if r.key r.room k) list
 abbrev pub is_listed : List KeyRoom → Key → Bool
 is_listed list k = list_any (λ r. same_key r.key k) list
 
--- those of the keys that are of the folio, each with so much room
+-- those of these keys that are of the folio, each with so much room
 abbrev pub keys_with_room : List Key → ℕ → ℕ → List KeyRoom
 keys_with_room [] folio room = []
 keys_with_room (k ∷ ks) folio room = if folio_of_key k == folio then record { key = k; room = room } ∷ keys_with_room ks folio room else keys_with_room ks folio room

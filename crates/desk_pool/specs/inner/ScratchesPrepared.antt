@@ -8,16 +8,16 @@ use Rattle.registrar.specs.HasSettled.{settled_first}
 use Rattle.registrar.specs.Rooms.{IsForFolio}
 use Rattle.sale_rules.specs.ScratchRoom.{ScratchRoom}
 
--- a scratch for each item that reckons in the folio
+-- the scratch has room for each item that computes a lowest bid in the folio
 abbrev pub ServesFolio : List Receipt → ℕ → ScratchRoom → Type 0
 ServesFolio journal folio scratch = (i : ℕ) → i ≤ length journal → IsForFolio journal i folio (at (settled_first journal (i - 1)).entries) scratch
 
--- the same where the key is that of a sale
+-- where the key is that of a sale, the scratch has room for each item that computes a lowest bid in its folio
 abbrev pub ServesAt : List Receipt → Key → ScratchRoom → Type 0
 ServesAt journal (Case folio) scratch = ServesFolio journal folio scratch
 ServesAt journal other scratch = Unit {0}
 
--- it has at least the room that it had
+-- The new scratch has at least the room of the old one.
 pub record IsNoSmaller (old new : ScratchRoom) : Type 0 where
   pub rights : old.rights ≤ new.rights
   pub exchanges : old.exchanges ≤ new.exchanges

@@ -1,4 +1,4 @@
--- The register of the one registrar, in all that is said of it.
+-- The register of the one registrar, with all that clauses say of it.
 use Rattle.std.specs.Prelude.{◌≡◌, List, length}
 use Rattle.gb_base.specs.declared.keys.Key.{Key}
 use Rattle.act_model.specs.declared.receipts.Receipt.{Receipt}

@@ -6,7 +6,7 @@ use Rattle.desk_pool.specs.FolioQueues.{has_folio}
 use Rattle.desk_pool.specs.declared.touched_folios.TouchedFolios.TheVariants as touched
 use Rattle.desk_pool.specs.declared.touched_folios.TouchedFolios.{TouchedFolios}
 
--- where two of these keys are of different folios, any is of the one or the other
+-- where two of these keys are of different folios, any other is of one of these two folios
 abbrev pub AreOfFewFolios : List Key → Type 0
 AreOfFewFolios keys = (j k l : Key) → Contains keys j → Contains keys k → Contains keys l → (folio_of_key j ≡ folio_of_key k → ⊥) → (folio_of_key l ≡ folio_of_key j) ⊎ (folio_of_key l ≡ folio_of_key k)
 

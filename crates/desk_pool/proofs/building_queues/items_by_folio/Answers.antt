@@ -1,4 +1,4 @@
--- One item after the other comes behind those of its folios.
+-- Items are put, one after the other, at the end of their folios' queues.
 use Rattle.std.proofs.Common.{◌≡◌, ◌∙◌, ◌+◌, length, ap, arith}
 use Rattle.std.proofs.lemmas.Grind.{common_steps}
 use Rattle.conflict_queue.proofs.Numbered.{docket_len}

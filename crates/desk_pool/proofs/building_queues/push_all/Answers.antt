@@ -1,4 +1,4 @@
--- The item stands behind the others of each folio of the keys so far.
+-- The item stands at the end of the queue of each folio of the keys so far.
 use Rattle.std.proofs.Common.{◌≡◌, ◌∙◌, ◌==◌, ℕ, List, true, cond, sym, ap, subst, arith}
 use Rattle.desk_pool.specs.inner.QueuesBuilt.{is_last, items_at, with_item, with_item_at}
 use Rattle.desk_pool.proofs.BuiltQueues.{ends_with, moved, next_key, same_number, unmoved}

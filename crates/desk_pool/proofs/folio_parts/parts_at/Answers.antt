@@ -1,4 +1,4 @@
--- One key after the other is held, with its room.
+-- Keys are held, one after the other, with their room.
 use Rattle.desk_pool.proofs.PreparedParts.{held_next, held_none}
 use Rattle.desk_pool.proofs.folio_parts.parts_at.Goals as goal
 

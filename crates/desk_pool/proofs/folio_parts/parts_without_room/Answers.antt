@@ -1,4 +1,4 @@
--- One key after the other is held.
+-- Keys are held, one after the other.
 use Rattle.desk_pool.proofs.PreparedParts.{none_held, one_more_held}
 use Rattle.desk_pool.proofs.folio_parts.parts_without_room.Goals as goal
 

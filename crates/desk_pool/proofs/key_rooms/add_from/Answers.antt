@@ -1,4 +1,4 @@
--- The next one begins a run of its own, or goes on with the one in hand.
+-- The next key begins a run of its own, or goes on with the run in hand.
 use Rattle.std.proofs.Common.{◌≡◌, ◌+◌, ◌||◌, ◌∙◌, arith, ap, drop, sym}
 use Rattle.std.specs.Prelude.{is_some}
 use Rattle.std.specs.BTreeMap.{get}

@@ -1,4 +1,4 @@
--- What was made is what the register is put together in.
+-- What was made is a frame of the journal's register.
 use Rattle.std.proofs.Common.{true, filter_map, sym, subst, ◌∙◌, ap}
 use Rattle.desk_pool.specs.declared.folio_parts.KeyRoom.{KeyRoom}
 use Rattle.desk_pool.specs.inner.PartsPrepared.{AreRoomsAt}

@@ -1,4 +1,4 @@
--- The room of a folio's rights serves each item that reckons there.
+-- The room for a folio's rights is enough for each item that computes a lowest bid there.
 use Rattle.std.proofs.Common.{◌≤◌, OnOk, length, sym, subst}
 use Rattle.desk_pool.specs.inner.ScratchesPrepared.{ServesAt, ServesFolio}
 use Rattle.desk_pool.proofs.PreparedScratches.{few_filed, rooms_few, serves_folio}

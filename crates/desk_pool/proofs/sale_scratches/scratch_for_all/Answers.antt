@@ -1,4 +1,4 @@
--- One sale after the other has its room.
+-- The scratch gets the room for one sale after the other.
 use Rattle.std.proofs.Common.{arith}
 use Rattle.desk_pool.proofs.PreparedScratches.{at_case, next_serves, serves_all}
 use Rattle.desk_pool.proofs.sale_scratches.scratch_for_all.Goals as goal

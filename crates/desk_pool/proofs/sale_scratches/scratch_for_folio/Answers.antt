@@ -1,4 +1,4 @@
--- A folio that has a sale has its room, and in another one nothing reckons.
+-- A folio that has a sale has its room, and in a folio that has none no lowest bid is computed.
 use Rattle.std.proofs.Common.{None, ◌∙◌, sym}
 use Rattle.std.proofs.lemmas.Bool.{false≢true}
 use Rattle.gb_base.specs.declared.keys.Key.TheVariants.{Case}

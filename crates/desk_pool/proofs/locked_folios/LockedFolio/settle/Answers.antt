@@ -8,7 +8,7 @@ use Rattle.desk_pool.proofs.Settling.{verdict_said}
 use Rattle.desk_pool.specs.FolioStates.{FolioState, scratch_of}
 use Rattle.desk_pool.proofs.locked_folios.LockedFolio.settle.Goals as goal
 
--- the folio ahead of the step
+-- the folio before the step, as the step's goals have it
 abbrev ahead : (g : _) (c : goal.After-step_in_own-arg-3-1 g) → FolioState
 ahead g c = record { folio = c.self.inside.folio; taken = c.self.inside.taken; parts = c.self.inside.parts; scratch = scratch_of c.self.inside.scratch }
 
@@ -35,7 +35,7 @@ step_in_own-verdict-requires-clause-kept g c = (ready g c).can.kept
 pub step_in_own-verdict-requires-clause-earlier : goal.step_in_own-verdict-requires-clause-earlier
 step_in_own-verdict-requires-clause-earlier g c = (ready g c).can.earlier
 
--- the same behind it
+-- the folio before the step, as the goals of what it leaves have it
 abbrev before : (g : _) (c : goal.After-self-1 g) → FolioState
 before g c = record { folio = c.self.inside.folio; taken = c.self.inside.taken; parts = c.self.inside.parts; scratch = scratch_of c.self.inside.scratch }
 

@@ -8,7 +8,7 @@ use Rattle.desk_pool.proofs.Settling.{verdict_said}
 use Rattle.desk_pool.specs.FolioStates.{FolioState, scratch_of}
 use Rattle.desk_pool.proofs.locked_folios.LockedFolio.settle_both.Goals as goal
 
--- ---- ahead of the first exchange
+-- ---- before the first exchange
 
 abbrev first_there : (g : _) (c : goal.After-swap-arg-3-1 g) → FolioState
 first_there g c = record { folio = c.first.inside.folio; taken = c.first.inside.taken; parts = c.first.inside.parts; scratch = scratch_of c.first.inside.scratch }
@@ -25,7 +25,7 @@ swap-requires g c =
           c.in_ok-first_taken.ensures.next c.in_ok-second_taken.ensures.next c.requires.own refl).apart;
     }
 
--- ---- ahead of the step
+-- ---- before the step
 
 abbrev first_ahead : (g : _) (c : goal.After-step_in_own-arg-3-1 g) → FolioState
 first_ahead g c = record { folio = c.first.inside.folio; taken = c.first.inside.taken; parts = c.first.inside.parts; scratch = scratch_of c.first.inside.scratch }
@@ -58,7 +58,7 @@ step_in_own-verdict-requires-clause-kept g c = (ready g c).can.kept
 pub step_in_own-verdict-requires-clause-earlier : goal.step_in_own-verdict-requires-clause-earlier
 step_in_own-verdict-requires-clause-earlier g c = (ready g c).can.earlier
 
--- ---- behind the step
+-- ---- after the step
 
 abbrev first_before : (g : _) (c : goal.After-second-1 g) → FolioState
 first_before g c = record { folio = c.first.inside.folio; taken = c.first.inside.taken; parts = c.first.inside.parts; scratch = scratch_of c.first.inside.scratch }

@@ -1,4 +1,4 @@
--- The item's turn has come, and it is then one of those that are done.
+-- The item's turn has come, and after the step it is one of those that are done.
 use Rattle.std.proofs.Common.{◌+◌, ◌-◌, drop, refl, sym, ap, set, subst, take, arith}
 use Rattle.folio_sections.specs.Entries.{at}
 use Rattle.registrar.specs.Settling.{settled_in_order}
