@@ -1,4 +1,4 @@
--- The cents of a line, as they are written run by run.
+-- The cents of a line, written run by run.
 use Rattle.std.proofs.Common.{◌≡◌, ℕ, zero, suc, ◌+◌, ◌≤◌, All, List, [], ◌∷◌, ◌++◌, Some, drop, slice_get, take, sym, ap, ◌∙◌, append_assoc, arith}
 use Rattle.std.specs.List.{AllByRecursion}
 use Rattle.std.proofs.lemmas.List.Sums.{sum_by-cons, sum_by-take-drop}
@@ -11,14 +11,14 @@ use Rattle.folio_extract.specs.CentTexts.{joined_groups, piece_line, piece_lines
 use Rattle.folio_extract.specs.inner.PieceRuns.{run_len}
 use Rattle.folio_extract.proofs.PieceRuns.{cents_of, first_run}
 
--- What was written and the lines of the pieces that are left are the whole; their numbers keep within a bound, and each piece has cents.
+-- What was written, with the lines of the pieces that are left, is the whole text; the cents keep within a bound, and each piece has some.
 pub record WritesOn (places : List Place) (text whole : List ℕ) (from : ℕ) (rest : List Piece) : Type 0 where
   pub written : text ++ piece_lines places from (joined_groups places rest) ≡ whole
   pub begun : 1 ≤ from
   pub bound : from + cents_of rest ≤ most_sum
   pub some : All (λ p. 1 ≤ p.cents) rest
 
--- each of the pieces behind has cents
+-- each of the pieces that are left has cents
 all_behind : (n : ℕ) (ps : List Piece) → AllByRecursion (λ p. 1 ≤ p.cents) ps → AllByRecursion (λ p. 1 ≤ p.cents) (drop n ps)
 all_behind zero ps all = all
 all_behind (suc n) [] all = tt
@@ -29,7 +29,7 @@ some_cents : (n : ℕ) (p : Piece) (ps : List Piece) → 1 ≤ n → 1 ≤ p.cen
 some_cents zero p ps some own = absurd (omega (arith, some))
 some_cents (suc n) p ps some own = (let sum = sum_by-cons (λ (q : Piece). q.cents) p (take n ps) in omega (arith, sum, own))
 
--- What a run takes: within the bounds, and some.
+-- A run takes at least one cent, and keeps within the bounds.
 pub record Takes (from cents : ℕ) : Type 0 where
   pub some : 1 ≤ cents
   pub below : from + cents ≤ most_sum
@@ -43,7 +43,7 @@ takes places text whole from (q ∷ qs) p n first some on =
     let bound = on.bound in
     record { some = some_cents n q qs some all.0; below = omega (arith, parts, bound) }
 
--- the run is written, and what is left goes on
+-- with the run written, the pieces that are left go on
 pub goes_on : (places : List Place) (text new whole : List ℕ) (from cents : ℕ) (rest : List Piece) (p : Piece) (n : ℕ) → slice_get rest 0 ≡ Some p → 1 ≤ n → n ≡ run_len places rest
     → cents ≡ cents_of (take n rest) → new ≡ text ++ piece_line from cents (group_of places p.right)
     → WritesOn places text whole from rest → WritesOn places new whole (from + cents) (drop n rest)

@@ -1,4 +1,4 @@
--- The folio of which a receipt distributes the proceeds, in a register that tells of distributions.
+-- The folio whose proceeds a receipt distributes, in a register that tells of distributions.
 use Rattle.std.proofs.Common.{◌≡◌, ℕ, List, IsTrue, Option, Some, None, is_some, option_and_then, refl, sym, ap, subst, ◌∙◌}
 use Rattle.std.specs.Option.{option_map_or}
 use Rattle.act_model.specs.Receiving.{item_at}
@@ -21,7 +21,7 @@ stands_kept journal register folio n cents told here =
     subst (IsDistributionKept journal at folio) here.stands.4.0
     (subst (λ (x : Entry). IsTrue (is_distribution x.what) → IsDistributionKept journal at folio x.receipt) here.stands.3 kept here.stands.4.1)
 
--- so is the one of which a receipt is told
+-- the distribution that a receipt's verdict tells is covered by its money
 pub kept_of_folio : (journal : List Receipt) (register : RegisterState) (n folio : ℕ) → TellsPlans journal register
     → folio_distributed journal register.verdicts n ≡ Some folio → IsDistributionKept journal (entries_at register.parts) folio n
 kept_of_folio journal register n folio told = by (distributed_by register.verdicts n) refl
@@ -34,7 +34,7 @@ kept_of_folio journal register n folio told = by (distributed_by register.verdic
         subst (λ f. IsDistributionKept journal (entries_at register.parts) f n) same (stands_kept journal register found.0 n cents told found.1)
     by None tells is = absurd (cc is)
 
--- a receipt has a folio of which it distributes the proceeds just where a verdict says so
+-- a receipt has a folio whose proceeds it distributes exactly where a verdict says so
 pub told_of_folio : (journal : List Receipt) (register : RegisterState) (n : ℕ) → TellsPlans journal register
     → is_some (folio_distributed journal register.verdicts n) ≡ is_some (distributed_by register.verdicts n)
 told_of_folio journal register n told = by (distributed_by register.verdicts n) refl

@@ -1,4 +1,4 @@
--- The entries of a map under numbers, against the numbers in order.
+-- The entries of a map whose keys are numbers, compared with the numbers in order.
 use Rattle.std.proofs.Common.{◌≡◌, ℕ, zero, suc, ◌+◌, ◌≤◌, ◌<◌, Bool, true, false, cond, eqb, nat_lt, List, [], ◌∷◌, map, Option, Some, None, option_map, filter_map, is_some, refl, sym, ap, subst, ◌∙◌, ⊎_elim, arith}
 use Rattle.std.specs.List.{AllByRecursion, cons_option, range_with_len}
 use Rattle.std.specs.List.Sorted.{IsStrictlySortedBy}
@@ -8,12 +8,12 @@ use Rattle.std.specs.declared.cmp.Ordering.TheVariants.{Less, Equal, Greater}
 use Rattle.std.proofs.lemmas.Bool.{cases_lt, false≢true}
 use Rattle.std.proofs.lemmas.Bool.Decides.{nat_tests}
 
--- the keys rise from a number on
+-- the keys ascend, and none is below this number
 abbrev pub RisesFrom : ℕ → List (ℕ × ℕ) → Type 0
 RisesFrom from [] = Unit {0}
 RisesFrom from (e ∷ es) = (from ≤ e.0) × RisesFrom (e.0 + 1) es
 
--- what stands under a number
+-- the value at a number
 abbrev pub found : ℕ → List (ℕ × ℕ) → Option ℕ
 found n es = lookup (λ k. is_eq (nat_cmp n k)) es
 
@@ -39,7 +39,7 @@ apart n k below = grind (arith, nat_tests, below)
 pub behind : (n k : ℕ) → k < n → is_eq (nat_cmp n k) ≡ false
 behind n k above = grind (arith, nat_tests, above)
 
--- where nothing stood, nothing stands behind a removal
+-- where nothing stood, nothing stands after a removal
 pub none_left : (b : Bool) (o : Option ℕ) → o ≡ None → cond b None o ≡ None
 none_left true o none = refl
 none_left false o none = none
@@ -80,13 +80,13 @@ from_one (e ∷ es) none =
     (λ zero. absurd (some_is_not_none (sym (at_first 0 e es (omega (arith, zero))) ∙ none)))
     (cases_lt 0 e.0)
 
--- where nothing stands under 0, the keys rise from 1 on
+-- where nothing stands at 0, the keys ascend from 1 on
 pub rises_from_one : (es : List (ℕ × ℕ)) → found 0 es ≡ None → IsStrictlySortedBy nat_cmp (keys_of es) → RisesFrom 1 es
 rises_from_one es none sorted = rises_from 1 es (from_one es none) sorted
 
 -- ---- together
 
--- What is made of each entry is what is made of each number in order, where nothing is made of a number that is no key.
+-- A function of the map's entries gives the same list as one of the numbers in order, where that gives nothing for a number that is no key.
 pub in_order : {X : Type 0} (f : ℕ → Option X) (g : ℕ × ℕ → X) (from n : ℕ) (es : List (ℕ × ℕ)) → RisesFrom from es
     → ((m : ℕ) → from ≤ m → f m ≡ option_map (λ v. g (m, v)) (found m es)) → ((m : ℕ) → from + n ≤ m → f m ≡ None)
     → map g es ≡ filter_map f (range_with_len from n)

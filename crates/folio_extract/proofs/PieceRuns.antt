@@ -1,4 +1,4 @@
--- The pieces at the front of a line that are of one group are its first piece by owner.
+-- The pieces at the front of a line that are of one group make the first piece once groups are joined.
 use Rattle.std.proofs.Common.{◌≡◌, ℕ, zero, suc, ◌+◌, ◌-◌, ◌≤◌, ◌<◌, true, false, cond, List, [], ◌∷◌, drop, get_or, length, sum_by, take, refl, sym, ap, ◌∙◌, arith}
 use Rattle.std.proofs.lemmas.List.Sums.{sum_by-cons}
 use Rattle.rank_slots.specs.declared.places.Piece.{Piece}
@@ -11,11 +11,11 @@ use Rattle.folio_extract.specs.inner.PieceRuns.{run_len}
 abbrev pub cents_of : List Piece → ℕ
 cents_of ps = sum_by (λ p. p.cents) ps
 
--- the first so many pieces as one, of the first one's right, and the others by owner
+-- the first so many pieces as one, under the right of the first, and then the others with their groups joined
 abbrev joined_to : List Place → Piece → List Piece → ℕ → List Piece
 joined_to places p ps n = record { right = p.right; cents = cents_of (take n (p ∷ ps)) } ∷ joined_groups places (drop n (p ∷ ps))
 
--- a piece is one of its own cents
+-- one piece has just its own cents
 alone : (p : Piece) (ps : List Piece) → p ∷ ps ≡ record { right = p.right; cents = cents_of (take 1 (p ∷ ps)) } ∷ ps
 alone p ps =
     let own : p.cents ≡ 0 + p.cents = omega arith in
@@ -43,14 +43,14 @@ run_from places (p ∷ q ∷ qs) zero a b within first second =
     λ i. cond (shares_group places ((sym first) i).right ((sym second) i).right) (suc (run_len places (q ∷ qs))) 1
 run_from places (p ∷ q ∷ qs) (suc n) a b within first second = run_from places (q ∷ qs) n a b (omega (arith, within)) first second
 
--- a last piece is a run of its own
+-- the last piece is a run of its own
 pub run_of_last : (places : List Place) (ps : List Piece) (n : ℕ) → n + 1 ≡ length ps → run_len places (drop n ps) ≡ 1
 run_of_last places [] n last = absurd (omega (arith, last))
 run_of_last places (p ∷ []) zero last = refl
 run_of_last places (p ∷ q ∷ qs) zero last = absurd (omega (arith, last))
 run_of_last places (p ∷ ps) (suc n) last = run_of_last places ps n (omega (arith, last))
 
--- The run from the last piece that is counted on, with those ahead of it, is the whole one.
+-- The run that goes on from the last piece that is counted, with the pieces before it, is the whole run.
 pub record RunsOn (places : List Place) (ps : List Piece) (len : ℕ) : Type 0 where
   pub some : 1 ≤ len
   pub within : len ≤ length ps
@@ -59,7 +59,7 @@ pub record RunsOn (places : List Place) (ps : List Piece) (len : ℕ) : Type 0 w
 after_one : (n : ℕ) → 1 ≤ n → suc (n - 1) ≡ n
 after_one n some = omega (arith, some)
 
--- the run at the last piece that is counted goes by the test of the next pair
+-- the run that begins at the last piece counted goes on where the next two pieces share a group
 next_pair : (places : List Place) (ps : List Piece) (len : ℕ) (a b : Piece) → RunsOn places ps len → len < length ps → a ≡ get_or ps (len - 1) a → b ≡ get_or ps len b
     → run_len places (drop (len - 1) ps) ≡ cond (shares_group places a.right b.right) (suc (run_len places (drop len ps))) 1
 next_pair places ps len a b runs more first second =

@@ -1,4 +1,4 @@
--- The plan of a distribution, reckoned with what is claimed and with the money.
+-- The plan of a distribution, computed from what is claimed and from the money.
 use Rattle.std.proofs.Common.{◌≡◌, ℕ, ◌≤◌, List, [], IsSomeAnd, sym, ap, subst}
 use Rattle.std.specs.Option.{option_map_or}
 use Rattle.auction_classes.specs.LowestBid.{lowest_bid}

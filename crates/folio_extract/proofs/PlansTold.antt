@@ -68,13 +68,13 @@ keys_distributed journal n folio =
       | None ↦ λ is. absurd (cc is)
     ]
 
--- the case of the folio is one of them
+-- the folio's case is one of the keys of its distribution
 pub case_is_touched : (journal : List Receipt) (n folio : ℕ) → item_at journal n ≡ Some (item.Distribute folio) → Contains (keys_of_item journal n) (Case folio)
 case_is_touched journal n folio is =
     subst (λ ks. Contains ks (Case folio)) (sym (keys_distributed journal n folio is))
     (contains_first (Case folio) (Title folio ∷ map (Right folio) (earlier_rights journal n folio)))
 
--- a distribution is a receipt of the journal
+-- an item of the journal is under a number up to the journal's length
 pub received : (journal : List Receipt) (n : ℕ) (w : Item) → item_at journal n ≡ Some w → n ≤ length journal
 received journal n w is = by (receipt_at journal n) refl is
   where
@@ -94,11 +94,11 @@ told None cents is = absurd (cc is)
 
 -- ---- together
 
--- each distribution of the register behind the first items, however many, is covered by its money
+-- each distribution of the register after the first items, however many, is covered by its money
 abbrev pub AllCovered : Type 0
 AllCovered = (journal : List Receipt) (n : ℕ) → IsJournal journal → DistributionsKept journal (at_key (settled_first journal n).entries)
 
--- and each that a verdict tells is one of them
+-- each distribution that a verdict tells stands in that register
 abbrev pub AllTold : Type 0
 AllTold = (journal : List Receipt) (n m cents : ℕ) → IsJournal journal → verdict_among (settled_first journal n).verdicts m ≡ Some (verdict.Distributed cents)
     → (folio : ℕ) × IsDistributed journal (at_key (settled_first journal n).entries) folio m cents
@@ -120,7 +120,7 @@ tells_plans journal register stands kept covered verdicts of_journal =
 
 -- ---- lines
 
--- what a line pays is within what all pay
+-- what a line pays is no more than what all lines pay
 pub line_within : (lines : List PlanLine) (i : ℕ) (line : PlanLine) → slice_get lines i ≡ Some line → sum_by paid lines < 2 ^ 64 → paid line < 2 ^ 64
 line_within lines i line is bound =
     let most = get_or-le-sum_by paid lines i line (slice_get_within lines i line is) in

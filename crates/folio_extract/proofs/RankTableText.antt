@@ -1,4 +1,4 @@
--- The text of a rank table, from its parts.
+-- The text of a rank table, put together from its parts.
 use Rattle.std.proofs.Common.{◌≡◌, ℕ, None, List, ◌++◌, OnOk, Result, codes, flat_map, append_assoc, ap, ◌∙◌}
 use Rattle.std.specs.Fmt.{decimal}
 use Rattle.std.proofs.lemmas.Result.{on_ok_weaker}
@@ -18,21 +18,21 @@ use Rattle.folio_line.specs.declared.folio_rights.CreatedRight.{CreatedRight}
 use Rattle.folio_extract.specs.inner.RankWalk.{ranked_lines}
 use Rattle.folio_extract.proofs.KeptRanks.{kept_ranks}
 
--- the ranks of these rights
+-- the heading of a rank table, and the ranks of these rights
 abbrev ranks_of : ℕ → List CreatedRight → List ℕ
 ranks_of folio rights = codes "ranks " ++ (decimal folio ++ (codes "\n" ++ ranked_lines 0 None rights))
 
--- four texts one behind the other
+-- four texts that are added one after the other are added as one
 four : (old a b c d : List ℕ) (one two three new : List ℕ) → one ≡ old ++ a → two ≡ one ++ b → three ≡ two ++ c → new ≡ three ++ d → new ≡ old ++ (a ++ (b ++ (c ++ d)))
 four old a b c d one two three new first second third last =
     last ∙ ap (λ t. t ++ d) (third ∙ ap (λ t. t ++ c) (second ∙ ap (λ t. t ++ b) first))
     ∙ append_assoc (old ++ a ++ b) c d ∙ append_assoc (old ++ a) b (c ++ d) ∙ append_assoc old a (b ++ (c ++ d))
 
--- what stands behind the first lines stands behind the last of them
+-- what is added to the first lines is added after their last one
 moved : (a b c : List ℕ) → (codes "ranks " ++ (a ++ (codes "\n" ++ b))) ++ c ≡ codes "ranks " ++ (a ++ (codes "\n" ++ (b ++ c)))
 moved a b c = ap (λ t. codes "ranks " ++ t) (append_assoc a (codes "\n" ++ b) c)
 
--- the parts are the table
+-- the parts together are the table
 whole : (journal : List Receipt) (at : Key → List Entry) (folio : ℕ) (rights : List CreatedRight) (exchanges : List Exchange) → IsJournal journal → Kept journal at
     → rights ≡ live_rights at folio → exchanges ≡ counted_exchanges at folio
     → ranks_of folio rights ++ (flat_map exchange_line exchanges ++ (flat_map exercise_line (counted_exercises at folio) ++ line_text (folio_filled at folio)))
@@ -44,7 +44,7 @@ whole journal at folio rights exchanges stands kept live counted =
     (λ i. (codes "ranks " ++ (decimal folio ++ (codes "\n" ++ ranks i))) ++ behind (counted i))
     ∙ moved (decimal folio) (rank_lines (places journal at folio) (live_rights at folio)) (behind (counted_exchanges at folio))
 
--- a text to which the parts were added
+-- a text to which the parts were added has the table at its end
 pub table_added : (journal : List Receipt) (at : Key → List Entry) (folio : ℕ) (rights : List CreatedRight) (exchanges : List Exchange) → IsJournal journal → Kept journal at
     → rights ≡ live_rights at folio → exchanges ≡ counted_exchanges at folio
     → {E : Type 0} (old one two three new : List ℕ) (r : Result (Unit {0}) E)

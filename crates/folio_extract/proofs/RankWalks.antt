@@ -1,4 +1,4 @@
--- Where rights stand in order of filing and group, the walk finds the rank of each.
+-- Where rights stand in the order of filing and group, the walk finds the rank of each.
 use Rattle.std.proofs.Common.{◌≡◌, ℕ, ◌+◌, Bool, true, false, ◌||◌, List, [], ◌∷◌, ◌++◌, filter, flat_map, Some, None, refl, sym, ap, ◌∙◌, ⊎_elim, arith}
 use Rattle.std.specs.List.{AllByRecursion, list_any}
 use Rattle.std.proofs.lemmas.Bool.{cases_Bool, cond-false, cond-true}
@@ -23,11 +23,11 @@ one_more_place b xs fails = cond-false (list_any (has_same_place b) xs) _ _ fail
 no_more_place : (b : CreatedRight) (xs : List CreatedRight) → list_any (has_same_place b) xs ≡ true → different_places (b ∷ xs) ≡ different_places xs
 no_more_place b xs is = cond-true (list_any (has_same_place b) xs) _ _ is
 
--- none of these stands before the first
+-- no place stands before the first right
 none_before : (x : CreatedRight) (xs : List CreatedRight) → AllByRecursion (λ y. is_filed_before y x ≡ false) xs → places_before (x ∷ xs) x ≡ 0
 none_before x xs up = ap different_places (filter_none (λ y. is_filed_before y x) (x ∷ xs) (before_self x, up))
 
--- a right of the same place ahead changes nothing
+-- a right of the same place before the first changes no rank
 place_again : (b x y : CreatedRight) (xs : List CreatedRight) → has_same_place b x ≡ true → places_before (b ∷ x ∷ xs) y ≡ places_before (x ∷ xs) y
 place_again b x y xs same =
     let p : CreatedRight → Bool = λ z. is_filed_before z y in
@@ -41,7 +41,7 @@ place_again b x y xs same =
     (λ fails. ap different_places (filter_skips p b (x ∷ xs) fails))
     (cases_Bool (is_filed_before b y))
 
--- one of another place counts for all behind it
+-- a right of another place before the first adds one place before each further right
 place_more : (b x y : CreatedRight) (xs : List CreatedRight) → is_filed_before b x ≡ true → AllByRecursion (λ z. is_filed_before z x ≡ false) xs → is_filed_before y x ≡ false
     → places_before (b ∷ x ∷ xs) y ≡ places_before (x ∷ xs) y + 1
 place_more b x y xs before up later =
@@ -51,7 +51,7 @@ place_more b x y xs before up later =
     ap different_places (filter_takes p b (x ∷ xs) (before_on b x y before later))
     ∙ one_more_place b (filter p (x ∷ xs)) (none_left p (has_same_place b) (x ∷ xs) (before_not_same b x before, others))
 
--- the rank of a right by those from the one before it on is that by those from itself on
+-- the rank of a right is the same, computed from the right before the first or from the first
 rank_on : (rank : ℕ) (b x y : CreatedRight) (xs : List CreatedRight) → is_filed_before x b ≡ false → AllByRecursion (λ z. is_filed_before z x ≡ false) xs → is_filed_before y x ≡ false
     → rank_behind rank (Some b) x + places_before (x ∷ xs) y ≡ rank + places_before (b ∷ x ∷ xs) y
 rank_on rank b x y xs first up later =
@@ -62,7 +62,7 @@ rank_on rank b x y xs first up later =
     ap (λ n. n + places_before (x ∷ xs) y) (cond-false (has_same_place b x) rank (rank + 1) other) ∙ omega (arith, more))
     (cases_Bool (has_same_place b x))
 
--- the walk, from a right on
+-- the walk, from any right on, gives the ranks
 walked : (rank : ℕ) (b : CreatedRight) (xs : List CreatedRight) → Ascends (b ∷ xs) → ranked_lines rank (Some b) xs ≡ flat_map (λ y. rank_line (rank + places_before (b ∷ xs) y) y) xs
 walked rank b [] up = refl
 walked rank b (x ∷ xs) up =
@@ -76,7 +76,7 @@ walked rank b (x ∷ xs) up =
     let rest = walked next x xs up.1 ∙ same in
     λ i. rank_line (here i) x ++ rest i
 
--- the walk over all rights
+-- the walk over all rights gives the ranks
 walked_all : (xs : List CreatedRight) → Ascends xs → ranked_lines 0 None xs ≡ flat_map (λ y. rank_line (1 + places_before xs y) y) xs
 walked_all [] up = refl
 walked_all (x ∷ xs) up =
@@ -84,7 +84,7 @@ walked_all (x ∷ xs) up =
     let rest = walked 1 x xs up in
     λ i. rank_line (here i) x ++ rest i
 
--- where the order of places is that of filing and group
+-- the walk gives the ranks of the places, where the order of the places is that of filing and group
 pub ranks_in_order : (standing : List TitlePlace) (xs : List CreatedRight) → Ascends xs
     → AllByRecursion (λ y. AllByRecursion (λ x. is_filed_before x y ≡ stands_ahead standing x y) xs) xs
     → ranked_lines 0 None xs ≡ rank_lines standing xs

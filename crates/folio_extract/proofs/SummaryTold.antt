@@ -10,7 +10,7 @@ use Rattle.registrar.specs.declared.verdicts.Verdict.{Verdict}
 use Rattle.folio_extract.specs.Reports.{Tells}
 use Rattle.folio_extract.specs.Summaries.{amount_line, decided_lines, money_of, other_lines, standing_lines, summary, summary_text}
 
--- what is numbered, without its numbers
+-- a list that is numbered, without its numbers, is the list
 pub without_numbers : {X : Type 0} (n : ℕ) (xs : List X) → map (λ v. v.1) (enumerate_from n xs) ≡ xs
 without_numbers n [] = refl
 without_numbers n (x ∷ xs) = λ i. x ∷ without_numbers (n + 1) xs i

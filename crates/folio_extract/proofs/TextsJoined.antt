@@ -3,7 +3,7 @@ use Rattle.std.proofs.Common.{◌≡◌, ◌∙◌, ◌+◌, ◌*◌, ℕ, List,
 use Rattle.std.proofs.lemmas.List.{drop-drop, take-append-drop}
 use Rattle.std.proofs.lemmas.Grind.{flat_map-append}
 
--- one text more: what is left is behind the next so many folios
+-- With one text more, what is left comes after the next so many folios.
 pub joined : (f : ℕ → List ℕ) (folios : List ℕ) (each i : ℕ) (text piece after whole : List ℕ)
     → piece ≡ flat_map f (take each (drop (i * each) folios)) → after ≡ text ++ piece
     → text ++ flat_map f (drop (i * each) folios) ≡ whole

@@ -1,4 +1,4 @@
--- The filings that wait, as two maps over their numbers have them.
+-- The filings that wait, made from two maps over their numbers.
 use Rattle.std.proofs.Common.{◌≡◌, ℕ, ◌<◌, true, false, cond, List, [], ◌∷◌, map, Option, Some, None, filter_map, find, fold, is_some, option_map, refl, sym, ap, ◌∙◌, arith}
 use Rattle.std.specs.BTreeMap.{BTreeMap, get, IsOrdered}
 use Rattle.std.specs.List.{range_with_len}
@@ -25,7 +25,7 @@ first_is_found n (e ∷ es) =
       | false ↦ first_is_found n es
     ]
 
--- a filing that waits has its first notice
+-- a filing that waits is told with its first notice
 made : (entries : List Entry) (n : ℕ) (waiting notices : ℕ → Option ℕ) → waiting n ≡ pending n entries → notices n ≡ first_notice n entries
     → waiting_at entries n ≡ option_map (λ until. with_notice notices (n, until)) (waiting n)
 made entries n waiting notices waits first =

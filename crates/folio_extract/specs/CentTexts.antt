@@ -25,12 +25,12 @@ group_text [] = []
 group_text (p ∷ []) = right_text p.right
 group_text group = codes "group" ++ flat_map (λ p. codes " " ++ right_text p.right) group
 
--- the line of a piece of this group, which takes so many cents from this one on
+-- the line of a piece that this group takes: so many cents, from this one on
 abbrev pub piece_line : ℕ → ℕ → List Place → List ℕ
 piece_line from cents group =
     codes "cents " ++ (decimal from ++ (codes "-" ++ (decimal (from + cents - 1) ++ (codes " " ++ (group_text group ++ codes "\n")))))
 
--- the lines of these pieces, of which the first begins with this cent
+-- the lines of these pieces, the first of which begins with this cent
 abbrev pub piece_lines : List Place → ℕ → List Piece → List ℕ
 piece_lines places from [] = []
 piece_lines places from (p ∷ ps) = piece_line from p.cents (group_of places p.right) ++ piece_lines places (from + p.cents) ps

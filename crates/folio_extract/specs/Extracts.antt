@@ -53,7 +53,7 @@ abbrev pub waiting_line : List ℕ → WaitingFiling → List ℕ
 waiting_line place w =
     codes "pending " ++ (decimal w.filing ++ (codes " " ++ (place ++ (codes " until " ++ (date_text w.until ++ (notice_part w.notice ++ codes "\n"))))))
 
--- all that wait at it
+-- the filings that wait at this place
 abbrev pub waiting_lines : List ℕ → List Entry → List ℕ
 waiting_lines place entries = flat_map (waiting_line place) (waiting_filings entries)
 
@@ -92,8 +92,8 @@ abbrev pub word_if : List ℕ → Bool → List ℕ
 word_if word false = []
 word_if word true = word
 
--- what holds of some rights alone: the filing that it stands behind, equal rank, a reservation, that it is spent, and the right
--- ahead of which it stands
+-- what holds of some rights only: the filing that the right stands behind, equal rank, a reservation, that it is spent, and the right
+-- that it stands ahead of
 abbrev pub notes : List Entry → Created → List ℕ
 notes entries made =
     word_part (codes " behind ") decimal made.behind ++ (word_if (codes " equal") made.equal ++ (word_part (codes " reserve ") euro made.reserve
@@ -119,6 +119,6 @@ extract_text at folio =
     ++ (waiting_lines (codes "title") (at (Title folio))
     ++ flat_map (λ x. right_lines (at (Right folio x.id)) x) (live_rights at folio)))))
 
--- the same, where the folio is open
+-- the extract of a folio; none where the folio is not open
 abbrev pub extract : (Key → List Entry) → ℕ → Option (List ℕ)
 extract at folio = if is_open (at (Title folio)) then Some (extract_text at folio) else None

@@ -23,16 +23,16 @@ use Rattle.registrar.specs.declared.verdicts.Verdict.TheVariants as verdict
 
 -- ---- the plan of a sale
 
--- The lines of the plan by which a distribution pays its money. What is distributed covers the part in cash of the lowest bid, so
--- there is one.
+-- The lines of the plan by which a distribution pays its money. There is a lowest bid, since what is distributed covers its part in
+-- cash; so there is a plan.
 abbrev pub plan_lines : Sale → List PlanLine
 plan_lines s = option_map_or (λ least. plan_of (claimed_in s) least (money s)) (lowest s) []
 
--- the same in words
+-- the plan in words
 unfoldable pub plan_in_words : Sale → List ℕ
 plan_in_words s = plan_with s.folio s.item (money s) (plan_lines s)
 
--- and as CSV
+-- the plan as CSV
 unfoldable pub plan_in_csv : Sale → List ℕ
 plan_in_csv s = csv_of_lines (plan_lines s)
 
@@ -56,7 +56,7 @@ folio_named other = None
 abbrev pub folio_distributed : List Receipt → List (ℕ × Verdict) → ℕ → Option ℕ
 folio_distributed journal verdicts n = option_and_then (λ cents. option_and_then folio_named (item_at journal n)) (distributed_by verdicts n)
 
--- the sale of which receipt n distributes the proceeds, likewise
+-- the sale whose proceeds receipt n distributes; none where it has no verdict that says so
 abbrev pub sale_distributed : List Receipt → List (ℕ × Verdict) → (Key → List Entry) → ℕ → Option Sale
 sale_distributed journal verdicts at n = option_map (λ folio. sale_at journal at folio n) (folio_distributed journal verdicts n)
 
@@ -66,6 +66,6 @@ sale_distributed journal verdicts at n = option_map (λ folio. sale_at journal a
 abbrev pub plan_by : List Receipt → (Key → List Entry) → ℕ → Entry → List ℕ
 plan_by journal at folio e = if is_distribution e.what then plan_in_words (sale_at journal at folio e.receipt) else []
 
--- the plans of its distributions, in their order
+-- the plans of the folio's distributions, in their order
 abbrev pub plans_of_folio : List Receipt → (Key → List Entry) → ℕ → List ℕ
 plans_of_folio journal at folio = flat_map (plan_by journal at folio) (at (Case folio))

@@ -22,7 +22,7 @@ use Rattle.folio_line.specs.declared.folio_rights.CreatedRight.{CreatedRight}
 
 -- ---- ranks
 
--- a right with this rank
+-- the line of a right with its rank
 abbrev pub rank_line : ℕ → CreatedRight → List ℕ
 rank_line rank x = codes "rank " ++ (decimal rank ++ (codes " " ++ (right_text x.id ++ codes "\n")))
 
@@ -53,6 +53,6 @@ rank_table_text journal at folio =
     ++ (flat_map exchange_line (counted_exchanges at folio) ++ (flat_map exercise_line (counted_exercises at folio)
     ++ line_text (folio_filled at folio))))))
 
--- the same, where the folio is open
+-- the rank table of a folio; none where the folio is not open
 abbrev pub rank_table : List Receipt → (Key → List Entry) → ℕ → Option (List ℕ)
 rank_table journal at folio = if is_open (at (Title folio)) then Some (rank_table_text journal at folio) else None

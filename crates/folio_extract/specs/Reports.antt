@@ -1,4 +1,4 @@
--- The report: what becomes of each item, the extract, the rank table and the plans of each open folio, and a line that ends it.
+-- The report: what becomes of each item, the extract, the rank table and the plans of each open folio, and a line at its end.
 use Rattle.std.specs.Prelude.{◌≡◌, ℕ, List, ◌++◌, codes, flat_map, length}
 use Rattle.std.specs.Fmt.{decimal}
 use Rattle.gb_base.specs.declared.keys.Key.{Key}

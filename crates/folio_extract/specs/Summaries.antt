@@ -36,7 +36,7 @@ abbrev pub is_cured : Verdict → Bool
 is_cured verdict.Cured = true
 is_cured other = false
 
--- it is none of these
+-- it is neither entered, rejected, interim nor cured
 abbrev pub is_other : Verdict → Bool
 is_other v = not (is_entered v || (is_rejected v || (is_interim v || is_cured v)))
 
@@ -47,11 +47,11 @@ money_of other = 0
 
 -- ---- what stands in a folio
 
--- how many rights are live
+-- how many rights are live in a folio
 abbrev pub rights_in : (Key → List Entry) → ℕ → ℕ
 rights_in at folio = length (live_rights at folio)
 
--- their capitals together, in cents
+-- the capitals of a folio's live rights together, in cents
 abbrev pub capital_in : (Key → List Entry) → ℕ → ℕ
 capital_in at folio = sum_by (λ x. capital_at at folio x.id) (live_rights at folio)
 

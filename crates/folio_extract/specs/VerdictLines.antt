@@ -33,7 +33,7 @@ verdict_text verdict.Awarded = codes "awarded"
 verdict_text (verdict.BidTooLow bid cash) = codes "rejected ZVG 44 bid " ++ (euro bid ++ (codes " cash " ++ euro cash))
 verdict_text (verdict.Distributed money) = codes "distributed " ++ euro money
 
--- the same of receipt n, as a line
+-- the line that says what becomes of receipt n
 abbrev pub verdict_line : ℕ → Verdict → List ℕ
 verdict_line n v = codes "receipt " ++ (decimal n ++ (codes " " ++ (verdict_text v ++ codes "\n")))
 

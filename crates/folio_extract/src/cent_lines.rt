@@ -10,7 +10,7 @@ ghost use Rattle.folio_extract.specs.inner.PieceRuns.{run_len};
 use gb_base::NoMemory;
 use rank_slots::{Piece, Place, Slots};
 
-/// Adds the cents of a line. Neighbouring pieces of one group are one.
+/// Adds the cents of a line. Neighbouring pieces of one group are printed as one.
 pub(crate) fn add_cent_lines(text: &mut String, slots: &Slots) -> Result<(), NoMemory>
     ensures { OnOk result (string_bytes text.new ≡ string_bytes text.old ++ line_text slots.now.filled) }
 {
@@ -62,7 +62,7 @@ fn total(pieces: &[Piece]) -> u64
     cents
 }
 
-/// Adds the cents that a group takes from this one on.
+/// Adds the line of a group, which takes so many cents from this one on.
 fn add_piece(text: &mut String, from: u64, cents: u64, group: &[Place]) -> Result<(), NoMemory>
     requires some { 1 ≤ cents }
     requires bound { from + cents < 2 ^ 64 }

@@ -68,7 +68,7 @@ pub(crate) fn case_entries(register: &Register, folio: FolioId) -> &[Entry]
     }
 }
 
-/// Whether a forced sale of the folio runs in which no award stands (ZVG § 19).
+/// Whether a forced sale of the folio runs and no award stands in it (ZVG § 19).
 #[tactic(auto, using(folio_line::specs::inner::NotHeld::not_held))]
 pub(crate) fn has_sale_note(register: &Register, folio: FolioId) -> bool
     ensures { result ≡ is_running (entries_at register.now.parts (Case folio)) && is_none (award (entries_at register.now.parts (Case folio))) }
@@ -79,7 +79,7 @@ pub(crate) fn has_sale_note(register: &Register, folio: FolioId) -> bool
     }
 }
 
-/// Whether a forced sale runs in which no award stands, so that its folio has the sale note (ZVG
+/// Whether a forced sale runs and no award stands in it, so that its folio has the sale note (ZVG
 /// § 19).
 pub fn awaits_award(case: &CasePart) -> bool
     ensures { result ≡ is_running case.now.entries && is_none (award case.now.entries) }
@@ -87,7 +87,7 @@ pub fn awaits_award(case: &CasePart) -> bool
     case.running() && case.award().is_none()
 }
 
-/// The line of the folio. NoMemory where no memory is found for its lists.
+/// The line of the folio. May run out of memory (NoMemory) for its lists.
 pub(crate) fn line_of(
     alloc: Global,
     register: &Register,

@@ -11,8 +11,8 @@ use crate::verdict_lines::add_euro;
 use gb_base::{FolioId, NoMemory, Person, ReceiptNo, RightId};
 use proceeds_split::{PlanLine, PlanPart};
 
-/// Adds the plan of the distribution by receipt n in a folio, of so much money in cents, whose lines
-/// these are.
+/// Adds the plan with these lines, of the distribution by receipt n in a folio, of so much money in
+/// cents.
 pub(crate) fn add_plan_lines(
     text: &mut String,
     folio: FolioId,
@@ -74,7 +74,7 @@ pub(crate) fn add_part(text: &mut String, part: PlanPart) -> Result<(), NoMemory
     Ok(())
 }
 
-/// Adds what stands on a line behind its part.
+/// Adds what stands on a line after its part.
 fn add_line_end(text: &mut String, line: &PlanLine) -> Result<(), NoMemory>
     requires { paid line.now < 2 ^ 64 }
     ensures { OnOk result (string_bytes text.new ≡ string_bytes text.old ++ line_end line.now.part line.now) }

@@ -15,7 +15,7 @@ use gb_base::{NoMemory, Person, RightId};
 use proceeds_split::PlanLine;
 use std::alloc::{AllocError, Global};
 
-/// The lines of a plan behind a header, a row each, with amounts in cents.
+/// The lines of a plan, a row each after a header, with amounts in cents.
 pub(crate) fn csv_of_lines(alloc: Global, lines: &[PlanLine]) -> Result<Vec<u8>, NoMemory>
     requires { sum_by paid lines.now < 2 ^ 64 }
     ensures { IfOk result (λ text. text.items ≡ csv_of_lines lines.now) }
@@ -62,8 +62,8 @@ fn add_row(alloc: Global, text: &mut Vec<u8>, line: &PlanLine) -> Result<(), NoM
     text.extend_from_slice(&row)
 }
 
-/// A row of these fields. The writer fails where no memory is found, and for no other cause: it
-/// writes into memory, and one row alone.
+/// A row of these fields. The writer fails only where memory runs out: it writes into memory, and only
+/// one row.
 fn row_of(alloc: Global, fields: &[&[u8]]) -> Result<Vec<u8>, NoMemory>
     ensures { IfOk result (λ row. row.items ≡ row_text default_writer (map (λ f. f.now) fields.now)) }
 {

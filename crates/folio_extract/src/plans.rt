@@ -53,7 +53,7 @@ pub fn plan_text(
     }
 }
 
-/// The same plan as a list in CSV, with amounts in cents.
+/// The plan by which receipt n distributes the proceeds of a sale, as a list in CSV with amounts in cents.
 pub fn plan_csv(
     alloc: Global,
     register: &Register,
@@ -75,8 +75,8 @@ pub fn plan_csv(
     }
 }
 
-/// Takes nothing and does nothing: what the register of the one registrar tells of distributions is
-/// known behind it.
+/// Takes nothing and does nothing. After it is known what the register of the one registrar tells of
+/// distributions.
 pub(crate) fn tells_plans(register: &Register, journal: &Journal)
     requires { IsRegisterOf journal.now.receipts register.now }
     ensures { TellsPlans journal.now.receipts register.now }
@@ -104,7 +104,7 @@ fn text_of_plan(
     Ok(text.into_bytes())
 }
 
-/// The plan of a distribution as a list.
+/// The plan of a distribution as a list in CSV.
 fn list_of_plan(
     alloc: Global,
     register: &Register,
@@ -237,7 +237,7 @@ fn money_of(register: &Register, journal: &Journal, folio: FolioId, n: ReceiptNo
     money_distributed(register, journal, n, folio)
 }
 
-/// The plan of the distribution by receipt n in a folio, whose money these cents are.
+/// The plan of the distribution by receipt n in a folio, whose money is so many cents.
 fn plan_of(
     alloc: Global,
     register: &Register,
@@ -280,7 +280,7 @@ fn claims_of(
     Ok(claims)
 }
 
-/// The plan for so much money among these claims, which covers the part in cash of their lowest bid.
+/// The plan for so much money among these claims; the money covers the part in cash of their lowest bid.
 fn plan_for(alloc: Global, claims: &Claims, money: u64) -> Result<Plan, NoMemory>
     requires fit { LinesFit claims.now }
     requires covered { IsSomeAnd (lowest_bid claims.now.claimed) (λ least. least.cash ≤ money) }

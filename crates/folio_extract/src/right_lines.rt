@@ -11,7 +11,7 @@ use folio_line::CreatedRight;
 use folio_sections::{Created, RightPart};
 use gb_base::{Cents, NoMemory, Person, ReceiptNo, RightId};
 
-/// Adds the line of a right, as it stands by the entries at it. Where no memory is found, a part of
+/// Adds the line of a right, as it stands by the entries at it. Where memory runs out, a part of
 /// the line may stand in the text.
 pub fn add_right_line(
     text: &mut String,
@@ -111,7 +111,7 @@ fn add_holder(text: &mut String, holder: Option<Person>) -> Result<(), NoMemory>
     }
 }
 
-/// Adds what holds of some rights alone.
+/// Adds what holds of some rights only.
 fn add_notes(text: &mut String, part: &RightPart, made: &Created) -> Result<(), NoMemory>
     ensures { OnOk result (string_bytes text.new ≡ string_bytes text.old ++ notes part.now.entries made.now) }
 {
@@ -122,7 +122,7 @@ fn add_notes(text: &mut String, part: &RightPart, made: &Created) -> Result<(), 
     add_ahead_of(text, &made.ahead_of)
 }
 
-/// Adds the filing behind which a right stands on its day (GBO § 45).
+/// Adds the filing that a right stands behind on its day (GBO § 45).
 fn add_behind(text: &mut String, behind: &Option<ReceiptNo>) -> Result<(), NoMemory>
     ensures { OnOk result (string_bytes text.new ≡ string_bytes text.old ++ word_part (codes " behind ") decimal behind.now) }
 {
@@ -149,7 +149,7 @@ fn add_reserve(text: &mut String, reserve: &Option<Cents>) -> Result<(), NoMemor
     }
 }
 
-/// Adds the right ahead of which a right stands (BGB § 881).
+/// Adds the right that a right stands ahead of (BGB § 881).
 fn add_ahead_of(text: &mut String, ahead_of: &Option<RightId>) -> Result<(), NoMemory>
     ensures { OnOk result (string_bytes text.new ≡ string_bytes text.old ++ word_part (codes " ahead-of ") right_text ahead_of.now) }
 {

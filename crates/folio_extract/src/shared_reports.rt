@@ -19,8 +19,8 @@ use std::alloc::{AllocError, Global};
 use std::thread;
 use std::thread::Threads;
 
-/// The report of a register, as `report` gives it. So many desks, 1 to 64, share its open folios out
-/// among them, each in a thread of its own where one can be had.
+/// The report of a register, as `report` gives it. So many desks, 1 to 64, share its open folios
+/// out among them, each in a thread of its own where one can be had.
 pub fn report_at_desks<R: AllocGlobal + Threads + Sync>(
     rt: &R,
     register: &Register,
@@ -79,7 +79,7 @@ fn add_folios_at_desks<R: AllocGlobal + Threads + Sync>(
     add_texts(text, texts.as_slice(), register, journal, each)
 }
 
-/// Of how many folios each desk writes the texts: as few as serve for all, and at least one.
+/// How many folios each desk writes the texts of: as few as are enough for all, and at least one.
 fn folios_each(folios: usize, desks: usize) -> usize
     requires desks { 1 ≤ desks }
     ensures some { 1 ≤ result }

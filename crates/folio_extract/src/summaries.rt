@@ -22,8 +22,8 @@ use std::alloc::Global;
 /// The summary of a register, ten lines: how many receipts it has, and how many of them were
 /// entered, rejected, wait by an interim order, were cured, or became anything else; how many folios
 /// are open, how many rights are live in them, and their capitals; and the money of all
-/// distributions. Amounts are whole euros, a point and two digits. NoMemory where no memory is found
-/// for it.
+/// distributions. Amounts are whole euros, a point and two digits. May run out of memory
+/// (NoMemory).
 pub fn summary(alloc: Global, register: &Register, journal: &Journal) -> Result<Vec<u8>, NoMemory>
     requires kept { Kept journal.now.receipts (entries_at register.now.parts) }
     ensures text { IfOk result (λ text. text.items ≡ summary_text (map (λ v. v.1) register.now.verdicts) (entries_at register.now.parts) register.now.folios) }
@@ -140,7 +140,7 @@ fn is_cured(verdict: &Verdict) -> bool
     matches!(verdict, Verdict::Cured)
 }
 
-/// It is none of these.
+/// It is neither entered, rejected, interim nor cured.
 fn is_other(verdict: &Verdict) -> bool
     ensures { result ≡ is_other verdict.now }
 {

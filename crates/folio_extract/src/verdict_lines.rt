@@ -39,7 +39,7 @@ pub(crate) fn add_verdict_lines(text: &mut String, register: &Register) -> Resul
     Ok(())
 }
 
-/// Adds the line of what becomes of receipt n. Where no memory is found, a part of the line may stand
+/// Adds the line of what becomes of receipt n. Where memory runs out, a part of the line may stand
 /// in the text.
 pub fn add_verdict_line(text: &mut String, n: usize, verdict: &Verdict) -> Result<(), NoMemory>
     ensures { OnOk result (string_bytes text.new ≡ string_bytes text.old ++ verdict_line n verdict.now) }
@@ -95,7 +95,7 @@ fn add_distributed(text: &mut String, money: u64) -> Result<(), NoMemory>
     add_euro(text, money)
 }
 
-/// Adds an amount of cents as whole euros, a point and two digits. Sums of a sale may pass what a
+/// Adds an amount of cents as whole euros, a point and two digits. Sums of a sale may be above what a
 /// single amount may be.
 pub(crate) fn add_euro(text: &mut String, cents: u64) -> Result<(), NoMemory>
     ensures { OnOk result (string_bytes text.new ≡ string_bytes text.old ++ euro cents) }

@@ -66,7 +66,7 @@ fn note_waiting(days: &mut BTreeMap<ReceiptNo, Day>, what: &What) -> Result<(), 
     Ok(())
 }
 
-/// The number of a receipt, with what its type says of it.
+/// The number of a receipt, with the bounds that its type gives it.
 fn number_of(receipt: ReceiptNo) -> u32
     ensures value { result ≡ receipt }
     ensures from_one { 0 < receipt }
@@ -86,7 +86,7 @@ fn days_of_notice(alloc: Global, entries: &[Entry]) -> Result<BTreeMap<ReceiptNo
     Ok(days)
 }
 
-/// Notes the official notice that an entry is, where none of its filing stands yet.
+/// Notes the official notice that an entry is, where none of its filing was noted before.
 fn note_notice(days: &mut BTreeMap<ReceiptNo, Day>, entry: &Entry) -> Result<(), NoMemory>
     ensures { OnOk result ((n : ℕ) → get nat_cmp days.new n ≡ notice_by n (get nat_cmp days.old n) entry.now) }
 {

@@ -1,4 +1,4 @@
--- What verdicts count as, by its name.
+-- What verdicts count as, by the name of the count.
 use Rattle.std.specs.Prelude.{Bool}
 use Rattle.registrar.specs.declared.verdicts.Verdict.{Verdict}
 use Rattle.folio_extract.specs.Summaries.{is_cured, is_entered, is_interim, is_other, is_rejected}

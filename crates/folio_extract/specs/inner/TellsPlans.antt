@@ -10,8 +10,8 @@ use Rattle.registrar.specs.KeptDistributions.{DistributionsKept, IsDistributed}
 use Rattle.registrar.specs.RegisterState.{RegisterState}
 use Rattle.folio_extract.specs.Plans.{distributed_by}
 
--- It is a kept register that holds the keys of every item, each of its distributions is covered by its money, and each that a
--- verdict tells is one of them.
+-- It is a kept register that holds the keys of every item. Each of its distributions is covered by its money, and each distribution
+-- that a verdict tells stands in it.
 pub record TellsPlans (journal : List Receipt) (register : RegisterState) : Type 0 where
   pub kept : Kept journal (entries_at register.parts)
   pub held : (n : ℕ) (k : Key) → Contains (keys_of_item journal n) k → IsTrue (is_held register.parts k)

@@ -5,7 +5,7 @@ use Rattle.folio_extract.specs.Summaries.{capital_in, rights_in}
 use Rattle.folio_extract.proofs.Sums.{IsSum}
 use Rattle.folio_extract.proofs.summaries.standing_in_all.Given as goal
 
--- the rights, and their capitals
+-- the number of rights and the sum of their capitals, of as many folios as are read
 pub record AreSums (rights capital all_rights all_capital index : ℕ) : Type 0 where
   pub of_rights : IsSum rights all_rights (index * 256)
   pub of_capital : IsSum capital all_capital (index * 2560000000000000)
