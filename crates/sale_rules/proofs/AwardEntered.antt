@@ -1,4 +1,4 @@
--- An award is entered at the case and the title, and then at the rights, which it leaves as they were read.
+-- An award is entered at the case and the title, and then at the rights; the first two entries leave the rights as they were read.
 use Rattle.std.proofs.Common.{◌≡◌, ℕ, ◌≤◌, Bool, true, false, cond, ◌&&◌, ◌==◌, List, [], ◌∷◌, ◌++◌, flat_map, length, IsTrue, refl, sym, ap, subst, ◌∙◌, arith}
 use Rattle.std.specs.List.{AllByRecursion}
 use Rattle.std.proofs.lemmas.List.{append-nil}
@@ -23,7 +23,7 @@ never_both : (b : Bool) → (b && false) ≡ false
 never_both true = refl
 never_both false = refl
 
--- an entry at one key leaves what stands at another, and its room
+-- an entry at one key leaves what stands at another key, and the room there
 one_leaves : (at0 at1 : Key → List Entry) (room0 room1 : Key → ℕ) (e : Entry) (key k : Key) → e.key ≡ key → same_key key k ≡ false → AddsList at0 at1 room0 room1 (e ∷ [])
     → (at1 k ≡ at0 k) × (room1 k ≡ room0 k)
 one_leaves at0 at1 room0 room1 e key k own apart added =
@@ -37,7 +37,7 @@ pub title_room : (folio : ℕ) (at0 at1 : Key → List Entry) (room0 room1 : Key
 title_room folio at0 at1 room0 room1 e own added roomy =
     subst (λ n. 1 ≤ n) (sym (one_leaves at0 at1 room0 room1 e (Case folio) (Title folio) own (never_both (folio == folio)) added).1) roomy
 
--- both leave what stands at the rights
+-- The entries at the case and the title leave what stands at the rights, and the room there.
 pub record LeavesRights (folio : ℕ) (at0 at2 : Key → List Entry) (room0 room2 : Key → ℕ) : Type 0 where
   pub there : (id : RightNo) → at2 (Right folio id) ≡ at0 (Right folio id)
   pub roomy : (id : RightNo) → room2 (Right folio id) ≡ room0 (Right folio id)
@@ -51,7 +51,7 @@ both_leave folio at0 at1 at2 room0 room1 room2 e f case title first second =
     λ id. one_leaves at1 at2 room1 room2 f (Title folio) (Right folio id) title (never_both (folio == folio)) second in
     record { there = λ id. (two id).0 ∙ (one id).0; roomy = λ id. (two id).1 ∙ (one id).1 }
 
--- so each of them can still be left what remains of it
+-- so what remains of each right can still be entered
 pub can_still : (claimed : SaleClaims) (cover folio : ℕ) (at0 at2 : Key → List Entry) (room0 room2 : Key → ℕ) (holds0 holds2 : Key → Bool) (ids : List RightNo) → LeavesRights folio at0 at2 room0 room2 → holds2 ≡ holds0
     → AllByRecursion (CanBeLeft claimed cover folio holds0 room0) ids → AllByRecursion (CanBeLeft claimed cover folio holds2 room2) ids
 can_still claimed cover folio at0 at2 room0 room2 holds0 holds2 ids leaves same all =
@@ -62,7 +62,7 @@ can_still claimed cover folio at0 at2 room0 room2 holds0 holds2 ids leaves same 
       within = can.within;
     }) all
 
--- and all of it is added
+-- all entries of the award are added
 pub award_added : (journal : List Receipt) (item folio : ℕ) (claimed : SaleClaims) (cover : ℕ) (at0 at1 at2 at3 : Key → List Entry) (room0 room1 room2 room3 : Key → ℕ) (e f case title : Entry) (ids earlier : List RightNo)
     → e ≡ case → f ≡ title → ids ≡ earlier → LeavesRights folio at0 at2 room0 room2
     → AddsList at0 at1 room0 room1 (e ∷ []) → AddsList at1 at2 room1 room2 (f ∷ []) → AddsList at2 at3 room2 room3 (flat_map (left_at journal item folio claimed cover at2) ids)

@@ -1,4 +1,4 @@
--- An award that is given brings what is entered.
+-- An award that is given brings the entries that are made.
 use Rattle.std.proofs.Common.{◌≡◌, ℕ, List, [], ◌∷◌, flat_map, map, Option, Some, sym, subst}
 use Rattle.std.specs.Option.{option_map_or}
 use Rattle.gb_base.specs.RightNo.{RightNo}

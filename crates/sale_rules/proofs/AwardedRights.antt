@@ -1,4 +1,4 @@
--- What an award leaves of the rights of a folio, and that each can be entered.
+-- What an award leaves of the rights of a folio; it can be entered at each right.
 use Rattle.std.proofs.Common.{◌≡◌, ℕ, ◌<◌, ◌≤◌, Bool, true, false, cond, nat_lt, All, List, [], ◌∷◌, ◌++◌, filter_map, flat_map, fold, map, Contains, IsTrue, Option, Some, None, option_map, is_some, refl, sym, ap, subst, ◌∙◌, arith}
 use Rattle.std.specs.List.{AllByRecursion, cons_option}
 use Rattle.std.proofs.lemmas.Bool.{false≢true}
@@ -43,7 +43,7 @@ use Rattle.sale_rules.proofs.FoundAsKept.{right_key}
 
 -- ---- the parts as an award finds them
 
--- All at the keys of the sale is by earlier items.
+-- All that stands at the keys of the sale is by earlier items.
 pub record FindsSale (journal : List Receipt) (holds : Key → Bool) (at register : Key → List Entry) (folio item : ℕ) : Type 0 where
   pub received : IsJournal journal
   pub stands : StandsFor holds at register
@@ -56,7 +56,7 @@ all_earlier n es all =
     filter_all (λ e. nat_lt e.receipt n) es
     (all_weaker (λ (e : Entry). e.receipt < n) (λ e. nat_lt e.receipt n ≡ true) es (λ e less. grind (arith, nat_tests, less)) (recursion_from_All (λ (e : Entry). e.receipt < n) es all))
 
--- at a key of the sale the register has, below the item, what the parts have
+-- the parts have at a key of the sale what the register has there by earlier items
 pub as_it_stands : (journal : List Receipt) (holds : Key → Bool) (at register : Key → List Entry) (folio item : ℕ) (k : Key) → FindsSale journal holds at register folio item
     → Contains (keys_of_sale journal item folio) k → below item (register k) ≡ at k
 as_it_stands journal holds at register folio item k s there =
@@ -64,7 +64,7 @@ as_it_stands journal holds at register folio item k s there =
 
 -- ---- what is left is an amount
 
--- each of the rights can be left what remains of it
+-- what remains of each right can be entered
 pub can_be_left : (journal : List Receipt) (holds : Key → Bool) (at register : Key → List Entry) (room : Key → ℕ) (folio item : ℕ) (claimed : SaleClaims) (cover : ℕ)
     → FindsSale journal holds at register folio item → ((k : Key) → Contains (keys_of_sale journal item folio) k → 1 ≤ room k)
     → claimed ≡ claimed_in (sale_at journal register folio item)
@@ -79,11 +79,11 @@ can_be_left journal holds at register room folio item claimed cover s roomy is =
       within = subst (λ (c : SaleClaims). remaining c cover id ≤ most_cents) (sym is) (remains_within journal register folio item cover id s.kept s.received);
     })
 
--- they stand in order
+-- the earlier rights stand in order
 pub earlier_ascend : (journal : List Receipt) (register : Key → List Entry) (folio item : ℕ) → Kept journal register → AscendByNumber (earlier_rights journal item folio)
 earlier_ascend journal register folio item kept = (filed_are_all (Some item) journal register folio kept).ascend
 
--- ---- a live right is created, and has a number that there may be
+-- ---- a live right was created, and its number is one that there may be
 
 live_next : (live : Bool) (before : Option Created) (w : What) → (live ≡ true → is_some before ≡ true) → live_by live w ≡ true → is_some (created_by before w) ≡ true
 live_next live before (what.Created made) known h = refl
@@ -117,7 +117,7 @@ live_numbered journal register folio item id kept received live =
           })))
     ] refl (live_is_created es live)
 
--- ---- a walk over the numbers meets the live rights by filing and act
+-- ---- a walk over the numbers finds the live rights in the order of filing and act
 
 neither : {X : Type 0} (b : Bool) (o : Option X) → o ≡ None → cond b o None ≡ None
 neither true o none = none

@@ -17,11 +17,11 @@ use Rattle.sale_rules.specs.declared.awards.AwardRefusal.{AwardRefusal}
 use Rattle.sale_rules.specs.inner.SalesRead.{found_at}
 use Rattle.sale_rules.proofs.FoundAsKept.{found_as_kept}
 
--- the grounds by their tests
+-- the section under which a call is refused, by the tests of its grounds
 abbrev call_refused : Bool → Bool → Bool → Option Section
 call_refused lacks awarded unserved = first_ground ((lacks, section.Zvg15) ∷ (awarded, section.Zvg81) ∷ (unserved, section.Zvg43) ∷ [])
 
--- where nothing refuses ahead of the lowest bid, it decides
+-- where no ground before the lowest bid holds, a call is refused exactly where there is no lowest bid
 pub call_as_kept : (journal : List Receipt) (holds : Key → Bool) (at register : Key → List Entry) (folio item : ℕ) (bid : Option Lowest)
     → StandsFor holds at register → IsTrue (holds (Case folio)) → not (is_running (found_at holds at item (Case folio))) ≡ false
     → is_some (award (found_at holds at item (Case folio))) ≡ false → bid ≡ lowest (sale_at journal register folio item)
@@ -46,7 +46,7 @@ section_refused lacks awarded uncalled unserved =
 abbrev pub refused_by : ℕ → Option Lowest → Option AwardRefusal
 refused_by bid found = refusal_by (cond (is_none found) (Some section.Zvg43) None) (option_and_then (short_of_cash bid) found)
 
--- where nothing refuses ahead of the lowest bid, it and the bid decide
+-- where no ground before the lowest bid holds, the lowest bid and the bid decide
 pub award_as_kept : (journal : List Receipt) (holds : Key → Bool) (at register : Key → List Entry) (folio item bid : ℕ) (found : Option Lowest)
     → StandsFor holds at register → IsTrue (holds (Case folio)) → not (is_running (found_at holds at item (Case folio))) ≡ false
     → is_some (award (found_at holds at item (Case folio))) ≡ false → is_none (call (found_at holds at item (Case folio))) ≡ false
@@ -64,7 +64,7 @@ award_as_kept journal holds at register folio item bid found stands held runs aw
     by true = refl
     by false = refl
 
--- the lowest bid that was found, where it is given
+-- the lowest bid that is answered is the one that was found
 pub least_found : (r : Result Lowest AwardRefusal) (low found : Option Lowest) (bid : Lowest) → found ≡ low → found ≡ Some bid → IfOk r (λ x. x ≡ bid) → IfOk r (λ x. low ≡ Some x)
 least_found (Ok x) low found bid is some same = sym is ∙ some ∙ ap Some (sym same)
 least_found (Err e) low found bid is some same = tt

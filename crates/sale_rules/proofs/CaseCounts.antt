@@ -1,4 +1,4 @@
--- How many seizures and registrations a case has, from the first of them.
+-- How many seizures and registrations a case has, counted among the first of them.
 use Rattle.std.proofs.Common.{◌≡◌, ℕ, ◌≤◌, false, ◌||◌, nat_le, List, length, take, sym, ap, ◌∙◌, arith}
 use Rattle.std.proofs.lemmas.Bool.Decides.{nat_tests}
 use Rattle.std.proofs.lemmas.List.{length-map, length-take, take_all}
@@ -16,7 +16,7 @@ seizures_are es = length-map _ (λ (e : Entry). e.receipt) ∙ length-filter (λ
 registrations_are : (es : List Entry) → length (registration_numbers es) ≡ registrations es
 registrations_are es = length-map _ (λ (e : Entry). e.receipt) ∙ length-filter (λ (e : Entry). is_registration e.what) (case es)
 
--- there are n where the first n of them are n
+-- a list has n elements or more exactly where its first n are n
 as_many : (n : ℕ) (xs : List ℕ) → nat_le n (length (take n xs)) ≡ nat_le n (length xs)
 as_many n xs = let taken = length-take n xs in grind (arith, nat_tests, taken)
 
@@ -26,7 +26,7 @@ eight es = as_many 8 (seizure_numbers es) ∙ ap (nat_le 8) (seizures_are es)
 pub thirty_two : (es : List Entry) → nat_le 32 (length (take 32 (registration_numbers es))) ≡ nat_le 32 (registrations es)
 thirty_two es = as_many 32 (registration_numbers es) ∙ ap (nat_le 32) (registrations_are es)
 
--- where the case has fewer registrations, the first of them are all
+-- where the case has fewer registrations than it may, the first so many are all
 pub few_repeat : (journal : List Receipt) (es : List Entry) (r : Registration) → nat_le most_registrations (registrations es) ≡ false
     → repeats_in journal (take most_registrations (registration_numbers es)) r ≡ fills_case journal es r
 few_repeat journal es r few =

@@ -61,20 +61,20 @@ pub found_as_kept : (holds : Key → Bool) (at register : Key → List Entry) (i
     → found_at holds at item k ≡ below item (register k)
 found_as_kept holds at register item k stands held = ap (λ b. below item (cond b (at k) [])) held ∙ ap (below item) (stands k held)
 
--- a right that never was is none to seize from
+-- a right that was never created cannot be seized from
 never_seizable : (es : List Entry) → created es ≡ None → is_seizable es ≡ false
 never_seizable es none =
     let full : is_full es ≡ false = ap (λ o. is_full_form (option_map (λ (made : Created). cond (list_any (λ (e : Entry). is_conversion e.what) es) form.Full made.form) o)) none in
     ap (λ b. b && option_map_or (λ (made : Created). is_in_division_three made.spec.kind) (live_right es) false) full
 
--- the parts of a sale's keys stand for this kept register
+-- The parts stand for this kept register, and hold the keys of the sale.
 pub record StandsKept (journal : List Receipt) (holds : Key → Bool) (at register : Key → List Entry) (folio item : ℕ) : Type 0 where
   pub received : IsJournal journal
   pub stands : StandsFor holds at register
   pub kept : Kept journal register
   pub held : (k : Key) → Contains (keys_of_sale journal item folio) k → IsTrue (holds k)
 
--- a right is one to seize from in the parts just where it is in the register
+-- a right can be seized from as the parts have it exactly where it can be as the register has it
 pub seizable_as_kept : (journal : List Receipt) (holds : Key → Bool) (at register : Key → List Entry) (folio item : ℕ) (id : RightNo) → StandsKept journal holds at register folio item
     → is_seizable (found_at holds at item (Right folio id)) ≡ is_seizable (below item (register (Right folio id)))
 seizable_as_kept journal holds at register folio item id s =
@@ -108,7 +108,7 @@ seizure_as_kept journal holds at register folio item (basis.FromRight right) s =
     ∷ (not (seizable i), section.Bgb873)
     ∷ (option_map_or (λ first. nat_lt first right.receipt) (slice_get (seizure_numbers (case i)) 0) false, section.Zvg23) ∷ [])
 
--- the one key of a registration is held
+-- The parts stand for this register, and hold the case, which is the one key of a registration.
 pub record CaseKept (holds : Key → Bool) (at register : Key → List Entry) (folio : ℕ) : Type 0 where
   pub stands : StandsFor holds at register
   pub held : IsTrue (holds (Case folio))

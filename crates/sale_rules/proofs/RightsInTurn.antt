@@ -1,4 +1,4 @@
--- What is left of rights is entered one after the other: what is entered at one leaves what is read at the others.
+-- What is left of rights is entered one after the other; an entry at one right leaves what is read at the others.
 use Rattle.std.proofs.Common.{◌≡◌, ℕ, zero, suc, ◌≤◌, Bool, true, false, cond, ◌&&◌, ◌==◌, List, [], ◌∷◌, ◌++◌, drop, length, IsTrue, refl, sym, ap, subst, ◌∙◌, arith}
 use Rattle.std.specs.List.{AllByRecursion}
 use Rattle.std.proofs.lemmas.Bool.Decides.{nat_tests}
@@ -51,7 +51,7 @@ apart_keys folio x y before = ap (λ b. (folio == folio) && (true && b)) (differ
 
 -- ---- one right
 
--- what stands at the next right, and its room, are as at first
+-- what stands at the next right, and its room, are as they were at first
 pub stays_there : (f : (Key → List Entry) → RightNo → List Entry) (folio : ℕ) (ids : List RightNo) (x : RightNo) (rest : List RightNo) (at0 at1 : Key → List Entry) (room0 room1 : Key → ℕ) (holds0 holds1 : Key → Bool)
     → Progress RightNo f (IsApart folio (x ∷ rest)) ids (x ∷ rest) at0 at1 room0 room1 holds0 holds1
     → (at1 (Right folio x) ≡ at0 (Right folio x)) × (room1 (Right folio x) ≡ room0 (Right folio x))
@@ -74,7 +74,7 @@ still_left f claimed cover folio ids x rest at0 at1 room0 room1 holds0 holds1 so
       within = can.within;
     }
 
--- and the next right's entries are added
+-- the entries of the next right are added
 pub left_next : (journal : List Receipt) (item folio : ℕ) (claimed : SaleClaims) (cover : ℕ) (ids : List RightNo) (x : RightNo) (rest : List RightNo) (at0 at1 at2 : Key → List Entry) (room0 room1 room2 : Key → ℕ) (holds0 holds1 holds2 : Key → Bool)
     → AscendByNumber (x ∷ rest)
     → Progress RightNo (left_at journal item folio claimed cover) (IsApart folio (x ∷ rest)) ids (x ∷ rest) at0 at1 room0 room1 holds0 holds1

@@ -1,4 +1,4 @@
--- When an item finds a sale whose lowest bid can be reckoned.
+-- When an item finds a sale whose lowest bid can be computed.
 use Rattle.std.proofs.Common.{◌≡◌, ℕ, Bool, true, false, cond, not, ◌==◌, ◌+◌, length, ◌||◌, List, [], ◌∷◌, filter, map, slice_get, IsSome, IsTrue, Option, Some, None, is_none, option_and_then, refl, sym, ap, subst, ◌∙◌}
 use Rattle.std.specs.List.{list_any}
 use Rattle.std.specs.Option.{option_map_or}
@@ -14,7 +14,7 @@ use Rattle.folio_sections.specs.declared.entries.Entry.{Entry}
 use Rattle.auction_classes.specs.Sales.{IsFound, costs_named, is_of_sale, sale_at}
 use Rattle.sale_rules.specs.inner.SalesRead.{found_at}
 
--- where one passes there is a first that does
+-- where some entry passes there is a first that does
 some_first : (test : Entry → Bool) (of : Entry → ℕ) (es : List Entry) → list_any test es ≡ true → IsSome (slice_get (map of (filter test es)) 0)
 some_first test of [] there = absurd (false≢true there)
 some_first test of (e ∷ es) there =
@@ -35,7 +35,7 @@ is_there : {X : Type 0} (o : Option X) → is_none o ≡ false → IsSome o
 is_there (Some x) is = refl
 is_there None is = absurd (false≢true (sym is))
 
--- at a key that is held the entries of items below are found
+-- at a key that is held an item finds the entries by earlier items
 found_there : (holds : Key → Bool) (at : Key → List Entry) (item : ℕ) (k : Key) → IsTrue (holds k) → found_at holds at item k ≡ below item (at k)
 found_there holds at item k held = ap (λ b. below item (cond b (at k) [])) held
 
@@ -53,7 +53,7 @@ call_finds journal holds at folio a costs is held runs = record {
   called = subst (λ o. IsSome (option_map_or (λ (cents : ℕ). Some a) (option_and_then costs_named o) (call (below a (at (Case folio)))))) (sym is) refl;
 }
 
--- and so does an award where bidders were called
+-- an award after a call to bid finds a sale that runs
 pub award_finds : (journal : List Receipt) (holds : Key → Bool) (at : Key → List Entry) (folio a buyer bid : ℕ) → item_at journal a ≡ Some (item.Award folio buyer bid) → IsTrue (holds (Case folio))
     → not (is_running (found_at holds at a (Case folio))) ≡ false → is_none (call (found_at holds at a (Case folio))) ≡ false → IsFound (sale_at journal at folio a)
 award_finds journal holds at folio a buyer bid is held runs called = record {

@@ -44,7 +44,7 @@ call_brought s costs = unless_refused (refusal_of_call s) (entry_in_sale s (Case
 abbrev pub left_with : ℕ → What
 left_with cents = if cents == 0 then what.Expired else what.Remains cents
 
--- what it leaves of the right of this number, where the base's cover has so much on the line of class 4
+-- what an award leaves of the right of this number, by how much the base's cover has on the line of class 4
 abbrev pub left_of : Sale → ℕ → RightNo → Entry
 left_of s cover right = entry_in_sale s (Right s.folio right) (left_with (remaining (claimed_in s) cover right))
 
@@ -57,7 +57,7 @@ abbrev pub award_entries : Sale → ℕ → ℕ → Lowest → List Entry
 award_entries s buyer bid least =
     entry_in_sale s (Case s.folio) (what.Awarded buyer bid) ∷ entry_in_sale s (Title s.folio) (what.AwardOwner buyer) ∷ rights_left s least
 
--- an award brings them where nothing refuses it, and then there is a lowest bid
+-- an award brings these entries where nothing refuses it; then there is a lowest bid
 abbrev pub award_brought : Sale → ℕ → ℕ → List Entry
 award_brought s buyer bid = unless_refused (refusal_of_award s bid) (option_map_or (award_entries s buyer bid) (lowest s) [])
 

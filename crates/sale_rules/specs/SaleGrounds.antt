@@ -1,4 +1,4 @@
--- On which grounds items of a forced sale are refused (ZVG §§ 15, 23, 43, 44, 66, 81, 113): each kind has its grounds in order, of which
+-- On which grounds items of a forced sale are refused (ZVG §§ 15, 23, 43, 44, 66, 81, 113). Each kind has its grounds in order, and
 -- the first that holds is named.
 use Rattle.std.specs.Prelude.{ℕ, Bool, false, not, ◌&&◌, ◌||◌, nat_le, nat_lt, if◌then◌else◌, List, [], ◌∷◌, find, slice_get, Option, Some, None, option_and_then, option_map, is_none, is_some}
 use Rattle.std.specs.List.{list_any}
@@ -48,7 +48,7 @@ lacks_call s = is_none (call (at_case s))
 abbrev pub lowest : Sale → Option Lowest
 lowest s = lowest_bid (claimed_in s)
 
--- ZVG § 43: no claim is served in time for which the sale goes on (ZVG §§ 43(2), 44(2)), so that there is no lowest bid
+-- ZVG § 43: no claim for which the sale goes on is served in time (ZVG §§ 43(2), 44(2)), so that there is no lowest bid
 abbrev pub lacks_served_claim : Sale → Bool
 lacks_served_claim s = is_none (lowest s)
 
@@ -66,12 +66,12 @@ has_all_seizures s = nat_le most_seizures (seizures (at_case s))
 abbrev pub is_seizable : List Entry → Bool
 is_seizable entries = is_full entries && option_map_or (λ made. is_in_division_three made.spec.kind) (live_right entries) false
 
--- BGB § 873: the right from which is seized is none to seize from
+-- BGB § 873: the right from which land is seized is not one that can be seized from
 abbrev pub lacks_right : Sale → Basis → Bool
 lacks_right s (basis.Personal creditor claim) = false
 lacks_right s (basis.FromRight right) = not (is_seizable (s.at (Right s.folio right)))
 
--- ZVG § 23: that right was filed behind the case's first seizure
+-- ZVG § 23: that right was filed after the case's first seizure
 abbrev pub is_filed_behind : Sale → Basis → Bool
 is_filed_behind s (basis.Personal creditor claim) = false
 is_filed_behind s (basis.FromRight right) =
@@ -124,7 +124,7 @@ section_against_award s =
 abbrev pub short_of_cash : ℕ → Lowest → Option AwardRefusal
 short_of_cash bid least = if nat_lt bid least.cash then Some (refusal.BidTooLow least.cash) else None
 
--- the section, where there is one, else that the bid is too low
+-- the section, where there is one; else the refusal of a bid that is too low, where there is that
 abbrev pub refusal_by : Option Section → Option AwardRefusal → Option AwardRefusal
 refusal_by (Some s) low = Some (refusal.Ground s)
 refusal_by None low = low

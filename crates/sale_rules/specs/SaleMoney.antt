@@ -1,4 +1,4 @@
--- The money that is distributed behind an award (ZVG §§ 49, 107).
+-- The money that is distributed after an award (ZVG §§ 49, 107).
 use Rattle.std.specs.Prelude.{ℕ, ◌+◌, Option, Some, None, option_and_then}
 use Rattle.std.specs.Option.{option_map_or}
 use Rattle.gb_base.specs.Interest.{days360, interest}
@@ -26,6 +26,6 @@ abbrev pub money_awarded : Sale → ℕ → ℕ
 money_awarded s n =
     option_map_or (bid_with_interest (day_of s.journal n) (day_of s.journal s.item)) (option_and_then bid_named (item_at s.journal n)) 0
 
--- the money of the case: that of its award; none where the land was not awarded
+-- the money of the case: that of its award; 0 where the land was not awarded
 abbrev pub money : Sale → ℕ
 money s = option_map_or (money_awarded s) (award (at_case s)) 0

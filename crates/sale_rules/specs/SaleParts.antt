@@ -14,6 +14,6 @@ pub record CanSettle (journal : List Receipt) (item : ℕ) (keys : List Key) (ho
   pub earlier : (k : Key) → Contains keys k → All (λ e. e.receipt < item) (at k)
   pub kept : StandsForKept journal holds at
 
--- it holds of each kept register that the parts stand for
+-- the statement holds of each kept register that the parts stand for
 abbrev pub OfEachKept : List Receipt → (Key → Bool) → (Key → List Entry) → ((Key → List Entry) → Type 0) → Type 0
 OfEachKept journal holds at Q = (register : Key → List Entry) → StandsFor holds at register → Kept journal register → Q register

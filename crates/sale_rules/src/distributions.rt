@@ -121,7 +121,7 @@ fn day_received(journal: &Journal, item: ReceiptNo) -> Day
     journal.receipts()[item.get() as usize - 1].stamp.day()
 }
 
-/// The bid of an award with its interest up to this day, in cents; 0 where the receipt is none.
+/// The bid of an award with its interest up to this day, in cents; 0 where the receipt is no award.
 fn money_awarded(journal: &Journal, award: ReceiptNo, until: Day) -> u64
     ensures { result ≡ option_map_or (bid_with_interest (day_of journal.now.receipts award) until) (option_and_then bid_named (item_at journal.now.receipts award)) 0 }
 {

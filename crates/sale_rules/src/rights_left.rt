@@ -16,8 +16,8 @@ use folio_sections::{Parts, What, add, entry_by};
 use gb_base::{Cents, FolioId, Key, ReceiptNo, RightId};
 use rank_slots::Slots;
 
-/// Enters at each of these rights that is live what is left of it, where the base's cover has so
-/// much on the line of class 4.
+/// Enters, at each of these rights that is live, what is left of it, by how much the base's cover has
+/// on the line of class 4.
 pub(crate) fn enter_rights_left<P: Parts>(
     parts: &mut P,
     claims: &Claims,

@@ -1,4 +1,4 @@
-//! What a sale is reckoned in.
+//! What the lowest bid of a sale is computed in.
 ghost use Rattle.std.specs.Prelude.{◌≡◌, ◌*◌, ◌≤◌, IfOk, OnErr, OnOk, max};
 ghost use Rattle.std.specs.Thread.{IsSend, IsSync};
 ghost use Rattle.sale_rules.specs.contracts.scratch.Scratch.{the_row};
@@ -9,7 +9,7 @@ use rank_slots::Slots;
 use std::alloc::Global;
 use std::marker::Model;
 
-/// What the lowest bid of a sale is reckoned in, so that settling takes no memory: the claims, and
+/// What the lowest bid of a sale is computed in, so that settling takes no memory: the claims, and
 /// the line of a class. In contracts it is how much it is for, and how much memory it has.
 #[derive(Drop)]
 pub struct Scratch {
@@ -34,7 +34,7 @@ impl Model for Scratch {
 
 impl Scratch {
     /// A scratch for so many rights of a folio, and for so many exchanges of ranks among them.
-    /// Wants memory (NoMemory).
+    /// May run out of memory (NoMemory).
     pub fn with_room(alloc: Global, rights: usize, exchanges: usize) -> Result<Scratch, NoMemory>
         ensures rights { IfOk result (λ scratch. scratch.rights ≡ rights) }
         ensures exchanges { IfOk result (λ scratch. scratch.exchanges ≡ exchanges) }
@@ -45,9 +45,9 @@ impl Scratch {
         })
     }
 
-    /// Makes the scratch one for so many rights and exchanges at least; it keeps the room that it
-    /// has, and of what is too little it makes at most twice what is wanted. Wants memory
-    /// (NoMemory), and is unchanged where none is found.
+    /// Makes the scratch one for at least so many rights and exchanges. It keeps the room that it has,
+    /// and where that is too little it makes at most twice what is asked for. May run out of memory
+    /// (NoMemory), and is then unchanged.
     pub fn reserve(
         &mut self,
         alloc: Global,
@@ -76,8 +76,8 @@ impl Scratch {
     }
 }
 
-/// The room to make for so many, where there is some. Rights and exchanges come one at a time, so
-/// what is too little at least doubles.
+/// The room to make for so many, where there is some already. Rights and exchanges come one at a
+/// time, so room that is too little is doubled at least.
 fn room_for(wanted: usize, room: usize) -> usize
     ensures enough { wanted ≤ result }
     ensures kept { room ≤ result }

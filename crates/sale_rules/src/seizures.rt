@@ -26,8 +26,8 @@ use gb_base::{FolioId, Key, ReceiptNo, RightId, Section};
 
 /// Settles a seizure (ZVG § 20): it stands at the case, or is refused under a section: GBO § 3
 /// where the folio is not open, ZVG § 81 where the land was awarded in the case, Limit where the
-/// case has 8 seizures, BGB § 873 where the right from which is seized is not live, not entered
-/// itself or of division II, ZVG § 23 where that right was filed behind the first seizure. Takes no
+/// case has 8 seizures, BGB § 873 where the right that is seized from is not live, not entered
+/// itself or of division II, ZVG § 23 where that right was filed after the first seizure. Takes no
 /// memory.
 pub fn seize<P: Parts>(
     parts: &mut P,
@@ -107,7 +107,7 @@ fn has_eight(case: &CaseFront) -> bool
     case.seized().len() >= 8
 }
 
-/// Whether the right from which is seized is none to seize from (BGB § 873).
+/// Whether the right from which land is seized is not one that can be seized from (BGB § 873).
 fn lacks_right<P: Parts>(parts: &P, folio: FolioId, item: ReceiptNo, basis: &Basis) -> bool
     requires { CanBeFound (P.holds parts.now) (P.at parts.now) }
     ensures { (journal : List Receipt) → result ≡ lacks_right (sale_read journal (P.holds parts.now) (P.at parts.now) folio item) basis.now }
@@ -118,7 +118,7 @@ fn lacks_right<P: Parts>(parts: &P, folio: FolioId, item: ReceiptNo, basis: &Bas
     }
 }
 
-/// Whether a right of the folio is one to seize from.
+/// Whether a right of the folio can be seized from.
 fn is_seizable_in<P: Parts>(parts: &P, folio: FolioId, item: ReceiptNo, right: RightId) -> bool
     requires { CanBeFound (P.holds parts.now) (P.at parts.now) }
     ensures { result ≡ is_seizable (found_at (P.holds parts.now) (P.at parts.now) item (Right folio right)) }
@@ -146,7 +146,7 @@ fn is_in_division_three(right: &RightFront) -> bool
     }
 }
 
-/// Whether the right from which is seized was filed behind the case's first seizure (ZVG § 23).
+/// Whether the right from which land is seized was filed after the case's first seizure (ZVG § 23).
 fn is_filed_behind<P: Parts>(parts: &P, folio: FolioId, item: ReceiptNo, basis: &Basis) -> bool
     requires { CanBeFound (P.holds parts.now) (P.at parts.now) }
     ensures { (journal : List Receipt) → result ≡ is_filed_behind (sale_read journal (P.holds parts.now) (P.at parts.now) folio item) basis.now }
@@ -175,7 +175,7 @@ fn first_of(case: &CaseFront) -> Option<ReceiptNo>
     case.seized().first().copied()
 }
 
-/// Whether the right was filed behind the first seizure, if there is one.
+/// Whether the right was filed after the first seizure, if there is one.
 fn comes_behind(first: Option<ReceiptNo>, right: RightId) -> bool
     ensures { result ≡ option_map_or (λ n. nat_lt n right.receipt) first false }
 {

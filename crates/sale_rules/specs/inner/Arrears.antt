@@ -16,7 +16,7 @@ use Rattle.kept_registers.specs.KeptCases.{arrears_of}
 abbrev pub arrears_by : List Receipt → RightNo → ℕ → Bool
 arrears_by journal right n = option_map_or (same_right right) (option_and_then arrears_of (item_at journal n)) false
 
--- one of these receipts registers arrears of the right of which these are
+-- one of these receipts registers arrears of the right that the registration is about
 abbrev pub repeats_in : List Receipt → List ℕ → Registration → Bool
 repeats_in journal numbers (registration.Advance person amount) = false
 repeats_in journal numbers (registration.PublicCharge person amount due) = false

@@ -1,4 +1,4 @@
--- What is left of each of some rights when the land is awarded.
+-- What is left of some rights when the land is awarded.
 use Rattle.std.specs.Prelude.{ℕ, ◌≤◌, Bool, if◌then◌else◌, List, [], ◌∷◌, IsTrue}
 use Rattle.gb_base.specs.Limits.{most_cents}
 use Rattle.gb_base.specs.RightNo.{RightNo}
@@ -17,7 +17,7 @@ abbrev pub left_at : List Receipt → ℕ → ℕ → SaleClaims → ℕ → (Ke
 left_at journal item folio claimed cover at id =
     if is_live (at (Right folio id)) then entry_by journal item (Right folio id) (left_with (remaining claimed cover id)) ∷ [] else []
 
--- The right's part is held, with room for an entry, and what is left is an amount.
+-- The right's part is held, with room for an entry, and what remains of the right is an amount.
 pub record CanBeLeft (claimed : SaleClaims) (cover folio : ℕ) (holds : Key → Bool) (room : Key → ℕ) (id : RightNo) : Type 0 where
   pub held : IsTrue (holds (Right folio id))
   pub has_room : 1 ≤ room (Right folio id)

@@ -7,7 +7,7 @@ use Rattle.folio_sections.specs.declared.entries.Entry.{Entry}
 use Rattle.folio_line.specs.FolioReading.{where_held}
 use Rattle.auction_classes.specs.Sales.{Sale, sale_at}
 
--- what an item finds at a key: the entries by items below it where the key is held, and none at any other
+-- what an item finds at a key: the entries by earlier items where the key is held, and none at any other key
 abbrev pub found_at : (Key → Bool) → (Key → List Entry) → ℕ → Key → List Entry
 found_at holds at item key = below item (where_held holds at key)
 
