@@ -1,4 +1,4 @@
--- A book's answer to an item, and what the file stands for then.
+-- What a book answers to an item, and what the file stands for then.
 use Rattle.std.proofs.Common.{◌≡◌, ◌⊎◌, inl, inr, ℕ, ◌+◌, ◌≤◌, Bool, true, false, ltb, List, [], ◌∷◌, ◌++◌, length, length-append, Result, Ok, Err, OnOk, is_err, refl, sym, ◌∙◌, ap, subst, arith}
 use Rattle.std.proofs.lemmas.Bool.{cond-true, cond-false, le-ltb}
 use Rattle.std.proofs.lemmas.List.{map-append}
@@ -29,7 +29,7 @@ use Rattle.receipt_journal.proofs.Taking.{accepted_new}
 pub spelling_body : (r : Receipt) → IsReceipt r → IsBody (spelling r)
 spelling_body r is = record { not_empty = spelling_some r; not_long = omega (arith, spelling_len r is) }
 
--- an accepted item's receipt goes behind the journal that frames keep
+-- frames can keep the journal with an accepted item's receipt at its end
 pub keepable_next : (journal : List Receipt) (stamp : DayMinute) (sender reference : ℕ) (item : Item) → IsKeepable journal → IsReceipt (next_receipt journal stamp sender reference item)
     → journals.is_accepted (answer_to journal sender reference item) ≡ true → IsKeepable (journal ++ next_receipt journal stamp sender reference item ∷ [])
 keepable_next journal stamp sender reference item is is_next accepts =
@@ -54,17 +54,17 @@ with_or_without journal r body c is is_next spelled (inl without) = inl (stands_
 with_or_without journal r body c is is_next spelled (inr with_it) =
     inr (stands_by_frames c (journal ++ r ∷ []) is_next (subst (StandsFor the_heading c) (ap (λ (b : List ℕ). records journal ++ b ∷ []) spelled ∙ sym (records_push journal r)) with_it))
 
--- the gate behind the frames of a journal with one receipt more
+-- the gate after the frames of a journal with one receipt more
 pub gate_next : (journal : List Receipt) (r : Receipt) (gate : ℕ) (body : List ℕ) → gate ≡ gate_behind journal → body ≡ spelling r → gate + 5 + length body ≡ gate_behind (journal ++ r ∷ [])
 gate_next journal r gate body ends spelled =
     omega (arith, ends, ap length spelled, ap (λ (l : List (List ℕ)). length (frames_of l)) (records_push journal r), length-frames-push (records journal) (spelling r))
 
--- behind the last gate of the frame that is appended
+-- the file ends after the last gate of the frame that is appended
 pub appended_to : (journal : List Receipt) (r : Receipt) → gate_behind journal + length (appended (spelling r)) ≡ gate_behind (journal ++ r ∷ []) + 1
 appended_to journal r =
     omega (arith, length-append (measured (spelling r)) (0 ∷ []), length-measured (spelling r), gate_next journal r (gate_behind journal) (spelling r) refl refl)
 
--- the gate of a journal with more receipts stands no earlier
+-- the gate of a journal with more receipts stands no earlier in the file
 pub gate_further : (journal more : List Receipt) → gate_behind journal ≤ gate_behind (journal ++ more)
 gate_further journal more =
     omega (
@@ -112,7 +112,7 @@ module _ (journal : List Receipt) (stamp : DayMinute) (sender reference : ℕ) (
   pub answers_disk : journals.is_accepted (answer_to journal sender reference item) ≡ true → Answers (answer_on journal stamp sender reference item) received.Disk
   answers_disk accepts = inr (accepted_on accepts, inr refl)
 
-  -- so no append is refused for want of room
+  -- so no append is refused because the file is full
   pub never_full : (gate : ℕ) (body : List ℕ) → gate ≡ gate_behind journal → body ≡ spelling (next_receipt journal stamp sender reference item) → 134217728 ≤ gate + 5 + length body → ⊥
   never_full gate body ends spelled full =
       let next = next_receipt journal stamp sender reference item in
@@ -125,7 +125,7 @@ not_on_disk size (added.Differs n) refuses = refl
 not_on_disk size added.Full refuses = refl
 not_on_disk size added.Memory refuses = refl
 
--- what the journal does not accept is answered as the journal does
+-- what the journal does not accept the book answers as the journal does
 pub answers_refused : (journal : List Receipt) (stamp : DayMinute) (sender reference : ℕ) (item : Item) (answer : Added) → journals.is_accepted (answer_to journal sender reference item) ≡ false
     → (answer ≡ answer_to journal sender reference item) ⊎ ((answer ≡ added.Memory) × (journals.is_accepted (answer_to journal sender reference item) ≡ true))
     → Answers (answer_on journal stamp sender reference item) (in_journal answer)
@@ -134,7 +134,7 @@ answers_refused journal stamp sender reference item answer refuses (inl same) =
     inl (ap in_journal same ∙ sym (not_on_disk (file_size the_heading (journal ++ next_receipt journal stamp sender reference item ∷ [])) (answer_to journal sender reference item) refuses))
 answers_refused journal stamp sender reference item answer refuses (inr memory) = let no = memory.1 in absurd cc
 
--- what holds on Ok, by the test for an error
+-- what holds on Ok holds where the test for an error fails
 pub no_error : {T E : Type 0} (r : Result T E) (P : Type 0) (failed : Bool) → failed ≡ is_err r → failed ≡ false → OnOk r P → P
 no_error (Ok x) P failed test no_failure holds = holds
 no_error (Err e) P failed test no_failure holds = let error : true ≡ false = sym test ∙ no_failure in absurd cc

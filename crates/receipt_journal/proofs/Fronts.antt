@@ -35,7 +35,7 @@ none_keepable = record {
   spelled = All-nil IsReceipt;
 }
 
--- a journal goes on behind another one, by a receipt whose spelling stands first in this tail
+-- the longer journal goes on after the shorter one by a receipt whose spelling stands first in this tail
 record GoesOn (long short : List Receipt) (tail : List (List ℕ)) : Type 0 where
   pub next : Receipt
   pub more : List Receipt
@@ -44,7 +44,7 @@ record GoesOn (long short : List Receipt) (tail : List (List ℕ)) : Type 0 wher
   pub whole : long ≡ short ++ next ∷ more
   pub spelled : tail ≡ spelling next ∷ behind
 
--- two journals with the same frames, some of them in a tail, are the same, or one of them goes on behind the other
+-- two journals whose records, each with its tail, are the same frames are equal, or one goes on after the other
 data Compared (a b : List Receipt) (s t : List (List ℕ)) : Type 0 where
   Same : a ≡ b → Compared a b s t
   Longer : GoesOn a b t → Compared a b s t
@@ -75,7 +75,7 @@ compare (x ∷ a) (y ∷ b) s t all_a all_b same =
     let one : x ≡ y = spelling_once x y (All-head IsReceipt x a all_a) (All-head IsReceipt y b all_b) first in
     subst (λ z. Compared (x ∷ a) (z ∷ b) s t) one (compared_more x a b s t (compare a b s t (All-tail IsReceipt x a all_a) (All-tail IsReceipt y b all_b) behind))
 
--- Behind this journal no record of it comes: the tail is empty, or its first body is none.
+-- After this journal none of its records comes: the tail is empty, or its first body is no record.
 abbrev pub IsEnd : List Receipt → List (List ℕ) → Type 0
 IsEnd journal tail = (r : Receipt) (behind : List (List ℕ)) → IsReceipt r → tail ≡ spelling r ∷ behind → IsJournal (journal ++ r ∷ []) → ⊥
 
@@ -85,13 +85,13 @@ end_nil journal = λ r behind is spelled next. cc
 pub end_none : (journal : List Receipt) (body : List ℕ) (rest : List (List ℕ)) → IsNoRecord journal body → IsEnd journal (body ∷ rest)
 end_none journal body rest none = λ r behind is spelled next. let same : body ≡ spelling r = cc in none r is same next
 
--- no journal goes on behind an end
+-- no journal goes on after an end
 not_behind : (long short : List Receipt) (tail : List (List ℕ)) → IsJournal long → IsEnd short tail → GoesOn long short tail → ⊥
 not_behind long short tail is end on =
     end on.next on.behind on.is_receipt on.spelled
     (journal_front (short ++ on.next ∷ []) on.more (subst IsJournal (on.whole ∙ sym (append_assoc short (on.next ∷ []) on.more)) is))
 
--- frames that end a journal end no other one
+-- frames that end one journal end no other
 pub ended_once : (a b : List Receipt) (s t : List (List ℕ)) → IsKeepable a → IsKeepable b → IsEnd a s → IsEnd b t → records a ++ s ≡ records b ++ t → a ≡ b
 ended_once a b s t is_a is_b end_a end_b same = one (compare a b s t is_a.spelled is_b.spelled same)
   where

@@ -19,7 +19,7 @@ bodies_back : (at : ℕ) (bodies : List (List ℕ)) → bodies_of (frames_from a
 bodies_back at [] = refl
 bodies_back at (body ∷ bodies) = ap (λ (l : List (List ℕ)). body ∷ l) (bodies_back (at + 5 + length body) bodies)
 
--- the gate of a frame stands behind the frames ahead of it
+-- the gate of a frame stands after the frames before it
 offset_of : (at : ℕ) (ahead : List (List ℕ)) (body : List ℕ) (rest : List (List ℕ)) (d : FrameAt) → (get_or (frames_from at (ahead ++ body ∷ rest)) (length ahead) d).at ≡ at + length (frames ahead)
 offset_of at [] body rest d = omega arith
 offset_of at (first ∷ ahead) body rest d =
@@ -35,7 +35,7 @@ pub all_taken : (fs : List FrameAt) (journal : List Receipt) (bodies : List (Lis
 all_taken fs journal bodies i so_far end frames_are =
     sym (bodies_back (first_gate the_heading) bodies) ∙ ap bodies_of (sym frames_are) ∙ ap bodies_of (sym (take_all i fs (omega arith))) ∙ sym so_far.taken
 
--- the bodies of frames ahead of one, its own, and those behind it
+-- the bodies of all frames are those of the frames before one, its own, and those of the frames after it
 cut : (fs : List FrameAt) (i : ℕ) (f : FrameAt) → i < length fs → f ≡ get_or fs i f → bodies_of fs ≡ bodies_of (take i fs) ++ f.body ∷ bodies_of (drop (suc i) fs)
 cut fs i f in' is =
     ap bodies_of (sym (take-append-drop i fs)) ∙ map-append (λ (g : FrameAt). g.body) (take i fs) (drop i fs)
@@ -63,7 +63,7 @@ refused_at fs i journal f (BadRecord at) so_far in' is refused bodies frames_are
       offset = refused.1 ∙ ap (λ (g : FrameAt). g.at) here ∙ offset_of (first_gate the_heading) (records journal) f.body rest f;
     }
 
--- at the exit of a `?` what holds of the fault holds of the answer
+-- at the exit of a `?`, what holds of the fault holds of the answer
 pub at_exit : {T E : Type 0} (r : Result T E) (P : E → Type 0) (fault : E) → IsErrAnd r (λ e. e ≡ fault) → P fault → IfErr r P
 at_exit (Ok x) P fault is holds = absurd is
 at_exit (Err e) P fault is holds = subst P (sym is) holds

@@ -9,7 +9,7 @@ use Rattle.journal_disk.proofs.FrameBytes.{length-measured}
 use Rattle.receipt_journal.specs.Standing.{records, IsKeepable}
 use Rattle.receipt_journal.specs.Receiving.{file_size}
 
--- a gate, a length and a spelling
+-- the bytes of a record: a gate, a length and a spelling
 abbrev record_size : Receipt → ℕ
 record_size r = frame_head + length (spelling r)
 
@@ -19,13 +19,13 @@ has_room journal is =
     let few = is.journal.few in
     omega arith
 
--- and neither does that of one receipt more
+-- the file of a keepable journal with one receipt more does not pass its limit either
 pub has_room_next : (journal : List Receipt) (next : Receipt) → IsKeepable journal → length journal < 200000 → length (spelling next) ≤ longest_spelling → file_size the_heading (journal ++ next ∷ []) ≤ file_limit
 has_room_next journal next is few short =
     let small : sum_by record_size journal ≤ length journal * 527 = sum_by-le record_size 527 journal (λ k d in'. omega (arith, spelling_len _ (is.spelled k d in'))) in
     omega (arith, sum_by_push record_size journal next)
 
--- the frames of a journal's records have that size
+-- the frames of a journal's records have the size of the records
 pub records_size : (journal : List Receipt) → length (frames (records journal)) ≡ sum_by record_size journal
 records_size [] = refl
 records_size (r ∷ rs) =

@@ -14,7 +14,7 @@ use Rattle.journal_disk.proofs.Standings.{stands_once, bad_once, stands_not_bad,
 use Rattle.receipt_journal.specs.Standing.{records, gate_behind, IsKeepable, HasBookStanding, StandsForJournal, IsNoRecord, HasFrameBehind, IsBadBehind}
 use Rattle.receipt_journal.proofs.Fronts.{IsEnd, end_nil, end_none, none_keepable, ended_once}
 
--- a file stands for the journal that its frames keep, and they keep the one that it stands for
+-- a file stands for the journal that its frames keep, and its frames keep the journal that it stands for
 pub stands_by_frames : (file : List ℕ) (journal : List Receipt) → IsKeepable journal → StandsFor the_heading file (records journal) → StandsForJournal file journal
 stands_by_frames file [] is (inl none) = inl (none.0, refl)
 stands_by_frames file (r ∷ rs) is (inl none) = let nothing = none.1 in absurd cc
@@ -24,7 +24,7 @@ pub kept_frames : (file : List ℕ) (journal : List Receipt) → StandsForJourna
 kept_frames file journal (inl none) = (subst IsKeepable (sym none.1) none_keepable, inl (none.0, ap records none.1))
 kept_frames file journal (inr has) = (has.0, inr has.1)
 
--- the file is read as these frames, ended or bad
+-- the file is read as these frames, and a closed gate or a bad one follows
 abbrev IsRead : List ℕ → List (List ℕ) → Type 0
 IsRead file bodies = StandsFor the_heading file bodies ⊎ IsBad the_heading file bodies
 
@@ -114,7 +114,7 @@ standing_once file (standing.Journal a) standing.Foreign is_a is_b = absurd (for
 standing_once file (standing.Journal a) (standing.Bad at) is_a is_b = absurd (not_both file a is_b.0 (inr is_a) is_b.1)
 standing_once file (standing.Journal a) (standing.Journal b) is_a is_b = ap (λ (l : List Receipt). standing.Journal l) (journal_once file a b (inr is_a) (inr is_b))
 
--- No file without a standing: from a journal on that the first frames keep, the next frame is the record of one receipt more, or the file is bad there.
+-- No file is without a standing. After a journal that the first frames keep, the next frame is the record of one receipt more, or the file is bad there.
 ends_somewhere : (file : List ℕ) (journal : List Receipt) (bodies : List (List ℕ)) → IsKeepable journal → IsRead file (records journal ++ bodies)
     → ((s : Standing (List Receipt)) → HasBookStanding file s → ⊥) → ⊥
 ends_somewhere file journal [] is (inl stands) none =

@@ -1,4 +1,4 @@
--- The record of one receipt more, and what is none.
+-- The record of one receipt more, and what is no record.
 use Rattle.std.proofs.Common.{◌≡◌, ◌⊎◌, inl, inr, ⊎_elim, ℕ, ◌-◌, ◌<◌, Bool, true, false, not, ◌&&◌, cond, leb, eqb, List, [], ◌∷◌, ◌++◌, length, get_or, Option, Some, None, refl, sym, ◌∙◌, ap, ap₂, subst, arith, length-append}
 use Rattle.std.proofs.lemmas.Bool.{cases_Bool, cond-false, ne_eqb}
 use Rattle.std.proofs.lemmas.Bool.Decides.{nat_tests}
@@ -20,7 +20,7 @@ use Rattle.receipt_journal.specs.Standing.{records, IsKeepable, IsNoRecord}
 use Rattle.receipt_journal.specs.inner.Taking.{Takes}
 
 module _ (journal : List Receipt) (r : Receipt) where
-  -- what a journal with one receipt more says of that receipt and of each one ahead
+  -- what holds of each receipt and each later one holds of each before this receipt and of this one
   ahead_of : (R : Receipt → Receipt → Type 0) → ((i j : ℕ) (d : Receipt) → i < j → j < length (journal ++ r ∷ []) → R (get_or (journal ++ r ∷ []) i d) (get_or (journal ++ r ∷ []) j d))
       → (k : ℕ) (d : Receipt) → k < length journal → R (get_or journal k d) r
   ahead_of R all k d in' =
@@ -28,7 +28,7 @@ module _ (journal : List Receipt) (r : Receipt) where
       let last = get_or_at journal r [] d (length journal) refl in
       subst (λ x. R x r) here (subst (λ y. R (get_or (journal ++ r ∷ []) k d) y) last (all k (length journal) d in' (omega (arith, length-append journal (r ∷ [])))))
 
-  -- its stamp is no earlier than the last one
+  -- the stamp of the receipt is no earlier than the last one
   pub stamp_in_order : IsJournal (journal ++ r ∷ []) → stamp_after journal r.stamp ≡ r.stamp
   stamp_in_order is = at journal (ahead_of (λ p q. is_before q.stamp p.stamp ≡ false) is.stamps)
     where
@@ -40,7 +40,7 @@ module _ (journal : List Receipt) (r : Receipt) where
           cond-false (eqb (length (x ∷ xs)) 0) None _ (ne_eqb _ _ (λ e. omega arith)) ∙ slice_get-get_or (x ∷ xs) (length (x ∷ xs) - 1) x (omega arith) in
           rw is_last (cond-false (is_before r.stamp last.stamp) last.stamp r.stamp (none (length (x ∷ xs) - 1) x (omega arith)))
 
-  -- and the journal ahead accepts it
+  -- the journal before it accepts the receipt
   pub accepts : IsJournal (journal ++ r ∷ []) → is_accepted (answer_to journal r.sender r.reference r.item) ≡ true
   accepts is =
       let none : number_of r.sender r.reference journal ≡ None =
@@ -57,7 +57,7 @@ again_not_accepted : (item : Item) (n : ℕ) (o : Option Receipt) → is_accepte
 again_not_accepted item n None = refl
 again_not_accepted item n (Some r) = neither (same_item r.item item) n
 
--- what a journal accepts is new to it, and it has room
+-- an item that a journal accepts is new to it, and the journal has room for it
 pub accepted_new : (journal : List Receipt) (item : Item) (o : Option ℕ) → is_accepted (answer_by journal item o) ≡ true → (o ≡ None) × (length journal < 200000)
 accepted_new journal item (Some n) accepted = let no = again_not_accepted item n (receipt_at journal n) in absurd cc
 accepted_new journal item None accepted =
@@ -66,7 +66,7 @@ accepted_new journal item None accepted =
     (λ room. (refl, grind (arith, nat_tests)))
     (cases_Bool (leb 200000 (length journal)))
 
--- another frame is no record where the receipt that its body spells does not stand behind the journal
+-- a frame is no record where the receipt that its body spells may not come after the journal
 pub no_record : (journal : List Receipt) (body : List ℕ) (r : Receipt) → IsReceipt r → body ≡ spelling r → (IsJournal (journal ++ r ∷ []) → ⊥) → IsNoRecord journal body
 no_record journal body r is_r spelled refused = λ q is_q same next.
     let one : q ≡ r = spelling_once q r is_q is_r (sym same ∙ spelled) in
@@ -86,7 +86,7 @@ record_taken old new body r is is_r spelled stamped accepted added =
       frames = ap records whole ∙ map-append spelling old (r ∷ []) ∙ ap (λ (b : List ℕ). records old ++ b ∷ []) (sym spelled);
     }
 
--- by the test on two stamps
+-- two stamps are the same where the test on them says so
 pub same_stamp : (a b : DayMinute) (other : Bool) → other ≡ not (eqb a.day b.day && eqb a.minute b.minute) → other ≡ false → a ≡ b
 same_stamp a b other test same =
     let days : a.day ≡ b.day = grind (arith, nat_tests) in
@@ -99,7 +99,7 @@ other_stamp a b other test differs same =
     let minutes : a.minute ≡ b.minute = ap (λ t. t.minute) same in
     grind (arith, nat_tests)
 
--- an answer that adds nothing, and not for want of memory, says that the journal can't go on by this receipt
+-- an answer that adds nothing, where memory did not run out, says that the journal cannot go on by this receipt
 pub not_added : (journal : List Receipt) (r : Receipt) (answer : Added)
     → (answer ≡ answer_to journal r.sender r.reference r.item) ⊎ ((answer ≡ Memory) × (is_accepted (answer_to journal r.sender r.reference r.item) ≡ true))
     → ((n : ℕ) × (answer ≡ Repeated n)) ⊎ ((n : ℕ) × (answer ≡ Differs n)) ⊎ (answer ≡ Full) → IsJournal (journal ++ r ∷ []) → ⊥
@@ -115,7 +115,7 @@ not_added journal r answer said which is = ⊎_elim (λ by. not_accepted by whic
     no_memory by (inr (inl other)) = let e = other.1 in absurd cc
     no_memory by (inr (inr full)) = absurd cc
 
--- an answer that accepts is the one expected
+-- an answer that accepts an item is the one expected
 pub accepted : (expected : Added) (n : ℕ) → (Accepted n ≡ expected) ⊎ ((Accepted n ≡ Memory) × (is_accepted expected ≡ true)) → is_accepted expected ≡ true
 accepted expected n (inl same) = sym (ap is_accepted same)
 accepted expected n (inr memory) = memory.1

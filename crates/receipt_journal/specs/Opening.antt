@@ -6,12 +6,12 @@ use Rattle.receipt_journal.specs.Standing.{HasBookStanding, StandsForJournal, St
 use Rattle.receipt_journal.specs.declared.faults.BookFault.{BookFault}
 use Rattle.receipt_journal.specs.declared.faults.BookFault.TheVariants.{Disk, NotJournal, BadRecord, Memory}
 
--- The file stood for the book's journal, and the book stands on the disk.
+-- The file stood for the book's journal, and the book now stands on the disk.
 pub record BookOpens (file : List ℕ) (book : BookState) (reads : List ℕ) (images : List ℕ → Type 0) : Type 0 where
   pub found : StandsForJournal file book.journal
   pub stands : Stands book reads images
 
--- what a fault says of the file that was found: its standing
+-- a fault says the standing of the file that was found
 abbrev pub BookRefuses : List ℕ → BookFault → Type 0
 BookRefuses file NotJournal = HasBookStanding file standing.Foreign
 BookRefuses file (BadRecord at) = HasBookStanding file (standing.Bad at)

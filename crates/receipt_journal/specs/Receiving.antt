@@ -1,4 +1,4 @@
--- How a book receives an item: as a journal does, and a journal's file has its limit.
+-- How a book receives an item: as a journal does, but its file has a limit.
 use Rattle.std.specs.Prelude.{◌≡◌, ◌⊎◌, ℕ, ◌+◌, Bool, true, false, ◌&&◌, nat_lt, if◌then◌else◌, List, [], ◌∷◌, ◌++◌, length, sum_by}
 use Rattle.gb_base.specs.DayMinute.{DayMinute}
 use Rattle.act_model.specs.declared.items.Item.{Item}
@@ -14,7 +14,7 @@ use Rattle.receipt_journal.specs.Standing.{StandsForJournal}
 use Rattle.receipt_journal.specs.declared.received.Received.{Received}
 use Rattle.receipt_journal.specs.declared.received.Received.TheVariants as received
 
--- the bytes of the file that keeps a journal under this heading: those ahead of the first gate, a gate, a length and a spelling for each receipt, and the last gate
+-- the bytes of the file that keeps a journal under this heading: those before the first gate, a gate, a length and a spelling for each receipt, and the last gate
 abbrev pub file_size : List ℕ → List Receipt → ℕ
 file_size heading journal = first_gate heading + sum_by (λ r. frame_head + length (spelling r)) journal + 1
 
@@ -55,7 +55,7 @@ receiving_disk_failed received.Disk = true
 receiving_disk_failed received.MustReopen = false
 receiving_disk_failed received.Memory = false
 
--- A book gives the answer expected; but where that accepts the item, want of memory may come instead, or a failure of the disk.
+-- A book gives the answer expected. Where that accepts the item, `Memory` or `Disk` may come instead.
 abbrev pub Answers : Received → Received → Type 0
 Answers expected result = (result ≡ expected) ⊎ ((is_received expected ≡ true) × ((result ≡ received.Memory) ⊎ (result ≡ received.Disk)))
 
@@ -64,6 +64,6 @@ abbrev pub journal_after : List Receipt → DayMinute → ℕ → ℕ → Item �
 journal_after journal stamp sender reference item answer =
     if is_received answer then journal ++ next_receipt journal stamp sender reference item ∷ [] else journal
 
--- the journal before, or it and the new receipt
+-- the file stands for the journal before, or for that journal and the new receipt
 abbrev pub JournalWithOrWithout : List Receipt → Receipt → List ℕ → Type 0
 JournalWithOrWithout journal r file = StandsForJournal file journal ⊎ StandsForJournal file (journal ++ r ∷ [])

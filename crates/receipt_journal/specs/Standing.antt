@@ -14,7 +14,7 @@ use Rattle.receipt_journal.specs.BookState.{BookState}
 abbrev pub records : List Receipt → List (List ℕ)
 records journal = map spelling journal
 
--- the offset of the gate behind a journal's records
+-- the offset of the gate after a journal's records
 abbrev pub gate_behind : List Receipt → ℕ
 gate_behind journal = end_of the_heading (records journal)
 
@@ -23,16 +23,16 @@ pub record IsKeepable (receipts : List Receipt) : Type 0 where
   pub journal : IsJournal receipts
   pub spelled : All IsReceipt receipts
 
--- Behind this journal the body is no record: it is no spelling, or repeats a sender and reference, or lowers the stamp, or is one receipt too many.
+-- After this journal the body is no record: it is no spelling, or repeats a sender and reference, or lowers the stamp, or is one receipt too many.
 abbrev pub IsNoRecord : List Receipt → List ℕ → Type 0
 IsNoRecord journal body = (r : Receipt) → IsReceipt r → body ≡ spelling r → IsJournal (journal ++ r ∷ []) → ⊥
 
--- behind these bodies the file has one more frame, whatever follows that
+-- after these bodies the file has one more frame, whatever follows it
 pub record HasFrameBehind (file : List ℕ) (ahead : List (List ℕ)) (body : List ℕ) : Type 0 where
   pub rest : List (List ℕ)
   pub frames : StandsFor the_heading file (ahead ++ body ∷ rest) ⊎ IsBad the_heading file (ahead ++ body ∷ rest)
 
--- The file is bad behind a journal: the next frame is no record of it, or an open gate is followed by no whole frame.
+-- The file is bad after a journal: the next frame is no record of it, or an open gate is followed by no whole frame.
 pub record IsBadBehind (file : List ℕ) (journal : List Receipt) : Type 0 where
   pub keepable : IsKeepable journal
   pub bad : ((body : List ℕ) × HasFrameBehind file (records journal) body × IsNoRecord journal body) ⊎ IsBad the_heading file (records journal)
@@ -48,7 +48,7 @@ HasBookStanding file (standing.Journal journal) = IsKeepable journal × HasStand
 abbrev pub StandsForJournal : List ℕ → List Receipt → Type 0
 StandsForJournal file journal = (HasBookStanding file standing.Unmade × (journal ≡ [])) ⊎ HasBookStanding file (standing.Journal journal)
 
--- Frames can keep the journal, and this is the offset of the gate behind them.
+-- Frames can keep the journal, and this is the offset of the gate after them.
 pub record AreRecordsTo (journal : List Receipt) (gate : ℕ) : Type 0 where
   pub keepable : IsKeepable journal
   pub ends : gate ≡ gate_behind journal

@@ -61,7 +61,7 @@ impl Book {
     /// Opens the journal of a disk. An unmade file is made, and stands for the empty journal.
     /// An answer about the file comes only after a sync, so that a stop leaves what it says.
     pub fn open<D: Disk>(alloc: Global, disk: &mut D) -> Result<Book, BookFault>
-        // The log's gate is the one behind the journal's frames, on any disk.
+        // The log's gate is the one after the journal's frames, on any disk.
         ensures records { IfOk result (λ book. AreRecordsTo book.journal book.log.gate) }
 
         // The answer is by the file's standing.
@@ -73,7 +73,7 @@ impl Book {
         ensures kept { IsTrue D.tells → IsKept (D.reads disk.old) (D.reads disk.new) }
         ensures torn { IsTrue D.tells → Torn 0 (first_gate the_heading + 1) (D.reads disk.old) (D.reads disk.new) }
 
-        // Every answer but `Disk` comes only after a sync, done ahead of every write: a stop at any moment from then on leaves the journal that was found.
+        // Every answer but `Disk` comes only after a sync, done before every write: a stop at any moment from then on leaves the journal that was found.
         ensures any_moment { IsTrue D.tells → AnswersSynced D.reads D.images D.moment D.since disk.old disk.new (book_opening_disk_failed result) }
         ensures cause { Counts (D.faults disk.old) (D.faults disk.new) (book_opening_disk_failed result) }
     {
@@ -121,8 +121,8 @@ impl Book {
         self.journal.len()
     }
 
-    /// Receives an item. One number acts once, as in a journal; from the answer `Accepted` on a
-    /// stop leaves the receipt, and a stop before leaves the journal with it or without. All
+    /// Receives an item. One number acts once, as in a journal. Once the answer is `Accepted`, a
+    /// stop leaves the receipt; a stop before that leaves the journal with it or without. All
     /// memory is taken before the disk is written.
     pub fn receive<D: Disk>(
         &mut self,
@@ -192,7 +192,7 @@ impl Book {
         item: &Item,
     ) -> Result<Vec<u8>, NoMemory>
         requires { IsTrue (well_formed item.now) }
-        // Also where no memory is found for it, it has room on the disk.
+        // Also where memory runs out for it, it has room on the disk.
         ensures short { length (spelling (next_receipt self.now.journal stamp sender reference item.now)) ≤ longest_spelling }
         ensures body { IfOk result (λ bytes. IsBody bytes.items) }
         ensures spelled { IfOk result (λ bytes. bytes.items ≡ spelling (next_receipt self.now.journal stamp sender reference item.now)) }

@@ -7,10 +7,10 @@ pub enum BookFault {
     Disk,
     /// The file is no journal, and not one that a stop left unmade.
     NotJournal,
-    /// The frame whose gate stands at `at` is no record of the journal ahead of it: it is no
+    /// The frame whose gate stands at `at` is no record of the journal before it: it is no
     /// spelling of a receipt, repeats a sender and reference, lowers the stamp, or is the
     /// 200,001st; or no whole frame follows that gate.
     BadRecord { at: u64 },
-    /// No memory was found for the receipts.
+    /// Memory ran out for the receipts.
     Memory,
 }

@@ -7,7 +7,7 @@ ghost use Rattle.journal_disk.specs.Standing.{Standing};
 ghost use Rattle.receipt_journal.specs.Standing.{IsKeepable, HasBookStanding, StandsForJournal};
 ghost use Rattle.receipt_journal.specs.Receiving.{file_size};
 
-/// No file of bytes has no standing, and none has two. So each answer of an opening comes only
+/// No file of bytes is without a standing, and none has two. So each answer of an opening comes only
 /// where no other one could. An unmade file and a made one without frames stand for the same.
 pub fn one_standing()
     ensures some { (file : List ℕ) → All (λ byte. byte < 256) file → ((standing : Standing (List Receipt)) → HasBookStanding file standing → ⊥) → ⊥ }

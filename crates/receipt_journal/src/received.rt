@@ -17,6 +17,6 @@ pub enum Received {
     Disk,
     /// An earlier item was answered `Disk`.
     MustReopen,
-    /// No memory was found.
+    /// Memory ran out.
     Memory,
 }

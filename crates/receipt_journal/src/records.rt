@@ -11,7 +11,7 @@ use act_model::{Added, Journal};
 use journal_disk::Frame;
 
 /// Takes the receipts that the frames spell into the journal, in their order. `BadRecord` names
-/// the first frame that is no record of the journal ahead of it.
+/// the first frame that is no record of the journal before it.
 pub(crate) fn take_records(journal: &mut Journal, frames: &[Frame]) -> Result<(), BookFault>
     requires empty { journal.old.receipts ≡ [] }
     ensures keepable { OnOk result (IsKeepable journal.new.receipts) }

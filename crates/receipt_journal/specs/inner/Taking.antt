@@ -11,14 +11,14 @@ pub record Takes (old : List Receipt) (body : List ℕ) (new : List Receipt) : T
   pub keepable : IsKeepable new
   pub frames : records new ≡ records old ++ body ∷ []
 
--- why a frame is refused behind a journal
+-- why a frame is refused after a journal
 abbrev pub RefusesFrame : List Receipt → FrameAt → BookFault → Type 0
 RefusesFrame journal frame (BadRecord at) = IsNoRecord journal frame.body × (at ≡ frame.at)
 RefusesFrame journal frame Memory = Unit {0}
 RefusesFrame journal frame Disk = ⊥
 RefusesFrame journal frame NotJournal = ⊥
 
--- The first of these bodies that is no record of those ahead of it, and the offset of its gate.
+-- The first of these bodies that is no record of the journal before it, and the offset of its gate.
 pub record IsFirstBad (bodies : List (List ℕ)) (at : ℕ) : Type 0 where
   pub ahead : List Receipt
   pub body : List ℕ

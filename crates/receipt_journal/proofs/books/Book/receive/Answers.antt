@@ -24,7 +24,7 @@ added g c =
     no_error c.reserve_one.result (IsTrue (has_room c.reserve_one.new.self c.args.item.now)) c.is_err.result c.is_err.ensures.value c.if-is_err.false c.reserve_one.ensures.room in
     subst (λ (j : List Receipt). c.add-in-Ok-append.result ≡ answer_to j c.args.sender c.args.reference c.args.item.now) kept (c.add-in-Ok-append.ensures.room room)
 
--- and takes the receipt
+-- the journal takes the receipt
 whole : (g : _) (c : goal.After-drop-spelling-in-Ok-append g)
     → c.add-in-Ok-append.new.self.receipts ≡ c.args.self.now.journal ++ next_receipt c.args.self.now.journal c.args.stamp c.args.sender c.args.reference c.args.item.now ∷ []
 whole g c =
@@ -154,7 +154,7 @@ returns-then-is_err-clause-any_moment g c = λ tells works.
     started g.D.Disk.moment g.D.Disk.since c.args.disk.now (JournalWithOrWithout journal next)
     (λ file left. inl (stands_by_frames file journal is ((c.requires.stands tells works).durable file (g.met.D.Disk.only_now c.args.disk.now file tells left))))
 
--- what the journal does not accept
+-- the answer to an item that the journal does not accept
 pub returns-then-not-accepts-clause-answer : goal.returns-then-not-accepts-clause-answer
 returns-then-not-accepts-clause-answer g c = λ works.
     let journal = c.args.self.now.journal in
