@@ -9,18 +9,18 @@ use Rattle.journal_disk.specs.inner.Writing.{TornFrom}
 use Rattle.journal_disk.specs.Appending.{StandsOn, FramesWithOrWithout}
 use Rattle.journal_disk.proofs.FrameBytes.{frames-push, length-frames-push}
 
--- a mark, the the_heading and the frames of these bodies
+-- a mark, the heading and the frames of these bodies
 abbrev front : ℕ → List (List ℕ) → List ℕ
 front mark bodies = mark ∷ (the_heading ++ frames bodies)
 
 length-front : (mark : ℕ) (bodies : List (List ℕ)) → length (front mark bodies) ≡ end_of the_heading bodies
 length-front mark bodies = omega (arith, length-append the_heading (frames bodies))
 
--- a file with these frames
+-- a made file with these frames and a gate that is not open is a journal
 journal : (file : List ℕ) (bodies : List (List ℕ)) (mark gate : ℕ) (rest : List ℕ) → mark ≢ 0 → gate ≢ 1 → All IsBody bodies → file ≡ front mark bodies ++ gate ∷ rest → IsJournal the_heading file bodies
 journal file bodies mark gate rest made closed sizes whole = record { mark = mark; gate = gate; rest = rest; made = made; closed = closed; sizes = sizes; whole = whole }
 
--- an open gate, a length and a body are a frame more
+-- an open gate, a length and a body are one frame more
 one_more : (mark : ℕ) (bodies : List (List ℕ)) (body rest : List ℕ) → front mark bodies ++ 1 ∷ (measured body ++ rest) ≡ front mark (bodies ++ body ∷ []) ++ rest
 one_more mark bodies body rest =
     sym (append_assoc (front mark bodies) (1 ∷ measured body) rest)
@@ -35,7 +35,7 @@ unmade_torn at n (first ∷ []) (mark ∷ next ∷ rest) unmade torn = let same 
 unmade_torn at n (first ∷ second ∷ others) (mark ∷ next ∷ rest) unmade torn =
     let same : mark ∷ next ∷ take at rest ≡ first ∷ second ∷ take at others = torn.before in cc
 
--- the gate stands ahead of what is written behind it
+-- a file keeps its frames while the bytes after its gate are written
 behind_torn : (bodies : List (List ℕ)) (n : ℕ) (d c : List ℕ) → IsJournal the_heading d bodies → Torn (end_of the_heading bodies + 1) n d c → IsJournal the_heading c bodies
 behind_torn bodies n d c is torn =
     let at = end_of the_heading bodies + 1 in
@@ -50,7 +50,7 @@ module _ (gate : ℕ) (bodies : List (List ℕ)) (body file : List ℕ) (images 
   abbrev was : IsJournal the_heading file bodies
   was = stands.journal
 
-  -- while the record is written
+  -- while the record is written the file keeps its frames
   pub record_put : (n : ℕ) (c : List ℕ) → TornFrom images (gate + 1) n c → StandsFor the_heading c bodies
   record_put n c from =
       let two : gate + 1 ≡ suc (suc (length (frames bodies) + 8)) = omega (arith, stands.ends) in
@@ -60,7 +60,7 @@ module _ (gate : ℕ) (bodies : List (List ℕ)) (body file : List ℕ) (images 
       (λ is. inr (behind_torn bodies n from.0 c is (subst (λ at. Torn at n from.0 c) same from.2)))
       (stands.durable from.0 from.1)
 
-  -- the file with the record behind the closed gate
+  -- the file once the record is written after the closed gate
   pub record_written : (piece new : List ℕ) → piece ≡ measured body ++ 0 ∷ [] → Holds file (gate + 1) piece new
       → new ≡ front was.mark bodies ++ was.gate ∷ (measured body ++ 0 ∷ drop (gate + 1 + length (measured body ++ 0 ∷ [])) file)
   record_written piece new is holds =
@@ -90,7 +90,7 @@ module _ (gate : ℕ) (bodies : List (List ℕ)) (body file : List ℕ) (images 
     ahead_of : take gate staged ≡ front was.mark bodies
     ahead_of = ap (λ (l : List ℕ). take gate l) staged_is ∙ take_at (front was.mark bodies) (was.gate ∷ (measured body ++ 0 ∷ rest)) gate long
 
-    -- whatever the gate becomes, the file has the frames with the new one or without it
+    -- whatever value the gate gets, the file has its frames with the new one or without it
     any_gate : (c : List ℕ) (x : ℕ) → c ≡ front was.mark bodies ++ x ∷ (measured body ++ 0 ∷ rest) → FramesWithOrWithout the_heading bodies body c
     any_gate c x whole = elim (cases_eq x 1) [
       | inl opened ↦
@@ -100,7 +100,7 @@ module _ (gate : ℕ) (bodies : List (List ℕ)) (body file : List ℕ) (images 
       | inr closed ↦ inl (inr (journal c bodies was.mark x (measured body ++ 0 ∷ rest) was.made closed was.sizes whole))
     ]
 
-    -- while the gate is written
+    -- while the gate is written a stop leaves the frames with the new one or without it
     pub gate_put : (c : List ℕ) → TornFrom later gate 1 c → FramesWithOrWithout the_heading bodies body c
     gate_put c from =
         let torn : Torn gate 1 staged c = subst (λ (l : List ℕ). Torn gate 1 l c) (only from.0 from.1) from.2 in
@@ -109,7 +109,7 @@ module _ (gate : ℕ) (bodies : List (List ℕ)) (body file : List ℕ) (images 
         let behind : drop gate c ≡ x ∷ (measured body ++ 0 ∷ rest) = drop_more c gate 0 longer ∙ ap (λ (l : List ℕ). x ∷ l) (torn.after ∙ back) in
         any_gate c x (sym (take-append-drop gate c) ∙ ap (λ (l : List ℕ). l ++ drop gate c) (torn.before ∙ ahead_of) ∙ ap (λ (l : List ℕ). front was.mark bodies ++ l) behind)
 
-    -- and then the new frame is on the disk
+    -- once the gate is written and synced, the new frame is on the disk
     pub gate_written : (new : List ℕ) (now : List ℕ → Type 0) → Holds staged gate (1 ∷ []) new → Only new now → StandsOn the_heading (gate + 5 + length body) (bodies ++ body ∷ []) new now
     gate_written new now holds only_new =
         let whole : new ≡ front was.mark (bodies ++ body ∷ []) ++ 0 ∷ rest =

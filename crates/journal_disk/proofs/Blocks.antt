@@ -1,4 +1,4 @@
--- A made file that is read block by block.
+-- Reading a made file block by block.
 use Rattle.std.proofs.Common.{◌≡◌, ◌≢◌, ◌⊎◌, inl, inr, ⊎_elim, ℕ, ◌+◌, ◌<◌, ◌≤◌, List, [], ◌∷◌, ◌++◌, length, take, drop, All, refl, sym, ◌∙◌, ap, subst, arith, append_assoc, append-nil, length-append, take-append-drop}
 use Rattle.std.proofs.lemmas.List.{drop_at, drop-drop, drop_all}
 use Rattle.std.proofs.lemmas.List.Elements.{All-nil, All-append}
@@ -20,7 +20,7 @@ pub record ReadTo (file : List ℕ) (at : ℕ) (found : List FrameAt) (behind : 
   pub frames_are : found ≡ frames_from (first_gate the_heading) bodies
   pub whole : file ≡ mark ∷ (the_heading ++ frames bodies ++ behind)
 
--- what stands at the gate is what is behind the bytes ahead of it
+-- what stands from the gate on is what follows the bytes before it
 pub drop_read : (file : List ℕ) (at : ℕ) (found : List FrameAt) (behind : List ℕ) → ReadTo file at found behind → drop at file ≡ behind
 drop_read file at found behind read =
     let front = read.mark ∷ (the_heading ++ frames read.bodies) in
@@ -40,7 +40,7 @@ frames_from-append at (body ∷ bodies) more =
     ap (λ (l : List FrameAt). record { at = at; body = body } ∷ l) (frames_from-append (at + 5 + length body) bodies more
     ∙ ap (λ n. frames_from (at + 5 + length body) bodies ++ frames_from n more) offset)
 
--- Frames and then those of a block, whatever was read.
+-- no frames, and the first gate, which ends them
 pub frames_none : AreFramesTo the_heading [] (first_gate the_heading)
 frames_none = record { bodies = []; sizes = All-nil IsBody; frames_are = refl; ends = refl }
 
@@ -56,7 +56,7 @@ frames_more block at end found now ending are scanned = record {
   ends = omega (arith, are.ends, scanned.end_is, ap length (frames-append are.bodies scanned.bodies), length-append (frames are.bodies) (frames scanned.bodies));
 }
 
--- a block more, up to where no frame begins in it
+-- one block more is read, up to where no frame begins in it
 pub read_block : (file : List ℕ) (at size : ℕ) (found now : List FrameAt) (end : ℕ) (ending : Ending) → ReadTo file at found (drop at file)
     → (scanned : Scanned at (take size (drop at file)) found now end ending) → ReadTo file end now (scanned.rest ++ drop (at + size) file)
 read_block file at size found now end ending read scanned =
@@ -84,7 +84,7 @@ read_block file at size found now end ending read scanned =
           ∙ ap (λ (l : List ℕ). read.mark ∷ (l ++ (scanned.rest ++ tail))) (append_assoc the_heading (frames read.bodies) (frames scanned.bodies) ∙ ap (λ (l : List ℕ). the_heading ++ l) (sym (frames-append read.bodies scanned.bodies)));
     }
 
--- what a block says of the file, where it was read from a disk that reads as the file
+-- what a block says of the file, where it was read from a disk that has the file
 pub record BlockRead (file : List ℕ) (at size : ℕ) (now : List FrameAt) (end : ℕ) (ending : Ending) : Type 0 where
   pub rest : List ℕ
   pub ends : Ends rest ending
@@ -96,7 +96,7 @@ block_read file other block at size found now end ending same read is scanned =
     let here : Scanned at (take size (drop at file)) found now end ending = subst (λ (l : List ℕ). Scanned at l found now end ending) (is ∙ ap (λ (l : List ℕ). take size (drop at l)) same) scanned in
     record { rest = here.rest; ends = here.ends; read = read_block file at size found now end ending read here }
 
--- and on to the next block
+-- the reading goes on to the next block
 pub read_on : (file : List ℕ) (at : ℕ) (found : List FrameAt) (behind : List ℕ) → ReadTo file at found behind → ReadTo file at found (drop at file)
 read_on file at found behind read = subst (ReadTo file at found) (sym (drop_read file at found behind read)) read
 
@@ -121,7 +121,7 @@ short_length (a ∷ b ∷ []) short = omega arith
 short_length (a ∷ b ∷ c ∷ []) short = omega arith
 short_length (a ∷ b ∷ c ∷ d ∷ rest) short = omega (arith, short.0, short.1)
 
--- where the frames end in the file
+-- where a closed gate ends the frames of a block, the file is a journal with the frames that were found
 pub ends_closed : (file : List ℕ) (at size end : ℕ) (found : List FrameAt) (ending : Ending) → BlockRead file at size found end ending → ending ≡ Closed
     → (bodies : List (List ℕ)) × IsJournal the_heading file bodies × (end ≡ end_of the_heading bodies) × (found ≡ frames_from (first_gate the_heading) bodies)
 ends_closed file at size end found ending block is =
@@ -170,7 +170,7 @@ pub ends_open : (file : List ℕ) (at size end : ℕ) (found : List FrameAt) (en
 ends_open file at size end found ending block last (inl short) = ends_short file at size end found ending block (last short) short
 ends_open file at size end found ending block last (inr wrong) = ends_wrong file at size end found ending block wrong
 
--- a whole block has a frame
+-- a block that is long enough and is cut short has a whole frame
 pub moves : (at : ℕ) (block : List ℕ) (found now : List FrameAt) (end : ℕ) → 1030 ≤ length block → Scanned at block found now end Short → at < end
 moves at block found now end long scanned =
     omega (arith, scanned.end_is, ap length scanned.whole, length-append (frames scanned.bodies) scanned.rest, ap length scanned.ends.1, short_length scanned.ends.0 scanned.ends.2)

@@ -23,7 +23,7 @@ bytes_behind n bytes behind is small i = subst (λ (l : List ℕ). get_or l i 0 
 fewer_behind : (n : ℕ) (bytes behind : List ℕ) → drop n bytes ≡ behind → length behind ≡ length bytes - n
 fewer_behind n bytes behind is = ap length (sym is) ∙ length-drop n bytes
 
--- frames, and what ends them
+-- the bytes are frames, and what ends them
 record ReadAs (bytes : List ℕ) : Type 0 where
   pub bodies : List (List ℕ)
   pub tail : List ℕ
@@ -51,7 +51,7 @@ one_more bytes size begun read = record {
       ∙ ap (λ (l : List ℕ). 1 ∷ l) (sym (append_assoc (measured begun.body) (frames read.bodies) read.tail));
 }
 
--- at an open gate, where as many bytes at most as stand behind it are read
+-- bytes that begin with an open gate can be read, where what follows the gate can be, being no longer than n
 read_open : (n : ℕ) (rest : List ℕ) → ((bytes : List ℕ) → length bytes ≤ n → 1 ≤ length bytes → AreBytes bytes → ReadAs bytes) → length rest ≤ n → AreBytes (1 ∷ rest) → ReadAs (1 ∷ rest)
 read_open n [] read few small = none_open [] tt
 read_open n (a ∷ []) read few small = none_open (a ∷ []) tt
@@ -80,7 +80,7 @@ read_open n (a ∷ b ∷ c ∷ d ∷ rest) read few small = elim (cases_eq size 
         let smaller : AreBytes begun.rest = bytes_behind (5 + size) bytes begun.rest behind small in
         one_more bytes size begun (read begun.rest fewer begun.gate_behind smaller)
 
--- from a gate on, so many bytes at most
+-- bytes that begin with a gate can be read, where they are no longer than n
 read_from : (n : ℕ) (bytes : List ℕ) → length bytes ≤ n → 1 ≤ length bytes → AreBytes bytes → ReadAs bytes
 read_from n [] few some small = absurd (omega arith)
 read_from zero (gate ∷ rest) few some small = absurd (omega arith)
@@ -111,7 +111,7 @@ made_standing file small is =
       )
     ]
 
--- a mark that is not 0, and the bytes behind it
+-- a file whose mark is not 0 has a standing, by the bytes that follow the mark
 with_mark : (mark next : ℕ) (rest : List ℕ) → mark ≢ 0 → AreBytes (mark ∷ next ∷ rest) → (s : Standing (List (List ℕ))) × HasStanding the_heading (mark ∷ next ∷ rest) s
 with_mark mark next rest made small = elim (cases_Bool (bytes_eq (take 8 (next ∷ rest)) the_heading)) [
   | inl same ↦ headed ((bytes_eq-Decides (take 8 (next ∷ rest)) the_heading).0 same) (drop 8 (next ∷ rest)) refl

@@ -8,7 +8,7 @@ use Rattle.journal_disk.specs.FrameAt.{FrameAt}
 use Rattle.journal_disk.specs.Layout.{IsBody, measured, frames, frames_from}
 use Rattle.journal_disk.specs.inner.Scan.{Begins}
 
--- four bytes that are the size of a body, and the body with something behind it
+-- a whole frame begins where four bytes say the size of a body, and the body follows with something after it
 pub begins : (bytes : List ℕ) (size : ℕ) → 5 ≤ length bytes → get_or bytes 0 0 ≡ 1 → ((i : ℕ) → get_or bytes i 0 < 256)
     → size ≡ get_or bytes 1 0 * 16777216 + get_or bytes 2 0 * 65536 + get_or bytes 3 0 * 256 + get_or bytes 4 0
     → 1 ≤ size → size ≤ 1024 → size < length (drop 5 bytes) → Begins bytes size
@@ -64,7 +64,7 @@ frames_from-push at (first ∷ bodies) body =
     ap (λ (l : List FrameAt). record { at = at; body = first } ∷ l) (frames_from-push (at + 5 + length first) bodies body
     ∙ ap (λ n. frames_from (at + 5 + length first) bodies ++ record { at = n; body = body } ∷ []) offset)
 
--- whole frames so far, and a gate behind them
+-- whole frames so far, and a gate after them
 pub record SoFar (at : ℕ) (bytes : List ℕ) (before now : List FrameAt) (gate : ℕ) (rest : List ℕ) : Type 0 where
   pub bodies : List (List ℕ)
   pub sizes : All IsBody bodies
@@ -76,7 +76,7 @@ pub record SoFar (at : ℕ) (bytes : List ℕ) (before now : List FrameAt) (gate
 pub none_yet : (at : ℕ) (bytes : List ℕ) (before : List FrameAt) → 0 < length bytes → SoFar at bytes before before at bytes
 none_yet at bytes before some = record { bodies = []; sizes = All-nil IsBody; whole = refl; offset = sym (add-zero at); added = sym (append-nil before); some = some }
 
--- where a frame is cut off, its body stands behind its first five bytes
+-- what is left after a frame is what follows its five bytes of head and its body
 pub cut_behind : (rest : List ℕ) (size : ℕ) (begun : Begins rest size) → drop (5 + size) rest ≡ begun.rest
 cut_behind rest size begun =
     let long : length (1 ∷ measured begun.body) ≡ 5 + size = omega (arith, length-measured begun.body, begun.sized) in

@@ -22,11 +22,11 @@ kept_unmade file c unmade none = record {
 }
 
 module _ {D : Type 0} (reads : D → List ℕ) (images : D → List ℕ → Type 0) (moment : D → ℕ) (since : D → ℕ → List ℕ → Type 0) where
-  -- a disk that is read, and of which a stop leaves what a read gives
+  -- reading keeps a file, where a stop leaves what a read gives
   pub reading_keeps : (old new : D) → Only (reads old) (images old) → OnlyReads reads images moment since old new → LeavesOnly moment since old new (IsKept (reads old))
   reading_keeps old new only read = weakened moment since old new (images old) (IsKept (reads old)) (λ c image. kept_same (reads old) c (only c image)) read.any_moment
 
-  -- and then made
+  -- reading it and then making it keeps an unmade file
   pub making_keeps : (old mid new : D) → Only (reads old) (images old) → OnlyReads reads images moment since old mid → IsUnmade (reads old)
       → LeavesOnly moment since mid new (λ c. StandsFor the_heading c []) → LeavesOnly moment since old new (IsKept (reads old))
   making_keeps old mid new only read unmade making =

@@ -6,7 +6,7 @@ use Rattle.gb_outside.specs.Images.{Holds, Torn, Only}
 use Rattle.journal_disk.specs.Layout.{the_heading, IsBody, StandsFor}
 use Rattle.journal_disk.specs.inner.Writing.{TornFrom}
 
--- a byte 0 of value 0 stays while what stands behind it is written
+-- a byte 0 of value 0 stays while the bytes after it are written, so the file stays unmade
 name_torn : (rest c : List ℕ) (n : ℕ) → Torn 1 n (0 ∷ rest) c → StandsFor the_heading c []
 name_torn rest [] n torn = absurd (omega (arith, torn.no_shorter))
 name_torn rest (mark ∷ []) n torn = inl (tt, refl)
@@ -16,7 +16,7 @@ pub name_written : (file rest piece new : List ℕ) → file ≡ 0 ∷ rest → 
 name_written file rest piece new begun is holds =
     holds ∙ ap (λ (l : List ℕ). take 1 file ++ l ++ drop (1 + length l) file) is ∙ ap (λ (l : List ℕ). take 1 l ++ (the_heading ++ 0 ∷ []) ++ drop 10 l) begun
 
--- whatever the mark becomes, the file has no frame
+-- whatever the mark becomes, the file has no frames
 mark_torn : (rest c : List ℕ) → Torn 0 1 (0 ∷ (the_heading ++ 0 ∷ rest)) c → StandsFor the_heading c []
 mark_torn rest [] torn = absurd (omega (arith, torn.no_shorter))
 mark_torn rest (mark ∷ more) torn =

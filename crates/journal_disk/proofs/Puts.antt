@@ -1,4 +1,4 @@
--- What a write that is synced may leave on the way.
+-- What a synced write may leave on the way.
 use Rattle.std.proofs.Common.{◌≡◌, ℕ, ◌+◌, List, [], ◌∷◌, ◌++◌, length, take, drop, sym, ◌∙◌, ap, arith, ◌<◌, append_assoc, length-take-le}
 use Rattle.std.proofs.lemmas.List.{take-append-le, take-take, drop_at}
 use Rattle.gb_outside.specs.Images.{Holds, Torn, Follows, NoneNew, Elapses, LeavesOnly}
@@ -7,21 +7,21 @@ use Rattle.journal_disk.specs.inner.Writing.{TornFrom}
 use Rattle.journal_disk.proofs.Torn.{torn_nothing}
 
 module _ {D : Type 0} (images : D → List ℕ → Type 0) (moment : D → ℕ) (since : D → ℕ → List ℕ → Type 0) where
-  -- after the write
+  -- what a stop may leave from before the write until after it
   pub put_written : (old new : D) (at n : ℕ) → ((c : List ℕ) → since old (moment old) c → images old c) → Elapses (moment old) (moment new) (since old) (since new) (images new)
       → Follows (Torn at n) (images old) (images new) → LeavesOnly moment since old new (TornFrom (images old) at n)
   put_written old new at n only_now time torn =
       goes_on moment since old old new (TornFrom (images old) at n) (images new)
       (started moment since old (TornFrom (images old) at n) (λ c left. (c, only_now c left, torn_nothing at n c))) time torn
 
-  -- and after the sync
+  -- what a stop may leave from before the write until after the sync
   pub put_synced : (old mid new : D) (at n : ℕ) → ((c : List ℕ) → since old (moment old) c → images old c) → Elapses (moment old) (moment mid) (since old) (since mid) (images mid)
       → Follows (Torn at n) (images old) (images mid) → Elapses (moment mid) (moment new) (since mid) (since new) (images new) → NoneNew (images mid) (images new)
       → LeavesOnly moment since old new (TornFrom (images old) at n)
   put_synced old mid new at n only_now time torn later none_new =
       goes_on moment since old mid new (TornFrom (images old) at n) (images new) (put_written old mid at n only_now time torn) later (λ c image. torn c (none_new c image))
 
--- a piece behind a byte and then the byte are one piece
+-- a piece that is written after a byte, and then the byte, are as one piece
 pub put_twice : (old mid new piece : List ℕ) (gate x : ℕ) → gate < length old → Holds old (gate + 1) piece mid → Holds mid gate (x ∷ []) new → Holds old gate (x ∷ piece) new
 put_twice old mid new piece gate x within first second =
     let rest = drop (gate + 1 + length piece) old in

@@ -1,4 +1,4 @@
--- What a fault of the reading says of the file.
+-- What a fault of reading says of the file.
 use Rattle.std.proofs.Common.{◌≡◌, List, ℕ, Result, Ok, Err, IfErr, sym, subst}
 use Rattle.std.specs.Result.{IsErrAnd}
 use Rattle.journal_disk.specs.Layout.{the_heading}
@@ -13,7 +13,7 @@ refused file NotJournal found = absurd found
 refused file (BadRecord at ahead) found = found
 refused file Memory found = tt
 
--- also at the exit of a `?`, and of a file that reads the same
+-- It says so, too, at the exit of a `?`, of a file that reads the same.
 pub refused_at_exit : {T : Type 0} (r : Result T OpenFault) (file same : List ℕ) (fault : OpenFault) → IsErrAnd r (λ e. e ≡ fault) → same ≡ file → FindsFrames same (Err fault) → IfErr r (LogRefuses the_heading file)
 refused_at_exit (Ok x) file same fault is reads found = absurd is
 refused_at_exit (Err e) file same fault is reads found = subst (λ (l : List ℕ). LogRefuses the_heading l e) reads (subst (LogRefuses the_heading same) (sym is) (refused same fault found))

@@ -15,7 +15,7 @@ split_once x y s t long same = (
   sym (drop_at x s (length x) refl) ∙ ap (λ (l : List ℕ). drop (length x) l) same ∙ drop_at y t (length x) (sym long),
 )
 
--- a length and a body are read in one way
+-- a length and a body can be read in one way only
 measured_once : (x y s t : List ℕ) → IsBody x → IsBody y → measured x ++ s ≡ measured y ++ t → (x ≡ y) × (s ≡ t)
 measured_once x y s t is_x is_y same =
     let heads : to_be_bytes w32 (length x) ≡ to_be_bytes w32 (length y) = ap (λ (l : List ℕ). take 4 l) same in
@@ -31,7 +31,7 @@ end_some : (tail : List ℕ) → IsEnd tail → 1 ≤ length tail
 unfolding IsEnd
 end_some tail ends = omega (arith, ap length ends.2)
 
--- a whole frame is no end
+-- a whole frame does not end the frames
 frame_no_end : (body rest tail : List ℕ) → IsBody body → 1 ≤ length rest → tail ≡ 1 ∷ (measured body ++ rest) → IsEnd tail → ⊥
 unfolding IsEnd
 frame_no_end body rest tail is_body some whole ends =
@@ -46,7 +46,7 @@ frame_no_end body rest tail is_body some whole ends =
     none size (inr (inl long)) = omega (arith, size, long, is_body.not_long)
     none size (inr (inr short)) = omega (arith, size, short, length-append body rest, some)
 
--- frames and what ends them are read in one way
+-- frames and what ends them can be read in one way only
 frames_once : (a b : List (List ℕ)) (s t : List ℕ) → All IsBody a → All IsBody b → IsEnd s → IsEnd t → frames a ++ s ≡ frames b ++ t → (a ≡ b) × (s ≡ t)
 frames_once [] [] s t all_a all_b end_s end_t same = (refl, same)
 frames_once [] (y ∷ b) s t all_a all_b end_s end_t same =
@@ -62,7 +62,7 @@ frames_once (x ∷ a) (y ∷ b) s t all_a all_b end_s end_t same =
     let rest = frames_once a b s t (All-tail IsBody x a all_a) (All-tail IsBody y b all_b) end_s end_t here.1 in
     (ap₂ (λ (z : List ℕ) (c : List (List ℕ)). z ∷ c) here.0 rest.0, rest.1)
 
--- of one file
+-- the bytes of a file after its mark and heading are its frames and what follows them
 behind_name : (file : List ℕ) (mark : ℕ) (bodies : List (List ℕ)) (tail : List ℕ) → file ≡ mark ∷ (the_heading ++ frames bodies ++ tail) → drop 9 file ≡ frames bodies ++ tail
 behind_name file mark bodies tail whole = ap (λ (l : List ℕ). drop 9 l) whole
 

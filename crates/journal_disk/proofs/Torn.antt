@@ -1,11 +1,11 @@
--- What stands outside the range of writes, also of those that were cut short.
+-- Bytes outside the range of writes stay, also where writes were cut short.
 use Rattle.std.proofs.Common.{◌≡◌, ℕ, ◌+◌, ◌-◌, ◌≤◌, List, ◌++◌, length, take, drop, Result, Ok, Err, refl, sym, ◌∙◌, ap, arith, append_assoc, length-append, length-drop, length-take-le, take-take, drop-drop, take_at, drop_at}
 use Rattle.gb_outside.specs.Images.{Holds, Torn, WritesAt}
 
 pub torn_nothing : (at n : ℕ) (c : List ℕ) → Torn at n c c
 torn_nothing at n c = record { before = refl; after = refl; no_shorter = omega arith; no_longer = omega arith }
 
--- a range within a larger one
+-- a file that is torn in a range is torn in any larger one
 pub torn_within : (at n from size : ℕ) (old new : List ℕ) → from ≤ at → at + n ≤ from + size → Torn at n old new → Torn from size old new
 torn_within at n from size old new low high torn =
     let more = from + size - (at + n) in
@@ -18,7 +18,7 @@ torn_within at n from size old new low high torn =
       no_longer = omega (arith, torn.no_longer, high);
     }
 
--- a write after another
+-- two writes in a range, one after the other, tear the file there alone
 pub torn_then : (at n : ℕ) (old mid new : List ℕ) → Torn at n old mid → Torn at n mid new → Torn at n old new
 torn_then at n old mid new first second = record {
   before = second.before ∙ first.before;
@@ -27,7 +27,7 @@ torn_then at n old mid new first second = record {
   no_longer = omega (arith, first.no_longer, second.no_longer);
 }
 
--- a write that was not cut short
+-- a write that was not cut short tears the file in its range alone
 pub torn_whole : (at : ℕ) (piece old new : List ℕ) → at ≤ length old → Holds old at piece new → Torn at (length piece) old new
 torn_whole at piece old new within holds =
     let rest = drop (at + length piece) old in
@@ -41,7 +41,7 @@ torn_whole at piece old new within holds =
       no_longer = omega (arith, long, length-drop (at + length piece) old);
     }
 
--- whatever a write answered
+-- whatever a write answers, it tears the file in its range alone
 pub torn_by : {E : Type 0} (answer : Result (Unit {0}) E) (at : ℕ) (piece old new : List ℕ) → at ≤ length old → WritesAt old new at answer piece → Torn at (length piece) old new
 torn_by (Ok done) at piece old new within holds = torn_whole at piece old new within holds
 torn_by (Err e) at piece old new within torn = torn

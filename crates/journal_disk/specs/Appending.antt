@@ -11,7 +11,7 @@ pub record StandsOn (heading : List ℕ) (gate : ℕ) (bodies : List (List ℕ))
   pub ends : gate ≡ end_of heading bodies
   pub durable : (c : List ℕ) → images c → StandsFor heading c bodies
 
--- the frames before, or these and the new one
+-- the file has the frames before, or these and the new one
 abbrev pub FramesWithOrWithout : List ℕ → List (List ℕ) → List ℕ → List ℕ → Type 0
 FramesWithOrWithout heading bodies body c = StandsFor heading c bodies ⊎ StandsFor heading c (bodies ++ body ∷ [])
 
@@ -22,7 +22,7 @@ append_failed (Err Disk) = true
 append_failed (Err Full) = false
 append_failed (Err MustReopen) = false
 
--- the log after appending a body of this size: it knows the new gate, or has failed, or is the same
+-- the log after appending a body of this size: it knows the new gate, or has failed, or is as it was
 abbrev pub log_after : LogState → ℕ → Result (Unit {0}) AppendFault → LogState
 log_after log size (Ok done) = record { failed = false; gate = log.gate + frame_head + size }
 log_after log size (Err Disk) = record { failed = true; gate = log.gate }

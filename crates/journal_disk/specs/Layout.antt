@@ -18,7 +18,7 @@ longest_body = 1024
 abbrev pub file_limit : ℕ
 file_limit = 134217728
 
--- how many bytes a frame has ahead of its body: an open gate and a length of four bytes
+-- how many bytes a frame has before its body: an open gate and a length of four bytes
 abbrev pub frame_head : ℕ
 frame_head = 5
 
@@ -31,16 +31,16 @@ pub record IsBody (body : List ℕ) : Type 0 where
 abbrev pub measured : List ℕ → List ℕ
 measured body = to_be_bytes w32 (length body) ++ body
 
--- the frames of these bodies, each but for the gate that ends it: an open gate, a length and a body
+-- the frames of these bodies, each without the gate that ends it: an open gate, a length and a body
 abbrev pub frames : List (List ℕ) → List ℕ
 frames [] = []
 frames (body ∷ bodies) = 1 ∷ (measured body ++ frames bodies)
 
--- the offset of the first gate, behind the mark and the heading
+-- the offset of the first gate, after the mark and the heading
 abbrev pub first_gate : List ℕ → ℕ
 first_gate heading = 1 + length heading
 
--- the offset behind the frames of these bodies
+-- the offset after the frames of these bodies
 abbrev pub end_of : List ℕ → List (List ℕ) → ℕ
 end_of heading bodies = first_gate heading + length (frames bodies)
 
@@ -68,7 +68,7 @@ pub record IsForeign (heading file : List ℕ) : Type 0 where
   pub not_unmade : IsUnmade file → ⊥
   pub not_made : IsMade heading file → ⊥
 
--- A made file with these bodies, ended by a gate that is not open, whatever stands behind it.
+-- A made file with these bodies, ended by a gate that is not open, whatever stands after it.
 pub record IsJournal (heading file : List ℕ) (bodies : List (List ℕ)) : Type 0 where
   pub mark : ℕ
   pub gate : ℕ
@@ -78,12 +78,12 @@ pub record IsJournal (heading file : List ℕ) (bodies : List (List ℕ)) : Type
   pub sizes : All IsBody bodies
   pub whole : file ≡ mark ∷ (heading ++ frames bodies ++ gate ∷ rest)
 
--- Behind an open gate no whole frame: its length is 0 or too long, or it runs past the end with the gate that ends it.
+-- After an open gate no whole frame follows: its length is 0 or too long, or it runs past the end with the gate that ends it.
 abbrev pub IsNoFrame : List ℕ → Type 0
 IsNoFrame (a ∷ b ∷ c ∷ d ∷ rest) = let size = from_be_bytes w32 (a ∷ b ∷ c ∷ d ∷ []) in (size ≡ 0) ⊎ (longest_body < size) ⊎ (length rest ≤ size)
 IsNoFrame rest = Unit {0}
 
--- A made file that is bad at the gate behind these bodies: it is open, and no whole frame follows.
+-- A made file that is bad at the gate after these bodies: the gate is open, and no whole frame follows.
 pub record IsBad (heading file : List ℕ) (ahead : List (List ℕ)) : Type 0 where
   pub mark : ℕ
   pub rest : List ℕ
@@ -103,10 +103,10 @@ HasStanding heading file (standing.Journal bodies) = IsJournal heading file bodi
 abbrev pub StandsFor : List ℕ → List ℕ → List (List ℕ) → Type 0
 StandsFor heading file bodies = (HasStanding heading file standing.Unmade × (bodies ≡ [])) ⊎ HasStanding heading file (standing.Journal bodies)
 
--- a file that was just made from this one: the mark, the heading, a closed gate, and what stood behind
+-- a file that was just made from this one: the mark, the heading, a closed gate, and what stood after them
 abbrev pub made_from : List ℕ → List ℕ → List ℕ
 made_from heading file = 71 ∷ (heading ++ 0 ∷ drop (first_gate heading + 1) file)
 
--- a frame with this body in place of a closed gate: its own gate open, and a closed one behind it
+-- the frame of this body that is written in place of a closed gate: its own gate open, and a closed one after it
 abbrev pub appended : List ℕ → List ℕ
 appended body = 1 ∷ (measured body ++ 0 ∷ [])

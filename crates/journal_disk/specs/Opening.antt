@@ -17,14 +17,14 @@ opening_disk_failed (Err NotJournal) = false
 opening_disk_failed (Err (BadRecord at ahead)) = false
 opening_disk_failed (Err Memory) = false
 
--- Frames one behind the other from the first gate on, and the gate behind them.
+-- Frames one after the other from the first gate on, and the gate after them.
 pub record AreFramesTo (heading : List ℕ) (frames : List FrameAt) (gate : ℕ) : Type 0 where
   pub bodies : List (List ℕ)
   pub sizes : All IsBody bodies
   pub frames_are : frames ≡ frames_from (first_gate heading) bodies
   pub ends : gate ≡ end_of heading bodies
 
--- the frames ahead of a bad gate are one behind the other, and that gate is behind them
+-- the frames before a bad gate stand one after the other, and that gate after them
 abbrev pub HasFramesAhead : List ℕ → OpenFault → Type 0
 HasFramesAhead heading Disk = Unit {0}
 HasFramesAhead heading NotJournal = Unit {0}
@@ -38,7 +38,7 @@ pub record LogOpens (heading file : List ℕ) (log : LogState) (frames : List Fr
   pub frames_are : frames ≡ frames_from (first_gate heading) bodies
   pub stands : StandsOn heading log.gate bodies reads images
 
--- what a fault says of the file that was found: its standing, and with a bad one the frames ahead
+-- a fault says the standing of the file that was found, and with a bad one the frames before the bad gate
 abbrev pub LogRefuses : List ℕ → List ℕ → OpenFault → Type 0
 LogRefuses heading file NotJournal = HasStanding heading file standing.Foreign
 LogRefuses heading file (BadRecord at ahead) = (bad : HasStanding heading file (standing.Bad at)) × (ahead.items ≡ frames_from (first_gate heading) bad.0)
@@ -50,7 +50,7 @@ pub record IsKept (file c : List ℕ) : Type 0 where
   pub same : (IsUnmade file → ⊥) → c ≡ file
   pub frames : (bodies : List (List ℕ)) → StandsFor the_heading file bodies → StandsFor the_heading c bodies
 
--- A sync ahead of every write, though reads may come before it: until it is done a stop leaves what it might have left before, and from then on the file is kept.
+-- A sync comes before every write, though reads may come before it. Until it is done a stop leaves what it might have left before; from then on the file is kept.
 pub record SyncsFirst {D : Type 0} (reads : D → List ℕ) (images : D → List ℕ → Type 0) (moment : D → ℕ) (since : D → ℕ → List ℕ → Type 0) (old new : D) : Type 0 where
   pub synced : D
   pub until : LeavesOnly moment since old synced (images old)
@@ -58,7 +58,7 @@ pub record SyncsFirst {D : Type 0} (reads : D → List ℕ) (images : D → List
   pub only : Only (reads old) (images synced)
   pub then : LeavesOnly moment since synced new (IsKept (reads old))
 
--- A sync was done ahead of the answer, and all that follows it keeps the file; only where the disk failed it may be that it was not done.
+-- A sync was done before the answer, and all that follows it keeps the file. Only where the disk failed may it be that the sync was not done.
 abbrev pub AnswersSynced : {D : Type 0} → (D → List ℕ) → (D → List ℕ → Type 0) → (D → ℕ) → (D → ℕ → List ℕ → Type 0) → D → D → Bool → Type 0
 AnswersSynced reads images moment since old new true = LeavesOnly moment since old new (images old) ⊎ SyncsFirst reads images moment since old new
 AnswersSynced reads images moment since old new false = SyncsFirst reads images moment since old new

@@ -10,10 +10,10 @@ use crate::layout::{CLOSED, FILE_LIMIT, FRAME_HEAD, LONGEST_BODY, OPEN};
 use crate::writing::put;
 use gb_outside::{Disk, DiskFailed};
 
-/// How many bytes a frame has behind its gate, at most: a length, a body and the next gate.
+/// How many bytes a frame has after its gate, at most: a length, a body and the next gate.
 const MOST_BEHIND: usize = FRAME_HEAD + LONGEST_BODY;
 
-/// Fills what stands behind a gate: the length, the body and a closed gate.
+/// Fills what stands after a gate: the length, the body and a closed gate.
 fn fill(behind: &mut [u8], body: &[u8])
     requires body { length body.now < 2 ^ 32 }
     requires room { length behind.old ≡ frame_head + length body.now }
@@ -26,7 +26,7 @@ fn fill(behind: &mut [u8], body: &[u8])
 }
 
 /// Appends a frame at the closed gate that stands at `gate`. The gate is opened last, when all that
-/// it makes count is on the disk.
+/// this brings into force is on the disk.
 pub(crate) fn write_frame<D: Disk>(disk: &mut D, gate: u64, body: &[u8]) -> Result<(), DiskFailed>
     requires body { IsBody body.now }
     requires gate { gate < file_limit }

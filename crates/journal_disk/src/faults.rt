@@ -15,7 +15,7 @@ pub enum OpenFault {
     NotJournal,
     /// At `at` stands an open gate that no whole frame follows; `ahead` has the frames before it.
     BadRecord { at: u64, ahead: Vec<Frame> },
-    /// No memory was found for the frames.
+    /// Memory ran out for the frames.
     Memory,
 }
 
@@ -49,7 +49,7 @@ pub enum AppendFault {
     /// The disk failed. The log answers `MustReopen` from now on; opened again, the file has the
     /// frame or not.
     Disk,
-    /// The closed gate behind the frame would stand at byte 134,217,728 or beyond.
+    /// The closed gate after the frame would stand at byte 134,217,728 or beyond.
     Full,
     /// An earlier append answered `Disk`.
     MustReopen,

@@ -8,13 +8,13 @@ ghost use Rattle.journal_disk.specs.inner.Heading.{FoundIn};
 use crate::layout::{FIRST_GATE, HEADING};
 use gb_outside::{Disk, DiskFailed};
 
-/// How many bytes tell whether a file is made: those up to the first gate, and it.
+/// How many bytes tell whether a file is made: those up to the first gate, with that gate.
 const HEAD: usize = FIRST_GATE as usize + 1;
 
 /// What stands at the head of a file.
 #[derive(Clone, Copy, Debug, PartialEq, Eq)]
 pub(crate) enum Found {
-    /// It is not made. Where the making has begun, its byte 0 is 0.
+    /// It is not made. Where its making has begun, its byte 0 is 0.
     Unmade { begun: bool },
     /// It is no journal.
     Foreign,
@@ -22,7 +22,7 @@ pub(crate) enum Found {
     Made { len: u64 },
 }
 
-/// What a file of `len` bytes is that begins with these, all of it or its first ten.
+/// What a file of `len` bytes is that begins with these bytes: all of it, or its first ten.
 fn classify(head: &[u8], len: u64) -> Found
     requires { length head.now ≤ len }
     ensures found { (file : List ℕ) → head.now ≡ take HEAD file → len ≡ length file → FoundIn file result }

@@ -1,6 +1,6 @@
 //! The journal file's layout: a mark, a heading, frames, and a gate that is not open.
 
-/// The offset of the first gate: the mark and the heading stand ahead of it.
+/// The offset of the first gate: the mark and the heading stand before it.
 pub(crate) const FIRST_GATE: u64 = 9;
 
 /// The mark of a made file: its byte 0.
@@ -18,7 +18,7 @@ pub(crate) const OPEN: u8 = 1;
 /// The most bytes of a body.
 pub(crate) const LONGEST_BODY: usize = 1024;
 
-/// How many bytes a frame has ahead of its body: a gate and a length.
+/// How many bytes a frame has before its body: a gate and a length.
 pub(crate) const FRAME_HEAD: usize = 5;
 
 /// No gate of a journal that was appended to stands at this offset or beyond.

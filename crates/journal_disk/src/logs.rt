@@ -36,7 +36,7 @@ impl Log {
     /// Opens the journal of a disk: the log, and the frames in order. An unmade file is made.
     /// An answer about the file comes only after a sync, so that a stop leaves what it says.
     pub fn open<D: Disk>(alloc: Global, disk: &mut D) -> Result<(Log, Vec<Frame>), OpenFault>
-        // The frames that it gives and those ahead of a bad gate stand one behind the other, on any disk.
+        // The frames that it gives, and those before a bad gate, stand one after the other, on any disk.
         ensures frames { IfOk result (λ opened. AreFramesTo the_heading opened.1.items opened.0.gate) }
         ensures ahead { IfErr result (HasFramesAhead the_heading) }
 
@@ -49,7 +49,7 @@ impl Log {
         ensures kept { IsTrue D.tells → IsKept (D.reads disk.old) (D.reads disk.new) }
         ensures torn { IsTrue D.tells → Torn 0 (first_gate the_heading + 1) (D.reads disk.old) (D.reads disk.new) }
 
-        // Every answer but `Disk` comes only after a sync, done ahead of every write: a stop at any moment from then on leaves the frames that were found.
+        // Every answer but `Disk` comes only after a sync, done before every write: a stop at any moment from then on leaves the frames that were found.
         ensures any_moment { IsTrue D.tells → AnswersSynced D.reads D.images D.moment D.since disk.old disk.new (opening_disk_failed result) }
         ensures cause { Counts (D.faults disk.old) (D.faults disk.new) (opening_disk_failed result) }
     {
@@ -64,8 +64,8 @@ impl Log {
         self.failed
     }
 
-    /// Appends a frame with this body, of 1 to 1,024 bytes. From the answer Ok on a stop leaves it;
-    /// a stop before leaves the frames with it or without. After `Disk` the log has failed.
+    /// Appends a frame with this body, of 1 to 1,024 bytes. Once the answer is Ok, a stop leaves it;
+    /// a stop before that leaves the frames with it or without. After `Disk` the log has failed.
     pub fn append<D: Disk>(&mut self, disk: &mut D, body: &[u8]) -> Result<(), AppendFault>
         requires body { IsBody body.now }
         requires stands { IsTrue D.tells → self.old.failed ≡ false → (bodies : List (List ℕ)) × StandsOn the_heading self.old.gate bodies (D.reads disk.old) (D.images disk.old) }
@@ -110,7 +110,7 @@ impl Log {
     }
 }
 
-/// Opens the journal of a disk of which a stop leaves what a read gives.
+/// Opens the journal of a disk where a stop leaves what a read gives.
 fn open_synced<D: Disk>(alloc: Global, disk: &mut D) -> Result<(Log, Vec<Frame>), OpenFault>
     requires { IsTrue D.tells → Only (D.reads disk.old) (D.images disk.old) }
     ensures frames { IfOk result (λ opened. AreFramesTo the_heading opened.1.items opened.0.gate) }

@@ -13,7 +13,7 @@ pub(crate) enum Ending {
     Closed,
     /// It is open, and the length is 0 or too long.
     Wrong,
-    /// It is open, and the bytes end ahead of the frame's end or of the gate behind it.
+    /// It is open, and the bytes end before the frame does, or before the gate after it.
     Short,
 }
 

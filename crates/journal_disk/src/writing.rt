@@ -1,4 +1,4 @@
-//! Writes of which each is on the disk before the next begins.
+//! Writes, each of which is on the disk before the next begins.
 ghost use Rattle.std.specs.Prelude.{◌≡◌, ◌+◌, ◌≤◌, ◌++◌, [], ◌∷◌, IsTrue, OnOk, is_err, length, drop};
 ghost use Rattle.gb_outside.specs.Faults.{Counts};
 ghost use Rattle.gb_outside.specs.Images.{Holds, Torn, Only, LeavesOnly};
@@ -23,7 +23,7 @@ pub(crate) fn put<D: Disk>(disk: &mut D, at: u64, piece: &[u8]) -> Result<(), Di
     disk.sync()
 }
 
-/// Makes a file of no byte or one begin with a byte 0 of value 0.
+/// Makes a file of no byte, or of one, begin with a byte 0 of value 0.
 fn begin<D: Disk>(disk: &mut D) -> Result<(), DiskFailed>
     requires short { IsTrue D.tells → length (D.reads disk.old) ≤ 1 }
     requires settled { IsTrue D.tells → Only (D.reads disk.old) (D.images disk.old) }
@@ -36,7 +36,7 @@ fn begin<D: Disk>(disk: &mut D) -> Result<(), DiskFailed>
     put(disk, 0, &[0])
 }
 
-/// Makes a file that begins with a byte 0 of value 0: the mark comes last, when all that it
+/// Makes a file that begins with a byte 0 of value 0: the mark comes last, once all that it
 /// stands for is on the disk.
 fn finish<D: Disk>(disk: &mut D) -> Result<(), DiskFailed>
     requires begun { IsTrue D.tells → BeginsWithZero (D.reads disk.old) }

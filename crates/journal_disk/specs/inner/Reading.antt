@@ -21,7 +21,7 @@ pub record OnlyReads {D : Type 0} (reads : D → List ℕ) (images : D → List 
   pub none_new : NoneNew (images old) (images new)
   pub any_moment : LeavesOnly moment since old new (images old)
 
--- what an answer of the reading says of a made file: the frames and the gate that ends them, or those ahead of a bad one
+-- what an answer of the reading says of a made file: the frames and the gate that ends them, or the frames before a bad gate
 abbrev pub FindsFrames : List ℕ → Result (ℕ × Vec FrameAt Global) OpenFault → Type 0
 FindsFrames file (Ok (gate, frames)) = (bodies : List (List ℕ)) × IsJournal the_heading file bodies × (gate ≡ end_of the_heading bodies) × (frames.items ≡ frames_from (first_gate the_heading) bodies)
 FindsFrames file (Err (BadRecord at ahead)) = (bad : HasStanding the_heading file (standing.Bad at)) × (ahead.items ≡ frames_from (first_gate the_heading) bad.0)

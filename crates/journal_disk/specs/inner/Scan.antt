@@ -6,12 +6,12 @@ use Rattle.journal_disk.specs.Layout.{longest_body, IsBody, measured, frames, fr
 use Rattle.journal_disk.specs.declared.scan.Ending.{Ending}
 use Rattle.journal_disk.specs.declared.scan.Ending.TheVariants.{Closed, Wrong, Short}
 
--- behind an open gate: a length that no frame has
+-- after an open gate: a length that no frame has
 abbrev pub IsWrong : List ℕ → Type 0
 IsWrong (a ∷ b ∷ c ∷ d ∷ rest) = let size = from_be_bytes w32 (a ∷ b ∷ c ∷ d ∷ []) in (size ≡ 0) ⊎ (longest_body < size)
 IsWrong rest = ⊥
 
--- behind an open gate: fewer bytes than the frame and the gate behind it have
+-- after an open gate: fewer bytes than the frame and the gate after it have
 abbrev pub IsShort : List ℕ → Type 0
 IsShort (a ∷ b ∷ c ∷ d ∷ rest) = let size = from_be_bytes w32 (a ∷ b ∷ c ∷ d ∷ []) in (size ≤ longest_body) × (length rest ≤ size)
 IsShort rest = Unit {0}
@@ -22,7 +22,7 @@ Ends bytes Closed = (gate : ℕ) × (rest : List ℕ) × (bytes ≡ gate ∷ res
 Ends bytes Wrong = (rest : List ℕ) × (bytes ≡ 1 ∷ rest) × IsWrong rest
 Ends bytes Short = (rest : List ℕ) × (bytes ≡ 1 ∷ rest) × IsShort rest
 
--- a whole frame, with a body of this size, and a gate behind it
+-- a whole frame, with a body of this size, and a gate after it
 pub record Begins (bytes : List ℕ) (size : ℕ) : Type 0 where
   pub body : List ℕ
   pub rest : List ℕ

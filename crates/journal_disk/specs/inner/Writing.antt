@@ -1,4 +1,4 @@
--- What a write that is synced may leave on the way.
+-- What a synced write may leave on the way.
 use Rattle.std.specs.Prelude.{ℕ, List}
 use Rattle.gb_outside.specs.Images.{Torn}
 

@@ -4,7 +4,7 @@ use Rattle.std.proofs.lemmas.Slice.{take-put_mid}
 use borrow.Rule.Slice.PartMut.{put_mid, post_of}
 use Rattle.journal_disk.proofs.appending.fill.Goals as goal
 
--- a list whose head, middle and last element were written
+-- a list whose head, middle and last element were written is these, in this order
 filled : (old head middle : List ℕ) (k size : ℕ) → length head ≡ 4 → length middle ≡ size → length old ≡ 5 + size → k ≡ size
     → set (put_mid 4 k (head ++ drop 4 old) middle) (4 + size) 0 ≡ head ++ middle ++ 0 ∷ []
 filled old head middle k size four sized room is =

@@ -8,7 +8,7 @@ use Rattle.journal_disk.proofs.Torn.{torn_within, torn_then}
 use Rattle.journal_disk.proofs.Appends.{record_put, record_written, gate_put, gate_written}
 use Rattle.journal_disk.proofs.appending.write_frame.Goals as goal
 
--- what follows from two facts at Ok
+-- what follows from two facts holds on Ok where both hold on Ok
 on_ok : {T E P Q R : Type 0} (r : Result T E) → OnOk r P → OnOk r Q → (P → Q → R) → OnOk r R
 on_ok (Ok x) p q then = then p q
 on_ok (Err e) p q then = tt
