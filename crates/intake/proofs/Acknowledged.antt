@@ -1,4 +1,4 @@
--- Whatever was replied to has its receipts in every image.
+-- Every image of the disk has the receipts of whatever was replied to.
 use Rattle.std.proofs.Common.{◌≡◌, ℕ, List, [], ◌∷◌, ◌++◌, refl, sym, ◌∙◌, subst, append_assoc, Some, None}
 use Rattle.std.proofs.lemmas.List.{append_cancel_left}
 use Rattle.gb_base.specs.DayMinute.{DayMinute}
@@ -15,7 +15,7 @@ not_empty : {A : Type 0} (xs : List A) (x : A) → xs ++ x ∷ [] ≡ [] → ⊥
 not_empty [] x is = absurd cc
 not_empty (y ∷ ys) x is = absurd cc
 
--- a request without a reply leaves the journal as it is
+-- a request that the clock stamps and that has no reply leaves the journal as it is
 no_reply_by_clock : (medium : Medium) (journal : List Receipt) (ticks : List DayMinute) (sender reference : ℕ) (item : Item)
     → (replied_by_clock medium journal ticks sender reference item).text ≡ [] → (replied_by_clock medium journal ticks sender reference item).held.journal ≡ journal
 no_reply_by_clock medium journal [] sender reference item none = refl
@@ -37,14 +37,14 @@ second_empty : (xs ys : List ℕ) → xs ++ ys ≡ [] → ys ≡ []
 second_empty [] ys is = is
 second_empty (x ∷ xs) ys is = absurd cc
 
--- requests without any reply
+-- requests none of which has a reply leave the journal as it is
 none_replied : (medium : Medium) (held : Held) (requests : List Request) → replies medium held requests ≡ [] → IsFront (held_after medium held requests).journal held.journal
 none_replied medium held [] none = front_refl held.journal
 none_replied medium held (x ∷ xs) none =
     subst (IsFront (held_after medium held (x ∷ xs)).journal) (no_reply medium held x (first_empty (reply_of medium held x).text _ none))
     (none_replied medium (reply_of medium held x).held xs (second_empty (reply_of medium held x).text _ none))
 
--- of two fronts of the same requests, the one whose replies begin those of the other has no more receipts
+-- where the replies to one front of the requests begin the replies to another front, the first has no more receipts than the second
 pub front_by_replies : (medium : Medium) (held : Held) (front back done rest : List Request) (more : List ℕ) → front ++ back ≡ done ++ rest
     → replies medium held done ≡ replies medium held front ++ more → IsFront (held_after medium held front).journal (held_after medium held done).journal
 front_by_replies medium held [] back done rest more same text = grows medium held done

@@ -1,4 +1,4 @@
--- What a book that received an item says of its disk.
+-- What a book that received an item says of the disk that it is on.
 use Rattle.std.proofs.Common.{◌≡◌, inl, inr, ⊎_elim, ℕ, Bool, true, false, cond, List, [], ◌∷◌, ◌++◌, length, refl, sym, ◌∙◌, ap, arith, length-append, append-nil}
 use Rattle.std.proofs.lemmas.List.{length-map}
 use Rattle.gb_outside.specs.Images.{LeavesOnly}
@@ -27,7 +27,7 @@ use Rattle.act_model.specs.Receiving.{answer_to}
 pub front_refl : {A : Type 0} (xs : List A) → IsFront xs xs
 front_refl xs = ([], sym (append-nil xs))
 
--- a file with the new receipt's frame stands for a journal that frames can keep
+-- frames can keep the journal with the new receipt, where a file has its frames
 keepable_with : (journal : List Receipt) (r : Receipt) (file : List ℕ) → JournalWithOrWithout journal r file → StandsFor the_heading file (records (journal ++ r ∷ [])) → IsKeepable (journal ++ r ∷ [])
 keepable_with journal r file (inr with_it) stands = (kept_frames file (journal ++ r ∷ []) with_it).0
 keepable_with journal r file (inl without) stands =
@@ -55,13 +55,13 @@ no_disk : (size : ℕ) (answer : Added) → receiving_disk_failed (on_disk size 
 no_disk size answer = elim (journals.is_accepted answer && nat_lt file_limit size) as (λ b. receiving_disk_failed (cond b answers.Full (in_journal answer)) ≡ false)
     [ true ↦ refl | false ↦ no_disk_in_journal answer ]
 
--- an item that is refused was given to no disk
+-- an item that is refused is answered so, whatever the size of the disk, and not with a failure of the disk
 pub refused_by_none : (size : ℕ) (answer : Added) (result : Received) → Answers (on_disk size answer) result → is_received (on_disk size answer) ≡ false
     → (is_received result ≡ false) × (receiving_disk_failed result ≡ false)
 refused_by_none size answer result (inl same) refused = (ap is_received same ∙ refused, ap receiving_disk_failed same ∙ no_disk size answer)
 refused_by_none size answer result (inr (accepts, fault)) refused = let never : true ≡ false = sym accepts ∙ refused in absurd cc
 
--- a stop leaves the journal before, or the one that the item is answered with; where the item is refused nothing was written
+-- a stop leaves the journal before, or the journal after the answer; where the item is refused nothing was written
 pub grown_by : {D : Type 0} (moment : D → ℕ) (since : D → ℕ → List ℕ → Type 0) (old new : D) (images : List ℕ → Type 0) (journal : List Receipt) (r : Receipt) (accepted : Bool)
     → LeavesOnly moment since old new (JournalWithOrWithout journal r)
     → (accepted ≡ false → LeavesOnly moment since old new (λ file. StandsForJournal file journal))
@@ -83,7 +83,7 @@ unfolding answer_on
 none_failed InMemory journal stamp sender reference item = no_disk_in_journal (answer_to journal sender reference item)
 none_failed OnDisk journal stamp sender reference item = no_disk (file_size the_heading (journal ++ next_receipt journal stamp sender reference item ∷ [])) (answer_to journal sender reference item)
 
--- the same for an item that a disk's answer refuses
+-- an item that the answer on a disk refuses is answered so, and not with a failure of the disk
 pub refused_on_disk : (journal : List Receipt) (stamp : DayMinute) (sender reference : ℕ) (item : Item) (result : Received) → Answers (answer_on journal stamp sender reference item) result
     → is_received (answer_on journal stamp sender reference item) ≡ false → (is_received result ≡ false) × (receiving_disk_failed result ≡ false)
 unfolding answer_on

@@ -24,7 +24,7 @@ front_of_early medium held known w0 w1 images requests early =
       added = early.wrote;
     }
 
--- and so a front of the replies to all requests
+-- so it is a front of the replies to all requests
 pub part_of_early : (medium : Medium) (held : Held) (known : Option (List DayMinute)) (w0 w1 : Option (List ℕ)) (images : List ℕ → Type 0) (requests : List Request)
     → EndsEarly medium held known w0 w1 images requests → AppendsFront w0 w1 (replies medium held requests)
 part_of_early medium held known w0 w1 images requests early =
@@ -75,7 +75,7 @@ early_then medium held h1 known w0 w1 w2 images xs ys first at =
           (subst (λ (h : Held). GrownFrom (held_after medium (held_after medium held xs) (at.replied ++ at.last)).journal h.journal file) (sym (after_more medium held xs at.replied (at.last ++ at.next))) (at.received file image));
     }
 
--- nothing of these requests is done
+-- where nothing of these requests is done, they end early
 pub early_before : (medium : Medium) (held : Held) (known : Option (List DayMinute)) (w : Option (List ℕ)) (images since_now : List ℕ → Type 0) (requests : List Request)
     → Shows known images since_now held → EndsEarly medium held known w w images requests
 early_before medium held known w images since_now requests shows = record {
@@ -92,14 +92,14 @@ early_before medium held known w images since_now requests shows = record {
   received = λ file image. grown_at held.journal file (shows.stands file image);
 }
 
--- all of them are answered, and nothing more is
+-- where all of these requests are answered and nothing more was begun, they end early, too
 pub early_all : (medium : Medium) (held : Held) (holds : Option Held) (known : Option (List DayMinute)) (w0 w1 : Option (List ℕ)) (images since_now : List ℕ → Type 0) (xs : List Request)
     → Answered medium held holds w0 w1 xs → Shows known images since_now (held_after medium held xs) → EndsEarly medium held known w0 w1 images xs
 early_all medium held holds known w0 w1 images since_now xs answered shows =
     subst (λ rs. EndsEarly medium held known w0 w1 images rs) (append-nil xs)
     (early_then medium held holds known w0 w1 w1 images xs [] answered (early_before medium (held_after medium held xs) known w1 images since_now [] shows))
 
--- of fewer images the same is said
+-- requests that end early do so, too, where there are fewer images
 pub early_of_fewer : (medium : Medium) (held : Held) (known : Option (List DayMinute)) (w0 w1 : Option (List ℕ)) (images fewer : List ℕ → Type 0) (requests : List Request)
     → ((file : List ℕ) → fewer file → images file) → EndsEarly medium held known w0 w1 images requests → EndsEarly medium held known w0 w1 fewer requests
 early_of_fewer medium held known w0 w1 images fewer requests are early = record {

@@ -74,18 +74,18 @@ behind-none line (x ∷ xs) none =
 pub behind_with_feed : (line end : List ℕ) → behind line (end ++ 10 ∷ []) ≡ []
 behind_with_feed line end = rw (behind-append line end (10 ∷ [])) refl
 
--- the request of the line that these bytes end
+-- the line that these bytes end has one request
 pub feed_requests : (kind : LineKind) (line end text : List ℕ) → list_any (λ b. b == 10) end ≡ false → text ≡ line ++ end
     → request_of_line kind text ∷ [] ≡ ended_requests kind line (end ++ 10 ∷ [])
 feed_requests kind line end text none is =
     let one : ended line (end ++ 10 ∷ []) ≡ (line ++ end) ∷ [] = rw (ended-append line end (10 ∷ []), ended-none line end none, behind-none line end none) refl in
     ap (λ t. request_of_line kind t ∷ []) is ∙ ap (map (request_of_line kind)) (sym one)
 
--- the requests of two pieces
+-- the requests of two pieces are those of the first and then those of the second
 pub requests_of_two : (kind : LineKind) (line xs ys : List ℕ) → ended_requests kind line (xs ++ ys) ≡ ended_requests kind line xs ++ ended_requests kind (behind line xs) ys
 requests_of_two kind line xs ys = ap (map (request_of_line kind)) (ended-append line xs ys) ∙ map-append (request_of_line kind) (ended line xs) (ended (behind line xs) ys)
 
--- the requests of a piece of which a part is done, then a line more, and then the rest
+-- the requests of a piece are those of a part that is done, then that of one line, and then those of the rest
 pub requests_of_piece : (kind : LineKind) (line0 line1 piece done rest end later : List ℕ) → piece ≡ done ++ rest → line1 ≡ behind line0 done → rest ≡ end ++ 10 ∷ later
     → ended_requests kind line0 piece ≡ (ended_requests kind line0 done ++ ended_requests kind line1 (end ++ 10 ∷ [])) ++ ended_requests kind (behind line1 (end ++ 10 ∷ [])) later
 requests_of_piece kind line0 line1 piece done rest end later whole is splits =
@@ -95,7 +95,7 @@ requests_of_piece kind line0 line1 piece done rest end later whole is splits =
     ∙ ap (λ rs. ended_requests kind line0 done ++ rs) (requests_of_two kind line1 (end ++ 10 ∷ []) later)
     ∙ sym (append_assoc (ended_requests kind line0 done) (ended_requests kind line1 (end ++ 10 ∷ [])) _)
 
--- a rest without an LF has none
+-- a rest without an LF has no request
 pub requests_at_end : (kind : LineKind) (line0 line1 piece done rest : List ℕ) → piece ≡ done ++ rest → list_any (λ b. b == 10) rest ≡ false
     → ended_requests kind line0 piece ≡ ended_requests kind line0 done
 requests_at_end kind line0 line1 piece done rest whole none =

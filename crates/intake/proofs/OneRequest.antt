@@ -29,11 +29,11 @@ module _ (medium : Medium) (held : Held) (w0 w1 : Option (List ℕ)) (request : 
   abbrev reply : Replied
   reply = reply_of medium held request
 
-  -- it is replied to whole
+  -- the request is replied to whole
   pub answered_one : (holds : Option Held) (text : List ℕ) → text ≡ reply.text → Appends w0 w1 text → holds ≡ Some reply.held → Answered medium held holds w0 w1 (request ∷ [])
   answered_one holds text same wrote is = record { wrote = subst (Appends w0 w1) (same ∙ sym (append-nil reply.text)) wrote; holds = is }
 
-  -- a front of its reply is written
+  -- a front of the request's reply is written
   pub early_cut : (known : Option (List DayMinute)) (images : List ℕ → Type 0) (text : List ℕ) → text ≡ reply.text → AppendsFront w0 w1 text → known ≡ Some reply.held.ticks
       → ((file : List ℕ) → images file → StandsForJournal file reply.held.journal) → EndsEarly medium held known w0 w1 images (request ∷ [])
   early_cut known images text same wrote clock stands = record {
@@ -50,7 +50,7 @@ module _ (medium : Medium) (held : Held) (w0 w1 : Option (List ℕ)) (request : 
     received = λ file image. grown_at reply.held.journal file (stands file image);
   }
 
-  -- nothing of its reply is written
+  -- nothing of the request's reply is written
   pub early_unanswered : (known : Option (List DayMinute)) (images : List ℕ → Type 0) → w1 ≡ w0 → known ≡ Some reply.held.ticks
       → ((file : List ℕ) → images file → GrownFrom held.journal reply.held.journal file) → EndsEarly medium held known w0 w1 images (request ∷ [])
   early_unanswered known images stays clock left = record {

@@ -1,4 +1,4 @@
--- Requests that are answered one list after the other.
+-- Requests that are answered, one list after the other.
 use Rattle.std.proofs.Common.{◌≡◌, ℕ, true, false, cond, List, [], ◌∷◌, ◌++◌, refl, sym, ap, ◌∙◌, subst, append_assoc, append-nil, Option, Some, None}
 use Rattle.std.specs.Io.KnownBytes.{Appends}
 use Rattle.std.proofs.KnownBytes.{Appends-nil, Appends-trans}
@@ -86,7 +86,7 @@ module _ {D : Type 0} (reads : D → List ℕ) (moment : D → ℕ) (since : D �
     written = frames_wider a b from to (reads old) (reads new) begins within ends run.written;
   }
 
-  -- one growth after another
+  -- a journal on a disk that grows twice grows from the first state to the last
   pub disk_then : (old mid new : D) (a b c : List Receipt) → IsFront a b → IsFront b c
       → DiskGrows reads moment since old mid a b → DiskGrows reads moment since mid new b c → DiskGrows reads moment since old new a c
   disk_then old mid new a b c first second run more =
@@ -96,7 +96,7 @@ module _ {D : Type 0} (reads : D → List ℕ) (moment : D → ℕ) (since : D �
         written = frames_then a c (reads old) (reads mid) (reads new) before.written behind.written;
       }
 
-  -- nothing is done
+  -- a disk to which nothing is done counts as one whose journal grows, by nothing so far
   pub disk_same : (disk : D) (known : Option (List DayMinute)) (images : List ℕ → Type 0) (held : Held) (to : List Receipt) → IsFront held.journal to
       → Shows known images (since disk (moment disk)) held → DiskGrows reads moment since disk disk held.journal to
   disk_same disk known images held to front shows = record {
@@ -139,7 +139,7 @@ whole_front a b text wrote = record { front = text; rest = []; whole = sym (appe
 -- ---- what is done to a disk while requests are answered
 
 module _ {D : Type 0} (reads : D → List ℕ) (moment : D → ℕ) (since : D → ℕ → List ℕ → Type 0) where
-  -- the first are answered, then others were worked on, and more may follow
+  -- the first requests are answered, others are worked on after them, and more may follow
   pub disk_within : (old mid new : D) (medium : Medium) (held : Held) (all xs ys zs : List Request) → all ≡ (xs ++ ys) ++ zs
       → DiskGrows reads moment since old mid held.journal (held_after medium held xs).journal
       → DiskGrows reads moment since mid new (held_after medium held xs).journal (held_after medium (held_after medium held xs) ys).journal
@@ -152,7 +152,7 @@ module _ {D : Type 0} (reads : D → List ℕ) (moment : D → ℕ) (since : D �
       (front_refl held.journal) (grows medium held ((xs ++ ys) ++ zs))
       (subst (λ (h : Held). IsFront h.journal (held_after medium held ((xs ++ ys) ++ zs)).journal) (held_after-append medium held xs ys) (grows_longer medium held (xs ++ ys) zs)) back)
 
-  -- the first are answered, and then others, by whatever is held
+  -- the first requests are answered, and then others, starting from what is held then
   pub done_then : (old mid new : D) (medium : Medium) (h0 h1 h2 : Option Held) (w0 w1 w2 : Option (List ℕ)) (xs ys all : List Request) → xs ++ ys ≡ all
       → ((held : Held) → h0 ≡ Some held → Answered medium held h1 w0 w1 xs × DiskGrows reads moment since old mid held.journal (held_after medium held xs).journal)
       → ((held : Held) → h1 ≡ Some held → Answered medium held h2 w1 w2 ys)

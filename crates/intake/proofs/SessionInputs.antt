@@ -24,20 +24,20 @@ pub took_same : (left0 left1 left2 : Option (List ℕ)) (Before Did : List ℕ �
 took_same left0 left1 left2 Before Did before stays then =
     record { read = before.read; consumed = rw stays before.consumed; did = then before.read before.did }
 
--- what was read is no more than an input has
+-- where no more was read than an input may have, the requests are those of the lines that were ended
 pub are_ended : (kind : LineKind) (left1 : Option (List ℕ)) (read : List ℕ) → length read ≤ 67108864 → AreOf (line_requests kind) (ended_requests kind []) left1 read (ended_requests kind [] read)
 are_ended kind left1 read short = inl (ap (ended_requests kind []) (sym (take_all 67108864 read short)))
 
--- a piece more
+-- with one piece more, the requests are those of all that was read
 pub requests_of_more : (kind : LineKind) (line read piece : List ℕ) → line ≡ behind [] read → ended_requests kind [] read ++ ended_requests kind line piece ≡ ended_requests kind [] (read ++ piece)
 requests_of_more kind line read piece is = ap (λ l. ended_requests kind [] read ++ ended_requests kind l piece) is ∙ sym (requests_of_two kind [] read piece)
 
--- the last line
+-- with the last line, the requests are those of all lines
 pub requests_of_last : (kind : LineKind) (line read : List ℕ) → line ≡ behind [] read → ended_requests kind [] read ++ request_of_line kind line ∷ [] ≡ line_requests kind read
 requests_of_last kind line read is =
     ap (λ l. ended_requests kind [] read ++ request_of_line kind l ∷ []) is ∙ sym (map-append (request_of_line kind) (ended [] read) (behind [] read ∷ []))
 
--- the requests of the most that is taken
+-- what is read up to the most that is taken has the same requests as its front of that length
 pub requests_of_short : (kind : LineKind) (read : List ℕ) → length read ≤ 67108864 → ended_requests kind [] read ≡ ended_requests kind [] (take 67108864 read)
 requests_of_short kind read short = ap (ended_requests kind []) (sym (take_all 67108864 read short))
 
@@ -50,7 +50,7 @@ took_as left0 left1 Before Did before then = record { read = before.read; consum
 whole_input : (x y read : List ℕ) → x ≡ read ++ y → y ≡ [] → x ≡ read
 whole_input x y read e n = e ∙ ap (λ r. read ++ r) n ∙ append-nil read
 
--- ---- what was read as the first of an input, whatever its bytes ask
+-- ---- what was read as the front of an input, whatever its bytes ask
 
 -- the requests of an input that is cut are the first of those of the whole input
 abbrev pub BeginsWith : (List ℕ → List Request) → (List ℕ → List Request) → Type 0
@@ -67,7 +67,7 @@ lines_begin kind front behind_it =
           ∙ append_assoc (ended_requests kind [] a) (ended_requests kind (behind [] a) b) (request_of_line kind (behind [] (front ++ behind_it)) ∷ []),
     )
 
--- where the source told its bytes and came to its end, they were all read
+-- where the source told its bytes and came to its end, all of them were read
 pub of_whole : (whole : List ℕ → List Request) (left0 left1 : Option (List ℕ)) (All : List Request → Type 0)
     → Took left0 left1 (λ read. IsAtEnd left1 × (length read ≤ 67108864) × All (whole read)) → IfSome left0 (λ input. All (whole input))
 of_whole whole None left1 All took = tt

@@ -1,4 +1,4 @@
--- What receives an item gives the reply that is said of it.
+-- What receives an item gives the reply that is defined for it.
 use Rattle.std.specs.Prelude.{◌+◌, ◌&&◌, nat_lt, nat_le}
 use Rattle.std.proofs.Common.{◌≡◌, inl, inr, ℕ, Bool, true, false, cond, List, [], ◌∷◌, ◌++◌, length, refl, sym, ap, ◌∙◌, subst, arith, length-append, Option, Some, None, IsTrue}
 use Rattle.std.proofs.lemmas.Option.{same_Some}
@@ -55,7 +55,7 @@ accepts_at_fault : (expected : Received) (answer : Received) → Answers expecte
 accepts_at_fault expected answer (inl same) sound fault = let never : true ≡ false = sym fault ∙ ap is_fault same ∙ sound in absurd cc
 accepts_at_fault expected answer (inr (accepts, fails)) sound fault = accepts
 
--- a receipt more makes another journal
+-- a journal with one receipt more is another journal
 longer : (journal : List Receipt) (r : Receipt) (accepted : Bool) → accepted ≡ true → journal ≡ cond accepted (journal ++ r ∷ []) journal → ⊥
 longer journal r true is same =
     let lengths : length journal ≡ length (journal ++ r ∷ []) = ap length same in
@@ -147,7 +147,7 @@ module _ {R : Type 0} (reads : R → List ℕ) (images : R → List ℕ → Type
         grows = grew;
       })
 
--- a journal in memory, which has no disk and no clock
+-- a journal in memory takes an item: it has no disk and no clock
 pub memory_takes : {R : Type 0} (old new : R) (journal0 journal1 : List Receipt) (held : Held) (stamp : DayMinute) (own : Option DayMinute) (from : SenderReference) (item : Item) (answer : Received)
     → own ≡ Some stamp → Some (holding journal0 []) ≡ Some held → Answers (received InMemory journal0 stamp from.sender from.reference item) answer → journal1 ≡ journal_after journal0 stamp from.sender from.reference item answer
     → TakesItem {R = R} (λ s. []) (λ s file. ⊥) (λ s. 0) (λ s time file. ⊥) old new held (reply_of InMemory held (Receive own from item)) answer (Some (holding journal1 [])) (Some [])
@@ -158,7 +158,7 @@ memory_takes {R} old new journal0 journal1 held stamp own from item answer is_ow
     answers receipts (λ later known. ap (λ (ticks : List DayMinute). Some (holding journal1 ticks)) (same_Some [] later known))
     (record { left = record { later = omega arith; each = λ c left. absurd left; before = λ t c le left. absurd left }; written = frames_none journal0 _ [] }) (λ file image. absurd image))
 
--- a book on a disk, with a clock
+-- a book on a disk takes an item, with a clock
 pub book_takes : {R : Type 0} (reads : R → List ℕ) (images : R → List ℕ → Type 0) (moment : R → ℕ) (since : R → ℕ → List ℕ → Type 0) (old new : R) (tells : Bool) (known0 known1 : Option (List DayMinute)) (journal0 journal1 : List Receipt)
     (held : Held) (stamp : DayMinute) (own : Option DayMinute) (from : SenderReference) (item : Item) (answer : Received)
     → held_by tells known0 journal0 ≡ Some held → ((t : DayMinute) → own ≡ Some t → (stamp ≡ t) × (known1 ≡ known0)) → (own ≡ None → Ticks known0 known1 stamp)

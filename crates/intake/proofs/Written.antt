@@ -6,7 +6,7 @@ use Rattle.std.proofs.lemmas.List.{take_rest}
 use Rattle.std.specs.Io.KnownBytes.{Appends}
 use Rattle.gb_outside.specs.Bytes.{AppendsFront}
 
--- a further piece of a text is written
+-- one more piece of a text is written
 pub Appends-take : (a b c : Option (List ℕ)) (text : List ℕ) (done count : ℕ) → Appends a b (take done text)
     → Appends b c (take count (take (length text - done) (drop done text))) → Appends a c (take (done + count) text)
 Appends-take a b c text done count before now =

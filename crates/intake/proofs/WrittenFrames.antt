@@ -7,11 +7,11 @@ use Rattle.receipt_journal.specs.Standing.{gate_behind}
 use Rattle.receipt_journal.proofs.Answering.{gate_further}
 use Rattle.intake.specs.Grown.{IsFront, WritesFrames}
 
--- the gate of a journal that has grown stands no earlier
+-- the gate of a journal that has grown stands no earlier in the file
 pub gate_later : (from to : List Receipt) → IsFront from to → gate_behind from ≤ gate_behind to
 gate_later from to front = subst (λ (j : List Receipt). gate_behind from ≤ gate_behind j) (sym front.1) (gate_further from front.0)
 
--- nothing is written
+-- where nothing is written, only frames are
 pub frames_none : (from to : List Receipt) (file : List ℕ) → WritesFrames from to file file
 frames_none from to file = torn_nothing (gate_behind from) (gate_behind to + 1 - gate_behind from) file
 
@@ -23,11 +23,11 @@ frames_wider a b from to old new begins within ends writes =
     let most = gate_later from b within in
     torn_within (gate_behind from) (gate_behind to + 1 - gate_behind from) (gate_behind a) (gate_behind b + 1 - gate_behind a) old new low (omega (arith, low, high, most)) writes
 
--- frames after others
+-- where only frames between two journals are written twice, only these are written in all
 pub frames_then : (from to : List Receipt) (old mid new : List ℕ) → WritesFrames from to old mid → WritesFrames from to mid new → WritesFrames from to old new
 frames_then from to old mid new first second = torn_then (gate_behind from) (gate_behind to + 1 - gate_behind from) old mid new first second
 
--- the frame of one receipt more, where it is received
+-- only the frame of one receipt more is written, where it is received
 pub frame_of_receipt : (journal : List Receipt) (r : Receipt) (accepted : Bool) (gate size : ℕ) (old new : List ℕ) → gate ≡ gate_behind journal → gate_behind journal + size ≡ gate_behind (journal ++ r ∷ []) + 1
     → Torn gate size old new → (accepted ≡ false → new ≡ old) → WritesFrames journal (cond accepted (journal ++ r ∷ []) journal) old new
 frame_of_receipt journal r true gate size old new ends long torn kept =

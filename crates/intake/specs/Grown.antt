@@ -9,18 +9,18 @@ use Rattle.receipt_journal.specs.Standing.{IsKeepable, Stands, StandsForJournal,
 abbrev pub IsFront : {A : Type 0} → List A → List A → Type 0
 IsFront {A} front whole = (rest : List A) × (whole ≡ front ++ rest)
 
--- the file stands for a journal that has grown from the first of these two to the second, or part of the way
+-- the file stands for a journal that has grown from the first of these two to the second, or part of the way there
 pub record GrownFrom (from to : List Receipt) (file : List ℕ) : Type 0 where
   pub journal : List Receipt
   pub stands : StandsForJournal file journal
   pub begins : IsFront from journal
   pub ends : IsFront journal to
 
--- of the file no other bytes are written than those from the gate behind the first of these journals to the gate behind the second, the gates with them
+-- no other bytes of the file are written than those from the gate after the first of these journals to the gate after the second, with both gates
 abbrev pub WritesFrames : List Receipt → List Receipt → List ℕ → List ℕ → Type 0
 WritesFrames from to old new = Torn (gate_behind from) (gate_behind to + 1 - gate_behind from) old new
 
--- What is done to a disk while its journal grows from the first of these two to the second, or part of the way: a stop at any moment leaves a file that stands for such a journal, and the frames between the two alone are written.
+-- What is done to a disk while its journal grows from the first of these two to the second, or part of the way there: a stop at any moment leaves a file that stands for such a journal, and only the frames between the two are written.
 pub record DiskGrows {D : Type 0} (reads : D → List ℕ) (moment : D → ℕ) (since : D → ℕ → List ℕ → Type 0) (old new : D) (from to : List Receipt) : Type 0 where
   pub left : LeavesOnly moment since old new (GrownFrom from to)
   pub written : WritesFrames from to (reads old) (reads new)

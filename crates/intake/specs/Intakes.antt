@@ -1,4 +1,4 @@
--- What an input asks whose items are received onto the disk.
+-- What an input asks, where its items are received onto the disk.
 -- Why so: docs/DECISIONS.md, "What an input asks is said by an `Intake`".
 use Rattle.std.specs.Prelude.{ℕ, List, []}
 use Rattle.opening_lists.specs.OpeningLists.{row_requests}
@@ -13,7 +13,7 @@ abbrev pub whole_of : Intake → List ℕ → List Request
 whole_of Lines input = line_requests Unstamped input
 whole_of (OpeningList sender) input = row_requests sender input
 
--- what an input asks that is cut here; a list is read whole, or nothing of it counts
+-- what an input asks that is cut here; a list counts only where it is read whole
 abbrev pub cut_of : Intake → List ℕ → List Request
 cut_of Lines read = ended_requests Unstamped [] read
 cut_of (OpeningList sender) read = []

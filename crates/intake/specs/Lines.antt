@@ -13,22 +13,22 @@ use Rattle.intake_requests.specs.declared.requests.Request.{Request}
 use Rattle.intake_requests.specs.declared.requests.SenderReference.{SenderReference}
 use Rattle.intake_requests.specs.declared.requests.Request.TheVariants.{Nothing, Refused, Receive}
 
--- spaces, tabs and carriage returns alone
+-- the line has only spaces, tabs and carriage returns
 abbrev pub is_blank : List ℕ → Bool
 is_blank line = list_all (λ b. b == 32 || b == 9 || b == 13) line
 
--- the words for a line that is no item; want of memory has none
+-- the words for a line that is no item; where memory runs out there are none
 abbrev pub fault_text : LineFault → List ℕ
 fault_text NotJson = codes "malformed json"
 fault_text (NotItem path) = codes "malformed " ++ path
 fault_text Memory = []
 
--- a line that has its stamp
+-- what a line with its stamp asks
 abbrev pub request_of_stamped : Result (DayMinute × ℕ × ℕ × Item) LineFault → Request
 request_of_stamped (Ok found) = Receive (Some found.0) (record { sender = found.1; reference = found.2 }) found.3
 request_of_stamped (Err fault) = Refused (fault_text fault ++ codes "\n")
 
--- a line that the clock stamps
+-- what a line asks that the clock stamps
 abbrev pub request_of_plain : Result (ℕ × ℕ × Item) LineFault → Request
 request_of_plain (Ok found) = Receive None (record { sender = found.0; reference = found.1 }) found.2
 request_of_plain (Err fault) = Refused (fault_text fault ++ codes "\n")

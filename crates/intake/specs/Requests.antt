@@ -57,7 +57,7 @@ pub record Replied : Type 0 where
   pub text : List ℕ
   pub held : Held
 
--- the reply to an item that is answered so, where the clock will still give these ticks
+-- the reply to an item that has this answer, where the clock will still give these ticks
 abbrev pub replied : List Receipt → List DayMinute → DayMinute → ℕ → ℕ → Item → Received → Replied
 replied journal ticks stamp sender reference item answer = record {
   text = received_text answer ++ 10 ∷ [];
@@ -85,7 +85,7 @@ abbrev pub replies : Medium → Held → List Request → List ℕ
 replies medium held [] = []
 replies medium held (request ∷ requests) = (reply_of medium held request).text ++ replies medium (reply_of medium held request).held requests
 
--- what is held after them
+-- what is held after these requests
 abbrev pub held_after : Medium → Held → List Request → Held
 held_after medium held [] = held
 held_after medium held (request ∷ requests) = held_after medium (reply_of medium held request).held requests

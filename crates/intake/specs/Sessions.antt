@@ -11,12 +11,12 @@ abbrev pub ended : List ℕ → List ℕ → List (List ℕ)
 ended line [] = []
 ended line (b ∷ bs) = if b == 10 then line ∷ ended [] bs else ended (line ++ b ∷ []) bs
 
--- what stands behind the last LF
+-- what stands after the last LF
 abbrev pub behind : List ℕ → List ℕ → List ℕ
 behind line [] = line
 behind line (b ∷ bs) = if b == 10 then behind [] bs else behind (line ++ b ∷ []) bs
 
--- all lines; the last may lack its LF, and is blank where nothing stands behind the last LF
+-- all lines; the last may lack its LF, and is blank where nothing stands after the last LF
 abbrev pub lines_of : List ℕ → List (List ℕ)
 lines_of input = ended [] input ++ behind [] input ∷ []
 

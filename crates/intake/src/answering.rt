@@ -21,8 +21,8 @@ use intake_requests::{Request, SenderReference};
 use receipt_journal::Received;
 use std::alloc::Global;
 
-/// Answers a request. The clock is asked for an item without a stamp alone. Only a request that an
-/// item be received may want memory, also for its reply line.
+/// Answers a request. The clock is asked only for an item without a stamp. Only a request that an
+/// item be received may run out of memory (Memory), also for its reply line.
 pub(crate) fn answer_request<J: Receiver, K: Sink>(
     alloc: Global,
     receiver: &mut J,
@@ -83,7 +83,7 @@ fn answer_item<J: Receiver, K: Sink>(
     Ok(())
 }
 
-/// The reply line of an answer that is no fault. It may want memory.
+/// The reply line of an answer that is no fault. It may run out of memory (Memory).
 fn reply_line(alloc: Global, answer: Received) -> Result<Vec<u8>, AnswerFault>
     requires { answer ≡ Received.MustReopen → ⊥ }
     ensures text { IfOk result (λ text. text.items ≡ received_text answer ++ codes "\n") }

@@ -11,7 +11,7 @@ use std::alloc::{AllocError, AllocFailed};
 pub enum OutputFault {
     /// The sink failed.
     Write,
-    /// No memory was found.
+    /// Memory ran out.
     Memory,
 }
 
@@ -38,7 +38,7 @@ pub enum AnswerFault {
     Write,
     /// The disk failed.
     Disk,
-    /// No memory was found.
+    /// Memory ran out.
     Memory,
 }
 
@@ -81,7 +81,7 @@ pub enum SessionFault {
     Write,
     /// The disk failed.
     Disk,
-    /// No memory was found.
+    /// Memory ran out.
     Memory,
     /// The input is longer than the office takes.
     TooLong,

@@ -18,7 +18,7 @@ pub const MAX_INPUT: usize = 1 << 26;
 /// How many bytes are read at once.
 pub const BLOCK: usize = 1 << 16;
 
-/// How many bytes to ask for where so many were read: no more than are left of the most that the
+/// How many bytes to ask for after so many were read: no more than are left of the most that the
 /// office takes, and one where none are, so that a byte more is noticed.
 pub fn room_for(count: usize) -> usize
     requires { count ≤ MAX_INPUT }
@@ -29,7 +29,7 @@ pub fn room_for(count: usize) -> usize
     (MAX_INPUT - count).min(BLOCK).max(1)
 }
 
-/// A block to read into. It may want memory.
+/// A block to read into. It may run out of memory (NoMemory).
 pub fn empty_block(alloc: Global) -> Result<Vec<u8>, NoMemory>
     ensures { IfOk result (λ block. vec_len block ≡ BLOCK) }
 {
@@ -47,7 +47,7 @@ pub fn read_block<S: Source>(source: &mut S, block: &mut [u8], room: usize) -> G
     source.read(&mut block[..room])
 }
 
-/// Reads the whole input, for which it may want memory.
+/// Reads the whole input, for which it may run out of memory (Memory).
 pub fn read_whole<S: Source>(alloc: Global, source: &mut S) -> Result<Vec<u8>, SessionFault>
     ensures whole { IfOk result (λ input. Took (S.left source.old) (S.left source.new) (λ read. IsAtEnd (S.left source.new) × (length read ≤ MAX_INPUT) × (input.items ≡ read))) }
     ensures short { (result ≡ Err SessionFault.TooLong → ⊥) → Took (S.left source.old) (S.left source.new) (λ read. length read ≤ MAX_INPUT) }

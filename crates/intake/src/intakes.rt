@@ -1,4 +1,4 @@
-//! How an input is written whose items are received onto the disk.
+//! How an input is written, where its items are received onto the disk.
 
 /// How the input is written.
 #[derive(Clone, Copy, Debug, PartialEq, Eq)]

@@ -21,7 +21,7 @@ pub enum LineKind {
     Unstamped,
 }
 
-/// What a line asks. It may want memory.
+/// What a line asks. It may run out of memory (NoMemory).
 #[tactic(auto, unfolding(crate::specs::Lines::request_of_line))]
 pub fn request_of_line(alloc: Global, kind: LineKind, line: &[u8]) -> Result<Request, NoMemory>
     ensures value { IfOk result (λ request. request ≡ request_of_line kind line.now) }
@@ -47,7 +47,7 @@ fn is_blank(line: &[u8]) -> bool
         .all(|byte| *byte == b' ' || *byte == b'\t' || *byte == b'\r')
 }
 
-/// What a line asks that has its stamp.
+/// What a line with its stamp asks.
 fn request_of_stamped(alloc: Global, line: &[u8]) -> Result<Request, NoMemory>
     requires { length line.now ≤ longest_line }
     ensures value { IfOk result (λ request. request ≡ request_of_stamped (stamped_of line.now)) }

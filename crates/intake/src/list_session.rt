@@ -76,7 +76,7 @@ fn answer_bytes<J: Receiver, K: Sink>(
 
 /// Answers all rows of the list that the input is, which the clock stamps. It is read to its end
 /// first: where the source fails or gives too much, nothing is received and nothing written. Besides
-/// what answers a row it may want memory for the whole input.
+/// what answers a row it may run out of memory (Memory) for the whole input.
 pub fn answer_list<J: Receiver, S: Source, K: Sink>(
     alloc: Global,
     sender: u32,

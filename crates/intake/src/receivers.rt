@@ -34,10 +34,10 @@ pub trait Receiver {
     /// Whether it has a clock, which stamps the items that have no stamp of their own.
     ghost has_clock: { Bool };
 
-    /// What it was lent, by name; that stays the same.
+    /// What it was lent, by name; this never changes.
     ghost lent: { Self → List ℕ };
 
-    /// What it holds, where all that it keeps it in tells.
+    /// What it holds; None where its disk or its clock does not tell.
     ghost holds: { Self → Option Held };
 
     /// The stamps that its clock will still give, where the clock tells.
@@ -64,8 +64,8 @@ pub trait Receiver {
     /// The faults of its disk.
     ghost faults: { Self → ℕ };
 
-    /// Receives an item, with its own stamp or else that of the clock. Want of memory comes only where
-    /// the item would be accepted, and leaves what is held.
+    /// Receives an item, with its own stamp or else that of the clock. Memory may run out only where
+    /// the item would be accepted, and what is held then stays.
     fn receive(
         &mut self,
         alloc: Global,
@@ -84,7 +84,7 @@ pub trait Receiver {
         ensures lent { lent self.new ≡ lent self.old }
         ensures cause { Counts (faults self.old) (faults self.new) (receiving_disk_failed result) };
 
-    /// What is ready shows what it holds, on its clock and in each image of its disk.
+    /// A receiver that is ready shows what it holds, on its clock and in each image of its disk.
     ghost shows: { (receiver : Self) (held : Held) → ready receiver → holds receiver ≡ Some held
         → Shows (ticks receiver) (images receiver) (since receiver (moment receiver)) held };
 }

@@ -46,7 +46,7 @@ fn answer_line<J: Receiver, K: Sink>(
     answer_request(alloc, receiver, &request, sink)
 }
 
-/// Answers the line that these bytes end; an LF stands behind them, and none among them.
+/// Answers the line that these bytes end; an LF stands after them, and none among them.
 fn answer_ended<J: Receiver, K: Sink>(
     alloc: Global,
     kind: LineKind,
@@ -77,7 +77,7 @@ fn answer_ended<J: Receiver, K: Sink>(
     Ok(())
 }
 
-/// The bytes before the first LF, and those behind it; None where there is no LF.
+/// The bytes before the first LF, and those after it; None where there is no LF.
 fn first_line(bytes: &[u8]) -> Option<(&[u8], &[u8])>
     ensures whole { IfSome result (λ split. bytes.now ≡ split.0.now ++ 10 ∷ split.1.now) }
     ensures first { IfSome result (λ split. list_any (λ b. b == 10) split.0.now ≡ false) }
@@ -91,7 +91,7 @@ fn first_line(bytes: &[u8]) -> Option<(&[u8], &[u8])>
     None
 }
 
-/// Answers the lines that this piece of the input ends, and keeps what stands behind the last LF.
+/// Answers the lines that this piece of the input ends, and keeps what stands after the last LF.
 fn answer_piece<J: Receiver, K: Sink>(
     alloc: Global,
     kind: LineKind,
@@ -124,8 +124,8 @@ fn answer_piece<J: Receiver, K: Sink>(
     Ok(())
 }
 
-/// Answers all lines of the input. Besides what answers a line it may want memory for a block of
-/// the input and for a line.
+/// Answers all lines of the input. Besides what answers a line it may run out of memory (Memory) for
+/// a block of the input and for a line.
 pub fn answer_lines<J: Receiver, S: Source, K: Sink>(
     alloc: Global,
     kind: LineKind,

@@ -9,7 +9,7 @@ ghost use Rattle.intake.specs.Writing.{StopsAtFault};
 use crate::faults::OutputFault;
 use gb_outside::{Sink, Wrote};
 
-/// Writes a whole text, or a front of it where the sink fails. Nothing is written behind a failure.
+/// Writes a whole text, or a front of it where the sink fails. Nothing is written after a failure.
 pub fn write_all<K: Sink>(sink: &mut K, text: &[u8]) -> Result<(), OutputFault>
     ensures whole { OnOk result (Appends (K.written sink.old) (K.written sink.new) text.now) }
     ensures part { OnErr result (AppendsFront (K.written sink.old) (K.written sink.new) text.now) }

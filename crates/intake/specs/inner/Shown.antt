@@ -1,4 +1,4 @@
--- The law of what receives, for a book and for a journal in memory.
+-- The law `shows` of what receives, for a book and for a journal in memory.
 use Rattle.std.specs.Prelude.{◌≡◌, ℕ, true, false, List, [], Bool, Option, Some, None, IsTrue}
 use Rattle.std.proofs.Common.{refl, ap, subst}
 use Rattle.gb_base.specs.DayMinute.{DayMinute}
@@ -8,7 +8,7 @@ use Rattle.receipt_journal.specs.Standing.{StandsForJournal}
 use Rattle.intake.specs.Receivers.{held_by, IsReady, Shows}
 use Rattle.intake.specs.Requests.{Held, holding}
 
--- what is held, or this
+-- what is held where it is told, else this
 abbrev pub held_or : Held → Option Held → Held
 held_or held None = held
 held_or held (Some other) = other

@@ -44,7 +44,7 @@ untouched g c refused =
     let none = refused_on_disk c.args.self.now.book.now.journal c.stamp_for-stamp.result c.args.from.sender c.args.from.reference c.args.item.now c.receive.result (c.receive.ensures.answer c.requires.ready.works) refused in
     c.receive.ensures.untouched none.0 none.1
 
--- what is done to the disk
+-- the disk's journal grows by the item's receipt at most
 grew : (g : _) (c : goal.After-receive g) → IsTrue g.D.Disk.tells → DiskGrows g.D.Disk.reads g.D.Disk.moment g.D.Disk.since c.args.self.now.disk.now c.receive.new.disk c.args.self.now.book.now.journal
     (journal_after c.args.self.now.book.now.journal c.stamp_for-stamp.result c.args.from.sender c.args.from.reference c.args.item.now (answer_on c.args.self.now.book.now.journal c.stamp_for-stamp.result c.args.from.sender c.args.from.reference c.args.item.now))
 grew g c tells =
