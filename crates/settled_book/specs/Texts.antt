@@ -12,7 +12,7 @@ use Rattle.folio_extract.specs.RankTables.{rank_table}
 use Rattle.folio_extract.specs.Reports.{report}
 use Rattle.folio_extract.specs.VerdictLines.{verdict_line}
 
--- The text that a route reads of the register that the one registrar leaves of this journal; none where nothing of that name is there.
+-- The text that a route reads of the register that the one registrar leaves of this journal; none where there is nothing of that name.
 unfoldable pub text_of : List Receipt → Route → Option (List ℕ)
 text_of journal route.Post = None
 text_of journal (route.Receipt n) = option_map (verdict_line n) (verdict_among (registrar journal).verdicts n)
@@ -22,7 +22,7 @@ text_of journal (route.Plan n) = option_map plan_in_words (sale_distributed jour
 text_of journal (route.PlanCsv n) = option_map plan_in_csv (sale_distributed journal (registrar journal).verdicts (at (registrar journal).entries) n)
 text_of journal route.Report = Some (report journal (registrar journal))
 
--- whether a route reads the register; that which receives does not
+-- whether a route reads the register; only the route that receives does not
 abbrev pub reads_register : Route → Bool
 reads_register route.Post = false
 reads_register other = true

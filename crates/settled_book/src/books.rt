@@ -33,9 +33,9 @@ use std::thread::Threads;
 #[derive(Drop)]
 pub struct SettledBook {
     book: Book,
-    /// None where nothing is settled yet, and where no memory was found to go on.
+    /// None where nothing is settled yet, and where memory ran out when it was to go on.
     register: Option<Register>,
-    /// What sales are reckoned in when receipts are settled.
+    /// What the lowest bids of sales are computed in when receipts are settled.
     scratch: Scratch,
 }
 
@@ -52,7 +52,7 @@ impl Model for SettledBook {
 impl SettledBook {
     /// Opens the journal of a disk, as `Book::open` does. Nothing is settled yet.
     pub fn open<D: Disk>(alloc: Global, disk: &mut D) -> Result<SettledBook, BookFault>
-        // The log's gate is the one behind the journal's frames, on any disk.
+        // The log's gate is the one after the journal's frames, on any disk.
         ensures records { IfOk result (λ settled. AreRecordsTo settled.book.journal settled.book.log.gate) }
 
         // The answer is by the file's standing.
@@ -64,7 +64,7 @@ impl SettledBook {
         ensures kept { IsTrue D.tells → IsKept (D.reads disk.old) (D.reads disk.new) }
         ensures torn { IsTrue D.tells → Torn 0 (first_gate the_heading + 1) (D.reads disk.old) (D.reads disk.new) }
 
-        // Every answer but `Disk` comes only after a sync, done ahead of every write: a stop at any moment from then on leaves the journal that was found.
+        // Every answer but `Disk` comes only after a sync, done before every write: a stop at any moment from then on leaves the journal that was found.
         ensures any_moment { IsTrue D.tells → AnswersSynced D.reads D.images D.moment D.since disk.old disk.new (book_opening_disk_failed result) }
         ensures cause { Counts (D.faults disk.old) (D.faults disk.new) (book_opening_disk_failed result) }
     {
@@ -86,8 +86,8 @@ impl SettledBook {
         &self.book
     }
 
-    /// Settles the journal at so many desks, 1 to 64, where nothing of it is settled yet. Where no
-    /// memory is found for that, the next text settles it.
+    /// Settles the journal at so many desks, 1 to 64, where nothing of it is settled yet. Where
+    /// memory runs out for that, the next text settles it.
     pub fn settle<R: AllocGlobal + Threads + Wait + Sync, G: DeskGate>(
         &mut self,
         rt: &R,
@@ -142,8 +142,8 @@ impl SettledBook {
     }
 
     /// The text that a route reads of the register of the journal as it stands; None where nothing of
-    /// that name is there. First it settles what came since the last text. Where no memory is found
-    /// for that, the next text settles the whole journal anew.
+    /// that name is there. First it settles what came since the last text. Where memory runs out
+    /// for that, the next text settles the whole journal again.
     pub fn text(&mut self, alloc: Global, route: Route) -> Result<Option<Vec<u8>>, NoMemory>
         ensures text { IfOk result (λ text. option_map (λ t. t.items) text ≡ text_of self.old.book.journal route) }
         ensures book { self.new.book ≡ self.old.book }
@@ -155,7 +155,7 @@ impl SettledBook {
         }
     }
 
-    /// The same for a route that reads the register, which is there behind it.
+    /// The text of a route that reads the register; after it the register is there.
     fn read(&mut self, alloc: Global, route: Route) -> Result<Option<Vec<u8>>, NoMemory>
         ensures text { IfOk result (λ text. option_map (λ t. t.items) text ≡ text_of self.old.book.journal route) }
         ensures book { self.new.book ≡ self.old.book }

@@ -7,8 +7,8 @@ use act_model::Journal;
 use gb_base::NoMemory;
 use registrar::{Register, Scratch};
 
-/// Goes on with the register of the first receipts of a journal until all are settled. Where no
-/// memory is found it may hold keys of an item that is not settled, and is to be made anew.
+/// Goes on with the register of the first receipts of a journal until all are settled. Where
+/// memory runs out it may hold keys of an item that is not settled, and is to be rebuilt.
 pub(crate) fn settle_rest(
     register: &mut Register,
     scratch: &mut Scratch,

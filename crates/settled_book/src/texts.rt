@@ -14,8 +14,8 @@ use registrar::laws::registers_are_kept;
 use registry_http::Route;
 use std::alloc::Global;
 
-/// The text that a route reads of a journal, whose register this is; None where nothing of that name
-/// is there.
+/// The text that a route reads of a journal, of which this is the register; None where there is
+/// nothing of that name.
 pub(crate) fn text_of(
     alloc: Global,
     register: &Register,
@@ -29,8 +29,8 @@ pub(crate) fn text_of(
     text_read(alloc, register, journal, route)
 }
 
-/// Takes nothing and does nothing: what readers of the one registrar's register rely on is known
-/// behind it.
+/// Takes nothing and does nothing. After it is known what readers of the one registrar's register
+/// rely on.
 fn can_be_read(register: &Register, journal: &Journal)
     requires { IsRegisterOf journal.now.receipts register.now }
     ensures { CanBeRead journal.now.receipts register.now }
