@@ -24,7 +24,7 @@ pub(crate) fn long_body(alloc: Global, len: usize) -> Result<Vec<u8>, AllocError
     Ok(bytes)
 }
 
-/// So many requests, one behind another.
+/// So many requests, one after another.
 pub(crate) fn many_requests(alloc: Global, count: usize) -> Result<Vec<u8>, AllocError> {
     let mut bytes = Vec::new(alloc);
     for number in 0..count {
