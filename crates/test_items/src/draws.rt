@@ -8,7 +8,7 @@ pub struct Draws {
 }
 
 impl Draws {
-    /// The draws that begin so.
+    /// The draws that begin with this seed.
     pub fn new(seed: u64) -> Draws {
         Draws { state: seed }
     }
@@ -25,7 +25,7 @@ impl Draws {
         (self.state >> 33) as u32 % bound
     }
 
-    /// Whether it comes up, as it does once in so many times.
+    /// Whether this draw is one that comes up once in so many times.
     pub fn one_in(&mut self, times: u32) -> bool
         requires { 0 < times }
     {
