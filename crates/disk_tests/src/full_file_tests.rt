@@ -20,8 +20,8 @@ fn add_frame(file: &mut Vec<u8>, size: usize) -> Result<(), AllocError>
 }
 
 /// A journal in which a frame with a body of two bytes would put its closed gate at the limit. Its
-/// frames have bodies of 1,024 bytes, but for the last two. Ahead of a body stand 5 bytes, and
-/// ahead of the first frame 9.
+/// frames have bodies of 1,024 bytes, but for the last two. Before a body stand 5 bytes, and
+/// before the first frame 9.
 fn nearly_full(alloc: Global) -> Result<Vec<u8>, AllocError> {
     let gate = LIMIT - 5 - 2;
     let mut file = Vec::with_capacity(alloc, gate + 1)?;

@@ -24,7 +24,7 @@ fn read_surely(bytes: &[u8], into: &mut [u8]) -> Got
     read_some(&mut SureSource::new(bytes), into)
 }
 
-// Neither does a source in memory of which no call is to fail: this is its own clause.
+// A source in memory of which no call is to fail never fails either: this is its own clause.
 fn read_unplanned(bytes: &[u8], into: &mut [u8]) -> Got
     requires { 0 < length into.old }
     ensures { read_failed result ≡ false }
