@@ -29,7 +29,7 @@ unfolding IsDistinct
 untied_none [] none = tt
 untied_none (k ∷ ks) none = absurd (omega arith)
 
--- what no element passes
+-- where some element does not pass the test, each fails it
 pub none_passes : {X : Type 0} (test : X → Bool) (xs : List X) → list_any test xs ≡ false → AllByRecursion (λ x. test x ≡ false) xs
 none_passes test [] none = tt
 none_passes test (x ∷ xs) none = let parts = or_parts (test x) (list_any test xs) none in (parts.0, none_passes test xs parts.1)
@@ -43,7 +43,7 @@ distinct_first p ps none rest = IsDistinct-cons (λ p q. same_right p.right q.ri
 
 -- ---- knots of different rights
 
--- the knot ties the right, which is compared with its two
+-- the knot ties the right: it is one of the knot's two
 abbrev is_tied_by : RightNo → Knot → Bool
 is_tied_by r k = same_right r k.reserved || same_right r k.exercised
 

@@ -3,7 +3,7 @@ use folio_sections::{MapParts, Parts};
 use std::test::Fail;
 use test_items::{case_key, folio, right, right_key, title_key};
 
-/// Each call that may want memory finds it. The keys that were given are held, and no others.
+/// Each call that may run out of memory has enough. The keys that were given are held, and no others.
 #[test]
 fn parts_are_held_in_ample_memory(rt: HostRuntime) -> Result<(), Fail> {
     let seven = folio(7);

@@ -1,4 +1,4 @@
--- The first place is of another right than those behind it.
+-- The first place is of another right than the places after it.
 use Rattle.std.proofs.Common.{◌∙◌, subst, sym}
 use Rattle.std.specs.List.{IsDistinct}
 use Rattle.gb_base.specs.RightNo.{same_right}

@@ -1,4 +1,4 @@
--- The rights of the first knot are in none of those behind it.
+-- The rights of the first knot are in none of the knots after it.
 use Rattle.std.proofs.Common.{◌∙◌, subst, sym}
 use Rattle.std.specs.List.{IsDistinct}
 use Rattle.std.proofs.lemmas.Bool.{both_ways, not-true}
