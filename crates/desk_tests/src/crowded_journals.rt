@@ -12,7 +12,7 @@ use test_items::{
     filing, lapse, last_of_february, plain_consent, received, right, seizure_by, two,
 };
 
-/// The journal of this seed. So many folios are opened first, from folio 1 on; then come so many
+/// The journal of this seed. First so many folios are opened, from folio 1 on; then come so many
 /// drawn items, one a day, so that deadlines end between them.
 pub fn crowded_journal(alloc: Global, seed: u64, folios: u32, items: u32) -> Journal
     requires some { 1 ≤ folios }
@@ -39,7 +39,7 @@ fn day_of(turn: u32) -> Day
     day(3 + (turn / 28) as u8, 1 + (turn % 28) as u8)
 }
 
-/// An item behind so many receipts.
+/// The item that comes after so many receipts.
 fn drawn_item(draws: &mut Draws, folios: u32, receipts: u32) -> Item
     requires folios { 1 ≤ folios }
     requires receipts { 1 ≤ receipts }
@@ -65,7 +65,7 @@ fn drawn_number(draws: &mut Draws, most: u32) -> u32
     1 + draws.below(most)
 }
 
-/// The folio in which the item behind so many receipts creates a right, so that a later item finds
+/// The folio in which the item after so many receipts creates a right, so that a later item finds
 /// that right.
 fn folio_of(receipts: u32, folios: u32) -> u32
     requires { 1 ≤ folios }

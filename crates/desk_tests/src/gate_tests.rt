@@ -1,4 +1,4 @@
-//! Gates at the desks: for which items they are called, and that one which stays long changes nothing.
+//! Gates at the desks: for which items they are called, and that a gate that stays long changes nothing.
 ghost use Rattle.std.specs.Prelude.{◌≤◌};
 
 use crate::crowded_journals::crowded_journal;
@@ -25,8 +25,8 @@ fn is_passed<R: AllocGlobal + Threads + Wait + Sync + Abort>(
     }
 }
 
-/// So many desks do, and as many of a round, which has a board and locks also where one desk would
-/// settle the journal.
+/// A gate that stays long is passed by so many desks, and by as many of a round, which has a board and
+/// locks also where one desk would settle the journal.
 fn is_passed_by<R: AllocGlobal + Threads + Wait + Sync + Abort>(
     rt: &R,
     journal: &Journal,
@@ -59,7 +59,7 @@ fn gate_of<'a, R: AllocGlobal + Abort>(
 }
 
 /// The register is the one that the one registrar leaves, and the gate was called once for each item,
-/// of two with a key in common for the earlier one first.
+/// and of two items with a key in common for the earlier one first.
 fn is_left_alike<R: AllocGlobal + Abort>(
     rt: &R,
     journal: &Journal,

@@ -28,15 +28,15 @@ pub enum Slow {
 pub struct WatchingGate<'a> {
     docket: &'a Docket,
     slow: &'a Slow,
-    /// For each call the item, as far as there are as many calls as items.
+    /// For each call its item, up to as many calls as there are items.
     called: Vec<AtomicU32>,
     calls: AtomicUsize,
-    /// Nobody writes it: it is what is looked at.
+    /// Nobody writes it; a gate that stays long looks at it.
     idle: AtomicU32,
 }
 
 impl<'a> WatchingGate<'a> {
-    /// A gate for the items of a docket that was not called yet. Wants memory (NoMemory).
+    /// A gate for the items of a docket that was not called yet. May run out of memory (NoMemory).
     pub fn new(
         alloc: Global,
         docket: &'a Docket,

@@ -72,8 +72,8 @@ fn named_by_a_round<N: JournalName, R: Abort>(rt: &R, alloc: Global, journal: &J
     round.alone()
 }
 
-/// The register that a round of so many desks leaves, with this gate. It has a board and locks also
-/// where one desk is wanted.
+/// The register that a round of so many desks leaves, with this gate. There is a board, and there are locks, also
+/// where only one desk is asked for.
 pub fn by_a_round_of<R: AllocGlobal + Threads + Wait + Sync + Abort, G: DeskGate>(
     rt: &R,
     journal: &Journal,
@@ -136,7 +136,7 @@ fn agree_at_keys(
     true
 }
 
-/// Whether the same entries stand at each key that no item ahead of this one touches.
+/// Whether the same entries stand at each key of this item that no earlier item touches.
 fn agree_at_item(
     rt: &impl Abort,
     alloc: Global,
