@@ -1,5 +1,5 @@
-//! One connection that is served with a disk and a clock of its own, whose book is opened by its
-//! first request that wants it.
+//! One connection that is served with a disk and a clock of its own. Its book is opened by its first
+//! request that needs it.
 use crate::links::{ACCEPTED, MADE, NOT_A_JOURNAL, POST, POST_TWICE, READ_TWICE, UNAVAILABLE};
 use crate::runs::disk_of;
 use gb_base::{Day, Stamp};
@@ -47,7 +47,7 @@ fn a_connection_reads_what_it_posted(rt: HostRuntime) -> Result<(), Fail> {
     Ok(())
 }
 
-/// So the receipt that follows it has the clock's first stamp, whichever call of the opening failed.
+/// The receipt after a failed opening has the clock's first stamp, whichever call of the opening failed.
 #[test]
 fn a_failed_opening_has_not_asked_the_clock(rt: HostRuntime) -> Result<(), Fail> {
     for call in [1, 2, 3, 4] {

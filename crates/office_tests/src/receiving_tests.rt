@@ -7,8 +7,8 @@ use std::sync::Wait;
 use std::test::Fail;
 use std::thread::Threads;
 
-/// What is received twice: as it was received first, and what is written then; what is written
-/// where the second receipt fails; and the report of both.
+/// A run whose input is received twice: what it writes the first time; what it writes where the
+/// second receipt fails; and the report of both.
 #[derive(Clone, Copy)]
 struct Received<'a> {
     run: Run<'a>,

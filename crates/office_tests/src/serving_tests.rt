@@ -87,7 +87,7 @@ impl<'a> Asked<'a> {
         Ok(())
     }
 
-    /// The same over a made file.
+    /// Serving the links over a made file ends with this status, and these are written to those that came.
     fn ends<R: AllocGlobal + Threads + Wait + Sync + Abort>(
         &self,
         rt: &R,
@@ -120,7 +120,7 @@ impl DeskGate for CountingGate {
     }
 }
 
-/// Each item of the journal meets the gate ahead of the first link, which here does not come.
+/// Each item of the journal meets the gate before the first link, which here does not come.
 #[test]
 fn the_journal_is_settled_at_the_desks_first(rt: HostRuntime) -> Result<(), Fail> {
     let mut disk = disk_of(&rt, MADE, &[])?;
@@ -138,7 +138,7 @@ fn the_journal_is_settled_at_the_desks_first(rt: HostRuntime) -> Result<(), Fail
     Ok(())
 }
 
-/// Two links that post the same end so where this call of the disk fails.
+/// Where this call of the disk fails, serving two links that post the same ends with this status.
 fn disk_fails_at<R: AllocGlobal + Threads + Wait + Sync + Abort>(
     rt: &R,
     call: u32,

@@ -43,8 +43,8 @@ fn each_call_of_the_disk_may_fail(rt: HostRuntime) -> Result<(), Fail> {
     run.writes(&rt, &mut disk, Status::Ok, REPORT)
 }
 
-/// A run over the lines of which these reads and writes fail ends so. The first call of the disk
-/// would fail too.
+/// A run over the lines, where these reads and writes fail, ends with this status and writes this text.
+/// The first call of the disk would fail, too.
 fn fails<R: AllocGlobal + Threads + Wait + Sync + Abort>(
     rt: &R,
     failing_reads: &[u32],
