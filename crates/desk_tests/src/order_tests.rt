@@ -23,7 +23,7 @@ fn is_refused(rt: &impl Abort, alloc: Global, order: &[ReceiptNo]) -> bool {
 }
 
 /// The assignment of one charge and the creation of another may be settled in either order, but the
-/// assignment not before the charge that it names. A list with a number twice is no order, nor is one with too few.
+/// assignment not before the charge that it names. No list with a number twice, or one too few, is an order.
 #[test]
 fn orders_of_a_small_journal(rt: HostRuntime) {
     let [one, two, three, four] = [receipt(1), receipt(2), receipt(3), receipt(4)];

@@ -72,8 +72,8 @@ fn named_by_a_round<N: JournalName, R: Abort>(rt: &R, alloc: Global, journal: &J
     round.alone()
 }
 
-/// The register that a round of so many desks leaves, with this gate. There is a board, and there are locks, also
-/// where only one desk is asked for.
+/// The register that a round of so many desks leaves, with this gate. The round has a board and locks
+/// also where only one desk is asked for.
 pub fn by_a_round_of<R: AllocGlobal + Threads + Wait + Sync + Abort, G: DeskGate>(
     rt: &R,
     journal: &Journal,

@@ -29,7 +29,7 @@ unfolding IsDistinct
 untied_none [] none = tt
 untied_none (k ∷ ks) none = absurd (omega arith)
 
--- where some element does not pass the test, each fails it
+-- where no element passes a test, each fails it
 pub none_passes : {X : Type 0} (test : X → Bool) (xs : List X) → list_any test xs ≡ false → AllByRecursion (λ x. test x ≡ false) xs
 none_passes test [] none = tt
 none_passes test (x ∷ xs) none = let parts = or_parts (test x) (list_any test xs) none in (parts.0, none_passes test xs parts.1)

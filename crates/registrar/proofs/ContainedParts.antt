@@ -24,7 +24,7 @@ each_so P (x ∷ xs) each = (each x, each_so P xs each)
 pub each_mapped : {X Y : Type 0} (P : Y → Type 0) (f : X → Y) (xs : List X) → ((x : X) → P (f x)) → AllByRecursion P (map f xs)
 each_mapped P f xs each = all_mapped P f xs (each_so (λ x. P (f x)) xs each)
 
--- what each part brings has it, given what is known of each part
+-- P holds of all that the parts bring together, where it holds of what each part brings, given what is known of the part
 pub all_joined : {X Y : Type 0} (P : Y → Type 0) (Q : X → Type 0) (f : X → List Y) (xs : List X) → ((x : X) → Q x → AllByRecursion P (f x)) → AllByRecursion Q xs → AllByRecursion P (flat_map f xs)
 all_joined P Q f xs each known = all_flat_mapped P f xs (all_weaker Q (λ x. AllByRecursion P (f x)) xs each known)
 
@@ -44,7 +44,7 @@ pub cond_same : {X : Type 0} (b : Bool) (x y : X) → x ≡ y → cond b x y ≡
 cond_same true x y same = same
 cond_same false x y same = refl
 
--- two lists, of which each element of the first stands well with each of the second
+-- R holds of all pairs of two lists joined, where it holds of the pairs of each, and of each element of the first with each of the second
 pub pairs_append : {X : Type 0} (R : X → X → Type 0) (xs ys : List X) → AllPairs R xs → AllPairs R ys → All (λ x. All (R x) ys) xs → AllPairs R (xs ++ ys)
 pairs_append R xs ys first second across i j d less within =
     let long = length-append xs ys in
@@ -73,16 +73,16 @@ pub first_of_both : {X : Type 0} (P : X → Type 0) (xs ys : List X) → AllByRe
 first_of_both P [] ys all = tt
 first_of_both P (x ∷ xs) ys all = (all.0, first_of_both P xs ys all.1)
 
--- each element is one of them
+-- each element of a list is contained in it
 pub all_themselves : {X : Type 0} (xs : List X) → AllByRecursion (Contains xs) xs
 all_themselves xs = recursion_from_All (Contains xs) xs (All-contains_itself xs)
 
--- each element under its number
+-- what holds of each element holds of each with its number
 pub all_numbered : {X : Type 0} (P : X → Type 0) (n : ℕ) (xs : List X) → AllByRecursion P xs → AllByRecursion (λ numbered. P numbered.1) (enumerate_from n xs)
 all_numbered P n [] all = tt
 all_numbered P n (x ∷ xs) all = (all.0, all_numbered P (n + 1) xs all.1)
 
--- an element's number says where it stands
+-- what holds of the element at each place, under its number, holds of each with its number
 pub all_at_numbers : {X : Type 0} (P : ℕ → X → Type 0) (n : ℕ) (xs : List X) → ((k : ℕ) (x : X) → slice_get xs k ≡ Some x → P (n + k) x) → AllByRecursion (λ numbered. P numbered.0 numbered.1) (enumerate_from n xs)
 all_at_numbers P n [] there = tt
 all_at_numbers P n (x ∷ xs) there = (

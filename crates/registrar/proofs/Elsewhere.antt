@@ -30,7 +30,7 @@ none_of_length : (es : List Entry) → length es ≤ 0 → es ≡ []
 none_of_length [] few = refl
 none_of_length (e ∷ es) few = absurd (omega arith)
 
--- what is brought for a filing needs room at the item's keys alone
+-- what is brought for a filing has no entry at a key that is none of the item's
 filed_elsewhere : (journal : List Receipt) (i : ℕ) (register : Key → List Entry) (w : Item) (k : Key) → IsFiled w → IsJournal journal → item_at journal i ≡ Some w
     → has k (keys_by_item journal i w) ≡ false → at_key (brought_by_item journal i register w).entries k ≡ []
 filed_elsewhere journal i register w k filed is_one is lacks =
@@ -41,7 +41,7 @@ filed_elsewhere journal i register w k filed is_one is lacks =
     none_of_length (at_key (brought_by_item journal i register w).entries k)
     (subst (λ b. length (at_key (brought_by_item journal i register w).entries k) ≤ cond b (room_by_item i w (register k)) 0) lacks fits)
 
--- what is brought in a sale stands at the item's keys
+-- what is brought in a sale has no entry at a key that is none of the item's
 sale_elsewhere : (journal : List Receipt) (i : ℕ) (keys : List Key) (es : List Entry) (k : Key) → AllByRecursion (IsOfItem journal i keys) es → has k keys ≡ false → at_key es k ≡ []
 sale_elsewhere journal i keys es k all lacks = none_elsewhere keys es k (all_weaker (IsOfItem journal i keys) (λ e. Contains keys e.key) es (λ e is. is.there) all) lacks
 

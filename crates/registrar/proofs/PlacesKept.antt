@@ -95,7 +95,7 @@ noticed_waits journal m i at0 folio =
     let ns = waiting_unnoticed m old in
     waits_as_before m old (map (notice_entry journal i (Title folio)) ns) (notices_keep journal i (Title folio) ns)
 
--- where filing m is of this receipt, all places are of earlier filings
+-- where all entries at the title are earlier than filing m, all places there are of earlier filings
 ready_at_once : (journal : List Receipt) (m i : ℕ) (at0 : Key → List Entry) (folio : ℕ) → Kept journal at0 → All (λ e. e.receipt < m) (at0 (Title folio))
     → IsReady journal folio m (noticed_title journal m i at0 folio)
 ready_at_once journal m i at0 folio kept earlier =
