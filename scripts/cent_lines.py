@@ -90,7 +90,7 @@ class Line:
         return next(nothing)
 
     def reaches(self, right, sum_paid):
-        """Whether no cent of the right stands behind the first ones."""
+        """Whether no cent of the right stands after the first ones."""
         return all(cent is not right for cent in self.cents[sum_paid:])
 
     def remains(self, right, cover):

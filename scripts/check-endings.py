@@ -66,7 +66,7 @@ def of(table):
 
 
 def check_words(look):
-    """The words behind the program's name are the command; all others touch nothing."""
+    """The words after the program's name are the command; all others touch nothing."""
     no_text = [b"settle", b"--desks", b"1", b"\xff"]
     for words in [*of(OF_NOTHING), [], [""], [*LINES, ""], ["settle", "--desks", ""], ["opening", "--sender", ""], no_text]:
         with tempfile.TemporaryDirectory() as folder:

@@ -42,7 +42,7 @@ def verdict_of(number, body):
 
 
 def verdicts_of(bodies):
-    """The lines of these receipts, up to the first that is no record of the journal ahead of it."""
+    """The lines of these receipts, up to the first that is no record of the journal before it."""
     lines, known, last = [], set(), 0
     for number, body in enumerate(bodies, 1):
         line, stamp, name = verdict_of(number, body), number_in(body, 0, 6), body[6:18]
@@ -55,7 +55,7 @@ def verdicts_of(bodies):
 
 
 def frames_of(file):
-    """The gates and the bodies of a file's frames, and whether the gate behind the last is open, though no whole frame follows."""
+    """The gates and the bodies of a file's frames, and whether the gate after the last is open, though no whole frame follows."""
     gate, gates, bodies = 9, [], []
     while file[gate] == 1:
         end = gate + 5 + number_in(file, gate + 1, gate + 5)

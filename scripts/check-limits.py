@@ -1,5 +1,5 @@
 #!/usr/bin/env python3
-"""Tries at its full size what may want memory: a line of 65,536 bytes, 200,000 lines, 200,000 rows, a folio of 256 rights, and 20,000 receipts at several desks."""
+"""Tries at its full size what may run out of memory: a line of 65,536 bytes, 200,000 lines, 200,000 rows, a folio of 256 rights, and 20,000 receipts at several desks."""
 
 import pathlib
 import tempfile

@@ -3,7 +3,7 @@
 and of a `serve` each alone.
 
 A run that was refused memory either needed none of it and writes what any run writes, or it writes
-the front of that and ends with the status and the line of want of memory. What `take` acknowledged
+the front of that and ends with the status and the line that say that memory ran out. What `take` acknowledged
 stands in the file, and the same lines once more end with each of them received once. At several desks
 the calls have no one order, so that one of them may be refused twice and another never. A request that
 found no memory is answered 507 or by no reply; asked again it is answered as if nothing had been, and so
@@ -61,7 +61,7 @@ class Refused:
 
 
 def is_answered(whole, ran):
-    """Whether a run that was refused memory wrote all, or a front and what is said of want of memory."""
+    """Whether a run that was refused memory wrote all, or a front, and said that memory ran out."""
     status, output, errors = ran
     return ran == (0, whole, b"") or ((status, errors) == OUT_OF_MEMORY and whole.startswith(output))
 
@@ -111,7 +111,7 @@ def asked():
 
 
 class Office:
-    """The program as it serves in a folder. Where it ended for want of memory it is started again, and refused none."""
+    """The program as it serves in a folder. Where it ended because memory ran out, it is started again and refused none."""
 
     def __init__(self, folder, environment):
         self.folder, self.ends, self.refusals = folder, [], 0
@@ -150,7 +150,7 @@ class Office:
             self.refusals += told.startswith(NO_MEMORY)
             if told and not told.startswith(NO_MEMORY):
                 break
-        # Behind the reply a 507 may stand, where the end of the connection was not read for want of memory.
+        # After the reply a 507 may stand, where memory ran out before the end of the connection was read.
         head, _, body = told.partition(b"\r\n\r\n")
         return body[: int(head.split()[-1])] if told[9:12] in (b"200", b"201") else told
 

@@ -26,7 +26,7 @@ MOST_OF_ALL = 252
 MOST_OF_GATE = 90
 MOST_CRATES_OF_GATE = 18
 
-# Libraries that stand ahead of those which will use them.
+# Libraries that are there before the crates that will use them.
 NOT_USED_YET = []
 
 # What tests are made of. No code outside tests uses it.

@@ -412,7 +412,7 @@ def main():
             check_real(look, copy)
             look.end()
         room = Room(folder)
-        # Each begins with nothing built, or goes on where the one ahead of it ended.
+        # Each begins with nothing built, or goes on where the one before it ended.
         for row in ([check_help, check_words, check_first_run, check_bench], [check_streams], [check_missing], [check_on_file, check_signals, check_newer], [check_two_at_once], [check_two_builds], [check_ended], [check_ended_build],
                     [check_killed],
                     [check_failing], [check_other_kit], [check_building, check_building_again]):

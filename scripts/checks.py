@@ -121,7 +121,7 @@ def has_strace():
 
 
 def library_of(source, folder):
-    """The library of a C source, to be loaded ahead of the program; None where no compiler is found."""
+    """The library of a C source, to be loaded before the program; None where no compiler is found."""
     compiler = next((name for name in ("cc", "gcc", "clang") if shutil.which(name)), None)
     if compiler is None:
         return None

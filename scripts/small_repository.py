@@ -71,7 +71,7 @@ class Room:
         return told_by(self.begin(*words), given)
 
     def shell(self, *words, redirected, given=b""):
-        """The same of the wrapper in a shell, with streams redirected."""
+        """The status, the output and the errors of the wrapper in a shell, with streams redirected."""
         return told_by(self.start("sh", "-c", f'"$0" "$@" {redirected}', self.folder / "grundbuch", *words), given)
 
     def noted(self):

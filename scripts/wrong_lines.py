@@ -191,7 +191,7 @@ def wrong_members(good, path, members):
 
 
 def wrong_elements(good, path, values):
-    """Elements behind the first that are wrong."""
+    """Elements after the first that are wrong."""
     for value in values:
         bad = copy.deepcopy(good)
         at(bad, path).append(value)
