@@ -170,7 +170,7 @@ take_front : {X : Type 0} (xs ys : List X) → take (length xs) (xs ++ ys) ≡ x
 take_front [] ys = refl
 take_front (x ∷ xs) ys = ap (λ zs. x ∷ zs) (take_front xs ys)
 
--- so they do where their places were lent as the front of a longer list
+-- folios that are back stand at the places of their queues, too, where the places were lent as the front of a longer list
 pub places_lent : {N : Type 0} (row : List FolioMark) (queues : List FolioQueue) (before now lent : List (Option (MarkedFolio N))) (count : ℕ) → lent ≡ before → AreInRow row lent → AreInRow row now → count ≡ length before
     → AreInPlaces queues before → AreInPlaces queues (take count (now ++ drop (length now) before))
 places_lent row queues before now lent count same one other whole are =

@@ -12,7 +12,7 @@ use Rattle.sale_rules.specs.ScratchRoom.{ScratchRoom}
 use Rattle.desk_pool.specs.FolioStates.{HasAllRoom}
 use Rattle.desk_pool.specs.declared.register_frames.RegisterFrame.{RegisterFrame}
 
--- exactly the folios whose title an item of the journal touches, ascending; no other folio is open after the journal
+-- exactly the folios whose title an item of the journal touches, ascending; no other folio can be open once the journal is settled
 pub record AreTitledFolios (journal : List Receipt) (folios : List ℕ) : Type 0 where
   pub ascending : AllPairs (λ folio later. folio < later) folios
   pub members : (folio : ℕ) → Contains folios folio ↔ IsTrue (is_given (keys_of_first journal (length journal)) (Title folio))

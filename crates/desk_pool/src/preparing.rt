@@ -79,7 +79,7 @@ fn unsettled_folio<N: JournalName>(
     Ok(LockedFolio::new(folio, parts, scratch))
 }
 
-/// So many verdicts, that say nothing yet.
+/// A list of so many verdicts, which say nothing yet.
 pub(crate) fn no_verdicts(alloc: Global, count: usize) -> Result<Vec<Verdict>, NoMemory>
     ensures { IfOk result (λ verdicts. length verdicts.items ≡ count) }
 {

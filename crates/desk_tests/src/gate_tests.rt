@@ -96,15 +96,15 @@ fn a_gate_is_called_once_for_each_item(rt: HostRuntime) {
     }
 }
 
-/// So a round had room for the locks of all folios: where it has none, no gate is called.
+/// With 2,000 folios, too, a round has room for all locks: where it had none, no gate would be called.
 #[test]
 fn a_gate_is_called_in_each_of_many_folios(rt: HostRuntime) {
     let journal = of_many_folios(&rt, rt.alloc(), 2_000);
     is_passed_by(&rt, &journal, 4, &Slow::Never);
 }
 
-/// At each item in turn, so that the others of the folio wait for it; at all of a folio; at drawn ones;
-/// and where all items are of one folio, so that only one desk has something to do at a time.
+/// A gate stays long at each item in turn, so that the others of the folio wait for it; at all of a folio; at drawn
+/// ones; and where all items are of one folio, so that only one desk has something to do at a time.
 #[test]
 fn a_gate_that_stays_long_changes_nothing(rt: HostRuntime) {
     let journal = sold_beside_a_cure(&rt, rt.alloc());

@@ -81,7 +81,7 @@ goes_behind journal entries e goes_on goes was =
 none_hold : (journal : List Receipt) → CaseHolds journal []
 none_hold journal = record { begins = tt; seizures = omega arith; registrations = omega arith; arrears = λ i j d less within. absurd (omega (arith, less, within)); older = tt }
 
--- and so does the case after a distribution, which has no entry
+-- the case after a distribution, which has no entry, holds
 pub case_ends : (journal : List Receipt) (entries : List Entry) (e : Entry) → is_distribution e.what ≡ true → CaseHolds journal (case (entries ++ e ∷ []))
 case_ends journal entries e ends = subst (CaseHolds journal) (sym (behind_another (λ d. is_distribution d.what) entries e ends)) (none_hold journal)
 

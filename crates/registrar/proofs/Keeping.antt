@@ -27,7 +27,7 @@ pub record Leaves (journal : List Receipt) (i : ℕ) (at : Key → List Entry) (
   pub kept : Kept journal (with_entries at es)
   pub by_item : AllByRecursion (λ e. e.receipt ≡ i) es
 
--- nothing is brought
+-- where nothing is brought, the register stays kept
 pub none_leave : (journal : List Receipt) (i : ℕ) (at : Key → List Entry) → Kept journal at → Leaves journal i at []
 none_leave journal i at kept =
     let same : at ≡ with_entries at [] = λ j k. sym (append-nil (at k)) j in
@@ -36,7 +36,7 @@ none_leave journal i at kept =
 all_by_item : (journal : List Receipt) (m i : ℕ) (es : List Entry) → AllByRecursion (IsBrought journal m i) es → AllByRecursion (λ e. e.receipt ≡ i) es
 all_by_item journal m i es all = all_weaker (IsBrought journal m i) (λ e. e.receipt ≡ i) es (λ e brought. brought.by_item) all
 
--- the filing is set to wait
+-- the register stays kept where the filing is set to wait
 pub order_leaves : (journal : List Receipt) (m : ℕ) (f : Filing) (at : Key → List Entry) → Deals journal m f m at → IsFit journal m f at → Leaves journal m at (order_brought journal m)
 order_leaves journal m f at deals fit =
     let es = order_brought journal m in
@@ -54,7 +54,7 @@ order_leaves journal m f at deals fit =
       by_item = all_by_item journal m m es brought;
     }
 
--- it waits no longer
+-- the register stays kept where the filing's waiting ends
 pub end_leaves : (journal : List Receipt) (m : ℕ) (f : Filing) (i : ℕ) (at : Key → List Entry) → Deals journal m f i at → Leaves journal i at (end_brought journal m i)
 end_leaves journal m f i at deals =
     let es = end_brought journal m i in
@@ -72,7 +72,7 @@ end_leaves journal m f i at deals =
       by_item = all_by_item journal m i es brought;
     }
 
--- it is entered at once
+-- the register stays kept where the filing is entered at once
 pub entry_leaves : (journal : List Receipt) (m : ℕ) (f : Filing) (at : Key → List Entry) → Deals journal m f m at → IsFit journal m f at → Leaves journal m at (enters journal m m at)
 entry_leaves journal m f at deals fit =
     let es = enters journal m m at in
@@ -90,7 +90,7 @@ entry_leaves journal m f at deals fit =
       by_item = all_by_item journal m m es brought;
     }
 
--- it is entered by a cure, and waits no longer
+-- the register stays kept where a cure enters the filing and ends its waiting
 pub cure_leaves : (journal : List Receipt) (m : ℕ) (f : Filing) (i : ℕ) (at : Key → List Entry) → Deals journal m f i at → m < i → IsFit journal m f at → Leaves journal i at (enters journal m i at ++ end_brought journal m i)
 cure_leaves journal m f i at deals earlier fit =
     let es = enters journal m i at ++ end_brought journal m i in

@@ -83,7 +83,7 @@ at_number xs k x is =
 pub act_is : (f : Filing) (a : ℕ) (act : Act) → IsActOf f a act → act_at f a ≡ Some act
 act_is f a act own = subst (λ n. act_at f n ≡ Some act) own.number (at_number f.acts own.place act own.there)
 
--- its number is that of an act of a filing
+-- the number of an act of a filing is one that an act may have
 pub act_number : (f : Filing) (a : ℕ) (act : Act) → IsTrue (is_filing f) → IsActOf f a act → (1 ≤ a) × (a ≤ most_acts)
 act_number f a act well own =
     let ranges = and_parts (is_between 1 most_acts (length f.acts) && list_all is_act f.acts && list_all is_doc f.docs) (keeps_rules f.acts) well in

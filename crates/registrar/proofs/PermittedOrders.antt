@@ -53,7 +53,7 @@ above_where : (p : ℕ → Bool) (n : ℕ) (ns : List ℕ) → AllByRecursion (�
 above_where p n ns all =
     all_in (λ k. n < k) (filter p ns) (λ k there. let passes = of_filter p ns k there in in_all (λ k. p k ≡ true → n < k) ns k all passes.0 passes.1)
 
--- those ascend, if of two that pass the earlier is the smaller
+-- numbers that pass ascend, where of two that pass the earlier is the smaller
 rises_where : (p : ℕ → Bool) (ns : List ℕ) → Pairs (λ n later. p n ≡ true → p later ≡ true → n < later) ns → Rises (filter p ns)
 rises_where p [] pairs = tt
 rises_where p (n ∷ ns) pairs =

@@ -26,7 +26,7 @@ only_at keys n k = cond (has k keys) (n k) 0
 at_its_keys : (keys : List Key) (n : Key → ℕ) (k : Key) → Contains keys k → n k ≤ only_at keys n k
 at_its_keys keys n k there = subst (λ b. n k ≤ cond b (n k) 0) (sym ((has_decides k keys).1 there)) (omega arith)
 
--- How many entries come at each key by the entry of filing m and the end of its waiting.
+-- How many entries come at each key, at most, by the entry of filing m and the end of its waiting.
 record Counts (journal : List Receipt) (m i : ℕ) (at : Key → List Entry) : Type 0 where
   notices : HasRoom (only_at (keys_of_filing journal m) (λ k. length (waiting_unnoticed m (at k)))) (notices_brought journal m i at)
   entered : HasRoom (only_at (keys_of_filing journal m) (λ k. 2)) (entered journal m i (with_notices journal m i at))

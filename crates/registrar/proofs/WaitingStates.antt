@@ -41,7 +41,7 @@ first_key journal m at until (k ∷ ks) all is = record {
   waits = is;
 }
 
--- it is an earlier filing than item i
+-- Filing m is earlier than item i, and waits until this day at one of its keys.
 pub record IsFoundWaiting (journal : List Receipt) (m i : ℕ) (at : Key → List Entry) (until : ℕ) : Type 0 where
   pub earlier : m < i
   pub waits : WaitsAtAKey journal m at until
@@ -56,7 +56,7 @@ found_waiting journal m i at until =
       | false ↦ λ later is. absurd (false≢true (ap is_waiting is))
     ] refl
 
--- what has a key is a filing
+-- a receipt that has a key as a filing is a filing
 pub is_a_filing : (journal : List Receipt) (m : ℕ) (key : Key) → Contains (keys_of_filing journal m) key → IsSome (filing_at journal m)
 is_a_filing journal m key =
     elim (filing_at journal m) as (λ o. Contains (option_map_or (λ f. keys_of_acts journal m 1 f.acts) o []) key → IsSome o) [

@@ -3,7 +3,7 @@ use Rattle.std.specs.Prelude.{ℕ, ◌==◌, List, find, Option, option_map}
 use Rattle.folio_sections.specs.PartState.{PartState}
 use Rattle.registrar.specs.declared.verdicts.Verdict.{Verdict}
 
--- its parts, what became of each item, by its number, and the open folios
+-- a register's parts, what became of each item, by its number, and its open folios
 pub record RegisterState : Type 0 where
   pub parts : List PartState
   pub verdicts : List (ℕ × Verdict)
