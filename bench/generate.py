@@ -207,7 +207,7 @@ def exchanges(count, draws):
 
 
 def bids(count, draws):
-    """256 rights with interest, 8 seizures and 32 arrears; then calls to bid that reckon with all"""
+    """256 rights with interest, 8 seizures and 32 arrears; then calls to bid that count all of these"""
     yield from charges(257)
     for number in range(258, 265):
         yield stamped(number, seizure(from_right(257 - 30 * (number - 258))), SALE_DAY)

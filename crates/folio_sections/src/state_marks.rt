@@ -1,5 +1,5 @@
 //! The states of a right after some of its entries, so that no reader walks all entries.
-//! Why so: docs/DECISIONS.md, "A right keeps its state behind each sixteenth entry".
+//! Why so: docs/DECISIONS.md, "A right keeps its state after each sixteenth entry".
 ghost use Rattle.std.specs.Prelude.{◌≡◌, ◌+◌, ◌≤◌, ◌&&◌, nat_lt, [], ◌∷◌, ◌++◌, if◌then◌else◌, length, take, vec_len, vec_capacity};
 ghost use Rattle.folio_sections.specs.inner.Marks.{AreMarks, is_at_mark, state_at};
 ghost use Rattle.folio_sections.specs.inner.States.{IsRightState};

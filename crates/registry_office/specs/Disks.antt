@@ -1,5 +1,5 @@
 -- The disk in a run: what its file stood for, what a stop leaves of it, and which of its bytes are written.
--- Why so: docs/DECISIONS.md, "What an early end leaves is said of files left anew".
+-- Why so: docs/DECISIONS.md, "What an early end leaves is said of the files that the run adds".
 use Rattle.std.specs.Prelude.{◌≡◌, ◌⊎◌, ℕ, ◌+◌, Bool, true, false, List}
 use Rattle.gb_outside.specs.Images.{Only, Torn, LeavesOnly}
 use Rattle.act_model.specs.declared.receipts.Receipt.{Receipt}

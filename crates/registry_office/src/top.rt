@@ -1,6 +1,6 @@
 //! The top call: the words, and the objects that stand outside.
 //! Why so: docs/DECISIONS.md, "That an acknowledged receipt stays is said by requests".
-//! Why so: docs/DECISIONS.md, "Want of memory comes with the words, or behind the first sync".
+//! Why so: docs/DECISIONS.md, "Memory runs out at the words, or after the first sync".
 //! Why so: docs/DECISIONS.md, "That a reply goes out before the next read is said by two clauses".
 ghost use Rattle.std.specs.Prelude.{◌≡◌, ◌⊎◌, ◌↔◌, ◌≤◌, ◌+◌, ◌++◌, ℕ, [], Some, None, IfSome, IsSome, IsTrue, List, length, take, true, false};
 ghost use Rattle.std.specs.List.{AllZip};
