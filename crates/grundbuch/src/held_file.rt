@@ -49,10 +49,11 @@ where
 {
     ghost use Rattle.std.specs.Prelude.{◌≡◌, None, IsOk, IsErr, IsSome};
 
-    /// Opens the file where it is shut. Where that fails it stays shut.
+    /// Opens the file where it is shut. Where that fails it stays shut. One that is open stays so.
     pub fn open(&mut self) -> io::Result<()>
         ensures shut { IsErr result → self.new.opened ≡ None }
         ensures now_open { IsOk result → IsSome self.new.opened }
+        ensures stays_open { IsSome self.old.opened → IsSome self.new.opened }
     {
         if self.opened.is_none() {
             let file = self.open_and_lock()?;

@@ -1,7 +1,7 @@
 //! The journal's file as the office's disk.
 //! Why so: docs/DECISIONS.md, "After a failed sync every later one fails".
 //! Why so: docs/DECISIONS.md, "Only a failed sync gives the file up".
-ghost use Rattle.std.specs.Prelude.{◌≡◌, ◌⊎◌, None, is_err, IsOk, IsErr, IsTrue};
+ghost use Rattle.std.specs.Prelude.{◌≡◌, ◌⊎◌, None, is_err, IsOk, IsErr, IsSome, IsTrue};
 ghost use Rattle.gb_outside.specs.Faults.{Counts, faults_after};
 
 use crate::faults::counted;
@@ -55,6 +55,7 @@ where
         ensures lost { IsErr result → (self.new.file.opened ≡ None) ⊎ IsTrue self.new.lost }
         ensures stays_lost { IsTrue self.old.lost → IsErr result × IsTrue self.new.lost }
         ensures unopened { self.new.file.opened ≡ None → self.new.lost ≡ self.old.lost }
+        ensures stays_open { IsSome self.old.file.opened → IsSome self.new.file.opened }
         ensures uncounted { self.new.faults ≡ self.old.faults }
     {
         if self.lost {
@@ -89,7 +90,7 @@ impl<R: Files> Disk for JournalFile<'_, R>
 where
     R::File: FileExt + Lock,
 {
-    ghost use Rattle.std.specs.Prelude.{◌≡◌, ◌⊎◌, None, is_err, IsOk, IsErr, IsTrue, false, []};
+    ghost use Rattle.std.specs.Prelude.{◌≡◌, ◌⊎◌, None, is_err, IsOk, IsErr, IsSome, IsTrue, false, []};
     ghost use Rattle.gb_outside.specs.Faults.{Counts, faults_after};
 
     ghost tells = { false };
@@ -105,6 +106,8 @@ where
     ghost faults = { λ disk. disk.faults };
 
     fn len(&mut self) -> Result<u64, DiskFailed>
+        ensures keeps_lost { self.new.lost ≡ self.old.lost }
+        ensures keeps_entry { self.new.has_entry ≡ self.old.has_entry }
         ensures cause { Counts self.old.faults self.new.faults (is_err result) }
         ensures once { self.new.faults ≡ faults_after self.old.faults (is_err result) }
     {
@@ -112,6 +115,8 @@ where
     }
 
     fn read_at(&mut self, at: u64, into: &mut [u8]) -> Result<(), DiskFailed>
+        ensures keeps_lost { self.new.lost ≡ self.old.lost }
+        ensures keeps_entry { self.new.has_entry ≡ self.old.has_entry }
         ensures cause { Counts self.old.faults self.new.faults (is_err result) }
         ensures once { self.new.faults ≡ faults_after self.old.faults (is_err result) }
     {
@@ -119,6 +124,8 @@ where
     }
 
     fn write_at(&mut self, at: u64, bytes: &[u8]) -> Result<(), DiskFailed>
+        ensures keeps_lost { self.new.lost ≡ self.old.lost }
+        ensures keeps_entry { self.new.has_entry ≡ self.old.has_entry }
         ensures cause { Counts self.old.faults self.new.faults (is_err result) }
         ensures once { self.new.faults ≡ faults_after self.old.faults (is_err result) }
     {
@@ -130,6 +137,7 @@ where
         ensures lost { IsErr result → (self.new.file.opened ≡ None) ⊎ IsTrue self.new.lost }
         ensures stays_lost { IsTrue self.old.lost → IsErr result × IsTrue self.new.lost }
         ensures unopened { self.new.file.opened ≡ None → self.new.lost ≡ self.old.lost }
+        ensures stays_open { IsSome self.old.file.opened → IsSome self.new.file.opened }
         ensures cause { Counts self.old.faults self.new.faults (is_err result) }
         ensures once { self.new.faults ≡ faults_after self.old.faults (is_err result) }
     {
