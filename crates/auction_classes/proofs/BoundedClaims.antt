@@ -18,7 +18,7 @@ use Rattle.act_model.specs.declared.sales.Registration.TheVariants as registrati
 use Rattle.folio_sections.specs.declared.entries.Entry.{Entry}
 use Rattle.folio_sections.proofs.FilteredLists.{all_filtered}
 use Rattle.folio_line.specs.declared.folio_rights.CreatedRight.{CreatedRight}
-use Rattle.auction_classes.specs.Claims.{behind_claim, claim_registered, claims_by, claims_of_right, in_order, in_row, is_claim, of_class, personal_claim}
+use Rattle.auction_classes.specs.Claims.{claim_after, claim_registered, claims_by, claims_of_right, in_order, in_row, is_claim, of_class, personal_claim}
 use Rattle.auction_classes.specs.LowestBid.{cents_ahead, personal_amount}
 use Rattle.auction_classes.specs.Sales.{registered_by, seizure_by}
 use Rattle.auction_classes.specs.inner.Findings.{right_with, seized_with}
@@ -28,7 +28,7 @@ use Rattle.auction_classes.specs.declared.claim_items.Claim.{Claim}
 use Rattle.auction_classes.specs.declared.claim_items.ClaimItem.{ClaimItem}
 use Rattle.auction_classes.specs.declared.claim_items.SeizedFor.{SeizedFor}
 use Rattle.auction_classes.specs.declared.findings.Finding.{Finding}
-use Rattle.auction_classes.specs.inner.ClaimRows.{row_behind}
+use Rattle.auction_classes.specs.inner.ClaimRows.{row_after}
 use Rattle.auction_classes.proofs.ClaimsInRow.{row_is}
 
 -- ---- what the items of a journal say
@@ -93,7 +93,7 @@ seized_within journal ns stands =
 
 -- what a claim adds to those of classes 1 and 3 is an amount
 abbrev IsAmountAhead : Claim → Type 0
-IsAmountAhead c = cents_ahead (behind_claim None c) ≤ most_cents
+IsAmountAhead c = cents_ahead (claim_after None c) ≤ most_cents
 
 part_within : (b : Bool) (amount : ℕ) → amount ≤ most_cents → cond b amount 0 ≤ most_cents
 part_within true amount within = within
@@ -141,7 +141,7 @@ all_ahead : (late : Bool) (cs : List Claim) (ks : List ℕ) → AllByRecursion I
 all_ahead late cs [] all = tt
 all_ahead late cs (k ∷ ks) all = all_both IsAmountAhead (of_class late cs k) (flat_map (of_class late cs) ks) (all_filtered IsAmountAhead _ cs all) (all_ahead late cs ks all)
 
-row_ahead : (before : Option Claim) (cs : List Claim) → AllByRecursion IsAmountAhead cs → AllByRecursion (λ (c : ClaimItem). cents_ahead c ≤ most_cents) (row_behind before cs)
+row_ahead : (before : Option Claim) (cs : List Claim) → AllByRecursion IsAmountAhead cs → AllByRecursion (λ (c : ClaimItem). cents_ahead c ≤ most_cents) (row_after before cs)
 row_ahead before [] all = tt
 row_ahead before (c ∷ cs) all = (all.0, row_ahead (Some c) cs all.1)
 

@@ -1,37 +1,22 @@
--- Claims in their row are each behind the one before it, and one more stands behind all.
-use Rattle.std.proofs.Common.{◌≡◌, ℕ, ◌+◌, List, [], ◌∷◌, ◌++◌, length, map, take, Option, Some, None, refl, sym, ap, ◌∙◌, append_assoc, arith}
-use Rattle.std.specs.List.{enumerate_from, last_or}
-use Rattle.std.proofs.lemmas.List.{length-append, take_at}
-use Rattle.auction_classes.specs.Claims.{behind_claim, in_row}
-use Rattle.auction_classes.specs.inner.ClaimRows.{row_behind}
+-- Claims in their row each come after the one before it, and one more after them all.
+use Rattle.std.proofs.Common.{◌≡◌, List, [], ◌∷◌, ◌++◌, map, Option, Some, None, refl, sym, ap, ◌∙◌}
+use Rattle.std.specs.List.{last_or, zip}
+use Rattle.auction_classes.specs.Claims.{claim_after, in_row}
+use Rattle.auction_classes.specs.inner.ClaimRows.{row_after}
 use Rattle.auction_classes.specs.declared.claim_items.Claim.{Claim}
 use Rattle.auction_classes.specs.declared.claim_items.ClaimItem.{ClaimItem}
 
-last_is : (before : Option Claim) (cs : List Claim) (c : Claim) → last_or before (cs ++ c ∷ []) ≡ Some c
-last_is before [] c = refl
-last_is before (d ∷ cs) c = last_is (Some d) cs c
+row_from : (before : Option Claim) (cs : List Claim) → map (λ (pair : Option Claim × Claim). claim_after pair.0 pair.1) (zip (before ∷ map Some cs) cs) ≡ row_after before cs
+row_from before [] = refl
+row_from before (c ∷ cs) = ap (λ rest. claim_after before c ∷ rest) (row_from (Some c) cs)
 
--- the claims from number n on, in the row of the whole
-abbrev row_from : List Claim → ℕ → List Claim → List ClaimItem
-row_from whole n cs = map (λ (x : ℕ × Claim). behind_claim (last_or None (take x.0 whole)) x.1) (enumerate_from n cs)
+pub row_is : (cs : List Claim) → in_row cs ≡ row_after None cs
+row_is = row_from None
 
-row_left : (whole done cs : List Claim) (n : ℕ) (before : Option Claim) → whole ≡ done ++ cs → length done ≡ n → last_or None done ≡ before → row_from whole n cs ≡ row_behind before cs
-row_left whole done [] n before is at last = refl
-row_left whole done (c ∷ cs) n before is at last =
-    let next : whole ≡ (done ++ c ∷ []) ++ cs = is ∙ sym (append_assoc done (c ∷ []) cs) in
-    let size = length-append done (c ∷ []) in
-    let rest = row_left whole (done ++ c ∷ []) cs (n + 1) (Some c) next (omega (arith, size, at)) (last_is None done c) in
-    let front : take n whole ≡ done = ap (take n) is ∙ take_at done (c ∷ cs) n at in
-    let here : last_or None (take n whole) ≡ before = ap (last_or None) front ∙ last in
-    λ k. behind_claim (here k) c ∷ rest k
+row_push_after : (before : Option Claim) (cs : List Claim) (c : Claim) → row_after before (cs ++ c ∷ []) ≡ row_after before cs ++ claim_after (last_or before cs) c ∷ []
+row_push_after before [] c = refl
+row_push_after before (d ∷ cs) c = ap (λ rest. claim_after before d ∷ rest) (row_push_after (Some d) cs c)
 
-pub row_is : (cs : List Claim) → in_row cs ≡ row_behind None cs
-row_is cs = row_left cs [] cs 0 None refl refl refl
-
-row_push_behind : (before : Option Claim) (cs : List Claim) (c : Claim) → row_behind before (cs ++ c ∷ []) ≡ row_behind before cs ++ behind_claim (last_or before cs) c ∷ []
-row_push_behind before [] c = refl
-row_push_behind before (d ∷ cs) c = ap (λ rest. behind_claim before d ∷ rest) (row_push_behind (Some d) cs c)
-
--- one more claim stands in the row
-pub row_push : (cs : List Claim) (c : Claim) → in_row (cs ++ c ∷ []) ≡ in_row cs ++ behind_claim (last_or None cs) c ∷ []
-row_push cs c = row_is (cs ++ c ∷ []) ∙ row_push_behind None cs c ∙ ap (λ items. items ++ behind_claim (last_or None cs) c ∷ []) (sym (row_is cs))
+-- one more claim comes after those of the row
+pub row_push : (cs : List Claim) (c : Claim) → in_row (cs ++ c ∷ []) ≡ in_row cs ++ claim_after (last_or None cs) c ∷ []
+row_push cs c = row_is (cs ++ c ∷ []) ∙ row_push_after None cs c ∙ ap (λ items. items ++ claim_after (last_or None cs) c ∷ []) (sym (row_is cs))

@@ -22,7 +22,7 @@ use Rattle.folio_sections.specs.declared.entries.Entry.{Entry}
 use Rattle.folio_sections.proofs.FilteredLists.{filter_skips, filter_takes}
 use Rattle.rank_slots.specs.Filled.{Filled, line}
 use Rattle.rank_slots.specs.declared.places.Knot.{Knot}
-use Rattle.auction_classes.specs.Claims.{are_both, arrears_found, arrears_named, by_class, behind_claim, claim_of_person, claim_of_right, claim_registered, claims_by, claims_of_right, class_of_charge, in_order, in_row, is_claim, of_class, personal_claim}
+use Rattle.auction_classes.specs.Claims.{are_both, arrears_found, arrears_named, by_class, claim_after, claim_of_person, claim_of_right, claim_registered, claims_by, claims_of_right, class_of_charge, in_order, in_row, is_claim, of_class, personal_claim}
 use Rattle.auction_classes.specs.Interest.{arrears_in_class, current_interest}
 use Rattle.auction_classes.specs.LowestBid.{cents_ahead, cover_of_base, lowest_bid, remaining_of}
 use Rattle.auction_classes.specs.SaleClaims.{claimed_in, of_class_four, right_claimed}
@@ -37,7 +37,7 @@ use Rattle.auction_classes.specs.declared.claim_items.SeizedFor.{SeizedFor}
 use Rattle.auction_classes.specs.declared.findings.Finding.{Finding}
 use Rattle.auction_classes.specs.declared.lowest_bids.Lowest.{Lowest}
 use Rattle.auction_classes.specs.declared.rights_found.RightFound.{RightFound}
-use Rattle.auction_classes.specs.inner.ClaimRows.{row_behind}
+use Rattle.auction_classes.specs.inner.ClaimRows.{row_after}
 use Rattle.auction_classes.proofs.ClaimsInRow.{row_is}
 
 -- each of these registrations is late
@@ -51,11 +51,11 @@ abbrev counts : Claim → Bool
 counts c = not c.late && (c.class == 1 || c.class == 3)
 
 -- what the claims of a row add ahead of the rights is what those add that count
-added_up : (before : Option Claim) (cs : List Claim) → sum_by cents_ahead (row_behind before cs) ≡ sum_by (λ (c : Claim). c.capital) (filter counts cs)
+added_up : (before : Option Claim) (cs : List Claim) → sum_by cents_ahead (row_after before cs) ≡ sum_by (λ (c : Claim). c.capital) (filter counts cs)
 added_up before [] = refl
 added_up before (c ∷ cs) =
-    let rest = row_behind (Some c) cs in
-    sum_by-cons cents_ahead (behind_claim before c) rest
+    let rest = row_after (Some c) cs in
+    sum_by-cons cents_ahead (claim_after before c) rest
     ∙ elim (counts c) as (λ b. cond b c.capital 0 + sum_by cents_ahead rest ≡ sum_by (λ (d : Claim). d.capital) (cond b (c ∷ filter counts cs) (filter counts cs))) [
       | true ↦ ap (λ n. c.capital + n) (added_up (Some c) cs) ∙ sym (sum_by-cons (λ (d : Claim). d.capital) c (filter counts cs))
       | false ↦ (let none : 0 + sum_by cents_ahead rest ≡ sum_by cents_ahead rest = omega arith in none ∙ added_up (Some c) cs)

@@ -17,7 +17,7 @@ use Rattle.auction_classes.specs.declared.case_items.Registered.{Registered}
 use Rattle.auction_classes.specs.declared.case_items.Seizure.{Seizure}
 use Rattle.auction_classes.specs.declared.claim_items.Claim.{Claim}
 use Rattle.auction_classes.specs.declared.rights_found.RightFound.{RightFound}
-use Rattle.auction_classes.specs.inner.ClaimRows.{row_behind}
+use Rattle.auction_classes.specs.inner.ClaimRows.{row_after}
 use Rattle.folio_sections.proofs.FilteredLists.{all_filtered}
 use Rattle.auction_classes.proofs.BoundedClaims.{all_both, amount_of}
 use Rattle.auction_classes.proofs.BoundedLists.{few_found}
@@ -128,7 +128,7 @@ claims_some year rs zs found =
     all_both P _ _ (all_some (filter_map (λ (r : Registered). claim_registered year r.late r.what) rs))
     (all_both P _ _ (all_some (filter_map (λ (z : Seizure). personal_claim z.basis) zs)) (all_some (flat_map claims_of_right found)))
 
-row_amounts : (before : Option Claim) (cs : List Claim) → AllByRecursion (λ c. 1 ≤ weight c) cs → sum_by weight cs < most_sum → AllByRecursion IsAmountClaimed (row_behind before cs)
+row_amounts : (before : Option Claim) (cs : List Claim) → AllByRecursion (λ c. 1 ≤ weight c) cs → sum_by weight cs < most_sum → AllByRecursion IsAmountClaimed (row_after before cs)
 row_amounts before [] all sum = tt
 row_amounts before (c ∷ cs) all sum =
     let whole = sum_by-cons weight c cs in
@@ -141,7 +141,7 @@ items_are_amounts year rs zs found sum =
     let cs = claims_by year rs zs found in
     let order = order_weighs weight cs in
     subst (All IsAmountClaimed) (sym (row_is (in_order cs)))
-    (All-from_recursion IsAmountClaimed (row_behind None (in_order cs)) (row_amounts None (in_order cs) (order_all (λ c. 1 ≤ weight c) cs (claims_some year rs zs found)) (omega (arith, order, sum))))
+    (All-from_recursion IsAmountClaimed (row_after None (in_order cs)) (row_amounts None (in_order cs) (order_all (λ c. 1 ≤ weight c) cs (claims_some year rs zs found)) (omega (arith, order, sum))))
 
 -- ---- interest stands apart from the capital only in the timely claims of rights in their classes
 
@@ -179,7 +179,7 @@ rights_whole (x ∷ xs) all =
     let own : (x.class == 4 || x.class == 6) ≡ false → x.interest ≡ 0 = subst (λ k. (k == 4 || k == 6) ≡ false → x.interest ≡ 0) (sym all.0.1) (of_class_of_rights all.0.0 x.interest) in
     (own, (λ _. refl, (λ _. refl, (λ _. refl, rights_whole xs all.1))))
 
-row_whole : (before : Option Claim) (cs : List Claim) → AllByRecursion IsWhole cs → AllByRecursion HasNoInterest (row_behind before cs)
+row_whole : (before : Option Claim) (cs : List Claim) → AllByRecursion IsWhole cs → AllByRecursion HasNoInterest (row_after before cs)
 row_whole before [] all = tt
 row_whole before (c ∷ cs) all = (all.0, row_whole (Some c) cs all.1)
 
@@ -188,4 +188,4 @@ items_are_whole year rs zs found own =
     let cs = claims_by year rs zs found in
     let all = all_both IsWhole _ _ (all_filtered IsWhole is_claim _ (registered_whole year rs))
     (all_both IsWhole _ _ (all_filtered IsWhole is_claim _ (personal_whole zs)) (all_filtered IsWhole is_claim _ (rights_whole found own))) in
-    subst (All HasNoInterest) (sym (row_is (in_order cs))) (All-from_recursion HasNoInterest (row_behind None (in_order cs)) (row_whole None (in_order cs) (order_all IsWhole cs all)))
+    subst (All HasNoInterest) (sym (row_is (in_order cs))) (All-from_recursion HasNoInterest (row_after None (in_order cs)) (row_whole None (in_order cs) (order_all IsWhole cs all)))

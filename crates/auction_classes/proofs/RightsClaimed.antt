@@ -11,14 +11,14 @@ use Rattle.act_model.specs.declared.sales.Basis.TheVariants as basis
 use Rattle.act_model.specs.declared.sales.Registration.{Registration}
 use Rattle.act_model.specs.declared.sales.Registration.TheVariants as registration
 use Rattle.folio_sections.proofs.FilteredLists.{all_filtered, filter_none}
-use Rattle.auction_classes.specs.Claims.{are_both, behind_claim, by_class, claim_of_right, claim_registered, claims_by, claims_of_right, in_order, in_row, is_claim, of_class, personal_claim}
+use Rattle.auction_classes.specs.Claims.{are_both, by_class, claim_after, claim_of_right, claim_registered, claims_by, claims_of_right, in_order, in_row, is_claim, of_class, personal_claim}
 use Rattle.auction_classes.specs.PayableClaims.{claims_in}
 use Rattle.auction_classes.specs.declared.case_items.Registered.{Registered}
 use Rattle.auction_classes.specs.declared.case_items.Seizure.{Seizure}
 use Rattle.auction_classes.specs.declared.claim_items.Claim.{Claim}
 use Rattle.auction_classes.specs.declared.claim_items.ClaimItem.{ClaimItem}
 use Rattle.auction_classes.specs.declared.rights_found.RightFound.{RightFound}
-use Rattle.auction_classes.specs.inner.ClaimRows.{row_behind}
+use Rattle.auction_classes.specs.inner.ClaimRows.{row_after}
 use Rattle.auction_classes.proofs.ClaimsInRow.{row_is}
 use Rattle.auction_classes.proofs.OrderedClaims.{in_classes}
 
@@ -28,13 +28,13 @@ is_of late k c = are_both late c.late && c.class == k
 
 -- ---- the claims in a row
 
-row_rights : (late : Bool) (k : ℕ) (before : Option Claim) (cs : List Claim) → map (λ (x : ClaimItem). x.right) (claims_in late k (row_behind before cs)) ≡ map (λ (c : Claim). c.right) (of_class late cs k)
+row_rights : (late : Bool) (k : ℕ) (before : Option Claim) (cs : List Claim) → map (λ (x : ClaimItem). x.right) (claims_in late k (row_after before cs)) ≡ map (λ (c : Claim). c.right) (of_class late cs k)
 row_rights late k before [] = refl
 row_rights late k before (c ∷ cs) =
     let rest = row_rights late k (Some c) cs in
-    let items = claims_in late k (row_behind (Some c) cs) in
+    let items = claims_in late k (row_after (Some c) cs) in
     let claims = of_class late cs k in
-    elim (is_of late k c) as (λ b. map (λ (x : ClaimItem). x.right) (cond b (behind_claim before c ∷ items) items) ≡ map (λ (d : Claim). d.right) (cond b (c ∷ claims) claims)) [
+    elim (is_of late k c) as (λ b. map (λ (x : ClaimItem). x.right) (cond b (claim_after before c ∷ items) items) ≡ map (λ (d : Claim). d.right) (cond b (c ∷ claims) claims)) [
       | true ↦ ap (λ xs. c.right ∷ xs) rest
       | false ↦ rest
     ]

@@ -2,10 +2,10 @@
 use Rattle.std.proofs.Common.{◌≡◌, ℕ, zero, suc, ◌+◌, ◌≤◌, Bool, true, false, cond, not, ◌&&◌, ◌==◌, List, [], ◌∷◌, ◌++◌, filter, sum_by, Option, Some, None, refl, sym, ap, subst, ◌∙◌, arith}
 use Rattle.std.proofs.lemmas.Bool.{and_parts, eqb-true}
 use Rattle.std.proofs.lemmas.List.Sums.{sum_by-append, sum_by-cons}
-use Rattle.auction_classes.specs.Claims.{are_both, behind_claim, by_class, in_order, in_row, of_class}
+use Rattle.auction_classes.specs.Claims.{are_both, by_class, claim_after, in_order, in_row, of_class}
 use Rattle.auction_classes.specs.declared.claim_items.Claim.{Claim}
 use Rattle.auction_classes.specs.declared.claim_items.ClaimItem.{ClaimItem}
-use Rattle.auction_classes.specs.inner.ClaimRows.{row_behind}
+use Rattle.auction_classes.specs.inner.ClaimRows.{row_after}
 use Rattle.auction_classes.proofs.ClaimsInRow.{row_is}
 use Rattle.auction_classes.proofs.OrderedClaims.{in_classes, passed_class}
 
@@ -58,16 +58,16 @@ order_weighs w cs =
     let parts = sum_by-append w (by_class false cs) (by_class true cs) in
     omega (arith, both, parts)
 
-behind_weighs : (v : ClaimItem → ℕ) (w : Claim → ℕ) → ((before : Option Claim) (c : Claim) → v (behind_claim before c) ≡ w c) → (before : Option Claim) (cs : List Claim)
-    → sum_by v (row_behind before cs) ≡ sum_by w cs
-behind_weighs v w same before [] = refl
-behind_weighs v w same before (c ∷ cs) =
-    let rest = behind_weighs v w same (Some c) cs in
+after_weighs : (v : ClaimItem → ℕ) (w : Claim → ℕ) → ((before : Option Claim) (c : Claim) → v (claim_after before c) ≡ w c) → (before : Option Claim) (cs : List Claim)
+    → sum_by v (row_after before cs) ≡ sum_by w cs
+after_weighs v w same before [] = refl
+after_weighs v w same before (c ∷ cs) =
+    let rest = after_weighs v w same (Some c) cs in
     let one = same before c in
-    let items = sum_by-cons v (behind_claim before c) (row_behind (Some c) cs) in
+    let items = sum_by-cons v (claim_after before c) (row_after (Some c) cs) in
     let claims = sum_by-cons w c cs in
     omega (arith, rest, one, items, claims)
 
 -- in its row each claim weighs what it does
-pub row_weighs : (v : ClaimItem → ℕ) (w : Claim → ℕ) → ((before : Option Claim) (c : Claim) → v (behind_claim before c) ≡ w c) → (cs : List Claim) → sum_by v (in_row cs) ≡ sum_by w cs
-row_weighs v w same cs = ap (sum_by v) (row_is cs) ∙ behind_weighs v w same None cs
+pub row_weighs : (v : ClaimItem → ℕ) (w : Claim → ℕ) → ((before : Option Claim) (c : Claim) → v (claim_after before c) ≡ w c) → (cs : List Claim) → sum_by v (in_row cs) ≡ sum_by w cs
+row_weighs v w same cs = ap (sum_by v) (row_is cs) ∙ after_weighs v w same None cs

@@ -1,6 +1,6 @@
 -- The claims in a forced sale, class by class (ZVG §§ 10 to 13, 37, 45, 110).
-use Rattle.std.specs.Prelude.{ℕ, ◌+◌, ◌-◌, Bool, true, false, not, ◌==◌, ◌&&◌, ◌||◌, nat_le, nat_lt, if◌then◌else◌, List, [], ◌∷◌, ◌++◌, filter, filter_map, flat_map, map, sum_by, take, Option, Some, None}
-use Rattle.std.specs.List.{enumerate_from, last_or, range_with_len}
+use Rattle.std.specs.Prelude.{ℕ, ◌+◌, ◌-◌, Bool, true, false, not, ◌==◌, ◌&&◌, ◌||◌, nat_le, nat_lt, if◌then◌else◌, List, [], ◌∷◌, ◌++◌, filter, filter_map, flat_map, map, sum_by, Option, Some, None}
+use Rattle.std.specs.List.{range_with_len, zip}
 use Rattle.std.specs.Option.{option_map_or}
 use Rattle.gb_base.specs.Calendar.{date_of}
 use Rattle.gb_base.specs.RightNo.{RightNo, same_right}
@@ -171,9 +171,9 @@ ranks_with None c = false
 ranks_with (Some before) c =
     before.class == c.class && (are_both before.late c.late && (are_of_one_filing before.right c.right && before.group == c.group))
 
--- the claim in its row, with whether it ranks with the one before it
-abbrev pub behind_claim : Option Claim → Claim → ClaimItem
-behind_claim before c = record {
+-- a claim in its row after the one before it, with whether the two rank equally
+abbrev pub claim_after : Option Claim → Claim → ClaimItem
+claim_after before c = record {
   class = c.class;
   late = c.late;
   right = c.right;
@@ -183,9 +183,9 @@ behind_claim before c = record {
   with_previous = ranks_with before c;
 }
 
--- these claims in their row, each with whether it ranks with the last of those before it
+-- these claims in their row, each after the one just before it; the first has none before it
 abbrev pub in_row : List Claim → List ClaimItem
-in_row cs = map (λ numbered. behind_claim (last_or None (take numbered.0 cs)) numbered.1) (enumerate_from 0 cs)
+in_row cs = map (λ pair. claim_after pair.0 pair.1) (zip (None ∷ map Some cs) cs)
 
 -- all claims of a sale
 abbrev pub claims_found : Sale → List Claim

@@ -1,7 +1,7 @@
 //! The claims of a sale in the order of a plan (ZVG §§ 10 to 12, 110).
 ghost use Rattle.std.specs.Prelude.{◌≡◌, ◌+◌, ◌≤◌, ◌++◌, ◌∷◌, [], None, Some, filter, length, vec_capacity, vec_len};
 ghost use Rattle.std.specs.List.{last_or};
-ghost use Rattle.auction_classes.specs.Claims.{are_both, are_of_one_filing, behind_claim, by_class, in_order, in_row, of_class, ranks_with};
+ghost use Rattle.auction_classes.specs.Claims.{are_both, are_of_one_filing, by_class, claim_after, in_order, in_row, of_class, ranks_with};
 
 use crate::claim_items::{Claim, ClaimItem};
 use crate::lists::push_copy;
@@ -72,13 +72,13 @@ pub(crate) fn write_row(items: &mut Vec<ClaimItem>, claims: &[Claim])
 {
     items.clear();
     for i in 0..claims.len() {
-        push_copy(items, &behind_claims(&claims[..i], &claims[i]));
+        push_copy(items, &claim_after(&claims[..i], &claims[i]));
     }
 }
 
-/// A claim in its row, with whether it ranks with the last of those before it.
-fn behind_claims(before: &[Claim], claim: &Claim) -> ClaimItem
-    ensures { result ≡ behind_claim (last_or None before.now) claim.now }
+/// A claim in its row after those before it, with whether it ranks with the last of them.
+fn claim_after(before: &[Claim], claim: &Claim) -> ClaimItem
+    ensures { result ≡ claim_after (last_or None before.now) claim.now }
 {
     ClaimItem {
         class: claim.class,

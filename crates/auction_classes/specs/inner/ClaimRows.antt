@@ -1,10 +1,10 @@
 -- The row of claims as it is written claim by claim.
 use Rattle.std.specs.Prelude.{List, [], ◌∷◌, Option, Some}
-use Rattle.auction_classes.specs.Claims.{behind_claim}
+use Rattle.auction_classes.specs.Claims.{claim_after}
 use Rattle.auction_classes.specs.declared.claim_items.Claim.{Claim}
 use Rattle.auction_classes.specs.declared.claim_items.ClaimItem.{ClaimItem}
 
--- these claims in their row behind another claim, each with whether it ranks with the one before it
-abbrev pub row_behind : Option Claim → List Claim → List ClaimItem
-row_behind before [] = []
-row_behind before (c ∷ cs) = behind_claim before c ∷ row_behind (Some c) cs
+-- these claims in their row, of which the first comes after the one given
+abbrev pub row_after : Option Claim → List Claim → List ClaimItem
+row_after before [] = []
+row_after before (c ∷ cs) = claim_after before c ∷ row_after (Some c) cs
