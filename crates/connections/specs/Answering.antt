@@ -1,7 +1,9 @@
 -- What answering a request does.
-use Rattle.std.specs.Prelude.{◌≡◌, ◌≢◌, ◌⊎◌, ℕ, ◌+◌, ◌==◌, ◌||◌, ◌&&◌, Bool, true, false, List, [], Option, None, IsSome, IsTrue, is_ok}
+use Rattle.std.specs.Prelude.{◌≡◌, ◌≢◌, ◌⊎◌, ℕ, ◌+◌, ◌==◌, ◌||◌, Bool, true, false, List, [], Option, None, IsSome, IsSomeAnd, IsTrue, is_ok}
+use Rattle.gb_base.specs.DayMinute.{DayMinute}
 use Rattle.gb_outside.specs.Faults.{Counts}
 use Rattle.gb_outside.specs.Images.{LeavesOnly, Torn}
+use Rattle.gb_outside.specs.Ticks.{Ticks}
 use Rattle.act_json.specs.Lines.{item_of}
 use Rattle.act_model.specs.declared.receipts.Receipt.{Receipt}
 use Rattle.intake.specs.Grown.{GrownFrom, WritesFrames}
@@ -13,11 +15,13 @@ use Rattle.registry_http.specs.RequestParts.{RequestParts}
 use Rattle.registry_http.specs.Routes.{method_of}
 use Rattle.registry_http.specs.declared.routes.Route.TheVariants.{Post}
 use Rattle.settled_book.specs.SettledBookState.{SettledBookState}
+use Rattle.settled_book.specs.Texts.{reads_register}
 use Rattle.connections.specs.Answers.{answer}
 use Rattle.connections.specs.Asking.{Asked, AskedFor, NoRoute, WrongMethod, Asks}
-use Rattle.connections.specs.Fates.{Fate, Failure, answer_by, failure_reply, has_opened, is_apart, lacks_words, may_lack_memory}
-use Rattle.connections.specs.Holding.{Begins, working}
+use Rattle.connections.specs.Fates.{Fate, Answered, Failed, Failure, DiskFailed, NoJournal, OutOfMemory, NotBegun, Stamped, Received, answer_by, failure_reply, is_apart, lacks_words, may_lack_memory}
+use Rattle.connections.specs.Holding.{Begins, IsAllSettled, register_in, working}
 use Rattle.connections.specs.Replies.{ReplyParts, out_of_memory}
+use Rattle.connections.specs.Tools.{Tools}
 
 -- the status says that a text was read, or that an item was received
 abbrev pub is_from_disk : ReplyParts → Bool
@@ -46,6 +50,12 @@ may_call_disk (AskedFor route) body = true
 may_call_disk NoRoute body = false
 may_call_disk WrongMethod body = false
 
+-- it reads a text of the journal
+abbrev pub reads_text : Asked → Bool
+reads_text (AskedFor route) = reads_register route
+reads_text NoRoute = false
+reads_text WrongMethod = false
+
 -- it is the reply to this, whatever is held, or says that no memory was found
 abbrev pub SaysAsked : List ℕ → Asked → ReplyParts → Type 0
 SaysAsked body asked reply = ((held : Held) → reply ≡ (answer held body asked).reply) ⊎ (reply ≡ out_of_memory)
@@ -64,57 +74,74 @@ pub record LeavesThen {D : Type 0} (images : D → List ℕ → Type 0) (moment 
 abbrev pub LeavesOldThen : {D : Type 0} → (D → List ℕ → Type 0) → (D → ℕ) → (D → ℕ → List ℕ → Type 0) → D → D → (List ℕ → Type 0) → Type 0
 LeavesOldThen images moment since old new left = LeavesOnly moment since old new (images old) ⊎ LeavesThen images moment since old new left
 
--- What is left of an unmade file where its making did not end: it stands for no frame, as before, and no byte is written behind the first gate.
-pub record IsLeftUnmade (file new : List ℕ) : Type 0 where
+-- ---- what is written of the file
+
+-- A file after an opening: an unmade one is made as the format has it, and each other is as it was.
+pub record IsOpened (file new : List ℕ) : Type 0 where
+  pub made : IsUnmade file → new ≡ made_from the_heading file
+  pub same : (IsUnmade file → ⊥) → new ≡ file
+
+-- An unmade file whose making did not end, or did not begin: it stands for no frame, as before, and no byte is written after the first gate.
+pub record IsPartlyMade (file new : List ℕ) : Type 0 where
   pub stands : StandsFor the_heading new []
   pub torn : Torn 0 (first_gate the_heading + 1) file new
 
--- An unmade file was made as the format has it, and then the frames between these two journals were written, and nothing where they are one.
-pub record IsMadeThen (from to : List Receipt) (file new : List ℕ) : Type 0 where
-  pub frames : WritesFrames from to (made_from the_heading file) new
-  pub same : to ≡ from → new ≡ made_from the_heading file
+-- A file after an opening in which a call of the disk failed: an unmade one is made in part, and each other is as it was.
+pub record IsPartlyOpened (file new : List ℕ) : Type 0 where
+  pub made : IsUnmade file → IsPartlyMade file new
+  pub same : (IsUnmade file → ⊥) → new ≡ file
 
--- What is written of a file that stood for the first of these journals, where it grows to the second or may have: the frames between the two, and nothing where they are one. An unmade file is made before, as the format has it; unless it is told that a book was open, it may be left as its making did not end.
-pub record WritesGrown (opened : Bool) (from to : List Receipt) (file new : List ℕ) : Type 0 where
-  pub frames : (IsUnmade file → ⊥) → WritesFrames from to file new
-  pub same : (IsUnmade file → ⊥) → to ≡ from → new ≡ file
-  pub made : IsUnmade file → opened ≡ true → IsMadeThen from to file new
-  pub unmade : IsUnmade file → IsLeftUnmade file new ⊎ IsMadeThen from to file new
+-- What is written of a file that stood for the first of these journals, where it grows to the second or may have: it is opened, and then the frames between the two are written, and nothing where they are one.
+pub record WritesGrown (from to : List Receipt) (file new : List ℕ) : Type 0 where
+  pub opened : List ℕ
+  pub opens : IsOpened file opened
+  pub frames : WritesFrames from to opened new
+  pub same : to ≡ from → new ≡ opened
 
--- A request was answered by what it asks for and by what became of it; that is what is held behind it. The disk is called only where it may be; where it is not, the request was answered as it asks, or no memory was found. Once the clock was asked, memory may be wanting for the receipt of an item that is accepted, or for words with a number, and for nothing else. A stop leaves what it might have left before, or, from some moment on, nothing but the journal that was held, with the receipt of this request or without it. Of the file no other bytes are written than the frame of its receipt. What every image began with each begins with still, and with all that a text was read of or an item was received into, also where no memory was found for the words of the reply.
+-- what a request of this fate writes of the file, where the disk may be called for it or not, and the journal grows from the first of these to the second if all works
+abbrev pub WritesBy : Bool → Fate → List Receipt → List Receipt → List ℕ → List ℕ → Type 0
+WritesBy false fate from to file new = new ≡ file
+WritesBy true Answered from to file new = WritesGrown from to file new
+WritesBy true (Failed DiskFailed NotBegun) from to file new = IsPartlyOpened file new
+WritesBy true (Failed DiskFailed Stamped) from to file new = WritesGrown from to file new
+WritesBy true (Failed DiskFailed Received) from to file new = WritesGrown from to file new
+WritesBy true (Failed NoJournal progress) from to file new = new ≡ file
+WritesBy true (Failed OutOfMemory NotBegun) from to file new = (new ≡ file) ⊎ IsOpened file new
+WritesBy true (Failed OutOfMemory Stamped) from to file new = IsOpened file new
+WritesBy true (Failed OutOfMemory Received) from to file new = WritesGrown from to file new
+
+-- ---- what a request comes to
+
+-- A request was answered by what it asks for, and by what became of it.
 pub record AnswersRequest {D : Type 0} (reads : D → List ℕ) (images : D → List ℕ → Type 0) (moment : D → ℕ) (since : D → ℕ → List ℕ → Type 0) (old new : D) (request : RequestParts) (held : Held) (reply : ReplyParts) (HoldsNow : Held → Type 0) : Type 0 where
+  -- what it asks for
   pub asked : Asked
-  pub fate : Fate
   pub asks : Asks request asked
+  -- what became of it
+  pub fate : Fate
+  -- the reply, and what is held after it, are by the two
   pub reply_is : reply ≡ (answer_by fate held (answer held request.body asked)).reply
   pub holds : HoldsNow (answer_by fate held (answer held request.body asked)).held
+  -- the disk is called only where it may be
   pub uncalled : may_call_disk asked request.body ≡ false → new ≡ old
+  -- where it may not be, the request was answered as it asks, or no memory was found
   pub apart : may_call_disk asked request.body ≡ false → is_apart fate ≡ true
+  -- after the clock was asked, memory is wanting only for an item that is accepted, or for words with a number
   pub memory : may_lack_memory fate (answer held request.body asked).reply ≡ true
+  -- a stop leaves what it might have left before, or, from some moment on, only the journal that was held, with the receipt of this request or without it
   pub left : LeavesOldThen images moment since old new (GrownFrom held.journal (answer held request.body asked).held.journal)
-  pub written : WritesGrown (has_opened fate && may_call_disk asked request.body) held.journal (answer held request.body asked).held.journal (reads old) (reads new)
+  -- of the file only the frame of its receipt is written, after an unmade one was made
+  pub written : WritesBy (may_call_disk asked request.body) fate held.journal (answer held request.body asked).held.journal (reads old) (reads new)
+  -- the receipts that every image began with, each begins with still
   pub kept : (front : List Receipt) → AllBegin front (images old) → AllBegin front (images new)
+  -- each image begins with all that a text was read of or an item received into, also where no memory was found for the words of the reply
   pub told : tells_of_file fate reply ≡ true → AllBegin (answer_by fate held (answer held request.body asked)).held.journal (images new)
 
--- Behind a request for which the disk may be called a book is open that works, unless something failed in it.
-pub record LeavesOpen (request : RequestParts) (reply : ReplyParts) (at_hand : Option SettledBookState) : Type 0 where
-  pub asked : Asked
-  pub asks : Asks request asked
-  pub works : may_call_disk asked request.body ≡ true → is_failed reply ≡ false → IsSome (working at_hand)
+-- ---- what a request does to the tools
 
--- What a request did to the disk and the book, with this reply. The disk's count rose just where a call of it failed. A book that worked works still unless one did, and after a request for which the disk may be called a book works unless something failed. While a book works, the disk is called for a POST alone, and only a 201 or what failed leaves it changed.
-pub record KeepsBook {D : Type 0} (faults : D → ℕ) (request : RequestParts) (reply : ReplyParts) (book_old book_new : Option SettledBookState) (old new : D) : Type 0 where
-  pub disk : Counts (faults old) (faults new) (reply.status == 503)
-  pub kept : IsSome (working book_old) → (reply.status == 503) ≡ false → IsSome (working book_new)
-  pub left : LeavesOpen request reply book_new
-  pub untouched : IsSome (working book_old) → request.method ≢ method_of Post → new ≡ old
-  pub unreceived : IsSome (working book_old) → (reply.status == 201) ≡ false → is_failed reply ≡ false → new ≡ old
-
--- What was done to the disk and the book in some turns: the disk's count rose just where a call of it failed, and where none did, a book that worked works still.
-pub record KeepsOpen {D : Type 0} (faults : D → ℕ) (book_old book_new : Option SettledBookState) (old new : D) : Type 0 where
-  pub failed : Bool
-  pub disk : Counts (faults old) (faults new) failed
-  pub kept : failed ≡ false → IsSome (working book_old) → IsSome (working book_new)
+-- the reply to a request in which something failed
+abbrev pub IsFailure : ReplyParts → Type 0
+IsFailure reply = (failure : Failure) × (reply ≡ failure_reply failure)
 
 -- A book was opened, and no call of the disk failed before that: the state of the disk in which it stood open, and the book.
 pub record OpensBook {D : Type 0} (tells : Bool) (reads : D → List ℕ) (images : D → List ℕ → Type 0) (faults : D → ℕ) (old : D) : Type 0 where
@@ -124,11 +151,64 @@ pub record OpensBook {D : Type 0} (tells : Bool) (reads : D → List ℕ) (image
   pub quiet : faults opened ≡ faults old
   pub opens : IsTrue tells → BookOpens (reads old) book (reads opened) (images opened)
 
--- ---- where no book is open and the file stands for no journal
+-- No tool was used for a POST: it was refused, or no memory was found before a book was taken.
+pub record UsesNone {D C : Type 0} (reply : ReplyParts) (old new : Tools D C) : Type 0 where
+  pub same : new ≡ old
+  pub silent : tells_of_journal reply ≡ false
 
--- the reply to a request in which something failed
-abbrev pub IsFailure : ReplyParts → Type 0
-IsFailure reply = (failure : Failure) × (reply ≡ failure_reply failure)
+-- A book was wanted and none could be opened: the clock was not asked, and the reply says what failed.
+pub record NoneOpened {D C : Type 0} (reply : ReplyParts) (old new : Tools D C) : Type 0 where
+  pub had_none : working old.at_hand ≡ None
+  pub none : working new.at_hand ≡ None
+  pub clock : new.clock ≡ old.clock
+  pub failed : IsFailure reply
+
+-- The clock was asked once, while a book was at hand that worked.
+pub record IsAsked {D C : Type 0} (tells : Bool) (reads : D → List ℕ) (images : D → List ℕ → Type 0) (faults : D → ℕ) (ticks : C → Option (List DayMinute)) (reply : ReplyParts) (old new : Tools D C) : Type 0 where
+  -- the book was there before, or was opened
+  pub book : IsSome (working old.at_hand) ⊎ OpensBook tells reads images faults old.disk
+  -- the clock gave this stamp, and no other
+  pub stamp : DayMinute
+  pub asked : Ticks (ticks old.clock) (ticks new.clock) stamp
+  -- a book is there after it, and works unless a call of the disk failed
+  pub there : IsSome new.at_hand
+  pub works : (reply.status == 503) ≡ false → IsSome (working new.at_hand)
+
+-- how often a POST asks the clock: once, or not at all where no book was taken for it
+abbrev pub AsksOnce : {D C : Type 0} → Bool → (D → List ℕ) → (D → List ℕ → Type 0) → (D → ℕ) → (C → Option (List DayMinute)) → ReplyParts → Tools D C → Tools D C → Type 0
+AsksOnce tells reads images faults ticks reply old new = UsesNone reply old new ⊎ (NoneOpened reply old new ⊎ IsAsked tells reads images faults ticks reply old new)
+
+-- What a request did to the disk, the book and the clock, with this reply.
+pub record AnswersTurn {D C : Type 0} (tells : Bool) (reads : D → List ℕ) (images : D → List ℕ → Type 0) (faults : D → ℕ) (ticks : C → Option (List DayMinute)) (request : RequestParts) (reply : ReplyParts) (old new : Tools D C) : Type 0 where
+  -- what it asks for
+  pub wants : Asked
+  pub asks : Asks request wants
+  -- the disk's count of faults rose just where the reply is a 503
+  pub disk : Counts (faults old.disk) (faults new.disk) (reply.status == 503)
+  -- a book that worked works still, unless a call of the disk failed
+  pub kept : IsSome (working old.at_hand) → (reply.status == 503) ≡ false → IsSome (working new.at_hand)
+  -- after a request for which the disk may be called a book works, unless something failed
+  pub left : may_call_disk wants request.body ≡ true → is_failed reply ≡ false → IsSome (working new.at_hand)
+  -- while a book works, the disk is called for a POST alone
+  pub untouched : IsSome (working old.at_hand) → request.method ≢ method_of Post → new.disk ≡ old.disk
+  -- while a book works, only a 201 or what failed leaves the disk changed
+  pub unreceived : IsSome (working old.at_hand) → (reply.status == 201) ≡ false → is_failed reply ≡ false → new.disk ≡ old.disk
+  -- after a text was read, all of the journal is settled
+  pub read : reads_text wants ≡ true → is_failed reply ≡ false → IsAllSettled new.at_hand
+  -- while a book works, a request that reads no text leaves what is settled, unless a call of the disk failed
+  pub unread : reads_text wants ≡ false → IsSome (working old.at_hand) → (reply.status == 503) ≡ false → register_in new.at_hand ≡ register_in old.at_hand
+  -- only a POST asks the clock
+  pub clock_kept : request.method ≢ method_of Post → new.clock ≡ old.clock
+  -- a POST asks it once, if at all
+  pub asked : request.method ≡ method_of Post → AsksOnce tells reads images faults ticks reply old new
+
+-- What was done to the disk and the book in some turns: the disk's count rose just where a call of it failed, and where none did, a book that worked works still.
+pub record KeepsOpen {D : Type 0} (faults : D → ℕ) (book_old book_new : Option SettledBookState) (old new : D) : Type 0 where
+  pub failed : Bool
+  pub disk : Counts (faults old) (faults new) failed
+  pub kept : failed ≡ false → IsSome (working book_old) → IsSome (working book_new)
+
+-- ---- where no book is open and the file stands for no journal
 
 -- A request was answered by what failed where the disk may be called for it: that the file is no journal, unless a call of the disk failed or no memory was found. Where the disk is not called it stays, and the request was answered as it asks, or no memory was found.
 pub record AnswersNone {D : Type 0} (old new : D) (request : RequestParts) (reply : ReplyParts) : Type 0 where

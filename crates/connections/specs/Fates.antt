@@ -44,13 +44,6 @@ has_disk_failed (Failed DiskFailed progress) = true
 has_disk_failed (Failed NoJournal progress) = false
 has_disk_failed (Failed OutOfMemory progress) = false
 
--- where the disk may be called for it, a book was open in it: it was answered, or its receipt was begun
-abbrev pub has_opened : Fate → Bool
-has_opened Answered = true
-has_opened (Failed failure NotBegun) = false
-has_opened (Failed failure Stamped) = true
-has_opened (Failed failure Received) = true
-
 -- its receipt came to the file whole, and no memory was found for the words of its reply
 abbrev pub lacks_words : Fate → Bool
 lacks_words Answered = false

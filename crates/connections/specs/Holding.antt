@@ -1,17 +1,28 @@
 -- What is held between two requests.
-use Rattle.std.specs.Prelude.{◌≡◌, ◌⊎◌, ℕ, List, Option, Some, None, IfSome, if◌then◌else◌}
+use Rattle.std.specs.Prelude.{◌≡◌, ◌⊎◌, ℕ, List, Option, Some, None, IfSome, IsSomeAnd, if◌then◌else◌}
 use Rattle.gb_base.specs.DayMinute.{DayMinute}
 use Rattle.act_model.specs.declared.receipts.Receipt.{Receipt}
 use Rattle.intake.specs.Grown.{IsDurable, IsFront}
 use Rattle.intake.specs.Requests.{Held}
 use Rattle.journal_disk.specs.Standing as standing
 use Rattle.receipt_journal.specs.Standing.{HasBookStanding, Stands, StandsForJournal}
+use Rattle.registrar.specs.HasSettled.{IsRegisterOf}
+use Rattle.registrar.specs.RegisterState.{RegisterState}
 use Rattle.settled_book.specs.SettledBookState.{SettledBookState}
 
 -- the book that is open, and has not failed
 abbrev pub working : Option SettledBookState → Option SettledBookState
 working None = None
 working (Some settled) = if settled.book.log.failed then None else Some settled
+
+-- the register of the book at hand, as far as it is settled
+abbrev pub register_in : Option SettledBookState → Option RegisterState
+register_in None = None
+register_in (Some settled) = settled.register
+
+-- the book is at hand, and all of its journal is settled
+abbrev pub IsAllSettled : Option SettledBookState → Type 0
+IsAllSettled at_hand = IsSomeAnd at_hand (λ settled. IsSomeAnd settled.register (IsRegisterOf settled.book.journal))
 
 -- An open book that works stands on the disk, which has this journal in every image.
 pub record IsOpenOn (settled : SettledBookState) (reads : List ℕ) (images : List ℕ → Type 0) (journal : List Receipt) : Type 0 where

@@ -11,5 +11,6 @@ pub mod LinkOrder
 pub mod Replies
 pub mod Served
 pub mod Serving
+pub mod Tools
 pub mod Turns
 pub mod inner

@@ -11,7 +11,7 @@ pub record ReplyParts : Type 0 where
 abbrev pub line_reply : ℕ → List ℕ → ReplyParts
 line_reply status words = record { status = status; body = words ++ codes "\n" }
 
--- to bytes that are no request; no further one is read behind it
+-- to bytes that are no request; no further one is read after it
 abbrev pub bad_request : ReplyParts
 bad_request = line_reply 400 (codes "bad request")
 
@@ -23,7 +23,7 @@ not_found = line_reply 404 (codes "not found")
 abbrev pub wrong_method : ReplyParts
 wrong_method = line_reply 405 (codes "method not allowed")
 
--- to a body of more than 65,536 bytes; no further request is read behind it
+-- to a body of more than 65,536 bytes; no further request is read after it
 abbrev pub body_too_long : ReplyParts
 body_too_long = line_reply 413 (codes "payload too large")
 
@@ -44,6 +44,6 @@ abbrev pub is_reply_status : ℕ → Bool
 is_reply_status n =
     n == 200 || n == 201 || n == 400 || n == 403 || n == 404 || n == 405 || n == 409 || n == 413 || n == 422 || n == 500 || n == 503 || n == 507
 
--- the bytes of replies, one behind another
+-- the bytes of replies, one after another
 abbrev pub bytes_of : List ReplyParts → List ℕ
 bytes_of replies = flat_map (λ reply. reply_bytes reply.status reply.body) replies

@@ -1,12 +1,12 @@
 -- What serving a connection does.
-use Rattle.std.specs.Prelude.{◌≡◌, ℕ, ◌&&◌, Bool, true, false, List, [], ◌∷◌, length, Option, All}
+use Rattle.std.specs.Prelude.{◌≡◌, ℕ, Bool, true, false, List, [], ◌∷◌, length, Option, All}
 use Rattle.std.specs.Io.KnownBytes.{Appends}
 use Rattle.std.specs.List.{list_all, list_any}
 use Rattle.gb_outside.specs.Faults.{Counts, Rose}
 use Rattle.act_model.specs.declared.receipts.Receipt.{Receipt}
 use Rattle.intake.specs.Requests.{Held}
-use Rattle.connections.specs.Answering.{AllBegin, LeavesOldThen, WritesGrown, may_call_disk, tells_of_file}
-use Rattle.connections.specs.Fates.{Failure, Fate, Answered, Failed, DiskFailed, NoJournal, NotBegun, OutOfMemory, has_disk_failed, has_opened, may_lack_memory}
+use Rattle.connections.specs.Answering.{AllBegin, LeavesOldThen, WritesBy, may_call_disk, tells_of_file}
+use Rattle.connections.specs.Fates.{Failure, Fate, Answered, Failed, DiskFailed, NoJournal, NotBegun, OutOfMemory, has_disk_failed, may_lack_memory}
 use Rattle.connections.specs.Served.{Connection, IsCutOff, IsLeftIn, IsOfTurns, IsUnwritten, IsWhole, held_by, replies_of, taken_of, unfailed, written_by}
 use Rattle.connections.specs.Turns.{Turn, Taken, Answering, Refusing, answer_in, calls_disk}
 use Rattle.connections.specs.declared.serving.Ended.{Ended}
@@ -48,11 +48,11 @@ abbrev pub CountsTurns : ℕ → List Taken → ℕ → Type 0
 CountsTurns before [] now = now ≡ before
 CountsTurns before (turn ∷ turns) now = (mid : ℕ) × Counts before mid (has_disk_failed (fate_of turn)) × CountsTurns mid turns now
 
--- Of the file the frame of each item that is received in these turns is written, or part of it, and no other byte; an unmade file is made before, as the format has it, or left.
+-- Of the file each of these turns writes what its fate says.
 abbrev pub WritesTurns : Held → List Taken → List ℕ → List ℕ → Type 0
 WritesTurns held [] file new = new ≡ file
 WritesTurns held (turn ∷ turns) file new =
-    (mid : List ℕ) × WritesGrown (has_opened (fate_of turn) && calls_disk turn) held.journal (answer_in held (unfailed turn)).held.journal file mid × WritesTurns (answer_in held turn).held turns mid new
+    (mid : List ℕ) × WritesBy (calls_disk turn) (fate_of turn) held.journal (answer_in held (unfailed turn)).held.journal file mid × WritesTurns (answer_in held turn).held turns mid new
 
 -- Each image begins with each journal that a text of these turns was read of, or an item received into, also where no memory was found for the words of the reply.
 abbrev pub AllTold : (List ℕ → Type 0) → Held → List Taken → Type 0

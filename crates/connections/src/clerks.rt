@@ -1,5 +1,5 @@
 //! The clerk, who answers requests and keeps the open book between them.
-ghost use Rattle.std.specs.Prelude.{◌≡◌, ◌≢◌, ◌⊎◌, ◌≤◌, ◌==◌, ◌+◌, List, Option, Some, None, length, IfOk, IfErr, IfSome, IsSome, OnErr, OnOk, IsTrue, is_ok, option_map, true, false};
+ghost use Rattle.std.specs.Prelude.{◌≡◌, ◌⊎◌, ◌≤◌, ◌==◌, ◌+◌, List, Option, Some, None, length, IfOk, IfErr, IfSome, IsSome, OnErr, OnOk, IsTrue, is_ok, option_map, true, false};
 ghost use Rattle.gb_base.specs.DayMinute.{DayMinute};
 ghost use Rattle.gb_outside.specs.Faults.{Counts};
 ghost use Rattle.gb_outside.specs.Images.{Only, Torn};
@@ -7,18 +7,18 @@ ghost use Rattle.act_json.specs.Lines.{item_of, longest_line};
 ghost use Rattle.act_model.specs.WellFormed.{well_formed};
 ghost use Rattle.act_model.specs.declared.receipts.Receipt.{Receipt};
 ghost use Rattle.intake.specs.Requests.{Held};
-ghost use Rattle.journal_disk.specs.Layout.{first_gate, the_heading, made_from, IsMade, IsUnmade};
-ghost use Rattle.journal_disk.specs.Opening.{AnswersSynced, IsKept};
+ghost use Rattle.journal_disk.specs.Layout.{first_gate, the_heading, IsMade};
+ghost use Rattle.journal_disk.specs.Opening.{AnswersSynced, IsKept, MakesUnmade};
 ghost use Rattle.receipt_journal.specs.Opening.{BookRefuses, book_opening_disk_failed};
 ghost use Rattle.receipt_journal.specs.Standing.{Stands, StandsForJournal};
-ghost use Rattle.registry_http.specs.Routes.{method_of};
 ghost use Rattle.registry_http.specs.declared.routes.Route.TheVariants.{Post};
 ghost use Rattle.registrar.specs.HasSettled.{IsRegisterOf};
-ghost use Rattle.connections.specs.Answering.{AnswersNone, AnswersRequest, IsFailure, LeavesOpen, OpensBook, OpensNone, SaysAsked, is_failed, is_refusal, may_call_disk, tells_of_journal};
+ghost use Rattle.connections.specs.Answering.{AnswersNone, AnswersRequest, AnswersTurn, AsksOnce, IsAsked, IsFailure, NoneOpened, OpensBook, OpensNone, SaysAsked, is_failed, is_refusal, may_call_disk, tells_of_journal};
 ghost use Rattle.connections.specs.Answers.{answer, body_answer, item_answer, only, read_reply};
 ghost use Rattle.connections.specs.Asking.{AskedFor};
-ghost use Rattle.connections.specs.Holding.{Holds, IsNoJournal, IsOpenOn, StandsForNone, StandsOpen, working};
+ghost use Rattle.connections.specs.Holding.{Holds, IsAllSettled, IsNoJournal, IsOpenOn, StandsForNone, StandsOpen, register_in, working};
 ghost use Rattle.connections.specs.Replies.{is_reply_status};
+ghost use Rattle.connections.specs.Tools.{tools};
 ghost use Rattle.connections.specs.inner.Ends.{EndsBy, Serves};
 ghost use Rattle.connections.specs.inner.Taking.{Finds};
 
@@ -40,7 +40,7 @@ use std::thread::Threads;
 /// call.
 #[derive(Drop)]
 pub struct Clerk {
-    /// None where none was opened yet or it could not be, and behind a request in which it failed.
+    /// None where none was opened yet or it could not be, and after a request in which it failed.
     book: Option<SettledBook>,
 }
 
@@ -69,7 +69,7 @@ impl Clerk {
         ensures stands_open { IsTrue D.tells → IfOk result (λ clerk. StandsOpen clerk (D.reads disk.new) (D.images disk.new)) }
         ensures journal { IsTrue D.tells → OnOk result ((journal : List Receipt) × StandsForJournal (D.reads disk.old) journal) }
         ensures refused { IsTrue D.tells → IfErr result (BookRefuses (D.reads disk.old)) }
-        ensures made { IsTrue D.tells → OnOk result (IsUnmade (D.reads disk.old) → D.reads disk.new ≡ made_from the_heading (D.reads disk.old)) }
+        ensures made { IsTrue D.tells → MakesUnmade (book_opening_disk_failed result) (D.reads disk.old) (D.reads disk.new) }
         ensures settled { OnOk result (IsTrue D.tells → Only (D.reads disk.new) (D.images disk.new)) }
         ensures kept { IsTrue D.tells → IsKept (D.reads disk.old) (D.reads disk.new) }
         ensures torn { IsTrue D.tells → Torn 0 (first_gate the_heading + 1) (D.reads disk.old) (D.reads disk.new) }
@@ -121,6 +121,7 @@ impl Clerk {
         ensures works { IfOk result (λ settled. settled.book.log.failed ≡ false) }
         ensures stands { IsTrue D.tells → IfOk result (λ settled. Stands settled.book (D.reads disk.new) (D.images disk.new)) }
         ensures taken { self.new ≡ None }
+        ensures register { IsSome (working self.old) → IfOk result (λ settled. settled.register ≡ register_in self.old) }
         ensures refused { IsTrue D.tells → IfErr result (BookRefuses (D.reads disk.old)) }
         ensures had_none { OnErr result (working self.old ≡ None) }
         ensures made { IsTrue D.tells → IsMade the_heading (D.reads disk.old) → IsMade the_heading (D.reads disk.new) }
@@ -146,6 +147,7 @@ impl Clerk {
         ensures unfound { IsTrue D.tells → working self.old ≡ None → StandsForNone (D.reads disk.old) → IsFailure result }
         ensures works { is_failed result ≡ false → IsSome (working self.new) }
         ensures untouched { IsSome (working self.old) → disk.new ≡ disk.old }
+        ensures settled { is_failed result ≡ false → IsAllSettled self.new }
     {
         let mut book = match self.take_book(alloc, disk) {
             Ok(book) => book,
@@ -173,9 +175,8 @@ impl Clerk {
         ensures late { is_refusal result ≡ false }
         ensures unfound { IsTrue D.tells → working self.old ≡ None → StandsForNone (D.reads disk.old) → IsFailure result }
         ensures works { is_failed result ≡ false → IsSome (working self.new) }
-        ensures clock { self.new ≡ None → clock.new ≡ clock.old }
-        ensures unopened { working self.new ≡ None → (result.status == 503) ≡ false → clock.new ≡ clock.old }
-        ensures opening { working self.old ≡ None → (clock.new ≡ clock.old) ⊎ OpensBook D.tells D.reads D.images D.faults disk.old }
+        ensures asked { NoneOpened result (tools disk.old self.old clock.old) (tools disk.new self.new clock.new) ⊎ IsAsked D.tells D.reads D.images D.faults C.ticks result (tools disk.old self.old clock.old) (tools disk.new self.new clock.new) }
+        ensures unread { IsSome (working self.old) → register_in self.new ≡ register_in self.old }
         ensures same_clock { IsTrue D.tells → working self.old ≡ None → StandsForNone (D.reads disk.old) → clock.new ≡ clock.old }
         ensures unreceived { IsSome (working self.old) → (result.status == 201) ≡ false → is_failed result ≡ false → disk.new ≡ disk.old }
     {
@@ -206,9 +207,8 @@ impl Clerk {
         ensures unfound { IsTrue D.tells → working self.old ≡ None → StandsForNone (D.reads disk.old) → is_ok (item_of body.now) ≡ true → IsFailure result }
         ensures works { is_ok (item_of body.now) ≡ true → is_failed result ≡ false → IsSome (working self.new) }
         ensures unreceived { IsSome (working self.old) → (result.status == 201) ≡ false → is_failed result ≡ false → disk.new ≡ disk.old }
-        ensures clock { self.new ≡ None → clock.new ≡ clock.old }
-        ensures unopened { working self.new ≡ None → (result.status == 503) ≡ false → clock.new ≡ clock.old }
-        ensures opening { working self.old ≡ None → (clock.new ≡ clock.old) ⊎ OpensBook D.tells D.reads D.images D.faults disk.old }
+        ensures asked { AsksOnce D.tells D.reads D.images D.faults C.ticks result (tools disk.old self.old clock.old) (tools disk.new self.new clock.new) }
+        ensures unread { IsSome (working self.old) → register_in self.new ≡ register_in self.old }
         ensures same_clock { IsTrue D.tells → working self.old ≡ None → StandsForNone (D.reads disk.old) → clock.new ≡ clock.old }
     {
         let (sender, reference, item) = match read_item(alloc, body) {
@@ -239,9 +239,10 @@ impl Clerk {
         ensures works { may_call_disk (AskedFor route) body.now ≡ true → is_failed result ≡ false → IsSome (working self.new) }
         ensures untouched { IsSome (working self.old) → (route ≡ Post → ⊥) → disk.new ≡ disk.old }
         ensures unreceived { IsSome (working self.old) → (result.status == 201) ≡ false → is_failed result ≡ false → disk.new ≡ disk.old }
-        ensures clock { self.new ≡ None → clock.new ≡ clock.old }
-        ensures unopened { working self.new ≡ None → (result.status == 503) ≡ false → clock.new ≡ clock.old }
-        ensures opening { working self.old ≡ None → (clock.new ≡ clock.old) ⊎ OpensBook D.tells D.reads D.images D.faults disk.old }
+        ensures read { (route ≡ Post → ⊥) → is_failed result ≡ false → IsAllSettled self.new }
+        ensures unread { route ≡ Post → IsSome (working self.old) → register_in self.new ≡ register_in self.old }
+        ensures clock_kept { (route ≡ Post → ⊥) → clock.new ≡ clock.old }
+        ensures asked { route ≡ Post → AsksOnce D.tells D.reads D.images D.faults C.ticks result (tools disk.old self.old clock.old) (tools disk.new self.new clock.new) }
         ensures same_clock { IsTrue D.tells → working self.old ≡ None → StandsForNone (D.reads disk.old) → clock.new ≡ clock.old }
     {
         match &route {
@@ -265,23 +266,15 @@ impl Clerk {
         ensures answers { IsTrue D.tells → (held : Held) → Holds self.old (D.reads disk.old) (D.images disk.old) (C.ticks clock.old) held
             → AnswersRequest D.reads D.images D.moment D.since disk.old disk.new request.now held result (Holds self.new (D.reads disk.new) (D.images disk.new) (C.ticks clock.new)) }
         ensures stands_open { IsTrue D.tells → StandsOpen self.new (D.reads disk.new) (D.images disk.new) }
-        ensures kept_open { IsSome (working self.old) → (result.status == 503) ≡ false → IsSome (working self.new) }
-        ensures left_open { LeavesOpen request.now result self.new }
-        ensures disk { Counts (D.faults disk.old) (D.faults disk.new) (result.status == 503) }
         ensures status { IsTrue (is_reply_status result.status) }
 
-        // What is refused by its method or by its body calls neither the disk nor the clock; and the
-        // clock is not asked where no book is there behind it, nor where the file stands for no journal,
-        // nor where an opening failed.
-        ensures apart { is_refusal result ≡ true → (self.new ≡ self.old) × (disk.new ≡ disk.old) × (clock.new ≡ clock.old) }
-        ensures clock { self.new ≡ None → clock.new ≡ clock.old }
-        ensures unopened { working self.new ≡ None → (result.status == 503) ≡ false → clock.new ≡ clock.old }
-        ensures opening { working self.old ≡ None → (clock.new ≡ clock.old) ⊎ OpensBook D.tells D.reads D.images D.faults disk.old }
-        ensures same_clock { IsTrue D.tells → working self.old ≡ None → StandsForNone (D.reads disk.old) → clock.new ≡ clock.old }
+        // What it did to the disk, the book and the clock, whatever the disk and the clock tell.
+        ensures turn { AnswersTurn D.tells D.reads D.images D.faults C.ticks request.now result (tools disk.old self.old clock.old) (tools disk.new self.new clock.new) }
 
-        // While a book works the disk is written only where an item is received, and called only for a POST.
-        ensures untouched { IsSome (working self.old) → request.now.method ≢ method_of Post → disk.new ≡ disk.old }
-        ensures unreceived { IsSome (working self.old) → (result.status == 201) ≡ false → is_failed result ≡ false → disk.new ≡ disk.old }
+        // What is refused by its method or by its body uses no tool, and the clock is not asked where
+        // the file stands for no journal.
+        ensures apart { is_refusal result ≡ true → (self.new ≡ self.old) × (disk.new ≡ disk.old) × (clock.new ≡ clock.old) }
+        ensures same_clock { IsTrue D.tells → working self.old ≡ None → StandsForNone (D.reads disk.old) → clock.new ≡ clock.old }
         ensures made { IsTrue D.tells → IsMade the_heading (D.reads disk.old) → IsMade the_heading (D.reads disk.new) }
 
         // Each answer about the file is by its standing, where a book had to be opened.

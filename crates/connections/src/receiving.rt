@@ -1,6 +1,8 @@
 //! An item is received, with the stamp of the clock.
 ghost use Rattle.std.specs.Prelude.{◌≡◌, false, Some, IsTrue};
+ghost use Rattle.gb_base.specs.DayMinute.{DayMinute};
 ghost use Rattle.gb_outside.specs.Faults.{Counts};
+ghost use Rattle.gb_outside.specs.Ticks.{Ticks};
 ghost use Rattle.act_model.specs.WellFormed.{well_formed};
 ghost use Rattle.journal_disk.specs.Layout.{the_heading, IsMade};
 ghost use Rattle.receipt_journal.specs.Receiving.{is_received, receiving_disk_failed};
@@ -33,6 +35,8 @@ pub(crate) fn receive<D: Disk, C: Clock>(
     ensures opened { result ≡ Received.MustReopen → ⊥ }
     ensures failed { book.new.book.log.failed ≡ receiving_disk_failed result }
     ensures stands { IsTrue D.tells → receiving_disk_failed result ≡ false → Stands book.new.book (D.reads disk.new) (D.images disk.new) }
+    ensures register { book.new.register ≡ book.old.register }
+    ensures asked { (stamp : DayMinute) × Ticks (C.ticks clock.old) (C.ticks clock.new) stamp }
     ensures untouched { is_received result ≡ false → receiving_disk_failed result ≡ false → disk.new ≡ disk.old }
     ensures made { IsTrue D.tells → IsMade the_heading (D.reads disk.old) → IsMade the_heading (D.reads disk.new) }
     ensures cause { Counts (D.faults disk.old) (D.faults disk.new) (receiving_disk_failed result) }

@@ -4,7 +4,7 @@ use Rattle.gb_outside.specs.Images.{Only, LeavesOnly}
 use Rattle.journal_disk.specs.LogState.{LogState}
 use Rattle.journal_disk.specs.FrameAt.{FrameAt}
 use Rattle.journal_disk.specs.Standing as standing
-use Rattle.journal_disk.specs.Layout.{the_heading, IsBody, IsUnmade, HasStanding, StandsFor, first_gate, end_of, frames_from}
+use Rattle.journal_disk.specs.Layout.{the_heading, IsBody, IsUnmade, HasStanding, StandsFor, first_gate, end_of, frames_from, made_from}
 use Rattle.journal_disk.specs.Appending.{StandsOn}
 use Rattle.journal_disk.specs.declared.faults.OpenFault.{OpenFault}
 use Rattle.journal_disk.specs.declared.faults.OpenFault.TheVariants.{Disk, NotJournal, BadRecord, Memory}
@@ -49,6 +49,10 @@ LogRefuses heading file Memory = Unit {0}
 pub record IsKept (file c : List ℕ) : Type 0 where
   pub same : (IsUnmade file → ⊥) → c ≡ file
   pub frames : (bodies : List (List ℕ)) → StandsFor the_heading file bodies → StandsFor the_heading c bodies
+
+-- An opening makes an unmade file, unless a call of the disk failed in it.
+abbrev pub MakesUnmade : Bool → List ℕ → List ℕ → Type 0
+MakesUnmade failed file new = failed ≡ false → IsUnmade file → new ≡ made_from the_heading file
 
 -- A sync comes before every write, though reads may come before it. Until it is done a stop leaves what it might have left before; from then on the file is kept.
 pub record SyncsFirst {D : Type 0} (reads : D → List ℕ) (images : D → List ℕ → Type 0) (moment : D → ℕ) (since : D → ℕ → List ℕ → Type 0) (old new : D) : Type 0 where

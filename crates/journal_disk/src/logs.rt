@@ -2,8 +2,8 @@
 ghost use Rattle.std.specs.Prelude.{◌≡◌, ◌↔◌, ◌+◌, ◌≤◌, ◌++◌, ◌^◌, [], ◌∷◌, ℕ, List, true, false, IsTrue, IfOk, IfErr, OnOk, length, drop};
 ghost use Rattle.gb_outside.specs.Faults.{Counts};
 ghost use Rattle.gb_outside.specs.Images.{Holds, Torn, Only, LeavesOnly};
-ghost use Rattle.journal_disk.specs.Layout.{the_heading, file_limit, frame_head, first_gate, made_from, appended, IsBody, IsUnmade};
-ghost use Rattle.journal_disk.specs.Opening.{opening_disk_failed, AreFramesTo, HasFramesAhead, LogOpens, LogRefuses, IsKept, AnswersSynced};
+ghost use Rattle.journal_disk.specs.Layout.{the_heading, file_limit, frame_head, first_gate, appended, IsBody};
+ghost use Rattle.journal_disk.specs.Opening.{opening_disk_failed, AreFramesTo, HasFramesAhead, LogOpens, LogRefuses, IsKept, MakesUnmade, AnswersSynced};
 ghost use Rattle.journal_disk.specs.Appending.{StandsOn, FramesWithOrWithout, append_failed, log_after};
 
 use crate::appending::write_frame;
@@ -43,7 +43,7 @@ impl Log {
         // The answer is by the file's standing.
         ensures opened { IsTrue D.tells → IfOk result (λ opened. LogOpens the_heading (D.reads disk.old) opened.0 opened.1.items (D.reads disk.new) (D.images disk.new)) }
         ensures works { IfOk result (λ opened. opened.0.failed ≡ false) }
-        ensures made { IsTrue D.tells → OnOk result (IsUnmade (D.reads disk.old) → D.reads disk.new ≡ made_from the_heading (D.reads disk.old)) }
+        ensures made { IsTrue D.tells → MakesUnmade (opening_disk_failed result) (D.reads disk.old) (D.reads disk.new) }
         ensures settled { OnOk result (IsTrue D.tells → Only (D.reads disk.new) (D.images disk.new)) }
         ensures refused { IsTrue D.tells → IfErr result (LogRefuses the_heading (D.reads disk.old)) }
         ensures kept { IsTrue D.tells → IsKept (D.reads disk.old) (D.reads disk.new) }
@@ -117,7 +117,7 @@ fn open_synced<D: Disk>(alloc: Global, disk: &mut D) -> Result<(Log, Vec<Frame>)
     ensures ahead { IfErr result (HasFramesAhead the_heading) }
     ensures opened { IsTrue D.tells → IfOk result (λ opened. LogOpens the_heading (D.reads disk.old) opened.0 opened.1.items (D.reads disk.new) (D.images disk.new)) }
     ensures works { IfOk result (λ opened. opened.0.failed ≡ false) }
-    ensures made { IsTrue D.tells → OnOk result (IsUnmade (D.reads disk.old) → D.reads disk.new ≡ made_from the_heading (D.reads disk.old)) }
+    ensures made { IsTrue D.tells → MakesUnmade (opening_disk_failed result) (D.reads disk.old) (D.reads disk.new) }
     ensures settled { OnOk result (IsTrue D.tells → Only (D.reads disk.new) (D.images disk.new)) }
     ensures refused { IsTrue D.tells → IfErr result (LogRefuses the_heading (D.reads disk.old)) }
     ensures any_moment { IsTrue D.tells → LeavesOnly D.moment D.since disk.old disk.new (IsKept (D.reads disk.old)) }

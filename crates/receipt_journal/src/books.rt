@@ -9,8 +9,8 @@ ghost use Rattle.act_model.specs.Receiving as journals;
 ghost use Rattle.act_model.specs.declared.items.Item.{Item};
 ghost use Rattle.act_codec.specs.Spelling.{longest_spelling, spelling};
 ghost use Rattle.act_codec.specs.Values.{IsReceipt};
-ghost use Rattle.journal_disk.specs.Layout.{the_heading, first_gate, IsBody, IsUnmade, made_from, appended};
-ghost use Rattle.journal_disk.specs.Opening.{IsKept, AnswersSynced};
+ghost use Rattle.journal_disk.specs.Layout.{the_heading, first_gate, IsBody, appended};
+ghost use Rattle.journal_disk.specs.Opening.{IsKept, MakesUnmade, AnswersSynced};
 ghost use Rattle.receipt_journal.specs.Standing.{AreRecordsTo, Stands};
 ghost use Rattle.receipt_journal.specs.Opening.{BookOpens, BookRefuses, book_opening_disk_failed};
 ghost use Rattle.receipt_journal.specs.Receiving.{in_journal, answer_on, is_received, receiving_disk_failed, Answers, journal_after, next_receipt, JournalWithOrWithout};
@@ -67,7 +67,7 @@ impl Book {
         // The answer is by the file's standing.
         ensures opened { IsTrue D.tells → IfOk result (λ book. BookOpens (D.reads disk.old) book (D.reads disk.new) (D.images disk.new)) }
         ensures works { IfOk result (λ book. book.log.failed ≡ false) }
-        ensures made { IsTrue D.tells → OnOk result (IsUnmade (D.reads disk.old) → D.reads disk.new ≡ made_from the_heading (D.reads disk.old)) }
+        ensures made { IsTrue D.tells → MakesUnmade (book_opening_disk_failed result) (D.reads disk.old) (D.reads disk.new) }
         ensures settled { OnOk result (IsTrue D.tells → Only (D.reads disk.new) (D.images disk.new)) }
         ensures refused { IsTrue D.tells → IfErr result (BookRefuses (D.reads disk.old)) }
         ensures kept { IsTrue D.tells → IsKept (D.reads disk.old) (D.reads disk.new) }

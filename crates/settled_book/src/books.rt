@@ -5,8 +5,8 @@ ghost use Rattle.gb_outside.specs.Faults.{Counts};
 ghost use Rattle.gb_outside.specs.Images.{Holds, Torn, Only, LeavesOnly};
 ghost use Rattle.act_model.specs.WellFormed.{well_formed};
 ghost use Rattle.act_codec.specs.Spelling.{spelling};
-ghost use Rattle.journal_disk.specs.Layout.{the_heading, first_gate, IsUnmade, made_from, appended};
-ghost use Rattle.journal_disk.specs.Opening.{IsKept, AnswersSynced};
+ghost use Rattle.journal_disk.specs.Layout.{the_heading, first_gate, appended};
+ghost use Rattle.journal_disk.specs.Opening.{IsKept, MakesUnmade, AnswersSynced};
 ghost use Rattle.receipt_journal.specs.Standing.{AreRecordsTo, Stands};
 ghost use Rattle.receipt_journal.specs.Opening.{BookOpens, BookRefuses, book_opening_disk_failed};
 ghost use Rattle.receipt_journal.specs.Receiving.{answer_on, is_received, receiving_disk_failed, Answers, journal_after, next_receipt, JournalWithOrWithout};
@@ -58,7 +58,7 @@ impl SettledBook {
         // The answer is by the file's standing.
         ensures opened { IsTrue D.tells → IfOk result (λ settled. BookOpens (D.reads disk.old) settled.book (D.reads disk.new) (D.images disk.new)) }
         ensures works { IfOk result (λ settled. settled.book.log.failed ≡ false) }
-        ensures made { IsTrue D.tells → OnOk result (IsUnmade (D.reads disk.old) → D.reads disk.new ≡ made_from the_heading (D.reads disk.old)) }
+        ensures made { IsTrue D.tells → MakesUnmade (book_opening_disk_failed result) (D.reads disk.old) (D.reads disk.new) }
         ensures settled { OnOk result (IsTrue D.tells → Only (D.reads disk.new) (D.images disk.new)) }
         ensures refused { IsTrue D.tells → IfErr result (BookRefuses (D.reads disk.old)) }
         ensures kept { IsTrue D.tells → IsKept (D.reads disk.old) (D.reads disk.new) }

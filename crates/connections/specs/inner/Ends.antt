@@ -1,14 +1,14 @@
 -- How answering a request ends.
-use Rattle.std.specs.Prelude.{◌≡◌, ℕ, ◌==◌, ◌&&◌, Bool, true, false, List, Option, None, IsSome, IsTrue}
+use Rattle.std.specs.Prelude.{◌≡◌, ℕ, ◌==◌, Bool, true, false, List, Option, None, IsSome, IsTrue}
 use Rattle.gb_base.specs.DayMinute.{DayMinute}
 use Rattle.gb_outside.specs.Faults.{Counts}
 use Rattle.journal_disk.specs.Layout.{the_heading, IsMade}
 use Rattle.intake.specs.Grown.{GrownFrom}
 use Rattle.intake.specs.Requests.{Held}
 use Rattle.settled_book.specs.SettledBookState.{SettledBookState}
-use Rattle.connections.specs.Answering.{LeavesOldThen, OpensNone, WritesGrown, tells_of_file, tells_of_journal}
+use Rattle.connections.specs.Answering.{LeavesOldThen, OpensNone, WritesBy, tells_of_file, tells_of_journal}
 use Rattle.connections.specs.Answers.{Answer}
-use Rattle.connections.specs.Fates.{Fate, answer_by, has_opened, may_lack_memory}
+use Rattle.connections.specs.Fates.{Fate, answer_by, may_lack_memory}
 use Rattle.connections.specs.Holding.{Holds, IsNoJournal, StandsForNone, StandsOpen, working}
 use Rattle.connections.specs.Replies.{ReplyParts, is_reply_status}
 
@@ -20,7 +20,7 @@ pub record EndsBy {D : Type 0} (reads : D → List ℕ) (images : D → List ℕ
   pub memory : may_lack_memory fate wanted.reply ≡ true
   pub holds : Holds at_hand (reads new) (images new) known (answer_by fate held wanted).held
   pub left : LeavesOldThen images moment since old new (GrownFrom held.journal wanted.held.journal)
-  pub written : WritesGrown (has_opened fate && calls) held.journal wanted.held.journal (reads old) (reads new)
+  pub written : WritesBy calls fate held.journal wanted.held.journal (reads old) (reads new)
   pub works : tells_of_file fate reply ≡ true → IsSome (working at_hand)
 
 -- What a reply is by the book and the disk alone, whatever is held.

@@ -1,5 +1,5 @@
 -- What is done for a reply: a route is found, a book is taken, and an item is received.
-use Rattle.std.specs.Prelude.{◌≡◌, ◌⊎◌, ℕ, Bool, true, false, List, Option, Some, Result, IfOk, is_ok}
+use Rattle.std.specs.Prelude.{◌≡◌, ◌⊎◌, ℕ, Bool, true, false, List, Option, Some, Result, Ok, Err, IfOk}
 use Rattle.gb_base.specs.DayMinute.{DayMinute}
 use Rattle.gb_outside.specs.Images.{LeavesOnly}
 use Rattle.act_json.specs.declared.lines.LineFault.{LineFault}
@@ -18,9 +18,9 @@ use Rattle.intake_requests.specs.declared.requests.SenderReference.{SenderRefere
 use Rattle.registry_http.specs.declared.finding.RouteFault.{RouteFault}
 use Rattle.registry_http.specs.declared.finding.RouteFault.TheVariants as routing
 use Rattle.settled_book.specs.SettledBookState.{SettledBookState}
-use Rattle.connections.specs.Answering.{LeavesOldThen, WritesGrown}
-use Rattle.connections.specs.Answers.{item_answer, item_reply, malformed, received_by_clock}
-use Rattle.connections.specs.Fates.{Failure, DiskFailed, NoJournal, OutOfMemory, failure_reply}
+use Rattle.connections.specs.Answering.{LeavesOldThen, WritesBy}
+use Rattle.connections.specs.Answers.{item_answer, item_reply, malformed, received_by_clock, status_of}
+use Rattle.connections.specs.Fates.{Fate, Answered, Failed, Failure, DiskFailed, NoJournal, OutOfMemory, NotBegun, failure_reply, is_numbered}
 use Rattle.connections.specs.Holding.{IsOpenOn}
 use Rattle.connections.specs.Replies.{ReplyParts, disk_failed, not_found, out_of_memory, wrong_method}
 
@@ -45,11 +45,16 @@ failure_of fault.Memory = OutOfMemory
 abbrev pub opening_reply : BookFault → ReplyParts
 opening_reply f = failure_reply (failure_of f)
 
+-- the fate of a request that takes a book, so far
+abbrev pub fate_of : Result SettledBookState BookFault → Fate
+fate_of (Ok settled) = Answered
+fate_of (Err f) = Failed (failure_of f) NotBegun
+
 -- A book was taken, or none was opened, of a file that stood for this journal: it stands for it still, and a stop leaves what it might have left before or, from some moment on, nothing but a file that does.
 pub record Finds {D : Type 0} (reads : D → List ℕ) (images : D → List ℕ → Type 0) (moment : D → ℕ) (since : D → ℕ → List ℕ → Type 0) (old new : D) (journal : List Receipt) (taken : Result SettledBookState BookFault) : Type 0 where
   pub file : StandsForJournal (reads new) journal
   pub left : LeavesOldThen images moment since old new (λ file. StandsForJournal file journal)
-  pub written : WritesGrown (is_ok taken) journal journal (reads old) (reads new)
+  pub written : WritesBy true (fate_of taken) journal journal (reads old) (reads new)
   pub there : IfOk taken (λ settled. IsOpenOn settled (reads new) (images new) journal)
 
 -- ---- an item is received
@@ -66,6 +71,7 @@ pub record Receives {D : Type 0} (reads : D → List ℕ) (images : D → List �
   pub same : (item_answer held from item).held.journal ≡ held.journal → reads new ≡ reads old
   pub answered : is_fault answer ≡ false → IsOpenOn settled (reads new) (images new) (item_answer held from item).held.journal
   pub unreceived : answer ≡ answers.Memory → IsOpenOn settled (reads new) (images new) held.journal
+  pub unwritten : answer ≡ answers.Memory → reads new ≡ reads old
 
 -- the reply to an item by its answer
 abbrev pub received_reply : Received → ReplyParts
@@ -77,19 +83,9 @@ received_reply answers.Disk = disk_failed
 received_reply answers.MustReopen = disk_failed
 received_reply answers.Memory = out_of_memory
 
--- the words of its reply have a number, and so want memory
-abbrev pub has_number : Received → Bool
-has_number (answers.Accepted n) = true
-has_number (answers.Repeated n) = true
-has_number (answers.Differs n) = true
-has_number answers.Full = false
-has_number answers.Disk = false
-has_number answers.MustReopen = false
-has_number answers.Memory = false
-
 -- the reply is that of the answer, or says that no memory was found for its words
 abbrev pub IsReplyTo : Received → ReplyParts → Type 0
-IsReplyTo answer reply = (reply ≡ received_reply answer) ⊎ ((has_number answer ≡ true) × (reply ≡ out_of_memory))
+IsReplyTo answer reply = (reply ≡ received_reply answer) ⊎ ((is_numbered (status_of answer) ≡ true) × (reply ≡ out_of_memory))
 
 -- the words of its reply name a path, and so want memory
 abbrev pub has_path : LineFault → Bool
