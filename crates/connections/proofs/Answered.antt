@@ -1,5 +1,5 @@
 -- A request is answered: what it asks for, and how answering it ends.
-use Rattle.std.proofs.Common.{◌≡◌, ◌≤◌, Bool, true, false, ◌&&◌, ◌||◌, ⊎_elim, ℕ, List, Option, Some, None, IsSome, IfSome, refl, sym, ◌∙◌, ap, subst}
+use Rattle.std.proofs.Common.{◌≡◌, ◌≤◌, Bool, true, false, ◌||◌, ⊎_elim, ℕ, List, Option, Some, None, IsSome, IfSome, refl, sym, ◌∙◌, ap, subst}
 use Rattle.std.proofs.lemmas.Bool.{cases_Bool}
 use Rattle.gb_base.specs.DayMinute.{DayMinute}
 use Rattle.act_model.specs.declared.receipts.Receipt.{Receipt}
@@ -11,10 +11,10 @@ use Rattle.receipt_journal.specs.Standing.{StandsForJournal}
 use Rattle.receipt_journal.proofs.Standings.{journal_once}
 use Rattle.registry_http.specs.RequestParts.{RequestParts}
 use Rattle.settled_book.specs.SettledBookState.{SettledBookState}
-use Rattle.connections.specs.Answering.{AllBegin, AnswersRequest, SaysAsked, WritesGrown, is_from_disk, may_call_disk, tells_of_file}
+use Rattle.connections.specs.Answering.{AllBegin, AnswersRequest, SaysAsked, WritesBy, is_from_disk, may_call_disk, tells_of_file}
 use Rattle.connections.specs.Answers.{Answer, answer}
 use Rattle.connections.specs.Asking.{Asked, Asks}
-use Rattle.connections.specs.Fates.{Fate, Answered, Failed, OutOfMemory, NotBegun, Stamped, Received, answer_by, has_opened, is_apart, lacks_words, may_lack_memory}
+use Rattle.connections.specs.Fates.{Fate, Answered, Failed, OutOfMemory, NotBegun, Stamped, Received, answer_by, is_apart, lacks_words, may_lack_memory}
 use Rattle.connections.specs.Holding.{Begins, Holds, IsOpenOn, working}
 use Rattle.connections.specs.Replies.{ReplyParts}
 use Rattle.connections.specs.inner.Ends as ends
@@ -36,11 +36,10 @@ left_held (Failed failure NotBegun) held wanted same = refl
 left_held (Failed failure Stamped) held wanted same = ap (λ (h : Held). holding held.journal h.ticks) same
 left_held (Failed failure Received) held wanted same = same
 
-and_none : (a b called : Bool) → called ≡ false → (a && called) ≡ (b && called)
-and_none true true called is = refl
-and_none true false called is = is
-and_none false true called is = sym is
-and_none false false called is = refl
+-- where the disk is not called, each fate writes nothing
+writes_so : (calls : Bool) (came fate : Fate) (from to : List Receipt) (file new : List ℕ) → calls ≡ false → WritesBy calls came from to file new → WritesBy calls fate from to file new
+writes_so false came fate from to file new uncalled writes = writes
+writes_so true came fate from to file new uncalled writes = absurd cc
 
 or_told : (b told : Bool) → told ≡ true → (b || told) ≡ true
 or_told true told is = refl
@@ -54,18 +53,18 @@ record Became (held : Held) (body : List ℕ) (asked : Asked) (reply : ReplyPart
   pub apart : may_call_disk asked body ≡ false → is_apart fate ≡ true
   pub memory : may_lack_memory fate (answer held body asked).reply ≡ true
   pub tells : tells_of_file fate reply ≡ true → tells_of_file came reply ≡ true
-  pub opened : (has_opened fate && may_call_disk asked body) ≡ (has_opened came && may_call_disk asked body)
+  pub writes : (from to : List Receipt) (file new : List ℕ) → WritesBy (may_call_disk asked body) came from to file new → WritesBy (may_call_disk asked body) fate from to file new
 
 -- where the disk is not called, its reply says what became of it
 became : (held : Held) (body : List ℕ) (asked : Asked) (reply : ReplyParts) (HoldsNow : Held → Type 0) (fate : Fate) → may_lack_memory fate (answer held body asked).reply ≡ true → (may_call_disk asked body ≡ false → SaysAsked body asked reply)
     → reply ≡ (answer_by fate held (answer held body asked)).reply → HoldsNow (answer_by fate held (answer held body asked)).held → Became held body asked reply HoldsNow fate
 became held body asked reply HoldsNow fate lacks_it says is holds = ⊎_elim
-    (λ (calls : may_call_disk asked body ≡ true). record { fate = fate; reply_is = is; holds = holds; apart = λ uncalled. never_true (may_call_disk asked body) _ uncalled calls; memory = lacks_it; tells = λ told. told; opened = refl })
+    (λ (calls : may_call_disk asked body ≡ true). record { fate = fate; reply_is = is; holds = holds; apart = λ uncalled. never_true (may_call_disk asked body) _ uncalled calls; memory = lacks_it; tells = λ told. told; writes = λ from to file new writes. writes })
     (λ (uncalled : may_call_disk asked body ≡ false).
     let same = uncalled_held held body asked uncalled in
     let left = left_held fate held (answer held body asked) same in ⊎_elim
-    (λ as_asked. record { fate = Answered; reply_is = as_asked held; holds = subst HoldsNow (left ∙ sym same) holds; apart = λ again. refl; memory = refl; tells = λ told. or_told (lacks_words fate) (is_from_disk reply) told; opened = and_none true (has_opened fate) (may_call_disk asked body) uncalled })
-    (λ lacks. record { fate = Failed OutOfMemory NotBegun; reply_is = lacks; holds = subst HoldsNow left holds; apart = λ again. refl; memory = refl; tells = λ told. or_told (lacks_words fate) (is_from_disk reply) told; opened = and_none false (has_opened fate) (may_call_disk asked body) uncalled })
+    (λ as_asked. record { fate = Answered; reply_is = as_asked held; holds = subst HoldsNow (left ∙ sym same) holds; apart = λ again. refl; memory = refl; tells = λ told. or_told (lacks_words fate) (is_from_disk reply) told; writes = λ from to file new writes. writes_so (may_call_disk asked body) fate Answered from to file new uncalled writes })
+    (λ lacks. record { fate = Failed OutOfMemory NotBegun; reply_is = lacks; holds = subst HoldsNow left holds; apart = λ again. refl; memory = refl; tells = λ told. or_told (lacks_words fate) (is_from_disk reply) told; writes = λ from to file new writes. writes_so (may_call_disk asked body) fate (Failed OutOfMemory NotBegun) from to file new uncalled writes })
     (says uncalled))
     (cases_Bool (may_call_disk asked body))
 
@@ -94,7 +93,7 @@ module _ {D : Type 0} (reads : D → List ℕ) (images : D → List ℕ → Type
         apart = is.apart;
         memory = is.memory;
         left = end.left;
-        written = subst (λ b. WritesGrown b held.journal (answer held request.body asked).held.journal (reads old) (reads new)) (sym is.opened) end.written;
+        written = is.writes held.journal (answer held request.body asked).held.journal (reads old) (reads new) end.written;
         kept = λ front all file now.
             ⊎_elim (λ before. all file before)
             (λ grown. begins_by front held.journal (answer held request.body asked).held.journal file (front_held front held.journal stands all) grown)

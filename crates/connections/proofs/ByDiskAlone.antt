@@ -1,5 +1,5 @@
 -- What a reply is by the book and the disk alone.
-use Rattle.std.proofs.Common.{◌≡◌, inl, inr, ℕ, ◌==◌, Bool, true, false, List, Option, Some, None, Err, IfSome, IsSome, refl, sym, ◌∙◌, ap, subst, IsTrue, arith, eq-eqb}
+use Rattle.std.proofs.Common.{◌≡◌, ◌⊎◌, inl, inr, ℕ, ◌==◌, Bool, true, false, List, Option, Some, None, Err, IfSome, IsSome, refl, sym, ◌∙◌, ap, subst, IsTrue, arith, eq-eqb}
 use Rattle.std.proofs.lemmas.Bool.{or_parts}
 use Rattle.gb_outside.specs.Faults.{Counts}
 use Rattle.act_model.specs.declared.receipts.Receipt.{Receipt}
@@ -14,11 +14,11 @@ use Rattle.receipt_journal.specs.declared.received.Received.TheVariants as answe
 use Rattle.settled_book.specs.SettledBookState.{SettledBookState}
 use Rattle.connections.specs.Answering.{IsFailure, OpensNone, is_failed, is_refusal, tells_of_journal}
 use Rattle.connections.specs.Answers.{status_of}
-use Rattle.connections.specs.Fates.{Failure, DiskFailed, NoJournal, OutOfMemory, failure_reply}
+use Rattle.connections.specs.Fates.{Failure, DiskFailed, NoJournal, OutOfMemory, failure_reply, is_numbered}
 use Rattle.connections.specs.Holding.{StandsForNone, StandsOpen, working}
 use Rattle.connections.specs.Replies.{ReplyParts, is_reply_status, out_of_memory}
 use Rattle.connections.specs.inner.Ends.{Serves}
-use Rattle.connections.specs.inner.Taking.{IsReplyTo, has_number, opening_reply, received_reply}
+use Rattle.connections.specs.inner.Taking.{IsReplyTo, opening_reply, received_reply}
 use Rattle.connections.proofs.EndsBy.{never_true}
 use Rattle.connections.proofs.NoBook.{none_still}
 use Rattle.connections.proofs.TakenBooks.{failed_is, to_working}
@@ -34,6 +34,11 @@ counts_still count = record { never_falls = omega arith; failed_rose = λ failed
 
 pub none_open : (at_hand : Option SettledBookState) (P : Type 0) → at_hand ≡ None → IsSome at_hand → P
 none_open at_hand P none some = let never : IsSome {T = SettledBookState} None = subst (λ (o : Option SettledBookState). IsSome o) none some in absurd cc
+
+-- a book is open, or none
+pub some_or : (at_hand : Option SettledBookState) (P : Type 0) → (at_hand ≡ None → P) → IsSome at_hand ⊎ P
+some_or None P none = inr (none refl)
+some_or (Some settled) P none = inl refl
 
 module _ {D : Type 0} (tells : Bool) (reads : D → List ℕ) (images : D → List ℕ → Type 0) (moment : D → ℕ) (since : D → ℕ → List ℕ → Type 0) (faults : D → ℕ) (old new : D) (book : Option SettledBookState) where
   abbrev Answers : Option SettledBookState → ReplyParts → Type 0
@@ -138,7 +143,7 @@ status_by answers.Disk opened = record { disk = refl; no_journal = refl; known =
 status_by answers.MustReopen opened = absurd (opened refl)
 status_by answers.Memory opened = record { disk = refl; no_journal = refl; known = refl; late = refl }
 
-no_disk : (answer : Received) → has_number answer ≡ true → HasStatus out_of_memory (receiving_disk_failed answer)
+no_disk : (answer : Received) → is_numbered (status_of answer) ≡ true → HasStatus out_of_memory (receiving_disk_failed answer)
 no_disk (answers.Accepted n) number = record { disk = refl; no_journal = refl; known = refl; late = refl }
 no_disk (answers.Repeated n) number = record { disk = refl; no_journal = refl; known = refl; late = refl }
 no_disk (answers.Differs n) number = record { disk = refl; no_journal = refl; known = refl; late = refl }

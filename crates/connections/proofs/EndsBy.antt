@@ -7,13 +7,12 @@ use Rattle.intake.specs.Requests.{Held}
 use Rattle.intake.proofs.Durable.{front_refl}
 use Rattle.receipt_journal.specs.Standing.{StandsForJournal}
 use Rattle.settled_book.specs.SettledBookState.{SettledBookState}
-use Rattle.connections.specs.Answering.{LeavesOldThen, WritesGrown, is_from_disk, tells_of_file}
+use Rattle.connections.specs.Answering.{LeavesOldThen, WritesBy, is_from_disk, tells_of_file}
 use Rattle.connections.specs.Answers.{Answer, only}
 use Rattle.connections.specs.Fates.{Failure, DiskFailed, NoJournal, OutOfMemory, Answered, Failed, NotBegun, failure_reply, may_lack_memory}
 use Rattle.connections.specs.Holding.{Holds, working}
 use Rattle.connections.specs.Replies.{ReplyParts}
 use Rattle.connections.specs.inner.Ends as ends
-use Rattle.connections.proofs.GrownWrites.{writes_wider}
 use Rattle.connections.proofs.LeftThen.{then_still, then_weakened}
 
 -- a file that stands for the journal that was held has grown by nothing
@@ -52,7 +51,7 @@ module _ {D : Type 0} (reads : D → List ℕ) (images : D → List ℕ → Type
 
   -- it is answered by this, which leaves what is held
   pub ends_only : (old new : D) (calls : Bool) (held : Held) (reply : ReplyParts) (at_hand : Option SettledBookState) (known : Option (List DayMinute))
-      → Holds at_hand (reads new) (images new) known held → LeavesHeld old new held.journal → WritesGrown calls held.journal held.journal (reads old) (reads new) → (is_from_disk reply ≡ true → IsSome (working at_hand))
+      → Holds at_hand (reads new) (images new) known held → LeavesHeld old new held.journal → WritesBy calls Answered held.journal held.journal (reads old) (reads new) → (is_from_disk reply ≡ true → IsSome (working at_hand))
       → ends.EndsBy reads images moment since old new calls held (only held reply) reply at_hand known
   ends_only old new calls held reply at_hand known holds left written works = record {
     fate = Answered;
@@ -65,15 +64,15 @@ module _ {D : Type 0} (reads : D → List ℕ) (images : D → List ℕ → Type
   }
 
   -- something failed in it ahead of its receipt
-  pub ends_failed : (old new : D) (calls opened : Bool) (held : Held) (wanted : Answer) (failure : Failure) (reply : ReplyParts) (at_hand : Option SettledBookState) (known : Option (List DayMinute))
-      → reply ≡ failure_reply failure → Holds at_hand (reads new) (images new) known held → LeavesHeld old new held.journal → WritesGrown opened held.journal held.journal (reads old) (reads new) → IsFront held.journal wanted.held.journal
+  pub ends_failed : (old new : D) (calls : Bool) (held : Held) (wanted : Answer) (failure : Failure) (reply : ReplyParts) (at_hand : Option SettledBookState) (known : Option (List DayMinute))
+      → reply ≡ failure_reply failure → Holds at_hand (reads new) (images new) known held → LeavesHeld old new held.journal → WritesBy calls (Failed failure NotBegun) held.journal wanted.held.journal (reads old) (reads new) → IsFront held.journal wanted.held.journal
       → ends.EndsBy reads images moment since old new calls held wanted reply at_hand known
-  ends_failed old new calls opened held wanted failure reply at_hand known is holds left written front = record {
+  ends_failed old new calls held wanted failure reply at_hand known is holds left written front = record {
     fate = Failed failure NotBegun;
     reply_is = is;
     memory = unbegun_lacks failure wanted.reply;
     holds = holds;
     left = leaves_grown old new held.journal wanted.held.journal front left;
-    written = writes_wider opened held.journal wanted.held.journal (reads old) (reads new) written;
+    written = written;
     works = λ tells. never_true (tells_of_file (Failed failure NotBegun) reply) _ (ap (λ (r : ReplyParts). tells_of_file (Failed failure NotBegun) r) is ∙ failed_tells_none failure) tells;
   }

@@ -10,15 +10,15 @@ use Rattle.receipt_journal.specs.Standing.{StandsForJournal}
 use Rattle.receipt_journal.specs.declared.received.Received.{Received}
 use Rattle.receipt_journal.specs.declared.received.Received.TheVariants as answers
 use Rattle.settled_book.specs.SettledBookState.{SettledBookState}
-use Rattle.connections.specs.Answering.{LeavesOldThen, WritesGrown, is_from_disk}
+use Rattle.connections.specs.Answering.{IsOpened, LeavesOldThen, WritesGrown, is_from_disk}
 use Rattle.connections.specs.Answers.{item_answer, item_reply, received_by_clock, status_of}
 use Rattle.connections.specs.Fates.{DiskFailed, OutOfMemory, Answered, Failed, Received as IsReceived, Stamped, is_numbered}
 use Rattle.connections.specs.Holding.{Holds, IsOpenOn, working}
 use Rattle.connections.specs.Replies.{ReplyParts}
 use Rattle.connections.specs.inner.Ends as ends
-use Rattle.connections.specs.inner.Taking.{IsReplyTo, Receives, has_number, received_reply}
+use Rattle.connections.specs.inner.Taking.{IsReplyTo, Receives, received_reply}
 use Rattle.connections.proofs.EndsBy.{LeavesHeld, leaves_grown, not_from_disk}
-use Rattle.connections.proofs.GrownWrites.{writes_then}
+use Rattle.connections.proofs.GrownWrites.{opened_by, writes_then}
 use Rattle.connections.proofs.Grows.{item_grows}
 use Rattle.connections.proofs.LeftThen.{then_only}
 use Rattle.connections.proofs.ReceivedItems.{no_disk_failed}
@@ -44,16 +44,7 @@ holds_failed settled reads images known held failed clock stands = record {
 pub some_works : (settled : SettledBookState) → settled.book.log.failed ≡ false → IsSome (working (Some settled))
 some_works settled works = ap is_some (works_is settled works)
 
--- ---- which answers may have no memory for their words, or for their receipt
-
-number_said : (answer : Received) → has_number answer ≡ true → is_numbered (status_of answer) ≡ true
-number_said (answers.Accepted n) number = refl
-number_said (answers.Repeated n) number = refl
-number_said (answers.Differs n) number = refl
-number_said answers.Full number = absurd cc
-number_said answers.Disk number = absurd cc
-number_said answers.MustReopen number = absurd cc
-number_said answers.Memory number = absurd cc
+-- ---- which answers may have no memory for their receipt
 
 accepted_said : (answer : Received) → is_received answer ≡ true → (status_of answer == 201) ≡ true
 accepted_said (answers.Accepted n) accepted = refl
@@ -66,7 +57,7 @@ accepted_said answers.Memory accepted = absurd cc
 
 module _ {D : Type 0} (reads : D → List ℕ) (images : D → List ℕ → Type 0) (moment : D → ℕ) (since : D → ℕ → List ℕ → Type 0) (old mid new : D) (image : images new (reads new))
     (held : Held) (from : SenderReference) (item : Item) (reply : ReplyParts) (settled : SettledBookState) (known : Option (List DayMinute)) (first : LeavesHeld reads images moment since old mid held.journal)
-    (opened : WritesGrown true held.journal held.journal (reads old) (reads mid)) where
+    (opened : WritesGrown held.journal held.journal (reads old) (reads mid)) where
   abbrev IsEnd : Type 0
   IsEnd = ends.EndsBy reads images moment since old new true held (item_answer held from item) reply (Some settled) known
 
@@ -77,7 +68,7 @@ module _ {D : Type 0} (reads : D → List ℕ) (images : D → List ℕ → Type
   left_by answer takes = then_only images moment since old mid new (GrownFrom held.journal (item_answer held from item).held.journal)
       (leaves_grown reads images moment since old mid held.journal (item_answer held from item).held.journal (item_grows held from item) first) takes.left
 
-  written_by : (answer : Received) → IsTaken answer → WritesGrown true held.journal (item_answer held from item).held.journal (reads old) (reads new)
+  written_by : (answer : Received) → IsTaken answer → WritesGrown held.journal (item_answer held from item).held.journal (reads old) (reads new)
   written_by answer takes = writes_then held.journal (item_answer held from item).held.journal (reads old) (reads mid) (reads new) opened takes.written takes.same
 
   -- an answer that is no fault
@@ -94,7 +85,7 @@ module _ {D : Type 0} (reads : D → List ℕ) (images : D → List ℕ → Type
   answered answer takes sound same failed (inr (number, is)) = record {
     fate = Failed OutOfMemory IsReceived;
     reply_is = is;
-    memory = ap (λ (a : Received). is_numbered (status_of a)) (sym (takes.expected sound)) ∙ number_said answer number;
+    memory = ap (λ (a : Received). is_numbered (status_of a)) (sym (takes.expected sound)) ∙ number;
     holds = holds_open settled (reads new) (images new) known (item_answer held from item).held image takes.clock (takes.answered sound);
     left = left_by answer takes;
     written = written_by answer takes;
@@ -108,7 +99,7 @@ module _ {D : Type 0} (reads : D → List ℕ) (images : D → List ℕ → Type
     reply_is = is;
     holds = holds_open settled (reads new) (images new) known (holding held.journal (item_answer held from item).held.ticks) image takes.clock (takes.unreceived refl);
     left = left_by answers.Memory takes;
-    written = written_by answers.Memory takes;
+    written = subst (IsOpened (reads old)) (sym (takes.unwritten refl)) (opened_by held.journal (reads old) (reads mid) opened);
     works = λ tells. not_from_disk reply _ (ap is_from_disk is) tells;
   }
   wants_memory takes (inr (number, is)) = let never : false ≡ true = number in absurd cc

@@ -131,6 +131,7 @@ module _ {D : Type 0} (reads : D → List ℕ) (images : D → List ℕ → Type
         answered = λ sound. open_on journal _ keepable here receipts
             (receipts ∙ ap (journal_after journal stamp from.sender from.reference item) (answer_expected (expected journal) answer answers_it sound) ∙ sym at.journal) (no_disk_failed answer sound);
         unreceived = λ memory. open_on journal journal keepable here receipts (receipts ∙ ap (journal_after journal stamp from.sender from.reference item) memory) (ap receiving_disk_failed memory);
+        unwritten = λ memory. ap reads (untouched (ap is_received memory) (ap receiving_disk_failed memory));
       }
 
   pub receives : (before : SettledBookState) (held : Held) (known0 known1 : Option (List DayMinute)) → known0 ≡ Some held.ticks → Ticks known0 known1 stamp

@@ -1,23 +1,24 @@
 -- What taking the book finds, whether it is at hand or has to be opened.
-use Rattle.std.proofs.Common.{◌+◌, ◌≡◌, inl, inr, ⊎_elim, ℕ, Bool, true, false, cond, List, Option, Some, None, Result, Ok, Err, IfOk, IfSome, IsTrue, OnOk, is_ok, refl, subst}
+use Rattle.std.proofs.Common.{◌+◌, ◌≡◌, inl, inr, ⊎_elim, ℕ, Bool, true, false, cond, List, [], Option, Some, None, Result, Ok, Err, IfErr, IfOk, IfSome, IsTrue, OnOk, refl, subst}
 use Rattle.gb_outside.specs.Faults.{Counts}
 use Rattle.gb_outside.specs.Images.{Torn}
 use Rattle.gb_outside.proofs.Moments.{weakened}
 use Rattle.act_model.specs.declared.receipts.Receipt.{Receipt}
-use Rattle.journal_disk.specs.Layout.{the_heading, IsUnmade, first_gate, made_from}
-use Rattle.journal_disk.specs.Opening.{AnswersSynced, IsKept, SyncsFirst}
+use Rattle.journal_disk.specs.Layout.{the_heading, first_gate}
+use Rattle.journal_disk.specs.Opening.{AnswersSynced, IsKept, MakesUnmade, SyncsFirst}
 use Rattle.intake.specs.Grown.{IsDurable}
 use Rattle.intake.proofs.Durable.{durable_stands}
-use Rattle.receipt_journal.specs.Opening.{BookOpens, book_opening_disk_failed}
+use Rattle.receipt_journal.specs.Opening.{BookOpens, BookRefuses, book_opening_disk_failed}
 use Rattle.receipt_journal.specs.Standing.{AreRecordsTo, StandsForJournal, records}
 use Rattle.receipt_journal.specs.declared.faults.BookFault.{BookFault}
-use Rattle.receipt_journal.proofs.Standings.{journal_once, kept_frames, stands_by_frames}
+use Rattle.receipt_journal.specs.declared.faults.BookFault.TheVariants as fault
+use Rattle.receipt_journal.proofs.Standings.{journal_once, kept_frames, not_both, stands_by_frames}
 use Rattle.settled_book.specs.SettledBookState.{SettledBookState}
-use Rattle.connections.specs.Answering.{OpensBook}
-use Rattle.connections.specs.Holding.{IsOpenOn, working}
-use Rattle.connections.specs.inner.Taking.{Finds}
+use Rattle.connections.specs.Answering.{OpensBook, WritesBy}
+use Rattle.connections.specs.Holding.{IsOpenOn, register_in, working}
+use Rattle.connections.specs.inner.Taking.{Finds, fate_of}
 use Rattle.connections.proofs.EndsBy.{LeavesHeld, leaves_now}
-use Rattle.connections.proofs.GrownWrites.{writes_no_more, writes_opening}
+use Rattle.connections.proofs.GrownWrites.{opened_made, writes_opened}
 use Rattle.connections.proofs.MadeFiles.{journal_not_unmade}
 
 -- a file that is kept stands for the journal that it stood for
@@ -36,9 +37,14 @@ opened_on file reads images journal settled stands opens records =
       stands = λ c image. subst (StandsForJournal c) same (durable_stands settled.book reads images c durable image);
     }
 
-on_ok : {A E : Type 0} (opened : Result A E) (P : Type 0) → OnOk opened P → is_ok opened ≡ true → P
-on_ok (Ok value) P has is = has
-on_ok (Err fault) P has is = absurd cc
+-- what is written of the file
+writes_opening : (journal : List Receipt) (file new : List ℕ) (opened : Result SettledBookState BookFault) → StandsForJournal file journal → IsKept file new → Torn 0 (first_gate the_heading + 1) file new
+    → MakesUnmade (book_opening_disk_failed opened) file new → IfErr opened (BookRefuses file) → WritesBy true (fate_of opened) journal journal file new
+writes_opening journal file new (Ok settled) stands kept torn makes refuses = writes_opened journal journal file new (record { made = makes refl; same = kept.same })
+writes_opening journal file new (Err fault.Disk) stands kept torn makes refuses = record { made = λ unmade. record { stands = kept.frames [] (inl (unmade, refl)); torn = torn }; same = kept.same }
+writes_opening journal file new (Err fault.NotJournal) stands kept torn makes refuses = kept.same refuses.not_unmade
+writes_opening journal file new (Err (fault.BadRecord at)) stands kept torn makes refuses = absurd (not_both file journal refuses.0 stands refuses.1)
+writes_opening journal file new (Err fault.Memory) stands kept torn makes refuses = inr (record { made = makes refl; same = kept.same })
 
 module _ {D : Type 0} (reads : D → List ℕ) (images : D → List ℕ → Type 0) (moment : D → ℕ) (since : D → ℕ → List ℕ → Type 0) where
   synced_left : (old new : D) (journal : List Receipt) → StandsForJournal (reads old) journal → SyncsFirst reads images moment since old new → LeavesHeld reads images moment since old new journal
@@ -54,12 +60,12 @@ module _ {D : Type 0} (reads : D → List ℕ) (images : D → List ℕ → Type
 
   pub finds_by_opening : (old new : D) (journal : List Receipt) (opened : Result SettledBookState BookFault) → StandsForJournal (reads old) journal
       → IfOk opened (λ settled. BookOpens (reads old) settled.book (reads new) (images new)) → IfOk opened (λ settled. AreRecordsTo settled.book.journal settled.book.log.gate)
-      → OnOk opened (IsUnmade (reads old) → reads new ≡ made_from the_heading (reads old)) → IsKept (reads old) (reads new) → Torn 0 (first_gate the_heading + 1) (reads old) (reads new)
+      → MakesUnmade (book_opening_disk_failed opened) (reads old) (reads new) → IsKept (reads old) (reads new) → Torn 0 (first_gate the_heading + 1) (reads old) (reads new) → IfErr opened (BookRefuses (reads old))
       → AnswersSynced reads images moment since old new (book_opening_disk_failed opened) → Finds reads images moment since old new journal opened
-  finds_by_opening old new journal opened stands opens records makes kept torn answers = record {
+  finds_by_opening old new journal opened stands opens records makes kept torn refuses answers = record {
     file = kept_journal (reads old) (reads new) journal stands kept;
     left = opening_left old new journal (book_opening_disk_failed opened) stands answers;
-    written = writes_opening (is_ok opened) journal (reads old) (reads new) kept torn (on_ok opened (IsUnmade (reads old) → reads new ≡ made_from the_heading (reads old)) makes);
+    written = writes_opening journal (reads old) (reads new) opened stands kept torn makes refuses;
     there = there opened opens records;
   }
     where
@@ -70,7 +76,7 @@ module _ {D : Type 0} (reads : D → List ℕ) (images : D → List ℕ → Type
 
   pub finds_at_hand : (disk : D) (journal : List Receipt) (settled : SettledBookState) → ((file : List ℕ) → since disk (moment disk) file → images disk file) → StandsForJournal (reads disk) journal
       → IsOpenOn settled (reads disk) (images disk) journal → Finds reads images moment since disk disk journal (Ok settled)
-  finds_at_hand disk journal settled only_now stands open_on = record { file = stands; left = leaves_now reads images moment since disk journal only_now; written = writes_no_more true journal journal (reads disk) (journal_not_unmade (records settled.book.journal) (reads disk) open_on.durable.stands.journal); there = open_on }
+  finds_at_hand disk journal settled only_now stands open_on = record { file = stands; left = leaves_now reads images moment since disk journal only_now; written = writes_opened journal journal (reads disk) (reads disk) (opened_made (reads disk) (journal_not_unmade (records settled.book.journal) (reads disk) open_on.durable.stands.journal)); there = open_on }
 
 -- what was opened stood for a journal
 pub opened_journal : (file reads : List ℕ) (images : List ℕ → Type 0) (opened : Result SettledBookState BookFault) → IfOk opened (λ settled. BookOpens file settled.book reads images)
@@ -92,6 +98,12 @@ works_is settled works = rw works refl
 
 pub failed_is : (settled : SettledBookState) → settled.book.log.failed ≡ true → working (Some settled) ≡ None
 failed_is settled failed = rw failed refl
+
+-- the book that works is the one at hand
+pub working_register : (at_hand : Option SettledBookState) (settled : SettledBookState) → working at_hand ≡ Some settled → settled.register ≡ register_in at_hand
+working_register None settled is = absurd cc
+working_register (Some before) settled is = elim before.book.log.failed as (λ b. cond b None (Some before) ≡ Some settled → settled.register ≡ before.register)
+    [ true ↦ (λ same. absurd cc) | false ↦ (λ same. cc) ] is
 
 -- what is said of a working book is said of one that has not failed
 pub of_working : (settled : SettledBookState) (P : SettledBookState → Type 0) → settled.book.log.failed ≡ false → IfSome (working (Some settled)) P → P settled

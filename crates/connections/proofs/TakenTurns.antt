@@ -21,7 +21,7 @@ use Rattle.connections.specs.Turns.{Taken, Answering, Refusing, calls_disk, held
 use Rattle.connections.proofs.ByDiskAlone.{counts_still}
 use Rattle.connections.proofs.DiskReplies.{disk_by_reply, journal_by_reply}
 use Rattle.connections.proofs.EndsBy.{not_from_disk}
-use Rattle.connections.proofs.GrownWrites.{writes_more, writes_nothing}
+use Rattle.connections.proofs.GrownWrites.{writes_more}
 use Rattle.connections.proofs.LeftThen.{then_more, then_still, then_weakened}
 use Rattle.connections.proofs.LinkEnds.{TurnTaken}
 use Rattle.connections.proofs.TurnLists.{lack_more, left_first, left_later, left_one, told_more, told_still}
@@ -111,7 +111,7 @@ module _ {D : Type 0} (reads : D → List ℕ) (images : D → List ℕ → Type
   pub takes_refusal : (disk : D) (held : Held) (reply : ReplyParts) → is_from_disk reply ≡ false → ((file : List ℕ) → since disk (moment disk) file → images disk file) → Takes disk disk held (Refusing reply ∷ [])
   takes_refusal disk held reply silent only_now = record {
     left = then_still images moment since disk (IsLeftIn held (Refusing reply ∷ [])) only_now;
-    written = (reads disk, writes_nothing held.journal held.journal (reads disk), refl);
+    written = (reads disk, refl, refl);
     kept = λ front all. all;
     told = (λ from_disk. not_from_disk reply _ silent from_disk, tt);
     stays = λ none. refl;

@@ -99,10 +99,10 @@ module _ {D : Type 0} (reads : D → List ℕ) (images : D → List ℕ → Type
   IsEnd calls wanted reply = ends.EndsBy reads images moment since disk disk calls held wanted reply at_hand known
 
   pub silent_end : (reply : ReplyParts) → is_from_disk reply ≡ false → IsEnd false (only held reply) reply
-  silent_end reply silent = ends_only reads images moment since disk disk false held reply at_hand known holds (leaves_now reads images moment since disk held.journal only_now) (writes_nothing held.journal held.journal (reads disk)) (λ tells. not_from_disk reply _ silent tells)
+  silent_end reply silent = ends_only reads images moment since disk disk false held reply at_hand known holds (leaves_now reads images moment since disk held.journal only_now) refl (λ tells. not_from_disk reply _ silent tells)
 
   pub memory_end : (calls : Bool) (wanted : Answer) (reply : ReplyParts) → reply ≡ out_of_memory → IsFront held.journal wanted.held.journal → IsEnd calls wanted reply
-  memory_end calls wanted reply is front = ends_failed reads images moment since disk disk calls false held wanted OutOfMemory reply at_hand known is holds (leaves_now reads images moment since disk held.journal only_now) (writes_nothing held.journal held.journal (reads disk)) front
+  memory_end calls wanted reply is front = ends_failed reads images moment since disk disk calls held wanted OutOfMemory reply at_hand known is holds (leaves_now reads images moment since disk held.journal only_now) (writes_nothing calls held.journal wanted.held.journal (reads disk)) front
 
   malformed_by : (meant : Result (ℕ × ℕ × Item) LineFault) (fault : LineFault) (reply : ReplyParts) → meant ≡ Err fault → reply ≡ malformed fault → IsEnd (is_ok meant) (body_answer held meant) reply
   malformed_by meant fault reply same is =

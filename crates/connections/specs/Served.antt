@@ -12,7 +12,7 @@ abbrev pub unfailed : Taken → Taken
 unfailed (Answering request asked fate) = Answering request asked Answered
 unfailed (Refusing reply) = Refusing reply
 
--- A file that a stop leaves while these turns are taken: it stands for the journal behind the first of them, with the receipt of the one that follows or without it.
+-- A file that a stop leaves while these turns are taken: it stands for the journal after the first of them, with the receipt of the one that follows or without it.
 pub record IsLeftIn (held : Held) (turns : List Taken) (file : List ℕ) : Type 0 where
   pub done : List Taken
   pub next : List Taken
@@ -21,11 +21,11 @@ pub record IsLeftIn (held : Held) (turns : List Taken) (file : List ℕ) : Type 
   pub one : length next ≤ 1
   pub left : GrownFrom (held_behind held done).journal (held_behind held (done ++ map unfailed next)).journal file
 
--- The connection said all; or it has no more to say, as no memory was found for a turn that was left behind these.
+-- The connection said all; or it has no more to say, as no memory was found for a turn that was left after these.
 abbrev pub IsClosing : List Turn → List Taken → List ReplyParts → Type 0
 IsClosing turns replied closing = (closing ≡ []) ⊎ ((closing ≡ out_of_memory ∷ []) × (length replied < length turns))
 
--- What became of a connection: the turns that were replied to whole, the one that was taken up behind them if any, the reply that ends it where no memory was found for what comes next, and the bytes that stand written of a reply that is not whole.
+-- What became of a connection: the turns that were replied to whole, the one that was taken up after them if any, the reply that ends it where no memory was found for what comes next, and the bytes that stand written of a reply that is not whole.
 pub record Connection : Type 0 where
   pub replied : List Taken
   pub begun : List Taken
@@ -40,15 +40,15 @@ taken_of c = c.replied ++ c.begun
 abbrev pub written_by : Held → Connection → List ℕ
 written_by held c = bytes_of (replies_in held c.replied) ++ c.front
 
--- what is held behind it
+-- what is held after it
 abbrev pub held_by : Held → Connection → Held
 held_by held c = held_behind held (taken_of c)
 
--- the reply that comes next behind the whole ones: to the turn that was begun, or the one that closes
+-- the reply that comes next after the whole ones: to the turn that was begun, or the one that closes
 abbrev pub next_reply : Held → Connection → List ReplyParts
 next_reply held c = replies_in (held_behind held c.replied) c.begun ++ c.closing
 
--- It is a connection of these turns: the first of them were taken, at most one of them is not replied to whole, and what stands written behind the whole replies is a front of its reply, or of the one that closes.
+-- It is a connection of these turns: the first of them were taken, at most one of them is not replied to whole, and what stands written after the whole replies is a front of its reply, or of the one that closes.
 pub record IsOfTurns (held : Held) (turns : List Turn) (c : Connection) : Type 0 where
   pub are : AllZip IsOf (take (length (taken_of c)) turns) (taken_of c)
   pub one : length c.begun ≤ 1

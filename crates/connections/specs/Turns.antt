@@ -21,7 +21,7 @@ is_owed (Request request) = true
 is_owed (Refusal reply) = true
 is_owed End = false
 
--- the turn behind the last request of a link
+-- the turn after the last request of a link
 abbrev pub last_turn : AtFront → List Turn
 last_turn (Whole request rest) = []
 last_turn Nothing = End ∷ []

@@ -13,6 +13,7 @@ ghost use Rattle.receipt_journal.specs.Opening.{BookRefuses, book_opening_disk_f
 ghost use Rattle.receipt_journal.specs.Standing.{Stands, StandsForJournal};
 ghost use Rattle.registry_http.specs.declared.routes.Route.TheVariants.{Post};
 ghost use Rattle.registrar.specs.HasSettled.{IsRegisterOf};
+ghost use Rattle.settled_book.specs.Texts.{reads_register};
 ghost use Rattle.connections.specs.Answering.{AnswersNone, AnswersRequest, AnswersTurn, AsksOnce, IsAsked, IsFailure, NoneOpened, OpensBook, OpensNone, SaysAsked, is_failed, is_refusal, may_call_disk, tells_of_journal};
 ghost use Rattle.connections.specs.Answers.{answer, body_answer, item_answer, only, read_reply};
 ghost use Rattle.connections.specs.Asking.{AskedFor};
@@ -147,7 +148,7 @@ impl Clerk {
         ensures unfound { IsTrue D.tells → working self.old ≡ None → StandsForNone (D.reads disk.old) → IsFailure result }
         ensures works { is_failed result ≡ false → IsSome (working self.new) }
         ensures untouched { IsSome (working self.old) → disk.new ≡ disk.old }
-        ensures settled { is_failed result ≡ false → IsAllSettled self.new }
+        ensures settled { reads_register route ≡ true → is_failed result ≡ false → IsAllSettled self.new }
     {
         let mut book = match self.take_book(alloc, disk) {
             Ok(book) => book,
@@ -239,8 +240,8 @@ impl Clerk {
         ensures works { may_call_disk (AskedFor route) body.now ≡ true → is_failed result ≡ false → IsSome (working self.new) }
         ensures untouched { IsSome (working self.old) → (route ≡ Post → ⊥) → disk.new ≡ disk.old }
         ensures unreceived { IsSome (working self.old) → (result.status == 201) ≡ false → is_failed result ≡ false → disk.new ≡ disk.old }
-        ensures read { (route ≡ Post → ⊥) → is_failed result ≡ false → IsAllSettled self.new }
-        ensures unread { route ≡ Post → IsSome (working self.old) → register_in self.new ≡ register_in self.old }
+        ensures read { reads_register route ≡ true → is_failed result ≡ false → IsAllSettled self.new }
+        ensures unread { reads_register route ≡ false → IsSome (working self.old) → register_in self.new ≡ register_in self.old }
         ensures clock_kept { (route ≡ Post → ⊥) → clock.new ≡ clock.old }
         ensures asked { route ≡ Post → AsksOnce D.tells D.reads D.images D.faults C.ticks result (tools disk.old self.old clock.old) (tools disk.new self.new clock.new) }
         ensures same_clock { IsTrue D.tells → working self.old ≡ None → StandsForNone (D.reads disk.old) → clock.new ≡ clock.old }

@@ -6,6 +6,7 @@ use Rattle.connections.specs.Asking.{AskedFor}
 use Rattle.connections.specs.inner.Ends.{EndsBy, Serves}
 use Rattle.connections.proofs.Answered.{answers}
 use Rattle.connections.proofs.ByDiskAlone.{failed_so, still}
+use Rattle.connections.proofs.Grows.{post_alone, text_calls}
 use Rattle.connections.proofs.Unbegun.{apart_by_route, asks_none, asks_other, ends_unrouted, unrouted_none}
 use Rattle.connections.proofs.clerks.Clerk.answer_request.Goals as goal
 
@@ -25,9 +26,6 @@ served : (g : _) (c : goal.After-unrouted g) → Serves g.D.Disk.tells g.D.Disk.
 served g c = still g.D.Disk.tells g.D.Disk.reads g.D.Disk.images g.D.Disk.moment g.D.Disk.since g.D.Disk.faults c.args.disk.now c.args.self.now c.unrouted.result
     (λ tells file left. g.met.D.Disk.only_now c.args.disk.now file tells left) c.requires.stands_open (apart_by_route c.in-Err.fault c.unrouted.result c.unrouted.ensures)
 
-pub returns-in-Err-clause-disk : goal.returns-in-Err-clause-disk
-returns-in-Err-clause-disk g c = (served g c).disk
-
 pub returns-in-Err-clause-no_journal : goal.returns-in-Err-clause-no_journal
 returns-in-Err-clause-no_journal g c = (served g c).no_journal
 
@@ -39,9 +37,6 @@ returns-in-Err-clause-not_opened g c = (served g c).not_opened
 
 pub returns-in-Err-clause-status : goal.returns-in-Err-clause-status
 returns-in-Err-clause-status g c = (served g c).status
-
-pub returns-in-Err-clause-kept_open : goal.returns-in-Err-clause-kept_open
-returns-in-Err-clause-kept_open g c = (served g c).kept_open
 
 pub returns-in-Err-clause-no_book : goal.returns-in-Err-clause-no_book
 returns-in-Err-clause-no_book g c = (served g c).no_book
@@ -76,57 +71,47 @@ returns-clause-answers_none g c = λ tells was none. record {
   uncalled = uncalled g c;
 }
 
-pub returns-clause-kept_open : goal.returns-clause-kept_open
-returns-clause-kept_open g c = c.answer_route.ensures.serves.kept_open
-
 pub returns-clause-no_book : goal.returns-clause-no_book
 returns-clause-no_book g c = c.answer_route.ensures.serves.no_book
 
--- ---- what it leaves
+-- ---- what it does to the tools
 
-pub returns-in-Err-clause-left_open : goal.returns-in-Err-clause-left_open
-returns-in-Err-clause-left_open g c =
+pub returns-in-Err-clause-turn : goal.returns-in-Err-clause-turn
+returns-in-Err-clause-turn g c =
     let none = unrouted_none c.args.disk.now c.args.request.now c.in-Err.fault c.unrouted.result c.unrouted.ensures
     (λ is. asks_none c.args.request.now c.path.result.now c.path.ensures (c.in-Err.ensures.not_found is))
     (λ is. asks_other c.args.request.now c.path.result.now c.method.result.now c.path.ensures c.method.ensures (c.in-Err.ensures.wrong_method is)) in
-    record { asked = none.asked; asks = none.asks; works = λ calls sound. failed_so c.unrouted.result _ (none.failed calls) sound }
+    record {
+      wants = none.asked;
+      asks = none.asks;
+      disk = (served g c).disk;
+      kept = (served g c).kept_open;
+      left = λ calls sound. failed_so c.unrouted.result _ (none.failed calls) sound;
+      untouched = λ works other. refl;
+      unreceived = λ works other sound. refl;
+      read = λ reads sound. failed_so c.unrouted.result _ (none.failed (text_calls none.asked c.args.request.now.body reads)) sound;
+      unread = λ none works sound. refl;
+      clock_kept = λ other. refl;
+      asked = λ is. inl (record { same = refl; silent = (apart_by_route c.in-Err.fault c.unrouted.result c.unrouted.ensures).silent });
+    }
 
-pub returns-clause-left_open : goal.returns-clause-left_open
-returns-clause-left_open g c = record {
-  asked = AskedFor c.in-Ok.route;
+pub returns-clause-turn : goal.returns-clause-turn
+returns-clause-turn g c = record {
+  wants = AskedFor c.in-Ok.route;
   asks = (c.in-Ok.ensures.found.0, sym c.path.ensures ∙ c.in-Ok.ensures.found.1, sym c.method.ensures ∙ c.in-Ok.ensures.found.2);
-  works = λ calls sound. c.answer_route.ensures.works (ap (λ (body : List ℕ). may_call_disk (AskedFor c.in-Ok.route) body) c.body.ensures ∙ calls) sound;
+  disk = c.answer_route.ensures.serves.disk;
+  kept = c.answer_route.ensures.serves.kept_open;
+  left = λ calls sound. c.answer_route.ensures.works (ap (λ (body : List ℕ). may_call_disk (AskedFor c.in-Ok.route) body) c.body.ensures ∙ calls) sound;
+  untouched = λ works other. c.answer_route.ensures.untouched works (λ is. other (sym c.method.ensures ∙ c.in-Ok.ensures.found.2 ∙ ap method_of is));
+  unreceived = λ works other sound. c.answer_route.ensures.unreceived works other sound;
+  read = λ reads sound. c.answer_route.ensures.read reads sound;
+  unread = λ none works sound. c.answer_route.ensures.unread none works;
+  clock_kept = λ other. c.answer_route.ensures.clock_kept (λ is. other (sym c.method.ensures ∙ c.in-Ok.ensures.found.2 ∙ ap method_of is));
+  asked = λ is. c.answer_route.ensures.asked (post_alone c.in-Ok.route (sym c.in-Ok.ensures.found.2 ∙ c.method.ensures ∙ is));
 }
-
-pub returns-in-Err-clause-untouched : goal.returns-in-Err-clause-untouched
-returns-in-Err-clause-untouched g c = λ works other. refl
-
-pub returns-clause-untouched : goal.returns-clause-untouched
-returns-clause-untouched g c = λ works other.
-    c.answer_route.ensures.untouched works (λ is. other (sym c.method.ensures ∙ c.in-Ok.ensures.found.2 ∙ ap method_of is))
-
-pub returns-in-Err-clause-unreceived : goal.returns-in-Err-clause-unreceived
-returns-in-Err-clause-unreceived g c = λ works other sound. refl
-
-pub returns-clause-unreceived : goal.returns-clause-unreceived
-returns-clause-unreceived g c = λ works other sound. c.answer_route.ensures.unreceived works other sound
 
 pub returns-in-Err-clause-made : goal.returns-in-Err-clause-made
 returns-in-Err-clause-made g c = λ tells was. was
 
 pub returns-clause-made : goal.returns-clause-made
 returns-clause-made g c = c.answer_route.ensures.serves.made
-
--- ---- when the clock is asked
-
-pub returns-in-Err-clause-unopened : goal.returns-in-Err-clause-unopened
-returns-in-Err-clause-unopened g c = λ none sound. refl
-
-pub returns-clause-unopened : goal.returns-clause-unopened
-returns-clause-unopened g c = λ none sound. c.answer_route.ensures.unopened none sound
-
-pub returns-in-Err-clause-opening : goal.returns-in-Err-clause-opening
-returns-in-Err-clause-opening g c = λ was. inl refl
-
-pub returns-clause-opening : goal.returns-clause-opening
-returns-clause-opening g c = λ was. c.answer_route.ensures.opening was

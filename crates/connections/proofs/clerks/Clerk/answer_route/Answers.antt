@@ -1,10 +1,11 @@
-use Rattle.std.proofs.Common.{◌≡◌, ◌∙◌, true, false, ap, inl, refl, sym, subst}
+use Rattle.std.proofs.Common.{◌≡◌, ◌∙◌, true, false, ap, refl, sym, subst}
 use Rattle.registry_http.specs.declared.routes.Route.{Route}
+use Rattle.settled_book.specs.Texts.{reads_register}
 use Rattle.connections.specs.Answering.{SaysAsked, may_call_disk}
 use Rattle.connections.specs.Answers.{Answer, answer}
 use Rattle.connections.specs.Asking.{AskedFor}
 use Rattle.connections.specs.inner.Ends.{EndsBy}
-use Rattle.connections.proofs.Grows.{answer_reads, reading_calls}
+use Rattle.connections.proofs.Grows.{answer_reads, other_reads, reading_calls}
 use Rattle.connections.proofs.clerks.Clerk.answer_route.Goals as goal
 
 pub returns-in-Post-clause-ends : goal.returns-in-Post-clause-ends
@@ -52,16 +53,28 @@ returns-in-Post-clause-unreceived g c = λ works other sound. c.post.ensures.unr
 pub returns-in_default-clause-unreceived : goal.returns-in_default-clause-unreceived
 returns-in_default-clause-unreceived g c = λ works other sound. c.read.ensures.untouched works
 
--- ---- when the clock is asked
+-- ---- the clock, and what is settled
 
-pub returns-in-Post-clause-unopened : goal.returns-in-Post-clause-unopened
-returns-in-Post-clause-unopened g c = λ none sound. c.post.ensures.unopened none sound
+pub returns-in-Post-clause-read : goal.returns-in-Post-clause-read
+returns-in-Post-clause-read g c = λ reads sound. let never : false ≡ true = sym (ap reads_register c.in-Post.is) ∙ reads in absurd cc
 
-pub returns-in_default-clause-unopened : goal.returns-in_default-clause-unopened
-returns-in_default-clause-unopened g c = λ none sound. refl
+pub returns-in_default-clause-read : goal.returns-in_default-clause-read
+returns-in_default-clause-read g c = λ reads sound. c.read.ensures.settled reads sound
 
-pub returns-in-Post-clause-opening : goal.returns-in-Post-clause-opening
-returns-in-Post-clause-opening g c = λ was. c.post.ensures.opening was
+pub returns-in-Post-clause-unread : goal.returns-in-Post-clause-unread
+returns-in-Post-clause-unread g c = λ none some. c.post.ensures.unread some
 
-pub returns-in_default-clause-opening : goal.returns-in_default-clause-opening
-returns-in_default-clause-opening g c = λ was. inl refl
+pub returns-in_default-clause-unread : goal.returns-in_default-clause-unread
+returns-in_default-clause-unread g c = λ none some. let never : true ≡ false = sym (other_reads c.args.route c.in_default.not-Post) ∙ none in absurd cc
+
+pub returns-in-Post-clause-clock_kept : goal.returns-in-Post-clause-clock_kept
+returns-in-Post-clause-clock_kept g c = λ other. absurd (other c.in-Post.is)
+
+pub returns-in_default-clause-clock_kept : goal.returns-in_default-clause-clock_kept
+returns-in_default-clause-clock_kept g c = λ other. refl
+
+pub returns-in-Post-clause-asked : goal.returns-in-Post-clause-asked
+returns-in-Post-clause-asked g c = λ is. c.post.ensures.asked
+
+pub returns-in_default-clause-asked : goal.returns-in_default-clause-asked
+returns-in_default-clause-asked g c = λ is. absurd (c.in_default.not-Post is)

@@ -11,7 +11,7 @@ returns-clause-opened g c = some_works c.in_ok-book.book c.in_ok-book.ensures.wo
 pub returns-clause-holds : goal.returns-clause-holds
 returns-clause-holds g c = λ tells held stands.
     let finds = finds_by_opening g.D.Disk.reads g.D.Disk.images g.D.Disk.moment g.D.Disk.since c.args.disk.now c.open.new.disk held.journal (Ok c.in_ok-book.book) stands (c.in_ok-book.ensures.opened tells)
-    c.in_ok-book.ensures.records (c.in_ok-book.ensures.made tells) (c.in_ok-book.ensures.kept tells) (c.in_ok-book.ensures.torn tells) (c.in_ok-book.ensures.any_moment tells) in record {
+    c.in_ok-book.ensures.records (c.in_ok-book.ensures.made tells) (c.in_ok-book.ensures.kept tells) (c.in_ok-book.ensures.torn tells) tt (c.in_ok-book.ensures.any_moment tells) in record {
       file = finds.file;
       clock = refl;
       book = to_working c.in_ok-book.book (λ s. IsOpenOn s (g.D.Disk.reads c.open.new.disk) (g.D.Disk.images c.open.new.disk) held.journal) finds.there;

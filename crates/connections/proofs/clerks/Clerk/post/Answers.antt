@@ -1,4 +1,4 @@
-use Rattle.std.proofs.Common.{◌≡◌, ◌∙◌, true, false, ap, inl, is_ok, refl, sym, subst}
+use Rattle.std.proofs.Common.{◌≡◌, ◌∙◌, true, false, ap, inl, inr, is_ok, refl, sym, subst}
 use Rattle.act_json.specs.Lines.{item_of}
 use Rattle.connections.specs.Answers.{body_answer}
 use Rattle.connections.specs.inner.Ends.{EndsBy}
@@ -47,16 +47,16 @@ returns-in-Err-clause-unreceived g c = λ works other sound. refl
 pub returns-clause-unreceived : goal.returns-clause-unreceived
 returns-clause-unreceived g c = λ works other sound. c.post_item.ensures.unreceived works other sound
 
--- ---- when the clock is asked
+-- ---- the clock, and what is settled
 
-pub returns-in-Err-clause-unopened : goal.returns-in-Err-clause-unopened
-returns-in-Err-clause-unopened g c = λ none sound. refl
+pub returns-in-Err-clause-asked : goal.returns-in-Err-clause-asked
+returns-in-Err-clause-asked g c = inl (record { same = refl; silent = (apart_by_body c.in-Err.fault c.malformed.result c.malformed.ensures).silent })
 
-pub returns-clause-unopened : goal.returns-clause-unopened
-returns-clause-unopened g c = λ none sound. c.post_item.ensures.unopened none sound
+pub returns-clause-asked : goal.returns-clause-asked
+returns-clause-asked g c = inr c.post_item.ensures.asked
 
-pub returns-in-Err-clause-opening : goal.returns-in-Err-clause-opening
-returns-in-Err-clause-opening g c = λ was. inl refl
+pub returns-in-Err-clause-unread : goal.returns-in-Err-clause-unread
+returns-in-Err-clause-unread g c = λ some. refl
 
-pub returns-clause-opening : goal.returns-clause-opening
-returns-clause-opening g c = λ was. c.post_item.ensures.opening was
+pub returns-clause-unread : goal.returns-clause-unread
+returns-clause-unread g c = λ some. c.post_item.ensures.unread some

@@ -1,4 +1,4 @@
-use Rattle.std.proofs.Common.{◌∙◌, Some, inl, inr, refl, sym, subst}
+use Rattle.std.proofs.Common.{◌∙◌, ap, inl, inr, refl, sym, subst}
 use Rattle.gb_outside.specs.Faults.{Counts}
 use Rattle.receipt_journal.specs.Receiving.{receiving_disk_failed}
 use Rattle.connections.specs.Answers.{item_answer}
@@ -7,7 +7,7 @@ use Rattle.connections.specs.inner.Taking.{failure_of}
 use Rattle.connections.proofs.BookEnds.{ends_unopened}
 use Rattle.connections.proofs.Grows.{item_grows}
 use Rattle.connections.proofs.ItemEnds.{item_ends, some_works}
-use Rattle.connections.proofs.ByDiskAlone.{counts_then, failed_so, no_disk_failed_in, none_open, not_received, opened, stands_behind, status_of_item, unopened, unopened_late}
+use Rattle.connections.proofs.ByDiskAlone.{counts_then, failed_so, no_disk_failed_in, none_open, not_received, opened, some_or, stands_behind, status_of_item, unopened, unopened_late}
 use Rattle.connections.proofs.clerks.Clerk.post_item.Goals as goal
 
 pub returns-in-Err-clause-ends : goal.returns-in-Err-clause-ends
@@ -73,18 +73,24 @@ returns-clause-unreceived g c = λ works other sound.
 pub returns-clause-same_clock : goal.returns-clause-same_clock
 returns-clause-same_clock g c = λ tells was none. let found = c.in-Ok.ensures.journal tells was in absurd (none found.0 found.1)
 
--- ---- when the clock is asked
+-- ---- the clock, and what is settled
 
-pub returns-in-Err-clause-unopened : goal.returns-in-Err-clause-unopened
-returns-in-Err-clause-unopened g c = λ none sound. refl
+pub returns-in-Err-clause-asked : goal.returns-in-Err-clause-asked
+returns-in-Err-clause-asked g c = inl (record { had_none = c.in-Err.ensures.had_none; none = ap working c.take_book.ensures.taken; clock = refl; failed = (failure_of c.in-Err.fault, c.unopened.ensures) })
 
-pub returns-clause-unopened : goal.returns-clause-unopened
-returns-clause-unopened g c = λ none sound.
+pub returns-clause-asked : goal.returns-clause-asked
+returns-clause-asked g c =
     let status = status_of_item c.receive-answer.result c.received.result c.receive-answer.ensures.opened c.received.ensures in
-    none_open (working (Some c.receive-answer.new.book)) _ none (some_works c.receive-answer.new.book (c.receive-answer.ensures.failed ∙ sym status.disk ∙ sound))
+    inr (record {
+      book = some_or (working c.args.self.now) _ c.in-Ok.ensures.opens;
+      stamp = c.receive-answer.ensures.asked.0;
+      asked = c.receive-answer.ensures.asked.1;
+      there = refl;
+      works = λ sound. some_works c.receive-answer.new.book (c.receive-answer.ensures.failed ∙ sym status.disk ∙ sound);
+    })
 
-pub returns-in-Err-clause-opening : goal.returns-in-Err-clause-opening
-returns-in-Err-clause-opening g c = λ was. inl refl
+pub returns-in-Err-clause-unread : goal.returns-in-Err-clause-unread
+returns-in-Err-clause-unread g c = λ some. none_open (working c.args.self.now) _ c.in-Err.ensures.had_none some
 
-pub returns-clause-opening : goal.returns-clause-opening
-returns-clause-opening g c = λ was. inr (c.in-Ok.ensures.opens was)
+pub returns-clause-unread : goal.returns-clause-unread
+returns-clause-unread g c = λ some. c.receive-answer.ensures.register ∙ c.in-Ok.ensures.register some

@@ -5,7 +5,7 @@ use Rattle.receipt_journal.specs.BookState.{BookState}
 use Rattle.receipt_journal.specs.Standing.{Stands}
 use Rattle.connections.specs.Answers.{only, read_reply}
 use Rattle.connections.specs.inner.Taking.{failure_of}
-use Rattle.connections.proofs.BookEnds.{ends_read, ends_unopened, read_status}
+use Rattle.connections.proofs.BookEnds.{ends_read, ends_unopened, read_settled, read_status}
 use Rattle.connections.proofs.ItemEnds.{some_works}
 use Rattle.connections.proofs.ByDiskAlone.{failed_so, opened, stands_behind, unopened, unopened_late}
 use Rattle.connections.proofs.clerks.Clerk.read.Goals as goal
@@ -50,6 +50,13 @@ returns-in-Err-clause-unfound g c = λ tells was none. (failure_of c.in-Err.faul
 
 pub returns-clause-unfound : goal.returns-clause-unfound
 returns-clause-unfound g c = λ tells was none. let found = c.in-Ok.ensures.journal tells was in absurd (none found.0 found.1)
+
+pub returns-in-Err-clause-settled : goal.returns-in-Err-clause-settled
+returns-in-Err-clause-settled g c = λ reads sound. failed_so c.unopened.result _ (failure_of c.in-Err.fault, c.unopened.ensures) sound
+
+pub returns-clause-settled : goal.returns-clause-settled
+returns-clause-settled g c = λ reads sound.
+    read_settled c.args.route c.in-Ok.book c.text-text.new.self c.text-text.result c.read.result c.text-text.ensures.book c.text-text.ensures.settled c.read.ensures.fault reads sound
 
 pub returns-in-Err-clause-works : goal.returns-in-Err-clause-works
 returns-in-Err-clause-works g c = λ sound. failed_so c.unopened.result _ (failure_of c.in-Err.fault, c.unopened.ensures) sound

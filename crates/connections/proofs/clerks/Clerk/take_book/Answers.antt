@@ -4,7 +4,7 @@ use Rattle.connections.specs.Holding.{IsOpenOn}
 use Rattle.receipt_journal.specs.Opening.{book_opening_disk_failed}
 use Rattle.connections.proofs.MadeFiles.{made_kept}
 use Rattle.connections.proofs.NoBook.{none_opened, one_open}
-use Rattle.connections.proofs.TakenBooks.{finds_at_hand, finds_by_opening, opened_journal, opens_book}
+use Rattle.connections.proofs.TakenBooks.{finds_at_hand, finds_by_opening, opened_journal, opens_book, working_register}
 use Rattle.connections.proofs.clerks.Clerk.take_book.Goals as goal
 
 pub returns-in-Some-clause-finds : goal.returns-in-Some-clause-finds
@@ -16,10 +16,13 @@ returns-in-Some-clause-finds g c = λ tells journal stands on.
 pub returns-clause-finds : goal.returns-clause-finds
 returns-clause-finds g c = λ tells journal stands on.
     finds_by_opening g.D.Disk.reads g.D.Disk.images g.D.Disk.moment g.D.Disk.since c.args.disk.now c.open.new.disk journal c.open.result stands (c.open.ensures.opened tells)
-    c.open.ensures.records (c.open.ensures.made tells) (c.open.ensures.kept tells) (c.open.ensures.torn tells) (c.open.ensures.any_moment tells)
+    c.open.ensures.records (c.open.ensures.made tells) (c.open.ensures.kept tells) (c.open.ensures.torn tells) (c.open.ensures.refused tells) (c.open.ensures.any_moment tells)
 
 pub returns-clause-journal : goal.returns-clause-journal
 returns-clause-journal g c = λ tells none. opened_journal _ _ _ c.open.result (c.open.ensures.opened tells)
+
+pub returns-in-Some-clause-register : goal.returns-in-Some-clause-register
+returns-in-Some-clause-register g c = λ some. working_register c.args.self.now c.in-Some.book (sym c.take_working.ensures.value ∙ c.in-Some.is)
 
 pub returns-in-Some-clause-opens : goal.returns-in-Some-clause-opens
 returns-in-Some-clause-opens g c = λ was. one_open c.args.self.now c.in-Some.book _ (sym c.take_working.ensures.value ∙ c.in-Some.is) was
