@@ -1,4 +1,4 @@
-use Rattle.std.proofs.Common.{◌≡◌, true, false, List, sym, ◌∙◌, subst}
+use Rattle.std.proofs.Common.{◌≡◌, true, false, List, refl, sym, ◌∙◌, subst}
 use Rattle.act_model.specs.declared.receipts.Receipt.{Receipt}
 use Rattle.journal_disk.specs.Opening.{AnswersSynced}
 use Rattle.receipt_journal.specs.Standing.{records, StandsForJournal}
@@ -33,7 +33,7 @@ pub returns-in-Ok-clause-made : goal.returns-in-Ok-clause-made
 returns-in-Ok-clause-made g c = λ tells told. made_of_journal (records c.in-Ok.book.journal) (g.D.Disk.reads c.open.new.disk) (c.in-Ok.ensures.opened tells).stands.journal
 
 pub returns-in-Ok-clause-made_so : goal.returns-in-Ok-clause-made_so
-returns-in-Ok-clause-made_so g c = λ tells told unmade. c.in-Ok.ensures.made tells unmade
+returns-in-Ok-clause-made_so g c = λ tells told unmade. c.in-Ok.ensures.made tells refl unmade
 
 pub returns-in-Ok-clause-kept_any_moment : goal.returns-in-Ok-clause-kept_any_moment
 returns-in-Ok-clause-kept_any_moment g c = λ tells. synced g c (c.in-Ok.ensures.any_moment tells)

@@ -44,7 +44,7 @@ bytes : (g : _) (c : goal.After-drop-book-inside-in-Ok-7 g) (held : Held) (to : 
     → WritesBehind (tells_of_opening c.receive.result) held.journal to (g.D.Disk.reads c.args.disk.now) (g.D.Disk.reads c.receive.new.disk)
 bytes g c held to tells front grew =
     frames_after_opening (tells_of_opening c.receive.result) held.journal to (g.D.Disk.reads c.args.disk.now) (g.D.Disk.reads c.open.new.disk) (g.D.Disk.reads c.receive.new.disk)
-    (c.in-Ok.ensures.kept tells).same (c.in-Ok.ensures.made tells) (c.in-Ok.ensures.torn tells) front grew.written
+    (c.in-Ok.ensures.kept tells).same (c.in-Ok.ensures.made tells refl) (c.in-Ok.ensures.torn tells) front grew.written
 
 pub returns-in-Ok-clause-written : goal.returns-in-Ok-clause-written
 returns-in-Ok-clause-written g c = λ held input told ok. (session g c held input told).written ok

@@ -1,4 +1,4 @@
-use Rattle.std.proofs.Common.{◌≡◌, ◌∙◌, Option, Some, List, true, false, subst, sym}
+use Rattle.std.proofs.Common.{◌≡◌, ◌∙◌, Option, Some, List, true, false, refl, subst, sym}
 use Rattle.gb_base.specs.DayMinute.{DayMinute}
 use Rattle.connections.specs.Holding.{Holds}
 use Rattle.connections.proofs.SettledClerks.{holds_still, stands_still}
@@ -13,7 +13,7 @@ pub returns-clause-serves : goal.returns-clause-serves
 returns-clause-serves g c = λ tells held waiting asked is waits asks.
     served_opened g.D.Disk.reads g.D.Disk.images g.D.Disk.moment g.D.Disk.since g.D.Disk.faults c.args.disk.now c.serve_door.new.disk held c.args.requests waiting asked (g.L.Listener.served c.args.door.now) (g.C.Clock.ticks c.serve_door.new.clock)
     c.open.new.disk (g.L.Listener.waiting c.serve_door.new.door) (g.L.Listener.served c.serve_door.new.door) c.serve_door.new.self c.serve_door.result c.status_of_door.result
-    (λ t file le image. g.met.D.Disk.counts_now c.open.new.disk t file tells le image) is.stands (c.in-Ok.ensures.any_moment tells) c.in-Ok.ensures.cause (c.in-Ok.ensures.kept tells) (c.in-Ok.ensures.made tells) (c.in-Ok.ensures.torn tells)
+    (λ t file le image. g.met.D.Disk.counts_now c.open.new.disk t file tells le image) is.stands (c.in-Ok.ensures.any_moment tells) c.in-Ok.ensures.cause (c.in-Ok.ensures.kept tells) (c.in-Ok.ensures.made tells refl) (c.in-Ok.ensures.torn tells)
     (c.serve_door.ensures.serves tells held waiting asked
     (subst (λ (known : Option (List DayMinute)). Holds c.settle.new.self (g.D.Disk.reads c.open.new.disk) (g.D.Disk.images c.open.new.disk) known held) (sym is.clock) (holds_still c.in-Ok.clerk c.settle.new.self (g.D.Disk.reads c.open.new.disk) (g.D.Disk.images c.open.new.disk) (Some held.ticks) held c.settle.ensures.book (c.in-Ok.ensures.holds tells held is.stands))) waits asks)
     c.status_of_door.ensures
