@@ -1,5 +1,5 @@
 -- What taking the book finds, whether it is at hand or has to be opened.
-use Rattle.std.proofs.Common.{◌+◌, ◌≡◌, inl, inr, ⊎_elim, ℕ, Bool, true, false, cond, List, [], Option, Some, None, Result, Ok, Err, IfErr, IfOk, IfSome, IsTrue, OnOk, refl, subst}
+use Rattle.std.proofs.Common.{◌+◌, ◌≡◌, inl, inr, ⊎_elim, ℕ, Bool, true, false, cond, List, [], Option, Some, None, Result, Ok, Err, IfErr, IfOk, IfSome, IsTrue, OnOk, refl, ap, sym, subst}
 use Rattle.gb_outside.specs.Faults.{Counts}
 use Rattle.gb_outside.specs.Images.{Torn}
 use Rattle.gb_outside.proofs.Moments.{weakened}
@@ -100,10 +100,13 @@ pub failed_is : (settled : SettledBookState) → settled.book.log.failed ≡ tru
 failed_is settled failed = rw failed refl
 
 -- the book that works is the one at hand
+register_by : (failed : Bool) (before settled : SettledBookState) → cond failed None (Some before) ≡ Some settled → settled.register ≡ before.register
+register_by true before settled is = absurd cc
+register_by false before settled is = ap register_in (sym is)
+
 pub working_register : (at_hand : Option SettledBookState) (settled : SettledBookState) → working at_hand ≡ Some settled → settled.register ≡ register_in at_hand
 working_register None settled is = absurd cc
-working_register (Some before) settled is = elim before.book.log.failed as (λ b. cond b None (Some before) ≡ Some settled → settled.register ≡ before.register)
-    [ true ↦ (λ same. absurd cc) | false ↦ (λ same. cc) ] is
+working_register (Some before) settled is = register_by before.book.log.failed before settled is
 
 -- what is said of a working book is said of one that has not failed
 pub of_working : (settled : SettledBookState) (P : SettledBookState → Type 0) → settled.book.log.failed ≡ false → IfSome (working (Some settled)) P → P settled

@@ -1,5 +1,5 @@
 -- What answering a request does.
-use Rattle.std.specs.Prelude.{◌≡◌, ◌≢◌, ◌⊎◌, ℕ, ◌+◌, ◌==◌, ◌||◌, Bool, true, false, List, [], Option, None, IsSome, IsSomeAnd, IsTrue, is_ok}
+use Rattle.std.specs.Prelude.{◌≡◌, ◌≢◌, ◌⊎◌, ℕ, ◌+◌, ◌==◌, ◌||◌, Bool, true, false, List, [], Option, None, IsSome, IsTrue, is_ok}
 use Rattle.gb_base.specs.DayMinute.{DayMinute}
 use Rattle.gb_outside.specs.Faults.{Counts}
 use Rattle.gb_outside.specs.Images.{LeavesOnly, Torn}
