@@ -1,65 +1,127 @@
--- In which order a link is read and written, and what each turn does to the disk and the book.
-use Rattle.std.specs.Prelude.{◌≡◌, ◌⊎◌, ℕ, ◌+◌, ◌<◌, ◌≤◌, false, List, [], ◌∷◌, length, Option}
+-- In which order a link is read and written, and what each turn does with the tools of the clerk who serves it.
+use Rattle.std.specs.Prelude.{◌≡◌, ◌⊎◌, ℕ, ◌+◌, ◌<◌, true, false, List, [], ◌∷◌, length, Option}
 use Rattle.std.specs.Io.KnownBytes.{Appends}
-use Rattle.gb_outside.specs.Bytes.{AppendsFront}
+use Rattle.gb_outside.specs.Faults.{Counts}
+use Rattle.registry_http.specs.Replies.{AppendsPart}
 use Rattle.registry_http.specs.RequestParts.{RequestParts}
-use Rattle.registry_http.specs.Requests.{ReadsNext}
+use Rattle.registry_http.specs.Requests.{ReadsNext, link_failed}
 use Rattle.registry_http.specs.declared.requests.Next.{Next}
 use Rattle.registry_http.specs.declared.requests.Next.TheVariants as next
-use Rattle.settled_book.specs.SettledBookState.{SettledBookState}
-use Rattle.connections.specs.Answering.{KeepsBook}
-use Rattle.connections.specs.Replies.{ReplyParts, bytes_of}
+use Rattle.connections.specs.Replies.{ReplyParts, bad_request, body_too_long, bytes_of, out_of_memory}
+use Rattle.connections.specs.Serving.{is_link_fault}
+use Rattle.connections.specs.declared.serving.Ended.{Ended}
+use Rattle.connections.specs.declared.serving.Ended.TheVariants as ended
 use Rattle.connections.specs.declared.serving.Served.{Served}
 
--- what is served, a link or the door that links come through, with the disk and the book that is open
-pub record Stage (A D : Type 0) : Type 0 where
+-- What is served, a link or the door that links come through, and the tools with which it is.
+pub record Stage (A T : Type 0) : Type 0 where
   pub outer : A
-  pub disk : D
-  pub at_hand : Option SettledBookState
+  pub tools : T
 
 -- the stage of these
-abbrev pub stage : {A D : Type 0} → A → D → Option SettledBookState → Stage A D
-stage outer disk at_hand = record { outer = outer; disk = disk; at_hand = at_hand }
+abbrev pub stage : {A T : Type 0} → A → T → Stage A T
+stage outer tools = record { outer = outer; tools = tools }
 
--- A request that is not the last was read, as far as it was wanted and with nothing written, and then this reply was written whole, with nothing read; `kept` was read ahead of it, and `behind` is kept then.
-pub record TurnsOnce {L D : Type 0} (left written : L → Option (List ℕ)) (faults : D → ℕ) (from : Stage L D) (kept : List ℕ) (reply : ReplyParts) (to : Stage L D) (behind : List ℕ) : Type 0 where
+-- In all that follows `Answers request reply old new` says what answering a request so does with the tools.
+
+-- A request that is not the last was read, as far as it was wanted and with nothing written; it was answered; and then its reply was written whole, with nothing read.
+pub record TurnsOnce {L T : Type 0} (left written : L → Option (List ℕ)) (faults : L → ℕ) (Answers : RequestParts → ReplyParts → T → T → Type 0)
+    (from : Stage L T) (kept : List ℕ) (reply : ReplyParts) (to : Stage L T) (behind : List ℕ) : Type 0 where
+  -- the link once the request was read
   pub read : L
   pub request : RequestParts
+  -- `kept` are the bytes that were read ahead of this turn, and `behind` those that are kept after the request
   pub asked : ReadsNext (left from.outer) (left read) kept behind (next.Request request)
   pub more : request.last ≡ false
   pub unwritten : written read ≡ written from.outer
+  pub answered : Answers request reply from.tools to.tools
   pub unread : left to.outer ≡ left read
   pub replied : Appends (written read) (written to.outer) (bytes_of (reply ∷ []))
-  pub book : KeepsBook faults request reply from.at_hand to.at_hand from.disk to.disk
+  -- the link did not fail, neither over its reading nor over its writing
+  pub quiet : (faults read ≡ faults from.outer) × (faults to.outer ≡ faults read)
 
 -- so for each of these replies, one turn after another
-abbrev pub TurnsInOrder : {L D : Type 0} → (L → Option (List ℕ)) → (L → Option (List ℕ)) → (D → ℕ) → Stage L D → List ℕ → List ReplyParts → Stage L D → List ℕ → Type 0
-TurnsInOrder left written faults from kept [] to behind = (to ≡ from) × (behind ≡ kept)
-TurnsInOrder {L} {D} left written faults from kept (reply ∷ replies) to behind =
-    (mid : Stage L D) × (kept_mid : List ℕ) × TurnsOnce left written faults from kept reply mid kept_mid × TurnsInOrder left written faults mid kept_mid replies to behind
+abbrev pub TurnsInOrder : {L T : Type 0} → (L → Option (List ℕ)) → (L → Option (List ℕ)) → (L → ℕ) → (RequestParts → ReplyParts → T → T → Type 0) → Stage L T → List ℕ → List ReplyParts → Stage L T → List ℕ → Type 0
+TurnsInOrder left written faults Answers from kept [] to behind = (to ≡ from) × (behind ≡ kept)
+TurnsInOrder {L} {T} left written faults Answers from kept (reply ∷ replies) to behind =
+    (mid : Stage L T) × (kept_mid : List ℕ) × TurnsOnce left written faults Answers from kept reply mid kept_mid × TurnsInOrder left written faults Answers mid kept_mid replies to behind
 
--- what the last turn does to the disk and the book, by what was read: without a request they stay
-abbrev pub EndsTurn : {D : Type 0} → (D → ℕ) → Next → ReplyParts → Option SettledBookState → Option SettledBookState → D → D → Type 0
-EndsTurn faults (next.Request request) reply book_old book_new old new = KeepsBook faults request reply book_old book_new old new
-EndsTurn faults other reply book_old book_new old new = (book_new ≡ book_old) × (new ≡ old)
+-- ---- the last turn
 
--- The last was read, as far as it was wanted and with nothing written, and then a front of its reply was written, with nothing read.
-pub record TurnsLast {L D : Type 0} (left written : L → Option (List ℕ)) (faults : D → ℕ) (from : Stage L D) (kept : List ℕ) (to : Stage L D) : Type 0 where
+-- what became of a connection that ended so before any reply stood whole
+abbrev pub unreplied : Ended → Served
+unreplied how = record { replies = 0; ended = how }
+
+-- how many whole replies a last turn wrote that ended so, where it owed one
+abbrev pub last_replies : Ended → ℕ
+last_replies ended.Finished = 1
+last_replies ended.LinkFault = 0
+last_replies ended.Memory = 0
+
+-- what stands written of these bytes where the connection ended so: all, a part that is not all, or nothing
+abbrev pub StandsWritten : Ended → Option (List ℕ) → Option (List ℕ) → List ℕ → Type 0
+StandsWritten ended.Finished old new bytes = Appends old new bytes
+StandsWritten ended.LinkFault old new bytes = AppendsPart old new bytes
+StandsWritten ended.Memory old new bytes = new ≡ old
+
+-- The last reply was written, with nothing read: it stands whole where the connection is finished, and only then it counts; the link's count rose just where the connection ended by that.
+pub record RepliesLast {L : Type 0} (left written : L → Option (List ℕ)) (faults : L → ℕ) (reply : ReplyParts) (old new : L) (last : Served) : Type 0 where
+  pub unread : left new ≡ left old
+  pub replied : StandsWritten last.ended (written old) (written new) (bytes_of (reply ∷ []))
+  pub counted : last.replies ≡ last_replies last.ended
+  pub failed : Counts (faults old) (faults new) (is_link_fault last.ended)
+
+-- a request was answered and its reply was the last: it stands whole only where the request was the last
+pub record AnswersLast {L T : Type 0} (left written : L → Option (List ℕ)) (faults : L → ℕ) (Answers : RequestParts → ReplyParts → T → T → Type 0)
+    (request : RequestParts) (old new : Stage L T) (last : Served) : Type 0 where
+  pub reply : ReplyParts
+  pub answered : Answers request reply old.tools new.tools
+  pub replies : RepliesLast left written faults reply old.outer new.outer last
+  pub was_last : last.ended ≡ ended.Finished → request.last ≡ true
+
+-- What the last turn does once this was read: a request is answered. To bytes that are refused, and where no memory was found to read on, one fixed reply closes the connection, and the tools stay. At the end of the bytes, and where the link failed under the reading, nothing is done.
+abbrev pub EndsTurn : {L T : Type 0} → (L → Option (List ℕ)) → (L → Option (List ℕ)) → (L → ℕ) → (RequestParts → ReplyParts → T → T → Type 0) → Next → Stage L T → Stage L T → Served → Type 0
+EndsTurn left written faults Answers (next.Request request) old new last = AnswersLast left written faults Answers request old new last
+EndsTurn left written faults Answers next.HeadFault old new last = RepliesLast left written faults bad_request old.outer new.outer last × (new.tools ≡ old.tools)
+EndsTurn left written faults Answers next.BodyTooLong old new last = RepliesLast left written faults body_too_long old.outer new.outer last × (new.tools ≡ old.tools)
+EndsTurn left written faults Answers next.Memory old new last = RepliesLast left written faults out_of_memory old.outer new.outer last × (new.tools ≡ old.tools)
+EndsTurn left written faults Answers next.End old new last = (new ≡ old) × (last ≡ unreplied ended.Finished)
+EndsTurn left written faults Answers next.Cut old new last = (new ≡ old) × (last ≡ unreplied ended.Finished)
+EndsTurn left written faults Answers next.LinkFault old new last = (new ≡ old) × (last ≡ unreplied ended.LinkFault)
+
+-- The last turn was taken: the link was read, as far as it was wanted and with nothing written, and what was read ends the connection so.
+pub record TurnsLast {L T : Type 0} (left written : L → Option (List ℕ)) (faults : L → ℕ) (Answers : RequestParts → ReplyParts → T → T → Type 0)
+    (from : Stage L T) (kept : List ℕ) (to : Stage L T) (last : Served) : Type 0 where
+  -- the link once it was read, and what was read
   pub read : L
-  pub behind : List ℕ
   pub answer : Next
+  pub behind : List ℕ
   pub asked : ReadsNext (left from.outer) (left read) kept behind answer
   pub unwritten : written read ≡ written from.outer
-  pub unread : left to.outer ≡ left read
-  pub reply : ReplyParts
-  pub replied : AppendsFront (written read) (written to.outer) (bytes_of (reply ∷ []))
-  pub book : EndsTurn faults answer reply from.at_hand to.at_hand from.disk to.disk
+  pub failed : Counts (faults from.outer) (faults read) (link_failed answer)
+  pub ends : EndsTurn left written faults Answers answer (stage read from.tools) to last
 
--- A connection with so many replies left was served in order: each reply was written before the link was read for the next request, and nothing was read after a request that is the last, nor once as many replies were written.
-pub record ServesInOrder {L D : Type 0} (left written : L → Option (List ℕ)) (faults : D → ℕ) (most : ℕ) (old new : Stage L D) (served : Served) : Type 0 where
+-- ---- the connection
+
+-- All replies that were left stand written, and the link was not touched after the last.
+pub record WritesAll {L T : Type 0} (most : ℕ) (replies : List ReplyParts) (mid new : Stage L T) (served : Served) : Type 0 where
+  pub all : length replies ≡ most
+  pub untouched : new ≡ mid
+  pub is : served ≡ record { replies = most; ended = ended.Finished }
+
+-- Fewer replies stand written than were left, and one more turn was the last.
+pub record EndsBefore {L T : Type 0} (left written : L → Option (List ℕ)) (faults : L → ℕ) (Answers : RequestParts → ReplyParts → T → T → Type 0)
+    (most : ℕ) (replies : List ReplyParts) (mid : Stage L T) (kept : List ℕ) (new : Stage L T) (served : Served) : Type 0 where
+  pub fewer : length replies < most
+  pub last : Served
+  pub turn : TurnsLast left written faults Answers mid kept new last
+  pub is : served ≡ record { replies = length replies + last.replies; ended = last.ended }
+
+-- A connection with so many replies left was served in order, one turn after another: each reply was written before the link was read for the next request. It ended as all replies were written, or by a last turn, and in no other way.
+pub record ServesInOrder {L T : Type 0} (left written : L → Option (List ℕ)) (faults : L → ℕ) (Answers : RequestParts → ReplyParts → T → T → Type 0)
+    (most : ℕ) (old new : Stage L T) (served : Served) : Type 0 where
   pub replies : List ReplyParts
-  pub mid : Stage L D
+  pub mid : Stage L T
   pub kept : List ℕ
-  pub turns : TurnsInOrder left written faults old [] replies mid kept
-  pub ends : (new ≡ mid) ⊎ ((length replies < most) × TurnsLast left written faults mid kept new)
-  pub counted : (length replies ≤ served.replies) × (served.replies ≤ length replies + 1)
+  pub turns : TurnsInOrder left written faults Answers old [] replies mid kept
+  pub ends : WritesAll most replies mid new served ⊎ EndsBefore left written faults Answers most replies mid kept new served

@@ -4,12 +4,13 @@ ghost use Rattle.std.specs.List.{AllZip};
 ghost use Rattle.gb_outside.specs.Faults.{Counts};
 ghost use Rattle.journal_disk.specs.Layout.{the_heading, IsMade};
 ghost use Rattle.intake.specs.Requests.{Held};
-ghost use Rattle.connections.specs.Answering.{KeepsOpen, OpensNone};
+ghost use Rattle.connections.specs.Answering.{AnswersTurn, KeepsOpen, OpensNone};
 ghost use Rattle.connections.specs.DoorOrder.{ServesDoorInOrder};
 ghost use Rattle.connections.specs.Doors.{AskSo, LinkRequests, ServesDoor, is_door_fault};
 ghost use Rattle.connections.specs.Holding.{Holds, StandsForNone, StandsOpen, working};
 ghost use Rattle.connections.specs.LinkOrder.{stage};
 ghost use Rattle.connections.specs.Serving.{TakesNone, TakesTurns};
+ghost use Rattle.connections.specs.Tools.{tools};
 ghost use Rattle.connections.specs.inner.LinkRounds.{IsRound, ServesFirst, behind_link, has_door_failed};
 
 use crate::{Clerk, Ended, Served};
@@ -62,7 +63,7 @@ impl Clerk {
         ensures made { IsTrue D.tells → IsMade the_heading (D.reads disk.old) → IsMade the_heading (D.reads disk.new) }
         ensures no_book { IsTrue D.tells → working self.old ≡ None → StandsForNone (D.reads disk.old) → OpensNone D.reads D.images D.moment D.since disk.old disk.new self.new }
         ensures same_clock { IsTrue D.tells → working self.old ≡ None → StandsForNone (D.reads disk.old) → clock.new ≡ clock.old }
-        ensures order { ServesFirst L.waiting L.served L.Link.left L.Link.written L.Link.faults D.faults left (stage door.old disk.old self.old) (stage door.new disk.new self.new) result }
+        ensures order { ServesFirst L.waiting L.served L.faults L.Link.left L.Link.written L.Link.faults (AnswersTurn D.tells D.reads D.images D.faults C.ticks) left (stage door.old (tools disk.old self.old clock.old)) (stage door.new (tools disk.new self.new clock.new)) result }
         ensures handed_back { IsSome (L.served door.old) → IsSome (L.served door.new) × (L.out door.new ≡ L.out door.old) }
         ensures cause { Counts (L.faults door.old) (L.faults door.new) (has_door_failed result) }
     {
@@ -99,7 +100,7 @@ impl Clerk {
         ensures made { IsTrue D.tells → IsMade the_heading (D.reads disk.old) → IsMade the_heading (D.reads disk.new) }
         ensures no_book { IsTrue D.tells → working self.old ≡ None → StandsForNone (D.reads disk.old) → OpensNone D.reads D.images D.moment D.since disk.old disk.new self.new }
         ensures same_clock { IsTrue D.tells → working self.old ≡ None → StandsForNone (D.reads disk.old) → clock.new ≡ clock.old }
-        ensures order { ServesDoorInOrder L.waiting L.served L.Link.left L.Link.written L.Link.faults D.faults most (stage door.old disk.old self.old) (stage door.new disk.new self.new) }
+        ensures order { ServesDoorInOrder L.waiting L.served L.faults L.Link.left L.Link.written L.Link.faults (AnswersTurn D.tells D.reads D.images D.faults C.ticks) most (stage door.old (tools disk.old self.old clock.old)) (stage door.new (tools disk.new self.new clock.new)) result }
         ensures kept_open { KeepsOpen D.faults self.old self.new disk.old disk.new }
         ensures handed_back { IsSome (L.served door.old) → IsSome (L.served door.new) × (L.out door.new ≡ L.out door.old) }
         ensures cause { Counts (L.faults door.old) (L.faults door.new) (is_door_fault result) }

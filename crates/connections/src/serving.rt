@@ -9,14 +9,15 @@ ghost use Rattle.registry_http.specs.Replies.{AppendsPart};
 ghost use Rattle.registry_http.specs.RequestLists.{AreRequests};
 ghost use Rattle.registry_http.specs.RequestParts.{RequestParts};
 ghost use Rattle.registry_http.specs.Requests.{AtFront};
-ghost use Rattle.connections.specs.Answering.{KeepsOpen, OpensNone};
+ghost use Rattle.connections.specs.Answering.{AnswersTurn, KeepsOpen, OpensNone};
 ghost use Rattle.connections.specs.Holding.{Holds, StandsForNone, StandsOpen, working};
 ghost use Rattle.connections.specs.LinkOrder.{ServesInOrder, stage};
 ghost use Rattle.connections.specs.Replies.{bytes_of};
 ghost use Rattle.connections.specs.Serving.{ServesLink, TakesNone, TakesTurns, is_link_fault};
+ghost use Rattle.connections.specs.Tools.{tools};
 ghost use Rattle.connections.specs.Turns.{turns};
 ghost use Rattle.connections.specs.declared.serving.Ended.TheVariants.{Finished, Memory};
-ghost use Rattle.connections.specs.inner.Rounds.{EndsWith, IsTurn, Meets, TurnsNext, WritesReply, answering_ended, is_cut_off, sending_failed};
+ghost use Rattle.connections.specs.inner.Rounds.{AnswersNext, EndsWith, IsTurn, Meets, TurnsNext, answering_ended, is_cut_off, sending_failed};
 
 use crate::Clerk;
 use crate::replies::Reply;
@@ -111,7 +112,7 @@ impl Clerk {
         ensures no_book { IsTrue D.tells → working self.old ≡ None → StandsForNone (D.reads disk.old) → OpensNone D.reads D.images D.moment D.since disk.old disk.new self.new }
         ensures same_clock { IsTrue D.tells → working self.old ≡ None → StandsForNone (D.reads disk.old) → clock.new ≡ clock.old }
         ensures told { IsSome (L.written link.old) → IsSome (L.written link.new) }
-        ensures replied { WritesReply D.faults request.now (L.written link.old) (L.written link.new) self.old self.new disk.old disk.new result }
+        ensures replied { AnswersNext L.left L.written L.faults (AnswersTurn D.tells D.reads D.images D.faults C.ticks) request.now (stage link.old (tools disk.old self.old clock.old)) (stage link.new (tools disk.new self.new clock.new)) result }
         ensures left { L.left link.new ≡ L.left link.old }
         ensures cause { Counts (L.faults link.old) (L.faults link.new) (is_cut_off result) }
     {
@@ -153,7 +154,7 @@ impl Clerk {
         ensures made { IsTrue D.tells → IsMade the_heading (D.reads disk.old) → IsMade the_heading (D.reads disk.new) }
         ensures no_book { IsTrue D.tells → working self.old ≡ None → StandsForNone (D.reads disk.old) → OpensNone D.reads D.images D.moment D.since disk.old disk.new self.new }
         ensures same_clock { IsTrue D.tells → working self.old ≡ None → StandsForNone (D.reads disk.old) → clock.new ≡ clock.old }
-        ensures order { TurnsNext L.left L.written D.faults (stage link.old disk.old self.old) rest.old.items (stage link.new disk.new self.new) rest.new.items result }
+        ensures order { TurnsNext L.left L.written L.faults (AnswersTurn D.tells D.reads D.images D.faults C.ticks) (stage link.old (tools disk.old self.old clock.old)) rest.old.items (stage link.new (tools disk.new self.new clock.new)) rest.new.items result }
         ensures told { IsSome (L.written link.old) → IsSome (L.written link.new) }
         ensures cause { Counts (L.faults link.old) (L.faults link.new) (is_cut_off result) }
     {
@@ -197,7 +198,7 @@ impl Clerk {
         ensures no_book { IsTrue D.tells → working self.old ≡ None → StandsForNone (D.reads disk.old) → OpensNone D.reads D.images D.moment D.since disk.old disk.new self.new }
         ensures same_clock { IsTrue D.tells → working self.old ≡ None → StandsForNone (D.reads disk.old) → clock.new ≡ clock.old }
         ensures few { result.replies ≤ left }
-        ensures order { ServesInOrder L.left L.written D.faults left (stage link.old disk.old self.old) (stage link.new disk.new self.new) result }
+        ensures order { ServesInOrder L.left L.written L.faults (AnswersTurn D.tells D.reads D.images D.faults C.ticks) left (stage link.old (tools disk.old self.old clock.old)) (stage link.new (tools disk.new self.new clock.new)) result }
         ensures kept_open { KeepsOpen D.faults self.old self.new disk.old disk.new }
         ensures told { IsSome (L.written link.old) → IsSome (L.written link.new) }
         ensures cause { Counts (L.faults link.old) (L.faults link.new) (is_link_fault result.ended) }

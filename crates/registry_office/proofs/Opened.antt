@@ -16,8 +16,7 @@ use Rattle.receipt_journal.specs.declared.faults.BookFault.TheVariants as fault
 use Rattle.receipt_journal.proofs.Standings.{stands_by_frames, kept_frames}
 use Rattle.registry_office.specs.Disks.{IsJournalFile, FindsBy, GrowsSynced, KeepsGrown, LeftAnew}
 use Rattle.intake.specs.Grown.{GrownFrom, IsFront}
-use Rattle.registry_office.specs.Statuses.{read_fault, write_fault, disk_fault, door_fault, is_no_journal, is_of_session, tells_of_opening}
-use Rattle.registry_office.specs.inner.Ends.{status_of_fault}
+use Rattle.registry_office.specs.Statuses.{read_fault, write_fault, disk_fault, door_fault, is_no_journal, is_of_session, status_of_fault, tells_of_opening}
 use Rattle.registry_office.specs.Receivings.{HasWritten}
 use Rattle.registry_office.specs.declared.statuses.Status.{Status}
 use Rattle.registry_office.specs.declared.statuses.Status.TheVariants as status

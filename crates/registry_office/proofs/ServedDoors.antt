@@ -25,8 +25,8 @@ use Rattle.connections.specs.declared.doors.DoorEnd.TheVariants as door
 use Rattle.connections.specs.declared.serving.Served.{Served}
 use Rattle.registry_office.specs.Disks.{LeavesSynced}
 use Rattle.registry_office.specs.Servings.{IsHeld, ServesOffice}
+use Rattle.registry_office.specs.Statuses.{status_of_door, status_of_fault}
 use Rattle.registry_office.specs.declared.statuses.Status.{Status}
-use Rattle.registry_office.specs.inner.Ends.{status_of_door, status_of_fault}
 use Rattle.registry_office.proofs.Opened.{kept_journal, made_of_journal}
 
 -- a file that stands for the journal that is held is left ahead of all turns

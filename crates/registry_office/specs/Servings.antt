@@ -1,18 +1,27 @@
 -- What serving the office does: the links that came through the door, and the disk.
-use Rattle.std.specs.Prelude.{◌≡◌, ◌⊎◌, ℕ, ◌+◌, ◌≤◌, true, false, List, [], ◌++◌, drop, length, Option, Some, IfSome}
+use Rattle.std.specs.Prelude.{◌≡◌, ◌⊎◌, ℕ, ◌+◌, ◌≤◌, Bool, true, false, List, [], ◌++◌, drop, length, Option, Some, IfSome, IsTrue}
 use Rattle.std.specs.List.{list_all, list_any}
 use Rattle.gb_base.specs.DayMinute.{DayMinute}
 use Rattle.gb_outside.specs.Faults.{Counts, Rose}
 use Rattle.gb_outside.specs.Images.{Torn}
 use Rattle.journal_disk.specs.Layout.{the_heading, first_gate, IsUnmade, made_from}
+use Rattle.receipt_journal.specs.Opening.{BookOpens, BookRefuses}
 use Rattle.receipt_journal.specs.Standing.{StandsForJournal}
+use Rattle.receipt_journal.specs.declared.faults.BookFault.{BookFault}
+use Rattle.registrar.specs.HasSettled.{IsRegisterOf}
 use Rattle.intake.specs.Requests.{Held}
+use Rattle.settled_book.specs.SettledBookState.{SettledBookState}
+use Rattle.connections.specs.Answering.{AnswersTurn}
+use Rattle.connections.specs.DoorOrder.{ServesDoorInOrder}
 use Rattle.connections.specs.Doors.{AreServed, LacksMemory, LinkRequests, LinkServed, left_behind, pairs_of, turns_taken}
+use Rattle.connections.specs.LinkOrder.{stage}
 use Rattle.connections.specs.Served.{IsLeftIn}
-use Rattle.connections.specs.Serving.{AllTold, CountsTurns, WritesTurns, fate_of, is_answered, lacks_journal, lacks_memory}
-use Rattle.connections.specs.Turns.{held_behind}
+use Rattle.connections.specs.Serving.{AllMayLack, AllTold, CountsTurns, WritesTurns, fate_of, is_answered, lacks_journal, lacks_memory}
+use Rattle.connections.specs.Tools.{tools}
+use Rattle.connections.specs.Turns.{calls_disk, held_behind}
+use Rattle.connections.specs.declared.doors.DoorEnd.{DoorEnd}
 use Rattle.registry_office.specs.Disks.{KeepsSynced}
-use Rattle.registry_office.specs.Statuses.{disk_fault, tells_of_opening}
+use Rattle.registry_office.specs.Statuses.{disk_fault, status_of_door, status_of_fault, tells_of_opening}
 use Rattle.registry_office.specs.declared.statuses.Status.{Status}
 use Rattle.registry_office.specs.declared.statuses.Status.TheVariants as status
 
@@ -21,7 +30,7 @@ pub record IsHeld (file : List ℕ) (known : Option (List DayMinute)) (held : He
   pub stands : StandsForJournal file held.journal
   pub clock : known ≡ Some held.ticks
 
--- The office was served, at whose door links waited that ask so, up to so many replies and as many links: what became of each link that came, what the door tells of them, and what is held behind them. At each moment since the first sync a stop leaves the journal as it is behind some of the turns that were taken, with the receipt of the next or without it; of the file no other bytes are written behind the opening than the frames of items received, and each file that it may leave behind the run begins with each journal that a text was read of or an item received into. The disk's count of faults rises where the opening failed by it, and behind that, in sum, by one at least for each turn in which a call of it failed, and not where none did. All is done where all replies were written, as many links were served, or no more came; and want of memory ends it ahead of the first link, or where none was found for a reply to the last. Where no count of the disk rose and no memory was wanting, each turn was answered as it asks.
+-- The office was served, at whose door links waited that ask so, up to so many replies and as many links: what became of each link that came, what the door tells of them, and what is held behind them. At each moment since the first sync a stop leaves the journal as it is behind some of the turns that were taken, with the receipt of the next or without it; of the file no other bytes are written behind the opening than the frames of items received, and each file that it may leave behind the run begins with each journal that a text was read of or an item received into. The disk's count of faults rises where the opening failed by it, and behind that, in sum, by one at least for each turn in which a call of it failed, and not where none did. The disk stays as the opening left it where it is called in no turn, and memory was wanting in a turn only where it may be. All is done where all replies were written, as many links were served, or no more came; and want of memory ends it ahead of the first link, or where none was found for a reply to the last. Where no count of the disk rose and no memory was wanting, each turn was answered as it asks.
 pub record ServesOffice {D : Type 0} (reads : D → List ℕ) (images : D → List ℕ → Type 0) (moment : D → ℕ) (since : D → ℕ → List ℕ → Type 0) (faults : D → ℕ) (old new : D) (held : Held) (most : ℕ)
     (waiting : List (List ℕ)) (asked : List LinkRequests) (waiting_new : Option (List (List ℕ))) (served_old served_new : Option (List (List ℕ × ℕ))) (known_new : Option (List DayMinute)) (result : Status) : Type 0 where
   pub links : List LinkServed
@@ -40,8 +49,49 @@ pub record ServesOffice {D : Type 0} (reads : D → List ℕ) (images : D → Li
   pub opening : Counts (faults old) (faults opened) (disk_fault result)
   pub disk : CountsTurns (faults opened) (turns_taken links) (faults new)
   pub journal : list_any (λ turn. lacks_journal (fate_of turn)) (turns_taken links) ≡ false
+  pub stays : list_any calls_disk (turns_taken links) ≡ false → new ≡ opened
+  pub may_lack : AllMayLack held (turns_taken links)
   pub done : result ≡ status.Ok → (left_behind most links ≡ 0) ⊎ ((length links ≡ most) ⊎ (drop (length links) waiting ≡ []))
   pub memory : LacksMemory links → result ≡ status.Memory
   pub wanting : result ≡ status.Memory → (links ≡ []) ⊎ LacksMemory links
   pub answered : (Rose (faults old) (faults new) → ⊥) → list_any (λ turn. lacks_memory (fate_of turn)) (turns_taken links) ≡ false
       → list_all (λ turn. is_answered (fate_of turn)) (turns_taken links) ≡ true
+
+-- ---- in which order the door was served
+
+-- The journal of a disk was opened and settled, and no call of the disk failed in that: the disk and the book as they then stood. Where no memory was found to settle it, it has no register yet.
+pub record OpensSettled {D : Type 0} (tells : Bool) (reads : D → List ℕ) (images : D → List ℕ → Type 0) (faults : D → ℕ) (old : D) : Type 0 where
+  pub opened : D
+  pub settled : SettledBookState
+  pub works : settled.book.log.failed ≡ false
+  pub opens : IsTrue tells → BookOpens (reads old) settled.book (reads opened) (images opened)
+  pub register : IfSome settled.register (IsRegisterOf settled.book.journal)
+  pub quiet : faults opened ≡ faults old
+
+-- The journal was opened and settled, with neither door nor clock touched, and then the door was served in order from there, up to so many replies and as many links.
+pub record OpensThenServes {P L D C : Type 0} (waiting : P → Option (List (List ℕ))) (served : P → Option (List (List ℕ × ℕ))) (door_faults : P → ℕ) (left written : L → Option (List ℕ)) (link_faults : L → ℕ)
+    (tells : Bool) (reads : D → List ℕ) (images : D → List ℕ → Type 0) (faults : D → ℕ) (ticks : C → Option (List DayMinute))
+    (most : ℕ) (door_old door_new : P) (disk_old disk_new : D) (clock_old clock_new : C) (result : Status) : Type 0 where
+  pub first : OpensSettled tells reads images faults disk_old
+  -- the book after the last link
+  pub at_hand : Option SettledBookState
+  pub end : DoorEnd
+  pub in_order : ServesDoorInOrder waiting served door_faults left written link_faults (AnswersTurn tells reads images faults ticks) most
+      (stage door_old (tools first.opened (Some first.settled) clock_old)) (stage door_new (tools disk_new at_hand clock_new)) end
+  pub is : result ≡ status_of_door end
+
+-- The journal was not opened: the status says why, and neither door nor clock was touched.
+pub record StaysUnopened {P D C : Type 0} (tells : Bool) (reads : D → List ℕ) (faults : D → ℕ) (door_old door_new : P) (disk_old disk_new : D) (clock_old clock_new : C) (result : Status) : Type 0 where
+  pub fault : BookFault
+  pub is : result ≡ status_of_fault fault
+  pub refused : IsTrue tells → BookRefuses (reads disk_old) fault
+  pub cause : Counts (faults disk_old) (faults disk_new) (disk_fault result)
+  pub door : door_new ≡ door_old
+  pub clock : clock_new ≡ clock_old
+
+-- the office served its door in order, after the journal was opened, or it was not opened
+abbrev pub ServesInTurn : {P L D C : Type 0} → (P → Option (List (List ℕ))) → (P → Option (List (List ℕ × ℕ))) → (P → ℕ) → (L → Option (List ℕ)) → (L → Option (List ℕ)) → (L → ℕ)
+    → Bool → (D → List ℕ) → (D → List ℕ → Type 0) → (D → ℕ) → (C → Option (List DayMinute)) → ℕ → P → P → D → D → C → C → Status → Type 0
+ServesInTurn waiting served door_faults left written link_faults tells reads images faults ticks most door_old door_new disk_old disk_new clock_old clock_new result =
+    OpensThenServes waiting served door_faults left written link_faults tells reads images faults ticks most door_old door_new disk_old disk_new clock_old clock_new result
+    ⊎ StaysUnopened tells reads faults door_old door_new disk_old disk_new clock_old clock_new result

@@ -1,5 +1,9 @@
--- Which statuses blame which object.
+-- Which statuses blame which object, and which status an end has.
 use Rattle.std.specs.Prelude.{Bool, true, false}
+use Rattle.receipt_journal.specs.declared.faults.BookFault.{BookFault}
+use Rattle.receipt_journal.specs.declared.faults.BookFault.TheVariants as fault
+use Rattle.connections.specs.declared.doors.DoorEnd.{DoorEnd}
+use Rattle.connections.specs.declared.doors.DoorEnd.TheVariants as door
 use Rattle.registry_office.specs.declared.statuses.Status.{Status}
 use Rattle.registry_office.specs.declared.statuses.Status.TheVariants as status
 
@@ -106,3 +110,16 @@ is_of_writing status.NotJournal = false
 is_of_writing (status.BadRecord at) = false
 is_of_writing status.InputTooLong = false
 is_of_writing status.DoorFault = false
+
+-- the status where the disk's file could not be opened as a journal
+abbrev pub status_of_fault : BookFault → Status
+status_of_fault fault.Disk = status.DiskFault
+status_of_fault fault.NotJournal = status.NotJournal
+status_of_fault (fault.BadRecord at) = status.BadRecord at
+status_of_fault fault.Memory = status.Memory
+
+-- the status of a door that was served
+abbrev pub status_of_door : DoorEnd → Status
+status_of_door door.Done = status.Ok
+status_of_door door.DoorFault = status.DoorFault
+status_of_door door.Memory = status.Memory

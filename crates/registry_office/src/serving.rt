@@ -11,16 +11,17 @@ ghost use Rattle.registry_http.specs.RequestLists.{AreRequests};
 ghost use Rattle.registry_http.specs.RequestParts.{RequestParts};
 ghost use Rattle.registry_http.specs.Requests.{AtFront};
 ghost use Rattle.settled_book.specs.SettledBookState.{SettledBookState};
+ghost use Rattle.connections.specs.Answering.{AnswersTurn};
 ghost use Rattle.connections.specs.Completeness.{Completes};
 ghost use Rattle.connections.specs.Doors.{AskSo, LinkRequests};
 ghost use Rattle.connections.specs.Holding.{StandsForNone};
 ghost use Rattle.connections.specs.LinkOrder.{ServesInOrder, stage};
 ghost use Rattle.connections.specs.Serving.{ServesLink, TakesNone, TakesTurns, is_link_fault};
+ghost use Rattle.connections.specs.Tools.{tools};
 ghost use Rattle.connections.specs.Turns.{turns};
 ghost use Rattle.registry_office.specs.Disks.{FindsBy, IsJournalFile};
-ghost use Rattle.registry_office.specs.Servings.{IsHeld, ServesOffice};
-ghost use Rattle.registry_office.specs.Statuses.{read_fault, write_fault, disk_fault, door_fault, is_no_journal, tells_of_opening};
-ghost use Rattle.registry_office.specs.inner.Ends.{status_of_door};
+ghost use Rattle.registry_office.specs.Servings.{IsHeld, ServesInTurn, ServesOffice};
+ghost use Rattle.registry_office.specs.Statuses.{read_fault, write_fault, disk_fault, door_fault, is_no_journal, status_of_door, tells_of_opening};
 
 use crate::statuses::{Status, status_of_opening};
 use connections::{Clerk, DoorEnd, Served};
@@ -56,7 +57,7 @@ pub fn serve_connection<R: AllocGlobal, L: Link, D: Disk, C: Clock, G: DeskGate>
     ensures kept { IsTrue D.tells → StandsForNone (D.reads disk.old) → (D.reads disk.new ≡ D.reads disk.old) × LeavesOnly D.moment D.since disk.old disk.new (D.images disk.old) × (clock.new ≡ clock.old) }
     ensures made { IsTrue D.tells → IsMade the_heading (D.reads disk.old) → IsMade the_heading (D.reads disk.new) }
     ensures few { result.replies ≤ left }
-    ensures order { (at_hand : Option SettledBookState) × ServesInOrder L.left L.written D.faults left (stage link.old disk.old None) (stage link.new disk.new at_hand) result }
+    ensures order { (at_hand : Option SettledBookState) × ServesInOrder L.left L.written L.faults (AnswersTurn D.tells D.reads D.images D.faults C.ticks) left (stage link.old (tools disk.old None clock.old)) (stage link.new (tools disk.new at_hand clock.new)) result }
     ensures cause { Counts (L.faults link.old) (L.faults link.new) (is_link_fault result.ended) }
 {
     let mut clerk = Clerk::new();
@@ -79,6 +80,7 @@ pub(crate) fn serve<
         → IsHeld (D.reads disk.old) (C.ticks clock.old) held → L.waiting door.old ≡ Some waiting → AllZip AskSo waiting asked
         → ServesOffice D.reads D.images D.moment D.since D.faults disk.old disk.new held requests waiting asked (L.waiting door.new) (L.served door.old) (L.served door.new) (C.ticks clock.new) result }
     ensures handed_back { IsSome (L.served door.old) → IsSome (L.served door.new) × (L.out door.new ≡ L.out door.old) }
+    ensures order { ServesInTurn L.waiting L.served L.faults L.Link.left L.Link.written L.Link.faults D.tells D.reads D.images D.faults C.ticks requests door.old door.new disk.old disk.new clock.old clock.new result }
 
     // What the file stood for; where it stood for no journal, nothing else is touched, and it stays.
     ensures found { IsTrue D.tells → FindsBy (D.reads disk.old) result }

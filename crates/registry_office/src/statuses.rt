@@ -1,6 +1,7 @@
 //! How a run ends.
 ghost use Rattle.std.specs.Prelude.{◌≡◌};
-ghost use Rattle.registry_office.specs.inner.Ends.{status_of, status_of_fault, status_of_writing};
+ghost use Rattle.registry_office.specs.Statuses.{status_of_fault};
+ghost use Rattle.registry_office.specs.inner.Ends.{status_of, status_of_writing};
 
 use intake::{OutputFault, SessionFault};
 use receipt_journal::BookFault;

@@ -1,9 +1,11 @@
 -- What taking up the link that comes next through a door comes to.
 use Rattle.std.specs.Prelude.{◌≡◌, ◌⊎◌, ℕ, ◌-◌, ◌≤◌, Bool, false, List, [], drop, length, Option, Result, Ok, Err}
 use Rattle.intake.specs.Requests.{Held}
+use Rattle.registry_http.specs.RequestParts.{RequestParts}
 use Rattle.connections.specs.Doors.{LacksMemory, LinkRequests, LinkServed, ServesLinks, is_door_fault, left_behind}
 use Rattle.connections.specs.DoorOrder.{ComesNone, ServesOne}
 use Rattle.connections.specs.LinkOrder.{Stage}
+use Rattle.connections.specs.Replies.{ReplyParts}
 use Rattle.connections.specs.Turns.{Taken}
 use Rattle.connections.specs.declared.doors.DoorEnd.{DoorEnd}
 use Rattle.connections.specs.declared.doors.DoorEnd.TheVariants as door
@@ -38,6 +40,7 @@ pub record IsRound {D : Type 0} (Takes : D → D → Held → List Taken → Typ
   pub wanting : result ≡ Err door.Memory → LacksMemory links
 
 -- The link that comes next was served in order, and it goes on by that; or none came, and it ends.
-abbrev pub ServesFirst : {P L D : Type 0} → (P → Option (List (List ℕ))) → (P → Option (List (List ℕ × ℕ))) → (L → Option (List ℕ)) → (L → Option (List ℕ)) → (L → ℕ) → (D → ℕ) → ℕ → Stage P D → Stage P D → Result ℕ DoorEnd → Type 0
-ServesFirst waiting served left written link_faults faults most old new result =
-    ((one : Served) × (result ≡ behind_link one) × ServesOne waiting served left written link_faults faults most old new one) ⊎ ((end : DoorEnd) × (result ≡ Err end) × ComesNone waiting served old new)
+abbrev pub ServesFirst : {P L T : Type 0} → (P → Option (List (List ℕ))) → (P → Option (List (List ℕ × ℕ))) → (P → ℕ) → (L → Option (List ℕ)) → (L → Option (List ℕ)) → (L → ℕ)
+    → (RequestParts → ReplyParts → T → T → Type 0) → ℕ → Stage P T → Stage P T → Result ℕ DoorEnd → Type 0
+ServesFirst waiting served faults left written link_faults Answers most old new result =
+    ((one : Served) × (result ≡ behind_link one) × ServesOne waiting served faults left written link_faults Answers most old new one) ⊎ ((end : DoorEnd) × (result ≡ Err end) × ComesNone waiting served faults old new end)

@@ -1,7 +1,6 @@
 -- What one turn of a connection comes to.
 use Rattle.std.specs.Prelude.{◌≡◌, ℕ, ◌==◌, Bool, false, List, [], ◌∷◌, ◌++◌, Option, Some, None, Result, Ok, Err}
 use Rattle.std.specs.Io.KnownBytes.{Appends}
-use Rattle.gb_outside.specs.Bytes.{AppendsFront}
 use Rattle.intake.specs.Requests.{Held}
 use Rattle.registry_http.specs.Replies.{AppendsPart}
 use Rattle.registry_http.specs.RequestLists.{AreRequests}
@@ -9,9 +8,7 @@ use Rattle.registry_http.specs.RequestParts.{RequestParts}
 use Rattle.registry_http.specs.Requests.{AtFront}
 use Rattle.registry_http.specs.declared.replies.ReplyFault.{ReplyFault}
 use Rattle.registry_http.specs.declared.replies.ReplyFault.TheVariants as fault
-use Rattle.settled_book.specs.SettledBookState.{SettledBookState}
-use Rattle.connections.specs.Answering.{KeepsBook}
-use Rattle.connections.specs.LinkOrder.{Stage, TurnsLast, TurnsOnce}
+use Rattle.connections.specs.LinkOrder.{AnswersLast, Stage, TurnsLast, TurnsOnce}
 use Rattle.connections.specs.Replies.{ReplyParts, bytes_of}
 use Rattle.connections.specs.Serving.{ServesLink, is_link_fault}
 use Rattle.connections.specs.Turns.{Taken, Request, IsOf, answer_in, turns}
@@ -71,15 +68,20 @@ IsTurn Takes old new held written_old written_new requests end HoldsNow MeetsNow
 
 -- ---- in which order the link was read and written
 
--- a reply to a request was written, whole where more may follow, and then it was not the last; and what answering it did to the disk and the book
-pub record WritesReply {D : Type 0} (faults : D → ℕ) (request : RequestParts) (written_old written_new : Option (List ℕ)) (book_old book_new : Option SettledBookState) (old new : D) (result : Option Served) : Type 0 where
-  pub reply : ReplyParts
-  pub more : result ≡ None → request.last ≡ false
-  pub whole : result ≡ None → Appends written_old written_new (bytes_of (reply ∷ []))
-  pub part : AppendsFront written_old written_new (bytes_of (reply ∷ []))
-  pub book : KeepsBook faults request reply book_old book_new old new
+-- The reply to a request was written, with nothing read: whole where more may follow, and then it was not the last, and the link did not fail.
+pub record RepliesOnce {L : Type 0} (left written : L → Option (List ℕ)) (faults : L → ℕ) (request : RequestParts) (reply : ReplyParts) (old new : L) : Type 0 where
+  pub more : request.last ≡ false
+  pub unread : left new ≡ left old
+  pub replied : Appends (written old) (written new) (bytes_of (reply ∷ []))
+  pub quiet : faults new ≡ faults old
+
+-- a request was answered, and more may follow, or its reply was the last
+abbrev pub AnswersNext : {L T : Type 0} → (L → Option (List ℕ)) → (L → Option (List ℕ)) → (L → ℕ) → (RequestParts → ReplyParts → T → T → Type 0) → RequestParts → Stage L T → Stage L T → Option Served → Type 0
+AnswersNext left written faults Answers request old new None =
+    (reply : ReplyParts) × Answers request reply old.tools new.tools × RepliesOnce left written faults request reply old.outer new.outer
+AnswersNext left written faults Answers request old new (Some last) = AnswersLast left written faults Answers request old new last
 
 -- one turn was taken and more may follow, or the last one
-abbrev pub TurnsNext : {L D : Type 0} → (L → Option (List ℕ)) → (L → Option (List ℕ)) → (D → ℕ) → Stage L D → List ℕ → Stage L D → List ℕ → Option Served → Type 0
-TurnsNext left written faults from kept to behind None = (reply : ReplyParts) × TurnsOnce left written faults from kept reply to behind
-TurnsNext left written faults from kept to behind (Some served) = TurnsLast left written faults from kept to
+abbrev pub TurnsNext : {L T : Type 0} → (L → Option (List ℕ)) → (L → Option (List ℕ)) → (L → ℕ) → (RequestParts → ReplyParts → T → T → Type 0) → Stage L T → List ℕ → Stage L T → List ℕ → Option Served → Type 0
+TurnsNext left written faults Answers from kept to behind None = (reply : ReplyParts) × TurnsOnce left written faults Answers from kept reply to behind
+TurnsNext left written faults Answers from kept to behind (Some last) = TurnsLast left written faults Answers from kept to last

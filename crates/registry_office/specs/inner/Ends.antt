@@ -1,9 +1,5 @@
 -- Which status an end of work has.
 use Rattle.std.specs.Prelude.{Result, Ok, Err}
-use Rattle.receipt_journal.specs.declared.faults.BookFault.{BookFault}
-use Rattle.receipt_journal.specs.declared.faults.BookFault.TheVariants as fault
-use Rattle.connections.specs.declared.doors.DoorEnd.{DoorEnd}
-use Rattle.connections.specs.declared.doors.DoorEnd.TheVariants as door
 use Rattle.intake.specs.declared.faults.OutputFault.{OutputFault}
 use Rattle.intake.specs.declared.faults.OutputFault.TheVariants as output
 use Rattle.intake.specs.declared.faults.SessionFault.{SessionFault}
@@ -24,21 +20,8 @@ abbrev pub status_of : {A : Type 0} → Result A SessionFault → Status
 status_of (Ok value) = status.Ok
 status_of (Err fault) = status_of_session fault
 
--- the status where the disk's file could not be opened as a journal
-abbrev pub status_of_fault : BookFault → Status
-status_of_fault fault.Disk = status.DiskFault
-status_of_fault fault.NotJournal = status.NotJournal
-status_of_fault (fault.BadRecord at) = status.BadRecord at
-status_of_fault fault.Memory = status.Memory
-
 -- the status where a text is written to its end or could not be
 abbrev pub status_of_writing : {A : Type 0} → Result A OutputFault → Status
 status_of_writing (Ok value) = status.Ok
 status_of_writing (Err output.Write) = status.WriteFault
 status_of_writing (Err output.Memory) = status.Memory
-
--- the status of a door that was served
-abbrev pub status_of_door : DoorEnd → Status
-status_of_door door.Done = status.Ok
-status_of_door door.DoorFault = status.DoorFault
-status_of_door door.Memory = status.Memory
