@@ -48,9 +48,9 @@ TurnsInOrder {L} {T} left written faults Answers from kept (reply ∷ replies) t
 
 -- ---- the last turn
 
--- what became of a connection that ended so before any reply stood whole
-abbrev pub unreplied : Ended → Served
-unreplied how = record { replies = 0; ended = how }
+-- what became of a connection with so many whole replies that ended so
+abbrev pub served_so : ℕ → Ended → Served
+served_so replies how = record { replies = replies; ended = how }
 
 -- how many whole replies a last turn wrote that ended so, where it owed one
 abbrev pub last_replies : Ended → ℕ
@@ -85,9 +85,9 @@ EndsTurn left written faults Answers (next.Request request) old new last = Answe
 EndsTurn left written faults Answers next.HeadFault old new last = RepliesLast left written faults bad_request old.outer new.outer last × (new.tools ≡ old.tools)
 EndsTurn left written faults Answers next.BodyTooLong old new last = RepliesLast left written faults body_too_long old.outer new.outer last × (new.tools ≡ old.tools)
 EndsTurn left written faults Answers next.Memory old new last = RepliesLast left written faults out_of_memory old.outer new.outer last × (new.tools ≡ old.tools)
-EndsTurn left written faults Answers next.End old new last = (new ≡ old) × (last ≡ unreplied ended.Finished)
-EndsTurn left written faults Answers next.Cut old new last = (new ≡ old) × (last ≡ unreplied ended.Finished)
-EndsTurn left written faults Answers next.LinkFault old new last = (new ≡ old) × (last ≡ unreplied ended.LinkFault)
+EndsTurn left written faults Answers next.End old new last = (new ≡ old) × (last ≡ served_so 0 ended.Finished)
+EndsTurn left written faults Answers next.Cut old new last = (new ≡ old) × (last ≡ served_so 0 ended.Finished)
+EndsTurn left written faults Answers next.LinkFault old new last = (new ≡ old) × (last ≡ served_so 0 ended.LinkFault)
 
 -- The last turn was taken: the link was read, as far as it was wanted and with nothing written, and what was read ends the connection so.
 pub record TurnsLast {L T : Type 0} (left written : L → Option (List ℕ)) (faults : L → ℕ) (Answers : RequestParts → ReplyParts → T → T → Type 0)
@@ -107,7 +107,7 @@ pub record TurnsLast {L T : Type 0} (left written : L → Option (List ℕ)) (fa
 pub record WritesAll {L T : Type 0} (most : ℕ) (replies : List ReplyParts) (mid new : Stage L T) (served : Served) : Type 0 where
   pub all : length replies ≡ most
   pub untouched : new ≡ mid
-  pub is : served ≡ record { replies = most; ended = ended.Finished }
+  pub is : served ≡ served_so most ended.Finished
 
 -- Fewer replies stand written than were left, and one more turn was the last.
 pub record EndsBefore {L T : Type 0} (left written : L → Option (List ℕ)) (faults : L → ℕ) (Answers : RequestParts → ReplyParts → T → T → Type 0)
@@ -115,7 +115,7 @@ pub record EndsBefore {L T : Type 0} (left written : L → Option (List ℕ)) (f
   pub fewer : length replies < most
   pub last : Served
   pub turn : TurnsLast left written faults Answers mid kept new last
-  pub is : served ≡ record { replies = length replies + last.replies; ended = last.ended }
+  pub is : served ≡ served_so (length replies + last.replies) last.ended
 
 -- A connection with so many replies left was served in order, one turn after another: each reply was written before the link was read for the next request. It ended as all replies were written, or by a last turn, and in no other way.
 pub record ServesInOrder {L T : Type 0} (left written : L → Option (List ℕ)) (faults : L → ℕ) (Answers : RequestParts → ReplyParts → T → T → Type 0)

@@ -5,13 +5,13 @@ use Rattle.gb_base.specs.DayMinute.{DayMinute}
 use Rattle.gb_outside.specs.Faults.{Counts, Rose}
 use Rattle.gb_outside.specs.Images.{Torn}
 use Rattle.journal_disk.specs.Layout.{the_heading, first_gate, IsUnmade, made_from}
-use Rattle.receipt_journal.specs.Opening.{BookOpens, BookRefuses}
+use Rattle.receipt_journal.specs.Opening.{BookRefuses}
 use Rattle.receipt_journal.specs.Standing.{StandsForJournal}
 use Rattle.receipt_journal.specs.declared.faults.BookFault.{BookFault}
 use Rattle.registrar.specs.HasSettled.{IsRegisterOf}
 use Rattle.intake.specs.Requests.{Held}
 use Rattle.settled_book.specs.SettledBookState.{SettledBookState}
-use Rattle.connections.specs.Answering.{AnswersTurn}
+use Rattle.connections.specs.Answering.{AnswersTurn, OpensBook}
 use Rattle.connections.specs.DoorOrder.{ServesDoorInOrder}
 use Rattle.connections.specs.Doors.{AreServed, LacksMemory, LinkRequests, LinkServed, left_behind, pairs_of, turns_taken}
 use Rattle.connections.specs.LinkOrder.{stage}
@@ -59,25 +59,21 @@ pub record ServesOffice {D : Type 0} (reads : D → List ℕ) (images : D → Li
 
 -- ---- in which order the door was served
 
--- The journal of a disk was opened and settled, and no call of the disk failed in that: the disk and the book as they then stood. Where no memory was found to settle it, it has no register yet.
-pub record OpensSettled {D : Type 0} (tells : Bool) (reads : D → List ℕ) (images : D → List ℕ → Type 0) (faults : D → ℕ) (old : D) : Type 0 where
-  pub opened : D
-  pub settled : SettledBookState
-  pub works : settled.book.log.failed ≡ false
-  pub opens : IsTrue tells → BookOpens (reads old) settled.book (reads opened) (images opened)
-  pub register : IfSome settled.register (IsRegisterOf settled.book.journal)
-  pub quiet : faults opened ≡ faults old
-
--- The journal was opened and settled, with neither door nor clock touched, and then the door was served in order from there, up to so many replies and as many links.
+-- The journal was opened and settled, and then the door was served in order, up to so many replies and as many links.
 pub record OpensThenServes {P L D C : Type 0} (waiting : P → Option (List (List ℕ))) (served : P → Option (List (List ℕ × ℕ))) (door_faults : P → ℕ) (left written : L → Option (List ℕ)) (link_faults : L → ℕ)
     (tells : Bool) (reads : D → List ℕ) (images : D → List ℕ → Type 0) (faults : D → ℕ) (ticks : C → Option (List DayMinute))
     (most : ℕ) (door_old door_new : P) (disk_old disk_new : D) (clock_old clock_new : C) (result : Status) : Type 0 where
-  pub first : OpensSettled tells reads images faults disk_old
+  pub opening : OpensBook tells reads images faults disk_old
+  -- the book once it was settled; where no memory was found for that, it has no register yet
+  pub settled : SettledBookState
+  pub book : settled.book ≡ opening.book
+  pub register : IfSome settled.register (IsRegisterOf settled.book.journal)
   -- the book after the last link
   pub at_hand : Option SettledBookState
   pub end : DoorEnd
+  -- neither door nor clock were touched before
   pub in_order : ServesDoorInOrder waiting served door_faults left written link_faults (AnswersTurn tells reads images faults ticks) most
-      (stage door_old (tools first.opened (Some first.settled) clock_old)) (stage door_new (tools disk_new at_hand clock_new)) end
+      (stage door_old (tools opening.opened (Some settled) clock_old)) (stage door_new (tools disk_new at_hand clock_new)) end
   pub is : result ≡ status_of_door end
 
 -- The journal was not opened: the status says why, and neither door nor clock was touched.
