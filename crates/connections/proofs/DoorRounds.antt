@@ -20,7 +20,7 @@ abbrev or_zero : Result ℕ DoorEnd → ℕ
 or_zero (Ok replies) = replies
 or_zero (Err end) = 0
 
-abbrev or_done : Result ℕ DoorEnd → DoorEnd
+abbrev pub or_done : Result ℕ DoorEnd → DoorEnd
 or_done (Ok replies) = door.Done
 or_done (Err end) = end
 

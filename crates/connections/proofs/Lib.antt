@@ -12,6 +12,7 @@ pub mod EndsBy
 pub mod GrownWrites
 pub mod Grows
 pub mod ItemEnds
+pub mod KeptOpen
 pub mod LeftThen
 pub mod LinkEnds
 pub mod LinkTurns

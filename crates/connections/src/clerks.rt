@@ -9,7 +9,7 @@ ghost use Rattle.act_model.specs.declared.receipts.Receipt.{Receipt};
 ghost use Rattle.intake.specs.Requests.{Held};
 ghost use Rattle.journal_disk.specs.Layout.{first_gate, the_heading, IsMade};
 ghost use Rattle.journal_disk.specs.Opening.{AnswersSynced, IsKept, MakesUnmade};
-ghost use Rattle.receipt_journal.specs.Opening.{BookRefuses, book_opening_disk_failed};
+ghost use Rattle.receipt_journal.specs.Opening.{BookOpens, BookRefuses, book_opening_disk_failed};
 ghost use Rattle.receipt_journal.specs.Standing.{Stands, StandsForJournal};
 ghost use Rattle.registry_http.specs.declared.routes.Route.TheVariants.{Post};
 ghost use Rattle.registrar.specs.HasSettled.{IsRegisterOf};
@@ -69,6 +69,8 @@ impl Clerk {
             → IfOk result (λ clerk. Holds clerk (D.reads disk.new) (D.images disk.new) (Some held.ticks) held) }
         ensures stands_open { IsTrue D.tells → IfOk result (λ clerk. StandsOpen clerk (D.reads disk.new) (D.images disk.new)) }
         ensures journal { IsTrue D.tells → OnOk result ((journal : List Receipt) × StandsForJournal (D.reads disk.old) journal) }
+        ensures opens { IsTrue D.tells → IfOk result (λ clerk. IfSome clerk (λ settled. BookOpens (D.reads disk.old) settled.book (D.reads disk.new) (D.images disk.new))) }
+        ensures unsettled { IfOk result (λ clerk. IfSome clerk (λ settled. settled.register ≡ None)) }
         ensures refused { IsTrue D.tells → IfErr result (BookRefuses (D.reads disk.old)) }
         ensures made { IsTrue D.tells → MakesUnmade (book_opening_disk_failed result) (D.reads disk.old) (D.reads disk.new) }
         ensures settled { OnOk result (IsTrue D.tells → Only (D.reads disk.new) (D.images disk.new)) }

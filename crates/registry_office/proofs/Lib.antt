@@ -5,5 +5,6 @@ pub mod Opened
 pub mod OpenedFrames
 pub mod Reported
 pub mod ServedDoors
+pub mod ServedInTurn
 pub mod Takings
 pub mod Whole

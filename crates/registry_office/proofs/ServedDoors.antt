@@ -99,6 +99,8 @@ module _ {D : Type 0} (reads : D → List ℕ) (images : D → List ℕ → Type
           opening = quiet;
           disk = d.serves.disk.disk;
           journal = d.serves.disk.journal;
+          stays = d.serves.disk.stays;
+          may_lack = d.serves.disk.memory;
           done = λ ok. d.done refl;
           memory = λ lacks. ap status_of_door (d.memory lacks);
           wanting = λ is. absurd cc;
@@ -121,6 +123,8 @@ module _ {D : Type 0} (reads : D → List ℕ) (images : D → List ℕ → Type
           opening = quiet;
           disk = d.serves.disk.disk;
           journal = d.serves.disk.journal;
+          stays = d.serves.disk.stays;
+          may_lack = d.serves.disk.memory;
           done = λ ok. absurd cc;
           memory = λ lacks. ap status_of_door (d.memory lacks);
           wanting = λ is. absurd cc;
@@ -143,6 +147,8 @@ module _ {D : Type 0} (reads : D → List ℕ) (images : D → List ℕ → Type
           opening = quiet;
           disk = d.serves.disk.disk;
           journal = d.serves.disk.journal;
+          stays = d.serves.disk.stays;
+          may_lack = d.serves.disk.memory;
           done = λ ok. absurd cc;
           memory = λ lacks. refl;
           wanting = λ is. inr (d.wanting refl);
@@ -185,6 +191,8 @@ module _ {D : Type 0} (reads : D → List ℕ) (images : D → List ℕ → Type
           opening = counts;
           disk = refl;
           journal = refl;
+          stays = λ none. refl;
+          may_lack = tt;
           done = λ ok. absurd cc;
           memory = λ lacks. absurd lacks;
           wanting = λ is. inl refl;
@@ -207,6 +215,8 @@ module _ {D : Type 0} (reads : D → List ℕ) (images : D → List ℕ → Type
           opening = counts;
           disk = refl;
           journal = refl;
+          stays = λ none. refl;
+          may_lack = tt;
           done = λ ok. absurd cc;
           memory = λ lacks. absurd lacks;
           wanting = λ is. inl refl;
@@ -229,6 +239,8 @@ module _ {D : Type 0} (reads : D → List ℕ) (images : D → List ℕ → Type
           opening = counts;
           disk = refl;
           journal = refl;
+          stays = λ none. refl;
+          may_lack = tt;
           done = λ ok. absurd cc;
           memory = λ lacks. absurd lacks;
           wanting = λ is. inl refl;
@@ -251,6 +263,8 @@ module _ {D : Type 0} (reads : D → List ℕ) (images : D → List ℕ → Type
           opening = counts;
           disk = refl;
           journal = refl;
+          stays = λ none. refl;
+          may_lack = tt;
           done = λ ok. absurd cc;
           memory = λ lacks. absurd lacks;
           wanting = λ is. inl refl;

@@ -58,6 +58,7 @@ impl SettledBook {
         // The answer is by the file's standing.
         ensures opened { IsTrue D.tells → IfOk result (λ settled. BookOpens (D.reads disk.old) settled.book (D.reads disk.new) (D.images disk.new)) }
         ensures works { IfOk result (λ settled. settled.book.log.failed ≡ false) }
+        ensures unsettled { IfOk result (λ settled. settled.register ≡ None) }
         ensures made { IsTrue D.tells → MakesUnmade (book_opening_disk_failed result) (D.reads disk.old) (D.reads disk.new) }
         ensures settled { OnOk result (IsTrue D.tells → Only (D.reads disk.new) (D.images disk.new)) }
         ensures refused { IsTrue D.tells → IfErr result (BookRefuses (D.reads disk.old)) }

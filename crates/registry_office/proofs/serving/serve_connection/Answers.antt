@@ -1,9 +1,11 @@
 use Rattle.std.proofs.Common.{Option, ap, subst, sym}
 use Rattle.settled_book.specs.SettledBookState.{SettledBookState}
 use Rattle.connections.proofs.Completed.{completes}
+use Rattle.connections.specs.Answering.{AnswersTurn}
 use Rattle.connections.specs.Holding.{Holds, working}
 use Rattle.connections.specs.LinkOrder.{ServesInOrder, stage}
 use Rattle.connections.specs.Serving.{TakesTurns}
+use Rattle.connections.specs.Tools.{tools}
 use Rattle.connections.specs.Turns.{turns}
 use Rattle.registry_office.proofs.ServedDoors.{link_held}
 use Rattle.registry_office.proofs.serving.serve_connection.Goals as goal
@@ -34,6 +36,7 @@ returns-clause-made g c = λ tells was. c.serve_link.ensures.made tells was
 pub returns-clause-order : goal.returns-clause-order
 returns-clause-order g c = (
   c.serve_link.new.self,
-  subst (λ (h : Option SettledBookState). ServesInOrder g.L.Link.left g.L.Link.written g.D.Disk.faults c.args.left (stage c.args.link.now c.args.disk.now h) (stage c.serve_link.new.link c.serve_link.new.disk c.serve_link.new.self) c.serve_link.result) c.new-clerk.ensures
-      c.serve_link.ensures.order,
+  subst (λ (h : Option SettledBookState). ServesInOrder g.L.Link.left g.L.Link.written g.L.Link.faults (AnswersTurn g.D.Disk.tells g.D.Disk.reads g.D.Disk.images g.D.Disk.faults g.C.Clock.ticks) c.args.left
+      (stage c.args.link.now (tools c.args.disk.now h c.args.clock.now)) (stage c.serve_link.new.link (tools c.serve_link.new.disk c.serve_link.new.self c.serve_link.new.clock)) c.serve_link.result)
+      c.new-clerk.ensures c.serve_link.ensures.order,
 )

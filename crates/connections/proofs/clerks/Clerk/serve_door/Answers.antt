@@ -1,13 +1,17 @@
 use Rattle.std.proofs.Common.{◌≡◌, ◌∙◌, drop, inl, inr, length, arith, refl, subst, sym}
+use Rattle.connections.specs.Answering.{AnswersTurn}
 use Rattle.connections.specs.Doors.{turns_taken}
 use Rattle.connections.specs.Holding.{Holds, StandsForNone}
 use Rattle.connections.specs.LinkOrder.{stage}
 use Rattle.connections.specs.Serving.{TakesNone, TakesTurns}
+use Rattle.connections.specs.Tools.{tools}
 use Rattle.connections.specs.Turns.{held_behind}
+use Rattle.connections.specs.declared.doors.DoorEnd.TheVariants.{Done}
 use Rattle.connections.proofs.NoBook.{none_still, none_then}
 use Rattle.connections.proofs.NoneTaken.{none_joined, none_taken}
 use Rattle.connections.proofs.TakenTurns.{takes_none, takes_then}
-use Rattle.connections.proofs.DoorOrders.{door_keeps, each_end, each_none, each_on, each_out}
+use Rattle.connections.proofs.DoorOrders.{each_end, each_none, each_on, each_out}
+use Rattle.connections.proofs.KeptOpen.{door_keeps_open}
 use Rattle.connections.proofs.DoorRounds.{links_begun, links_end, links_on, links_out}
 use Rattle.connections.proofs.LinksTaken.{zip_drop}
 use Rattle.connections.proofs.clerks.Clerk.serve_door.Goals as goal
@@ -20,7 +24,7 @@ loop-left-init g c = record {
   no_book = λ tells was none.
       none_still g.D.Disk.reads g.D.Disk.images g.D.Disk.moment g.D.Disk.since c.args.disk.now c.args.self.now (λ file since. g.met.D.Disk.only_now c.args.disk.now file tells since) was;
   same_clock = λ tells was none. refl;
-  order = each_none g.L.Listener.waiting g.L.Listener.served g.L.Link.Link.left g.L.Link.Link.written g.L.Link.Link.faults g.D.Disk.faults c.args.most (stage c.args.door.now c.args.disk.now c.args.self.now);
+  order = each_none g.L.Listener.waiting g.L.Listener.served g.L.Listener.faults g.L.Link.Link.left g.L.Link.Link.written g.L.Link.Link.faults (AnswersTurn g.D.Disk.tells g.D.Disk.reads g.D.Disk.images g.D.Disk.faults g.C.Clock.ticks) c.args.most (stage c.args.door.now (tools c.args.disk.now c.args.self.now c.args.clock.now));
   handed_back = λ told. (told, refl);
   quiet = refl;
   went = λ tells held waiting asked holds waits ask.
@@ -43,7 +47,9 @@ loop-left-preserved g c = record {
   same_clock = λ tells was none.
       let at = c.loop-left.invariant.no_book tells was none in
       c.serve_first.ensures.same_clock tells at.none (subst StandsForNone (sym at.same) none) ∙ c.loop-left.invariant.same_clock tells was none;
-  order = each_on g.L.Listener.waiting g.L.Listener.served g.L.Link.Link.left g.L.Link.Link.written g.L.Link.Link.faults g.D.Disk.faults c.args.most (stage c.args.door.now c.args.disk.now c.args.self.now) (stage c.loop-left.door c.loop-left.disk c.loop-left.self) (stage c.serve_first.new.door c.serve_first.new.disk c.serve_first.new.self) c.loop-left.left c.loop-left.links c.serve_first.result c.loop-left.invariant.order c.serve_first.ensures.order c.in-Ok.replies c.in-Ok.is;
+  order = each_on g.L.Listener.waiting g.L.Listener.served g.L.Listener.faults g.L.Link.Link.left g.L.Link.Link.written g.L.Link.Link.faults (AnswersTurn g.D.Disk.tells g.D.Disk.reads g.D.Disk.images g.D.Disk.faults g.C.Clock.ticks) c.args.most
+      (stage c.args.door.now (tools c.args.disk.now c.args.self.now c.args.clock.now)) (stage c.loop-left.door (tools c.loop-left.disk c.loop-left.self c.loop-left.clock)) (stage c.serve_first.new.door (tools c.serve_first.new.disk c.serve_first.new.self c.serve_first.new.clock))
+      c.loop-left.left c.loop-left.links c.loop-left.invariant.order c.serve_first.result c.serve_first.ensures.order c.in-Ok.replies c.in-Ok.is;
   handed_back = λ told. let before = c.loop-left.invariant.handed_back told in let now = c.serve_first.ensures.handed_back before.0 in (now.0, now.1 ∙ before.1);
   quiet = c.in-Ok.ensures.cause.else_same refl ∙ c.loop-left.invariant.quiet;
   went = λ tells held waiting asked holds waits ask.
@@ -131,25 +137,34 @@ returns-after-loop-left-clause-serves_none g c = λ tells was none held waiting 
 -- ---- in which order the links were served, and that the book stays open
 
 pub returns-in-Err-clause-order : goal.returns-in-Err-clause-order
-returns-in-Err-clause-order g c = each_end g.L.Listener.waiting g.L.Listener.served g.L.Link.Link.left g.L.Link.Link.written g.L.Link.Link.faults g.D.Disk.faults c.args.most (stage c.args.door.now c.args.disk.now c.args.self.now) (stage c.loop-left.door c.loop-left.disk c.loop-left.self) (stage c.serve_first.new.door c.serve_first.new.disk c.serve_first.new.self) c.loop-left.left c.loop-left.links c.serve_first.result c.loop-left.invariant.order (omega (arith, c.if-links-most.true)) c.serve_first.ensures.order
+returns-in-Err-clause-order g c =
+    each_end g.L.Listener.waiting g.L.Listener.served g.L.Listener.faults g.L.Link.Link.left g.L.Link.Link.written g.L.Link.Link.faults (AnswersTurn g.D.Disk.tells g.D.Disk.reads g.D.Disk.images g.D.Disk.faults g.C.Clock.ticks) c.args.most
+    (stage c.args.door.now (tools c.args.disk.now c.args.self.now c.args.clock.now)) (stage c.loop-left.door (tools c.loop-left.disk c.loop-left.self c.loop-left.clock)) (stage c.serve_first.new.door (tools c.serve_first.new.disk c.serve_first.new.self c.serve_first.new.clock))
+    c.loop-left.left c.loop-left.links c.loop-left.invariant.order (omega (arith, c.if-links-most.true)) (omega (arith, c.loop-left-test.true)) c.serve_first.result c.serve_first.ensures.order c.in-Err.end c.in-Err.is
 
 pub returns-else-links-most-clause-order : goal.returns-else-links-most-clause-order
-returns-else-links-most-clause-order g c = each_out g.L.Listener.waiting g.L.Listener.served g.L.Link.Link.left g.L.Link.Link.written g.L.Link.Link.faults g.D.Disk.faults c.args.most (stage c.args.door.now c.args.disk.now c.args.self.now) (stage c.loop-left.door c.loop-left.disk c.loop-left.self) c.loop-left.left c.loop-left.links c.loop-left.invariant.order c.loop-left.invariant.few
+returns-else-links-most-clause-order g c =
+    each_out g.L.Listener.waiting g.L.Listener.served g.L.Listener.faults g.L.Link.Link.left g.L.Link.Link.written g.L.Link.Link.faults (AnswersTurn g.D.Disk.tells g.D.Disk.reads g.D.Disk.images g.D.Disk.faults g.C.Clock.ticks) c.args.most
+    (stage c.args.door.now (tools c.args.disk.now c.args.self.now c.args.clock.now)) (stage c.loop-left.door (tools c.loop-left.disk c.loop-left.self c.loop-left.clock))
+    c.loop-left.left c.loop-left.links c.loop-left.invariant.order c.loop-left.invariant.few (inr (omega (arith, c.if-links-most.false)))
 
 pub returns-after-loop-left-clause-order : goal.returns-after-loop-left-clause-order
-returns-after-loop-left-clause-order g c = each_out g.L.Listener.waiting g.L.Listener.served g.L.Link.Link.left g.L.Link.Link.written g.L.Link.Link.faults g.D.Disk.faults c.args.most (stage c.args.door.now c.args.disk.now c.args.self.now) (stage c.loop-left.door c.loop-left.disk c.loop-left.self) c.loop-left.left c.loop-left.links c.loop-left.invariant.order c.loop-left.invariant.few
+returns-after-loop-left-clause-order g c =
+    each_out g.L.Listener.waiting g.L.Listener.served g.L.Listener.faults g.L.Link.Link.left g.L.Link.Link.written g.L.Link.Link.faults (AnswersTurn g.D.Disk.tells g.D.Disk.reads g.D.Disk.images g.D.Disk.faults g.C.Clock.ticks) c.args.most
+    (stage c.args.door.now (tools c.args.disk.now c.args.self.now c.args.clock.now)) (stage c.loop-left.door (tools c.loop-left.disk c.loop-left.self c.loop-left.clock))
+    c.loop-left.left c.loop-left.links c.loop-left.invariant.order c.loop-left.invariant.few (inl (omega (arith, c.loop-left-test.false)))
 
 pub returns-in-Err-clause-kept_open : goal.returns-in-Err-clause-kept_open
 returns-in-Err-clause-kept_open g c =
-    door_keeps g.L.Listener.waiting g.L.Listener.served g.L.Link.Link.left g.L.Link.Link.written g.L.Link.Link.faults g.D.Disk.faults c.args.most (stage c.args.door.now c.args.disk.now c.args.self.now) (stage c.serve_first.new.door c.serve_first.new.disk c.serve_first.new.self)
-    (each_end g.L.Listener.waiting g.L.Listener.served g.L.Link.Link.left g.L.Link.Link.written g.L.Link.Link.faults g.D.Disk.faults c.args.most (stage c.args.door.now c.args.disk.now c.args.self.now) (stage c.loop-left.door c.loop-left.disk c.loop-left.self) (stage c.serve_first.new.door c.serve_first.new.disk c.serve_first.new.self) c.loop-left.left c.loop-left.links c.serve_first.result c.loop-left.invariant.order (omega (arith, c.if-links-most.true)) c.serve_first.ensures.order)
+    door_keeps_open g.D.Disk.tells g.D.Disk.reads g.D.Disk.images g.D.Disk.faults g.C.Clock.ticks g.L.Link.Link.left g.L.Link.Link.written g.L.Link.Link.faults g.L.Listener.waiting g.L.Listener.served g.L.Listener.faults c.args.most
+    (stage c.args.door.now (tools c.args.disk.now c.args.self.now c.args.clock.now)) (stage c.serve_first.new.door (tools c.serve_first.new.disk c.serve_first.new.self c.serve_first.new.clock)) c.in-Err.end (returns-in-Err-clause-order g c)
 
 pub returns-else-links-most-clause-kept_open : goal.returns-else-links-most-clause-kept_open
 returns-else-links-most-clause-kept_open g c =
-    door_keeps g.L.Listener.waiting g.L.Listener.served g.L.Link.Link.left g.L.Link.Link.written g.L.Link.Link.faults g.D.Disk.faults c.args.most (stage c.args.door.now c.args.disk.now c.args.self.now) (stage c.loop-left.door c.loop-left.disk c.loop-left.self)
-    (each_out g.L.Listener.waiting g.L.Listener.served g.L.Link.Link.left g.L.Link.Link.written g.L.Link.Link.faults g.D.Disk.faults c.args.most (stage c.args.door.now c.args.disk.now c.args.self.now) (stage c.loop-left.door c.loop-left.disk c.loop-left.self) c.loop-left.left c.loop-left.links c.loop-left.invariant.order c.loop-left.invariant.few)
+    door_keeps_open g.D.Disk.tells g.D.Disk.reads g.D.Disk.images g.D.Disk.faults g.C.Clock.ticks g.L.Link.Link.left g.L.Link.Link.written g.L.Link.Link.faults g.L.Listener.waiting g.L.Listener.served g.L.Listener.faults c.args.most
+    (stage c.args.door.now (tools c.args.disk.now c.args.self.now c.args.clock.now)) (stage c.loop-left.door (tools c.loop-left.disk c.loop-left.self c.loop-left.clock)) Done (returns-else-links-most-clause-order g c)
 
 pub returns-after-loop-left-clause-kept_open : goal.returns-after-loop-left-clause-kept_open
 returns-after-loop-left-clause-kept_open g c =
-    door_keeps g.L.Listener.waiting g.L.Listener.served g.L.Link.Link.left g.L.Link.Link.written g.L.Link.Link.faults g.D.Disk.faults c.args.most (stage c.args.door.now c.args.disk.now c.args.self.now) (stage c.loop-left.door c.loop-left.disk c.loop-left.self)
-    (each_out g.L.Listener.waiting g.L.Listener.served g.L.Link.Link.left g.L.Link.Link.written g.L.Link.Link.faults g.D.Disk.faults c.args.most (stage c.args.door.now c.args.disk.now c.args.self.now) (stage c.loop-left.door c.loop-left.disk c.loop-left.self) c.loop-left.left c.loop-left.links c.loop-left.invariant.order c.loop-left.invariant.few)
+    door_keeps_open g.D.Disk.tells g.D.Disk.reads g.D.Disk.images g.D.Disk.faults g.C.Clock.ticks g.L.Link.Link.left g.L.Link.Link.written g.L.Link.Link.faults g.L.Listener.waiting g.L.Listener.served g.L.Listener.faults c.args.most
+    (stage c.args.door.now (tools c.args.disk.now c.args.self.now c.args.clock.now)) (stage c.loop-left.door (tools c.loop-left.disk c.loop-left.self c.loop-left.clock)) Done (returns-after-loop-left-clause-order g c)

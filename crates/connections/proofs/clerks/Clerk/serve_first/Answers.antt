@@ -87,16 +87,17 @@ returns-clause-none_round g c = λ tells was none held all waiting asked same wa
 -- ---- in which order the link was served
 
 pub returns-in-Closed-clause-order : goal.returns-in-Closed-clause-order
-returns-in-Closed-clause-order g c = inr (Done, refl, record { still = c.in-Closed.ensures.links.1; unserved = c.accept.ensures.served; same = refl; same_book = refl })
+returns-in-Closed-clause-order g c = inr (Done, refl, record { none = c.in-Closed.ensures.links.0; still = c.in-Closed.ensures.links.1; unserved = c.accept.ensures.served; cause = c.in-Closed.ensures.cause; same = refl })
 
 pub returns-in-Failed-clause-order : goal.returns-in-Failed-clause-order
-returns-in-Failed-clause-order g c = inr (DoorFault, refl, record { still = c.in-Failed.ensures.links; unserved = c.accept.ensures.served; same = refl; same_book = refl })
+returns-in-Failed-clause-order g c = inr (DoorFault, refl, record { none = tt; still = c.in-Failed.ensures.links; unserved = c.accept.ensures.served; cause = c.in-Failed.ensures.cause; same = refl })
 
 pub returns-clause-order : goal.returns-clause-order
 returns-clause-order g c = inl (
   c.serve_link-served.result,
   c.behind.ensures,
   record {
+    some_left = c.requires.some_left;
     came = c.accept.new.self;
     link = c.in-Open.link;
     accepted = c.in-Open.ensures.links;
@@ -105,5 +106,6 @@ returns-clause-order g c = inl (
     in_order = c.serve_link-served.ensures.order;
     returned = c.done.ensures.served;
     still = c.done.ensures.waiting;
+    quiet = (c.in-Open.ensures.cause.else_same refl, c.done.ensures.cause);
   },
 )

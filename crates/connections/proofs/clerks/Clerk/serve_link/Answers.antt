@@ -1,15 +1,18 @@
 use Rattle.std.proofs.Common.{◌≡◌, ◌∙◌, ◌+◌, ◌++◌, arith, refl, subst, sym}
 use Rattle.registry_http.specs.RequestLists.{AreRequests}
+use Rattle.connections.specs.Answering.{AnswersTurn}
 use Rattle.connections.specs.Holding.{Holds, StandsForNone}
-use Rattle.connections.specs.LinkOrder.{stage}
+use Rattle.connections.specs.LinkOrder.{served_so, stage}
 use Rattle.connections.specs.Serving.{TakesNone, TakesTurns}
+use Rattle.connections.specs.Tools.{tools}
 use Rattle.connections.specs.Turns.{held_behind, turns}
 use Rattle.connections.specs.declared.serving.Ended.TheVariants.{Finished}
 use Rattle.connections.specs.inner.Rounds.{Meets}
 use Rattle.connections.proofs.NoBook.{none_still, none_then}
 use Rattle.connections.proofs.NoneTaken.{none_joined, none_taken}
 use Rattle.connections.proofs.TakenTurns.{takes_none, takes_then}
-use Rattle.connections.proofs.OrderedTurns.{order_end, order_keeps, order_none, order_on, order_out}
+use Rattle.connections.proofs.OrderedTurns.{order_end, order_none, order_on, order_out}
+use Rattle.connections.proofs.KeptOpen.{link_keeps_open}
 use Rattle.connections.proofs.LinkTurns.{went_none, went_on, went_out, went_to_end}
 use Rattle.connections.proofs.clerks.Clerk.serve_link.Goals as goal
 
@@ -22,7 +25,7 @@ loop-replies-init g c = record {
       none_still g.D.Disk.reads g.D.Disk.images g.D.Disk.moment g.D.Disk.since c.args.disk.now c.args.self.now (λ file since. g.met.D.Disk.only_now c.args.disk.now file tells since) was;
   same_clock = λ tells was none. refl;
   told = λ told. told;
-  order = order_none g.L.Link.left g.L.Link.written g.D.Disk.faults (stage c.args.link.now c.args.disk.now c.args.self.now) c.new-rest.result.items c.new-rest.ensures.items;
+  order = order_none g.L.Link.left g.L.Link.written g.L.Link.faults (AnswersTurn g.D.Disk.tells g.D.Disk.reads g.D.Disk.images g.D.Disk.faults g.C.Clock.ticks) (stage c.args.link.now (tools c.args.disk.now c.args.self.now c.args.clock.now)) c.new-rest.result.items c.new-rest.ensures.items;
   quiet = refl;
   went = λ tells held input requests end holds left are.
       went_none (TakesTurns g.D.Disk.reads g.D.Disk.images g.D.Disk.moment g.D.Disk.since g.D.Disk.faults) c.args.disk.now held (g.L.Link.written c.args.link.now) c.args.left requests end
@@ -46,7 +49,9 @@ loop-replies-preserved g c = record {
       let at = c.loop-replies.invariant.no_book tells was none in
       c.serve_next.ensures.same_clock tells at.none (subst StandsForNone (sym at.same) none) ∙ c.loop-replies.invariant.same_clock tells was none;
   told = λ told. c.serve_next.ensures.told (c.loop-replies.invariant.told told);
-  order = order_on g.L.Link.left g.L.Link.written g.D.Disk.faults (stage c.args.link.now c.args.disk.now c.args.self.now) (stage c.loop-replies.link c.loop-replies.disk c.loop-replies.self) (stage c.serve_next.new.link c.serve_next.new.disk c.serve_next.new.self) c.loop-replies.rest.items c.serve_next.new.rest.items c.loop-replies.replies c.loop-replies.invariant.order c.in-None.ensures.order;
+  order = order_on g.L.Link.left g.L.Link.written g.L.Link.faults (AnswersTurn g.D.Disk.tells g.D.Disk.reads g.D.Disk.images g.D.Disk.faults g.C.Clock.ticks)
+      (stage c.args.link.now (tools c.args.disk.now c.args.self.now c.args.clock.now)) (stage c.loop-replies.link (tools c.loop-replies.disk c.loop-replies.self c.loop-replies.clock)) (stage c.serve_next.new.link (tools c.serve_next.new.disk c.serve_next.new.self c.serve_next.new.clock))
+      c.loop-replies.rest.items c.serve_next.new.rest.items c.loop-replies.replies c.loop-replies.invariant.order c.in-None.ensures.order;
   quiet = c.in-None.ensures.cause.else_same refl ∙ c.loop-replies.invariant.quiet;
   went = λ tells held input requests end holds left are.
       let before = c.loop-replies.invariant.went tells held input requests end holds left are in
@@ -125,17 +130,25 @@ returns-clause-serves_none g c = λ tells was none held input requests end left 
 -- ---- in which order the link was read and written, and that the book stays open
 
 pub returns-in-Some-clause-order : goal.returns-in-Some-clause-order
-returns-in-Some-clause-order g c = order_end g.L.Link.left g.L.Link.written g.D.Disk.faults c.args.left (stage c.args.link.now c.args.disk.now c.args.self.now) (stage c.loop-replies.link c.loop-replies.disk c.loop-replies.self) (stage c.serve_next.new.link c.serve_next.new.disk c.serve_next.new.self) c.loop-replies.rest.items c.loop-replies.replies c.in-Some.last _ c.loop-replies.invariant.order c.in-Some.ensures.order c.loop-replies-test.true c.in-Some.ensures.few refl
+returns-in-Some-clause-order g c =
+    order_end g.L.Link.left g.L.Link.written g.L.Link.faults (AnswersTurn g.D.Disk.tells g.D.Disk.reads g.D.Disk.images g.D.Disk.faults g.C.Clock.ticks) c.args.left
+    (stage c.args.link.now (tools c.args.disk.now c.args.self.now c.args.clock.now)) (stage c.loop-replies.link (tools c.loop-replies.disk c.loop-replies.self c.loop-replies.clock)) (stage c.serve_next.new.link (tools c.serve_next.new.disk c.serve_next.new.self c.serve_next.new.clock))
+    c.loop-replies.rest.items c.loop-replies.replies c.in-Some.last _ c.loop-replies.invariant.order c.in-Some.ensures.order c.loop-replies-test.true refl
 
 pub returns-clause-order : goal.returns-clause-order
-returns-clause-order g c = order_out g.L.Link.left g.L.Link.written g.D.Disk.faults c.args.left (stage c.args.link.now c.args.disk.now c.args.self.now) (stage c.loop-replies.link c.loop-replies.disk c.loop-replies.self) c.loop-replies.rest.items c.loop-replies.replies _ c.loop-replies.invariant.order refl
+returns-clause-order g c =
+    order_out g.L.Link.left g.L.Link.written g.L.Link.faults (AnswersTurn g.D.Disk.tells g.D.Disk.reads g.D.Disk.images g.D.Disk.faults g.C.Clock.ticks) c.args.left
+    (stage c.args.link.now (tools c.args.disk.now c.args.self.now c.args.clock.now)) (stage c.loop-replies.link (tools c.loop-replies.disk c.loop-replies.self c.loop-replies.clock))
+    c.loop-replies.rest.items c.loop-replies.replies _ c.loop-replies.invariant.order (omega (arith, c.loop-replies.invariant.few, c.loop-replies-test.false)) refl
 
 pub returns-in-Some-clause-kept_open : goal.returns-in-Some-clause-kept_open
 returns-in-Some-clause-kept_open g c =
-    order_keeps g.L.Link.left g.L.Link.written g.D.Disk.faults c.args.left (stage c.args.link.now c.args.disk.now c.args.self.now) (stage c.serve_next.new.link c.serve_next.new.disk c.serve_next.new.self) (record { replies = c.loop-replies.replies + c.in-Some.last.replies; ended = c.in-Some.last.ended })
-    (order_end g.L.Link.left g.L.Link.written g.D.Disk.faults c.args.left (stage c.args.link.now c.args.disk.now c.args.self.now) (stage c.loop-replies.link c.loop-replies.disk c.loop-replies.self) (stage c.serve_next.new.link c.serve_next.new.disk c.serve_next.new.self) c.loop-replies.rest.items c.loop-replies.replies c.in-Some.last _ c.loop-replies.invariant.order c.in-Some.ensures.order c.loop-replies-test.true c.in-Some.ensures.few refl)
+    link_keeps_open g.D.Disk.tells g.D.Disk.reads g.D.Disk.images g.D.Disk.faults g.C.Clock.ticks g.L.Link.left g.L.Link.written g.L.Link.faults c.args.left
+    (stage c.args.link.now (tools c.args.disk.now c.args.self.now c.args.clock.now)) (stage c.serve_next.new.link (tools c.serve_next.new.disk c.serve_next.new.self c.serve_next.new.clock))
+    (served_so (c.loop-replies.replies + c.in-Some.last.replies) c.in-Some.last.ended) (returns-in-Some-clause-order g c)
 
 pub returns-clause-kept_open : goal.returns-clause-kept_open
 returns-clause-kept_open g c =
-    order_keeps g.L.Link.left g.L.Link.written g.D.Disk.faults c.args.left (stage c.args.link.now c.args.disk.now c.args.self.now) (stage c.loop-replies.link c.loop-replies.disk c.loop-replies.self) (record { replies = c.loop-replies.replies; ended = Finished })
-    (order_out g.L.Link.left g.L.Link.written g.D.Disk.faults c.args.left (stage c.args.link.now c.args.disk.now c.args.self.now) (stage c.loop-replies.link c.loop-replies.disk c.loop-replies.self) c.loop-replies.rest.items c.loop-replies.replies _ c.loop-replies.invariant.order refl)
+    link_keeps_open g.D.Disk.tells g.D.Disk.reads g.D.Disk.images g.D.Disk.faults g.C.Clock.ticks g.L.Link.left g.L.Link.written g.L.Link.faults c.args.left
+    (stage c.args.link.now (tools c.args.disk.now c.args.self.now c.args.clock.now)) (stage c.loop-replies.link (tools c.loop-replies.disk c.loop-replies.self c.loop-replies.clock))
+    (served_so c.loop-replies.replies Finished) (returns-clause-order g c)

@@ -4,10 +4,11 @@ use Rattle.intake.specs.Requests.{Held}
 use Rattle.registry_http.specs.RequestLists.{AreRequests}
 use Rattle.registry_http.specs.RequestParts.{RequestParts}
 use Rattle.registry_http.specs.Requests.{AtFront}
-use Rattle.connections.specs.Answering.{OpensNone}
+use Rattle.connections.specs.Answering.{AnswersTurn, OpensNone}
 use Rattle.connections.specs.Holding.{Holds, StandsForNone, StandsOpen, working}
 use Rattle.connections.specs.LinkOrder.{stage}
 use Rattle.connections.specs.Serving.{TakesNone, TakesTurns}
+use Rattle.connections.specs.Tools.{tools}
 use Rattle.connections.specs.Turns.{turns}
 use Rattle.connections.specs.inner.Rounds.{Meets}
 use Rattle.connections.proofs.LinkTurns.{Went}
@@ -25,7 +26,7 @@ invariant-loop-replies g l = record {
   no_book : IsTrue g.D.Disk.tells → working l.fn.self ≡ None → StandsForNone (g.D.Disk.reads l.fn.disk) → OpensNone g.D.Disk.reads g.D.Disk.images g.D.Disk.moment g.D.Disk.since l.fn.disk l.disk l.self;
   same_clock : IsTrue g.D.Disk.tells → working l.fn.self ≡ None → StandsForNone (g.D.Disk.reads l.fn.disk) → l.clock ≡ l.fn.clock;
   told : IsSome (g.L.Link.written l.fn.link) → IsSome (g.L.Link.written l.link);
-  order : WentInOrder g.L.Link.left g.L.Link.written g.D.Disk.faults (stage l.fn.link l.fn.disk l.fn.self) (stage l.link l.disk l.self) l.rest.items l.replies;
+  order : WentInOrder g.L.Link.left g.L.Link.written g.L.Link.faults (AnswersTurn g.D.Disk.tells g.D.Disk.reads g.D.Disk.images g.D.Disk.faults g.C.Clock.ticks) (stage l.fn.link (tools l.fn.disk l.fn.self l.fn.clock)) (stage l.link (tools l.disk l.self l.clock)) l.rest.items l.replies;
   quiet : g.L.Link.faults l.link ≡ g.L.Link.faults l.fn.link;
   went : IsTrue g.D.Disk.tells → (held : Held) (input : List ℕ) (requests : List RequestParts) (end : AtFront)
       → Holds l.fn.self (g.D.Disk.reads l.fn.disk) (g.D.Disk.images l.fn.disk) (g.C.Clock.ticks l.fn.clock) held → g.L.Link.left l.fn.link ≡ Some input → AreRequests input requests end

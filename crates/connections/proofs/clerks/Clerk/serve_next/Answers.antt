@@ -3,9 +3,11 @@ use Rattle.registry_http.specs.RequestLists.{IsNext}
 use Rattle.registry_http.specs.Requests.{AtFront, Nothing, Cut, HeadFault, BodyTooLong}
 use Rattle.registry_http.specs.declared.requests.Next.{Next}
 use Rattle.registry_http.specs.declared.requests.Next.TheVariants as next
+use Rattle.connections.specs.Answering.{AnswersTurn}
 use Rattle.connections.specs.Holding.{Holds}
-use Rattle.connections.specs.Replies.{bad_request, body_too_long}
+use Rattle.connections.specs.Replies.{bad_request, body_too_long, out_of_memory}
 use Rattle.connections.specs.Serving.{ServesLink, TakesNone, TakesTurns}
+use Rattle.connections.specs.Tools.{tools}
 use Rattle.connections.specs.Turns.{End, last_turn, turns}
 use Rattle.connections.specs.declared.serving.Ended.TheVariants.{Finished}
 use Rattle.connections.specs.inner.Rounds.{Meets}
@@ -14,7 +16,7 @@ use Rattle.connections.proofs.LinkEnds.{cut_off, memory_ends, none_ends, refusal
 use Rattle.connections.proofs.LinkTurns.{comes_next}
 use Rattle.connections.proofs.NoneTaken.{none_refused, none_taken}
 use Rattle.connections.proofs.TakenTurns.{takes_none, takes_refusal}
-use Rattle.connections.proofs.OrderedTurns.{last_closed, last_silent, next_of_request, quiet_end}
+use Rattle.connections.proofs.OrderedTurns.{closes_by, next_of_request, quiet_end, replies_last}
 use Rattle.connections.proofs.ToldLinks.{same_told}
 use Rattle.connections.proofs.clerks.Clerk.serve_next.Goals as goal
 
@@ -178,29 +180,67 @@ returns-in-Memory-clause-no_book g c = λ tells was none.
 
 pub returns-in-Request-clause-order : goal.returns-in-Request-clause-order
 returns-in-Request-clause-order g c =
-    next_of_request g.L.Link.left g.L.Link.written g.D.Disk.faults c.args.link.now c.next_request.new.link c.serve_request.new.link c.args.disk.now c.serve_request.new.disk c.args.self.now c.serve_request.new.self c.args.rest.now.items c.next_request.new.rest.items c.in-Request.request c.serve_request.result
-    c.in-Request.ensures.answer c.next_request.ensures.written c.serve_request.ensures.left c.serve_request.ensures.replied
+    next_of_request g.L.Link.left g.L.Link.written g.L.Link.faults (AnswersTurn g.D.Disk.tells g.D.Disk.reads g.D.Disk.images g.D.Disk.faults g.C.Clock.ticks) c.args.link.now c.next_request.new.link c.serve_request.new.link
+    (tools c.args.disk.now c.args.self.now c.args.clock.now) (tools c.serve_request.new.disk c.serve_request.new.self c.serve_request.new.clock) c.args.rest.now.items c.next_request.new.rest.items c.in-Request.request c.serve_request.result
+    c.in-Request.ensures.answer c.next_request.ensures.written c.in-Request.ensures.cause c.serve_request.ensures.replied
 
 pub returns-in-End-clause-order : goal.returns-in-End-clause-order
-returns-in-End-clause-order g c =
-    last_silent g.L.Link.left g.L.Link.written g.D.Disk.faults c.args.link.now c.next_request.new.link c.args.disk.now c.args.self.now c.args.rest.now.items c.next_request.new.rest.items c.next_request.result c.next_request.ensures.answer c.next_request.ensures.written
-    (quiet_end g.D.Disk.faults c.next_request.result bad_request c.args.self.now c.args.disk.now c.in-End.is)
+returns-in-End-clause-order g c = record {
+  read = c.next_request.new.link;
+  answer = c.next_request.result;
+  behind = c.next_request.new.rest.items;
+  asked = c.next_request.ensures.answer;
+  unwritten = c.next_request.ensures.written;
+  failed = c.next_request.ensures.cause;
+  ends = quiet_end g.L.Link.left g.L.Link.written g.L.Link.faults (AnswersTurn g.D.Disk.tells g.D.Disk.reads g.D.Disk.images g.D.Disk.faults g.C.Clock.ticks) c.next_request.new.link (tools c.args.disk.now c.args.self.now c.args.clock.now) c.next_request.result c.in-End.is;
+}
 
 pub returns-in-LinkFault-clause-order : goal.returns-in-LinkFault-clause-order
-returns-in-LinkFault-clause-order g c =
-    last_silent g.L.Link.left g.L.Link.written g.D.Disk.faults c.args.link.now c.next_request.new.link c.args.disk.now c.args.self.now c.args.rest.now.items c.next_request.new.rest.items next.LinkFault c.in-LinkFault.ensures.answer c.next_request.ensures.written (refl, refl)
+returns-in-LinkFault-clause-order g c = record {
+  read = c.next_request.new.link;
+  answer = next.LinkFault;
+  behind = c.next_request.new.rest.items;
+  asked = c.in-LinkFault.ensures.answer;
+  unwritten = c.next_request.ensures.written;
+  failed = c.in-LinkFault.ensures.cause;
+  ends = (refl, refl);
+}
 
 pub returns-in-HeadFault-clause-order : goal.returns-in-HeadFault-clause-order
-returns-in-HeadFault-clause-order g c =
-    last_closed g.L.Link.left g.L.Link.written g.D.Disk.faults c.args.link.now c.next_request.new.link c.close.new.link c.args.disk.now c.args.self.now c.args.rest.now.items c.next_request.new.rest.items next.HeadFault c.bad_request.result c.close.result
-    c.in-HeadFault.ensures.answer c.next_request.ensures.written c.close.ensures.left c.close.ensures.ends (refl, refl)
+returns-in-HeadFault-clause-order g c = record {
+  read = c.next_request.new.link;
+  answer = next.HeadFault;
+  behind = c.next_request.new.rest.items;
+  asked = c.in-HeadFault.ensures.answer;
+  unwritten = c.next_request.ensures.written;
+  failed = c.in-HeadFault.ensures.cause;
+  ends = closes_by g.L.Link.left g.L.Link.written g.L.Link.faults (AnswersTurn g.D.Disk.tells g.D.Disk.reads g.D.Disk.images g.D.Disk.faults g.C.Clock.ticks) c.next_request.new.link c.close.new.link (tools c.args.disk.now c.args.self.now c.args.clock.now)
+      bad_request c.bad_request.result c.close.result c.bad_request.ensures
+      (replies_last g.L.Link.left g.L.Link.written g.L.Link.faults c.bad_request.result c.next_request.new.link c.close.new.link c.close.result c.close.ensures.ends c.close.ensures.left c.close.ensures.cause);
+}
 
 pub returns-in-BodyTooLong-clause-order : goal.returns-in-BodyTooLong-clause-order
-returns-in-BodyTooLong-clause-order g c =
-    last_closed g.L.Link.left g.L.Link.written g.D.Disk.faults c.args.link.now c.next_request.new.link c.close-in-BodyTooLong.new.link c.args.disk.now c.args.self.now c.args.rest.now.items c.next_request.new.rest.items next.BodyTooLong c.body_too_long.result c.close-in-BodyTooLong.result
-    c.in-BodyTooLong.ensures.answer c.next_request.ensures.written c.close-in-BodyTooLong.ensures.left c.close-in-BodyTooLong.ensures.ends (refl, refl)
+returns-in-BodyTooLong-clause-order g c = record {
+  read = c.next_request.new.link;
+  answer = next.BodyTooLong;
+  behind = c.next_request.new.rest.items;
+  asked = c.in-BodyTooLong.ensures.answer;
+  unwritten = c.next_request.ensures.written;
+  failed = c.in-BodyTooLong.ensures.cause;
+  ends = closes_by g.L.Link.left g.L.Link.written g.L.Link.faults (AnswersTurn g.D.Disk.tells g.D.Disk.reads g.D.Disk.images g.D.Disk.faults g.C.Clock.ticks) c.next_request.new.link c.close-in-BodyTooLong.new.link (tools c.args.disk.now c.args.self.now c.args.clock.now)
+      body_too_long c.body_too_long.result c.close-in-BodyTooLong.result c.body_too_long.ensures
+      (replies_last g.L.Link.left g.L.Link.written g.L.Link.faults c.body_too_long.result c.next_request.new.link c.close-in-BodyTooLong.new.link c.close-in-BodyTooLong.result c.close-in-BodyTooLong.ensures.ends c.close-in-BodyTooLong.ensures.left c.close-in-BodyTooLong.ensures.cause);
+}
 
 pub returns-in-Memory-clause-order : goal.returns-in-Memory-clause-order
-returns-in-Memory-clause-order g c =
-    last_closed g.L.Link.left g.L.Link.written g.D.Disk.faults c.args.link.now c.next_request.new.link c.close-in-Memory.new.link c.args.disk.now c.args.self.now c.args.rest.now.items c.next_request.new.rest.items next.Memory c.out_of_memory.result c.close-in-Memory.result
-    c.in-Memory.ensures.answer c.next_request.ensures.written c.close-in-Memory.ensures.left c.close-in-Memory.ensures.ends (refl, refl)
+returns-in-Memory-clause-order g c = record {
+  read = c.next_request.new.link;
+  answer = next.Memory;
+  behind = c.next_request.new.rest.items;
+  asked = c.in-Memory.ensures.answer;
+  unwritten = c.next_request.ensures.written;
+  failed = c.in-Memory.ensures.cause;
+  ends = closes_by g.L.Link.left g.L.Link.written g.L.Link.faults (AnswersTurn g.D.Disk.tells g.D.Disk.reads g.D.Disk.images g.D.Disk.faults g.C.Clock.ticks) c.next_request.new.link c.close-in-Memory.new.link (tools c.args.disk.now c.args.self.now c.args.clock.now)
+      out_of_memory c.out_of_memory.result c.close-in-Memory.result c.out_of_memory.ensures
+      (replies_last g.L.Link.left g.L.Link.written g.L.Link.faults c.out_of_memory.result c.next_request.new.link c.close-in-Memory.new.link c.close-in-Memory.result c.close-in-Memory.ensures.ends c.close-in-Memory.ensures.left c.close-in-Memory.ensures.cause);
+}
