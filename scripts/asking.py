@@ -40,6 +40,16 @@ def connected(seconds=checks.LIMIT):
             return link
 
 
+def opens_port(child):
+    """Whether a program that begins to serve opens its port, and has not ended before."""
+    while child.poll() is None:
+        with contextlib.suppress(ConnectionRefusedError):
+            connected(0).close()
+            return True
+        time.sleep(0.001)
+    return False
+
+
 @contextlib.contextmanager
 def serving(folder, requests=1_000_000, before=(), env=None):
     """The program, which serves in a folder; it is killed in the end where it still runs."""
@@ -80,6 +90,15 @@ def all_of(link):
     while piece := link.recv(65536):
         pieces.append(piece)
     return b"".join(pieces)
+
+
+def what_came(link):
+    """The bytes of a connection up to its end, also where the program is gone."""
+    told = b""
+    with contextlib.suppress(ConnectionResetError):
+        while piece := link.recv(65536):
+            told += piece
+    return told
 
 
 def so_many_of(link, count):

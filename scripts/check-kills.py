@@ -1,77 +1,198 @@
 #!/usr/bin/env python3
-"""Kills the built program at random moments while it takes lines, and takes the same lines again.
+"""Kills the built program at random moments while it receives lines, over one journal that grows.
 
-Each receipt whose reply came out whole is in the journal that the next run settles, and the same
-lines once more end with each of them received once.
+    scripts/check-kills.py                       50 kills of `take` and 50 of `serve`
+    scripts/check-kills.py --kills N --seed S    so many of each, their moments drawn from another seed
+
+After each kill the file is read beside the program: what stood there stands there, each receipt whose reply
+came out has its number and its own content, and of the other lines that were sent each is there whole and
+once, or not at all. Then the same lines are sent again, to a run that is killed too or to one that ends.
+The latter answers all of them: `repeated` where the file had the line, else `accepted`.
 """
 
-import os
-import pathlib
+import argparse
+import collections
+import contextlib
 import random
 import signal
+import socket
 import subprocess
 import tempfile
 import time
 
+import asking
 import checks
+import kept_lines
 
-LINES = 2000
-ROUNDS = 50
+# Lines that are sent until a run has ended with all of them, and then others are.
+WINDOW = 40
+
+# Each of so many kills the journal is settled too.
+SETTLED = 10
+
+# How many connections are open at once, and more replies than any run writes.
+CONNECTIONS = 3
+MANY = 1_000_000
+
+# The time of some receipts, in seconds.
+SOON = 0.0003
+
 SETTLE = ["settle", "--desks", "1"]
 
-# A folder in memory, where there is one: a kill asks nothing of a disk, and there a sync takes no time.
-IN_MEMORY = pathlib.Path("/dev/shm")
+
+class Killer:
+    """Kills a run while it opens its journal, or soon after some replies, while it has other lines in hand."""
+
+    def __init__(self, chance):
+        self.chance, self.opening = chance, 0.01
+        self.draw()
+
+    def draw(self):
+        self.is_early, self.is_killing = self.chance.random() < 0.3, True
+        self.replies = self.chance.randrange(WINDOW) if not self.is_early else 0
+        self.seconds = self.chance.random() * (self.opening if self.is_early else SOON)
+
+    def spare(self):
+        """Lets the next run end by itself, and learns how long its opening takes."""
+        self.is_early = self.is_killing = False
+        self.replies, self.begun = 1, time.perf_counter()
+
+    def opened(self):
+        if not self.is_killing:
+            self.opening = time.perf_counter() - self.begun
+
+    def strike(self, child):
+        if self.is_killing:
+            until = time.perf_counter() + self.seconds
+            time.sleep(max(0.0, self.seconds - 0.001))
+            while time.perf_counter() < until:
+                # A sleep would last longer than a receipt takes.
+                pass
+            child.send_signal(signal.SIGKILL)
 
 
-def killed(folder, lines, after):
-    """The whole lines that came out of a run that was killed after so many seconds."""
-    with open(os.path.join(folder, "replies"), "wb+") as replies:
-        with open(lines, "rb") as source:
-            child = subprocess.Popen([checks.PROGRAM, "take"], cwd=folder, stdin=source, stdout=replies)
-        time.sleep(after)
-        child.send_signal(signal.SIGKILL)
-        child.wait(checks.LIMIT)
-        replies.seek(0)
-        text = replies.read()
-    return text[: text.rfind(b"\n") + 1].decode().splitlines()
+def taken(folder, references, killer):
+    """How a `take` ends that is sent these lines, and its replies by their references."""
+    texts = [kept_lines.text_of(reference) + b"\n" for reference in references]
+    child = subprocess.Popen([checks.PROGRAM, "take"], cwd=folder, stdin=subprocess.PIPE, stdout=subprocess.PIPE)
+    with child, checks.ended_late(child):
+        child.stdin.write(b"".join(texts[: killer.replies]))
+        child.stdin.flush()
+        replies = b"".join(child.stdout.readline() for _ in range(killer.replies))
+        killer.opened()
+        child.stdin.write(b"".join(texts[killer.replies :]))
+        child.stdin.flush()
+        killer.strike(child)
+        child.stdin.close()
+        replies += child.stdout.read()
+    return child.returncode, kept_lines.told_by(replies, references)
 
 
-def settled(folder):
-    """How many receipts the journal has that the next run settles."""
-    status, output, errors = checks.run(SETTLE, folder)
-    last = output.decode().splitlines()[-1].split() if output else []
-    return int(last[2]) if (status, errors, last[:2]) == (0, b"", ["end", "receipts"]) else None
+def served(folder, references, killer):
+    """The same of a `serve`, to which lines are posted over one connection, and then others over several at once.
+    One that is spared ends after so many replies."""
+    told = {}
+    with asking.serving(folder, MANY if killer.is_killing else len(references)) as child:
+        if not killer.is_early and asking.opens_port(child):
+            killer.opened()
+            before, others = references[: killer.replies], references[killer.replies :]
+            told.update(posted([before], lambda: None) if before else {})
+            told.update(posted([others[at::CONNECTIONS] for at in range(CONNECTIONS)], lambda: killer.strike(child)))
+        elif killer.is_early:
+            killer.strike(child)
+        return child.wait(checks.LIMIT), told
 
 
-def check_round(look, number, lines, after):
-    with tempfile.TemporaryDirectory(dir=IN_MEMORY if IN_MEMORY.is_dir() else None) as folder:
-        said = killed(folder, lines, after)
-        what = f"kill {number}, after reply {len(said)}"
-        look.same(f"{what}: the replies", said, [f"accepted {n}" for n in range(1, len(said) + 1)])
-        kept = settled(folder)
-        look.same(f"{what}: each receipt with a reply is there", kept is not None and len(said) <= kept, True)
-        with open(lines, "rb") as source:
-            again = checks.run(["take"], folder, stdin=source)
-        wanted = [f"{'repeated' if n <= (kept or 0) else 'accepted'} {n}" for n in range(1, LINES + 1)]
-        look.same(f"{what}: the same lines again", again, (0, "".join(line + "\n" for line in wanted).encode(), b""))
-        look.same(f"{what}: all receipts, once each", settled(folder), LINES)
+def posted(shares, meanwhile):
+    """The replies to lines of which each connection posts a share, all at once."""
+    told = {}
+    with contextlib.ExitStack() as opened:
+        links = [opened.enter_context(asking.connected(0)) for _ in shares]
+        for link, share in zip(links, shares):
+            link.sendall(b"".join(kept_lines.post_of(reference) for reference in share))
+            # The next connection is served once this one has ended.
+            link.shutdown(socket.SHUT_WR)
+        meanwhile()
+        for link, share in zip(links, shares):
+            told.update(zip(share, kept_lines.replies_in(asking.what_came(link))))
+    return told
+
+
+class Growing:
+    """A journal that grows while the program is killed, and what was found of it."""
+
+    def __init__(self, folder, receive, chance):
+        self.folder, self.receive, self.killer = folder, receive, Killer(chance)
+        self.kept, self.first = kept_lines.Kept(folder), 1
+        self.kills, self.seen, self.wrong = 0, collections.Counter(), []
+
+    def receives(self):
+        """A run over the lines of now; how it ends, its replies, and what is wrong with them or with the file."""
+        references = range(self.first, self.first + WINDOW)
+        status, told = self.receive(self.folder, references, self.killer)
+        return status, told, self.kept.wrong_after(told, range(1, self.first + WINDOW), 1)
+
+    def kill(self):
+        self.kills += 1
+        self.killer.draw()
+        _, told, wrong = self.receives()
+        self.seen.update(unsaid=self.kept.unsaid, behind=self.kept.behind > 0, early=not told, amid=0 < len(told) < WINDOW)
+        if not wrong and self.kills % SETTLED == 0:
+            wrong = self.unsettled()
+        self.note(wrong)
+
+    def end_window(self):
+        """Sends the same lines once more, to a run that is spared, and then goes on with others."""
+        self.killer.spare()
+        status, told, wrong = self.receives()
+        if (status, len(told)) != (0, WINDOW):
+            wrong = wrong or f"{len(told)} replies to {WINDOW} lines, and status {status}"
+        self.note(wrong)
+        self.first += WINDOW
+
+    def note(self, wrong):
+        if wrong:
+            self.wrong.append((f"after kill {self.kills}", wrong))
+
+    def unsettled(self):
+        """What is wrong with the end of the report."""
+        count = len(self.kept.references)
+        status, output, errors = checks.run(SETTLE, self.folder)
+        is_right = (status, errors, output[output.rfind(b"\n", 0, -1) + 1 :]) == (0, b"", b"end receipts %d folios %d\n" % (count, count))
+        return "" if is_right else f"settle ends with {status} {errors} {output[-80:]}"
+
+
+def check_kills(look, what, kills, chance, receive):
+    begun = time.monotonic()
+    with tempfile.TemporaryDirectory(dir=checks.QUICK) as folder:
+        growing = Growing(folder, receive, chance)
+        while growing.kills < kills:
+            growing.kill()
+            if chance.random() < 0.5:
+                growing.end_window()
+        growing.end_window()
+        count, seen = len(growing.kept.references), growing.seen
+        look.same(f"{kills} kills of {what}, over a journal of {count} receipts: what was found wrong", growing.wrong[:5], [])
+        look.same(f"{what}: {seen['early']} kills before a reply, some amid the lines", seen["amid"] > 0, True)
+        look.same(f"{what}: the report in the end", checks.run(SETTLE, folder), (0, checks.report_of_openings(count), b""))
+        look.same(f"{what}: all lines are there, each once", sorted(growing.kept.references), list(range(1, growing.first)))
+    print(f"{what}: {seen['amid']} kills amid the lines, {seen['unsaid']} receipts without a reply that were there, "
+          f"{seen['behind']} times bytes behind the closed gate; {time.monotonic() - begun:.1f} s", flush=True)
 
 
 def main():
+    words = argparse.ArgumentParser(description=__doc__.splitlines()[0])
+    words.add_argument("--kills", type=int, default=50)
+    words.add_argument("--seed", type=int, default=20240301)
+    asked = words.parse_args()
     checks.build()
     look = checks.Checks()
-    chance = random.Random(20240301)
-    with tempfile.TemporaryDirectory() as folder:
-        lines = os.path.join(folder, "lines")
-        with open(lines, "w", encoding="ascii") as file:
-            file.writelines(checks.plain(number) + "\n" for number in range(1, LINES + 1))
-        with tempfile.TemporaryDirectory(dir=IN_MEMORY if IN_MEMORY.is_dir() else None) as whole:
-            start = time.monotonic()
-            with open(lines, "rb") as source:
-                checks.run(["take"], whole, stdin=source)
-            longest = time.monotonic() - start
-        for number in range(1, ROUNDS + 1):
-            check_round(look, number, lines, chance.random() * longest)
+    chance = random.Random(asked.seed)
+    check_kills(look, "take", asked.kills, chance, taken)
+    if asking.is_free():
+        check_kills(look, "serve", asked.kills, chance, served)
+    else:
+        look.skip("kills while it serves", "another program has the port")
     look.end()
 
 

@@ -2,8 +2,8 @@
 """Settles journals' files with the built program: each front of one, each of its bytes changed, bad records,
 and the lines of each example as a file.
 
-What a file stands for is worked out here, by a reader of the layout of docs/formats/journal-file.md; nothing
-of it is taken from a program.
+What a file stands for is worked out here and in frames.py, by a reader of the layout of
+docs/formats/journal-file.md; nothing of it is taken from a program.
 """
 
 import itertools
@@ -12,6 +12,7 @@ import tempfile
 
 import checks
 import spelling
+from frames import frames_of, number_in
 
 SETTLE = ["settle", "--desks", "1"]
 
@@ -26,10 +27,6 @@ BODIES = [spelling.receipt(line) for line in LINES]
 VALUES = (0, 1, 2, 3, 4, 8, 9, 23, 24, 71, 255)
 
 FIRST_DAY, LAST_DAY = 10_957, 65_743
-
-
-def number_in(body, begin, end):
-    return int.from_bytes(body[begin:end], "big")
 
 
 def verdict_of(number, body):
@@ -52,19 +49,6 @@ def verdicts_of(bodies):
         known.add(name)
         last = stamp
     return lines
-
-
-def frames_of(file):
-    """The gates and the bodies of a file's frames, and whether the gate after the last is open, though no whole frame follows."""
-    gate, gates, bodies = 9, [], []
-    while file[gate] == 1:
-        end = gate + 5 + number_in(file, gate + 1, gate + 5)
-        if not gate + 5 < end <= gate + 1029 or end >= len(file):
-            return [*gates, gate], bodies, True
-        gates.append(gate)
-        bodies.append(file[gate + 5 : end])
-        gate = end
-    return [*gates, gate], bodies, False
 
 
 def settled(file):

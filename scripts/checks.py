@@ -4,6 +4,7 @@ A check prints a line for each thing that it looked at, `ok`, `differs` or `skip
 `N passed, N failed, N skipped`.
 """
 
+import contextlib
 import functools
 import json
 import os
@@ -13,7 +14,9 @@ import shutil
 import signal
 import subprocess
 import sys
+import threading
 
+import frames
 import spelling
 import wrong_lines
 
@@ -94,6 +97,17 @@ def run(words, folder=None, before=None, **how):
     return ran.returncode, ran.stdout, ran.stderr
 
 
+@contextlib.contextmanager
+def ended_late(child):
+    """Ends a program that takes longer than any run of a check."""
+    late = threading.Timer(LIMIT, child.kill)
+    late.start()
+    try:
+        yield
+    finally:
+        late.cancel()
+
+
 def hear_signals():
     """Has a program that a check starts, and will send a signal, be ended by it: a shell has what it runs in the
     background pass over some."""
@@ -172,8 +186,8 @@ def plain(number):
 
 def journal(bodies):
     """The bytes of a journal's file with these records."""
-    frames = b"".join(b"\x01" + spelling.u32(len(body)) + body for body in bodies)
-    return b"GGBJOURN1" + frames + b"\x00"
+    records = b"".join(b"\x01" + spelling.u32(len(body)) + body for body in bodies)
+    return frames.HEAD + records + b"\x00"
 
 
 def journal_of_lines(lines):
@@ -184,8 +198,13 @@ def journal_of_lines(lines):
 def journal_of_openings(count):
     """A journal that opens so many folios, and the report of it."""
     lines = [filing(number, opening(number)) for number in range(1, count + 1)]
+    return journal([spelling.receipt(line) for line in lines]), report_of_openings(count)
+
+
+def report_of_openings(count):
+    """The report of a journal that opens the folios up to this one, in whatever order, and no more."""
     report = [f"receipt {number} entered" for number in range(1, count + 1)]
     for folio in range(1, count + 1):
         report += [f"folio {folio}", f"inventory district 1 parcel {folio}/0 area 500", "owners 10", f"ranks {folio}"]
     report.append(f"end receipts {count} folios {count}")
-    return journal([spelling.receipt(line) for line in lines]), "".join(line + "\n" for line in report).encode()
+    return "".join(line + "\n" for line in report).encode()
