@@ -1,0 +1,312 @@
+#!/usr/bin/env python3
+"""Has calls on the journal's file fail at random points while the built program receives, and fills the disk.
+
+    scripts/check-disks.py                        50 points of `take` and 50 of `serve`, the same each time
+    scripts/check-disks.py --points N --seed S    so many of each, drawn otherwise
+
+From a point on one call of the file fails, or some, or all; before that a write may be cut short (fail_disk.c).
+Just where a call failed `take` ends with status 5, and `serve` answers 503 to that request and goes on; after a
+failed sync it answers so to all. What was acknowledged is in the file then, and a program without failures receives
+the same lines again and ends with each of them once. A tenth as many times a small file system fills up while lines
+are received, and is given room again.
+
+Without a C compiler the points are skipped, and without the right to mount a file system of its own the rest.
+"""
+
+import argparse
+import collections
+import contextlib
+import errno
+import http.client
+import os
+import pathlib
+import random
+import subprocess
+import tempfile
+import time
+
+import asking
+import checks
+import kept_lines
+
+SOURCE = pathlib.Path(__file__).resolve().parent / "fail_disk.c"
+DISK_FAULT = (5, b"disk fault\n")
+
+# How often a line is posted whose request found a failure.
+TRIES = 3
+
+# A small file system, and how much of it is free at most when lines come.
+KIBIBYTES = 320
+MOST_FREE = {"take": 200, "serve": 32}
+
+# No line's record has fewer bytes.
+LEAST = 60
+
+
+class Point:
+    """From which call on calls of the file fail, how many and how; and what stands there before."""
+
+    def __init__(self, chance):
+        self.stood, lines = chance.choice((0, 0, 1, 3)), chance.randint(1, 6)
+        self.references = range(1, self.stood + lines + 1)
+        self.file = kept_lines.journal_of(range(1, self.stood + 1)) if self.stood else chance.choice((b"", bytes(300), checks.journal([])))
+        # An opening makes up to ten calls, and a receipt four.
+        at, short = chance.randint(1, 10 + 4 * lines), chance.choice((0, 0, chance.randint(1, 90)))
+        failing = chance.choice((1, 1, 2, 3, 1_000_000, 0 if short else 1))
+        error = chance.choice((errno.EIO, errno.ENOSPC))
+        self.how = {"FAIL_AT": at, "FAIL_CALLS": failing, "FAIL_SHORT": short, "FAIL_WITH": error}
+
+    def __str__(self):
+        return f"{' '.join(f'{name}={value}' for name, value in self.how.items())} over {len(self.file)} bytes, lines 1 to {self.references[-1]}"
+
+
+class Disk:
+    """The library that has calls fail, and what it noted of them."""
+
+    def __init__(self, folder):
+        self.library, self.log = checks.library_of(SOURCE, folder), pathlib.Path(folder) / "calls"
+
+    def failing_at(self, point):
+        """The environment of a program whose calls fail at this point."""
+        self.log.write_text("")
+        how = {name: str(value) for name, value in point.how.items()}
+        return {**os.environ, "LD_PRELOAD": self.library, "FAIL_LOG": str(self.log), **how}
+
+    def noted(self):
+        """The calls that failed or were cut short, in order."""
+        return [call for call in self.log.read_text().splitlines() if " " in call]
+
+    def failures(self):
+        return [call.split()[0] for call in self.noted() if call.endswith(" failed")]
+
+
+def repeated(folder, kept, references):
+    """What is wrong once a `take` without failures was sent the same lines."""
+    status, output, errors = checks.run(["take"], folder, input=kept_lines.texts_of(references))
+    told = kept_lines.told_by(output, references)
+    if (status, errors, len(told)) != (0, b"", len(references)):
+        return f"the same lines again: {status} {errors} and {len(told)} replies to {len(references)}"
+    return kept.wrong_after(told, references, 0)
+
+
+def taken(disk, point, folder, kept):
+    """What is wrong after a `take` whose calls fail at a point."""
+    lines = kept_lines.texts_of(point.references)
+    status, output, errors = checks.run(["take"], folder, input=lines, env=disk.failing_at(point))
+    told, failures = kept_lines.told_by(output, point.references), disk.failures()
+    if (status, errors) != (DISK_FAULT if failures else (0, b"")):
+        return f"status {status} {errors} where {failures} failed"
+    if not failures and len(told) < len(point.references):
+        return f"{len(told)} replies where no call failed"
+    return kept.wrong_after(told, point.references, 1) or repeated(folder, kept, point.references)
+
+
+class Posting:
+    """Requests one after another to a program whose calls may fail."""
+
+    def __init__(self, disk, client, stood):
+        self.disk, self.client, self.stood, self.told, self.wrong = disk, client, stood, {}, []
+
+    def answered(self, what, ask):
+        """The answer of a request; it is wrong where it is 503 and no call failed in it, or the other way round."""
+        before = len(self.disk.failures())
+        status, said = ask()
+        failures = self.disk.failures()
+        if (status == 503) != (len(failures) > before or "fsync" in failures):
+            self.wrong.append(f"{what} is answered {status} where {failures[before:]} failed")
+        return status, said
+
+    def post(self, reference):
+        """Posts a line until it is received; then asks for its verdict."""
+        for tried in range(TRIES):
+            status, (word, number) = self.answered(f"line {reference}", lambda: kept_lines.posted(self.client, reference))
+            if status in (200, 201):
+                # What a request received that was answered 503 is repeated when it comes again.
+                self.told[reference] = ("accepted" if tried and reference > self.stood else word, number)
+                return self.verdict(number)
+
+    def verdict(self, number):
+        status, said = self.answered(f"GET of receipt {number}", lambda: self.got(number))
+        if status != 503 and (status, said) != (200, b"receipt %d entered\n" % number):
+            self.wrong.append(f"receipt {number} is {status} {said}")
+
+    def got(self, number):
+        self.client.request("GET", f"/receipts/{number}")
+        answer = self.client.getresponse()
+        return answer.status, answer.read()
+
+
+@contextlib.contextmanager
+def client_of():
+    """A connection for requests one after another."""
+    client = http.client.HTTPConnection(asking.HOST, asking.PORT, timeout=checks.LIMIT)
+    with contextlib.closing(client):
+        yield client
+
+
+def posted_at(disk, point, folder, kept):
+    """What is wrong after a `serve` whose calls fail at a point."""
+    with asking.serving(folder, env=disk.failing_at(point)) as child:
+        if not asking.opens_port(child):
+            ended = child.returncode, child.stderr.read()
+            return "" if ended == DISK_FAULT and disk.failures() else f"it ends with {ended} where {disk.failures()} failed"
+        if disk.failures():
+            return f"it serves where {disk.failures()} failed"
+        with client_of() as client:
+            posting = Posting(disk, client, point.stood)
+            for reference in point.references:
+                posting.post(reference)
+        if child.poll() is not None:
+            return f"it ends with {child.returncode} where {disk.failures()} failed"
+    return "; ".join(posting.wrong) or kept.wrong_after(posting.told, point.references, 1)
+
+
+def posted_again(folder, kept, references):
+    """What is wrong once a `serve` without failures was sent the same lines."""
+    with asking.serving(folder) as child:
+        if not asking.opens_port(child):
+            return f"started again it ends with {child.returncode}"
+        with client_of() as client:
+            told = {reference: kept_lines.posted(client, reference)[1] for reference in references}
+    return kept.wrong_after(told, references, 0)
+
+
+def served(disk, point, folder, kept):
+    return posted_at(disk, point, folder, kept) or posted_again(folder, kept, point.references)
+
+
+def check_points(look, disk, what, points, chance, over):
+    begun, wrong, seen, done = time.monotonic(), [], collections.Counter(), 0
+    while done < points:
+        point = Point(chance)
+        with tempfile.TemporaryDirectory(dir=checks.QUICK) as folder:
+            with open(os.path.join(folder, checks.JOURNAL), "wb") as file:
+                file.write(point.file)
+            kept = kept_lines.Kept(folder)
+            kept.read(point.references)
+            try:
+                why = over(disk, point, folder, kept)
+            except (OSError, http.client.HTTPException) as error:
+                why = f"the connection fails: {error!r}"
+        if why:
+            wrong.append(f"{point}: {why}")
+        # A point beyond the last call is none.
+        done += bool(disk.noted())
+        seen.update(set(disk.noted()))
+    look.same(f"{points} points of {what}: what was found wrong", wrong[:5], [])
+    look.same(f"{what}: writes and syncs failed, and writes were cut short", {"pwrite failed", "fsync failed", "pwrite short"} <= set(seen), True)
+    print(f"{what}: {dict(sorted(seen.items()))}; {time.monotonic() - begun:.1f} s", flush=True)
+
+
+@contextlib.contextmanager
+def small_disk():
+    """The folder of a small file system in memory, which no other program sees and which ends with this; None where none can be made."""
+    script = f'mount -t tmpfs -o size={KIBIBYTES}k none "$0" && cd "$0" && echo made && exec cat'
+    with tempfile.TemporaryDirectory() as folder:
+        try:
+            child = subprocess.Popen(
+                ["unshare", "-m", "sh", "-c", script, folder], stdin=subprocess.PIPE, stdout=subprocess.PIPE, stderr=subprocess.DEVNULL
+            )
+        except OSError:
+            yield None
+            return
+        with child:
+            yield f"/proc/{child.pid}/cwd" if child.stdout.readline() else None
+            child.stdin.close()
+
+
+def is_full(folder):
+    return os.statvfs(folder).f_bavail == 0
+
+
+def fill(folder, left):
+    """Another file that leaves so many bytes free, and the name of it."""
+    room = os.statvfs(folder)
+    name = os.path.join(folder, "other")
+    with open(name, "wb") as file:
+        os.posix_fallocate(file.fileno(), 0, room.f_bavail * room.f_bsize - left)
+    return name
+
+
+def set_aside(folder, size):
+    with open(os.path.join(folder, checks.JOURNAL), "wb") as file:
+        os.posix_fallocate(file.fileno(), 0, size)
+
+
+def filled_by_take(folder, other, references):
+    """What is wrong where `take` fills the disk, and goes on once another file leaves it room."""
+    kept = kept_lines.Kept(folder)
+    status, output, errors = checks.run(["take"], folder, input=kept_lines.texts_of(references))
+    told = kept_lines.told_by(output, references)
+    if (status, errors) != DISK_FAULT or not is_full(folder):
+        return f"status {status} {errors} after {len(told)} of {len(references)} lines"
+    if wrong := kept.wrong_after(told, references, 1):
+        return wrong
+    os.unlink(other)
+    return repeated(folder, kept, references)
+
+
+def filled_by_serve(folder, other, references):
+    """What is wrong where `serve` fills the disk, and goes on as soon as another file leaves it room."""
+    kept, told, references = kept_lines.Kept(folder), {}, iter(references)
+    with asking.serving(folder) as child:
+        if not asking.opens_port(child):
+            return f"it ends with {child.returncode}"
+        with client_of() as client:
+            for reference in references:
+                status, said = kept_lines.posted(client, reference)
+                if status != 201:
+                    break
+                told[reference] = said
+            again = kept_lines.posted(client, reference)[0]
+            if (status, again, is_full(folder)) != (503, 503, True):
+                return f"line {reference} is answered {status} and then {again}"
+            os.unlink(other)
+            for reference in (reference, *references):
+                told[reference] = kept_lines.posted(client, reference)[1]
+    return kept.wrong_after(told, list(told), 0)
+
+
+def check_full_disks(look, what, times, chance, over):
+    begun, wrong = time.monotonic(), []
+    for _ in range(times):
+        with small_disk() as folder:
+            if folder is None:
+                look.skip(f"a disk that {what} fills", "no file system can be mounted here")
+                return
+            left = chance.randint(4, MOST_FREE[what]) << 10
+            is_aside = chance.random() < 0.3
+            if is_aside:
+                set_aside(folder, left)
+            other = fill(folder, 0 if is_aside else left)
+            if why := over(folder, other, range(1, left // LEAST + 50)):
+                wrong.append(f"{left} bytes {'set aside' if is_aside else 'free'}: {why}")
+    look.same(f"{times} disks that {what} fills: what was found wrong", wrong[:5], [])
+    print(f"{what}: {time.monotonic() - begun:.1f} s", flush=True)
+
+
+def main():
+    words = argparse.ArgumentParser(description=__doc__.splitlines()[0])
+    words.add_argument("--points", type=int, default=50)
+    words.add_argument("--seed", type=int, default=20240301)
+    asked = words.parse_args()
+    checks.build()
+    look = checks.Checks()
+    chance = random.Random(asked.seed)
+    with tempfile.TemporaryDirectory() as folder:
+        disk = Disk(folder)
+        kinds = [("take", taken, filled_by_take), ("serve", served, filled_by_serve)]
+        if not asking.is_free():
+            look.skip("a disk that fails while the program serves", "another program has the port")
+            kinds.pop()
+        for what, at_point, filled in kinds:
+            if disk.library:
+                check_points(look, disk, what, asked.points, chance, at_point)
+            else:
+                look.skip(f"points of {what}", "there is no C compiler")
+            check_full_disks(look, what, max(1, asked.points // 10), chance, filled)
+    look.end()
+
+
+if __name__ == "__main__":
+    main()
