@@ -35,6 +35,9 @@ DISK_FAULT = (5, b"disk fault\n")
 # How often a line is posted whose request found a failure.
 TRIES = 3
 
+# How many points are drawn at most for one at which a call fails.
+DRAWN = 10
+
 # A small file system, and how much of it is free at most when lines come.
 KIBIBYTES = 320
 MOST_FREE = {"take": 200, "serve": 32}
@@ -177,25 +180,32 @@ def served(disk, point, folder, kept):
 
 def check_points(look, disk, what, points, chance, over):
     begun, wrong, seen, done = time.monotonic(), [], collections.Counter(), 0
-    while done < points:
+    for _ in range(points * DRAWN):
+        if done == points:
+            break
         point = Point(chance)
-        with tempfile.TemporaryDirectory(dir=checks.QUICK) as folder:
-            with open(os.path.join(folder, checks.JOURNAL), "wb") as file:
-                file.write(point.file)
-            kept = kept_lines.Kept(folder)
-            kept.read(point.references)
-            try:
-                why = over(disk, point, folder, kept)
-            except (OSError, http.client.HTTPException) as error:
-                why = f"the connection fails: {error!r}"
+        why = checked_at(disk, point, over)
         if why:
             wrong.append(f"{point}: {why}")
-        # A point beyond the last call is none.
+        # A point behind the last call is none.
         done += bool(disk.noted())
         seen.update(set(disk.noted()))
+    calls = ", ".join(f"{call} {times}" for call, times in sorted(seen.items()))
+    look.same(f"{what}: points with {calls}, in {time.monotonic() - begun:.1f} s", done, points)
     look.same(f"{points} points of {what}: what was found wrong", wrong[:5], [])
-    look.same(f"{what}: writes and syncs failed, and writes were cut short", {"pwrite failed", "fsync failed", "pwrite short"} <= set(seen), True)
-    print(f"{what}: {dict(sorted(seen.items()))}; {time.monotonic() - begun:.1f} s", flush=True)
+
+
+def checked_at(disk, point, over):
+    """What is wrong at a point, over a file of its own."""
+    with tempfile.TemporaryDirectory(dir=checks.QUICK) as folder:
+        with open(os.path.join(folder, checks.JOURNAL), "wb") as file:
+            file.write(point.file)
+        kept = kept_lines.Kept(folder)
+        kept.read(point.references)
+        try:
+            return over(disk, point, folder, kept)
+        except (OSError, http.client.HTTPException) as error:
+            return f"the connection fails: {error!r}"
 
 
 @contextlib.contextmanager
@@ -281,8 +291,7 @@ def check_full_disks(look, what, times, chance, over):
             other = fill(folder, 0 if is_aside else left)
             if why := over(folder, other, range(1, left // LEAST + 50)):
                 wrong.append(f"{left} bytes {'set aside' if is_aside else 'free'}: {why}")
-    look.same(f"{times} disks that {what} fills: what was found wrong", wrong[:5], [])
-    print(f"{what}: {time.monotonic() - begun:.1f} s", flush=True)
+    look.same(f"{times} disks that {what} fills, in {time.monotonic() - begun:.1f} s: what was found wrong", wrong[:5], [])
 
 
 def main():

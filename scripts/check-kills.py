@@ -173,11 +173,17 @@ def check_kills(look, what, kills, chance, receive):
         growing.end_window()
         count, seen = len(growing.kept.references), growing.seen
         look.same(f"{kills} kills of {what}, over a journal of {count} receipts: what was found wrong", growing.wrong[:5], [])
-        look.same(f"{what}: {seen['early']} kills before a reply, some amid the lines", seen["amid"] > 0, True)
+        look.same(f"{what}: {told_of(seen)}, in {time.monotonic() - begun:.1f} s; some amid the lines", seen["amid"] > 0, True)
         look.same(f"{what}: the report in the end", checks.run(SETTLE, folder), (0, checks.report_of_openings(count), b""))
         look.same(f"{what}: all lines are there, each once", sorted(growing.kept.references), list(range(1, growing.first)))
-    print(f"{what}: {seen['amid']} kills amid the lines, {seen['unsaid']} receipts without a reply that were there, "
-          f"{seen['behind']} times bytes behind the closed gate; {time.monotonic() - begun:.1f} s", flush=True)
+
+
+def told_of(seen):
+    """How many kills came where, and what they left."""
+    return (
+        f"{seen['early']} kills before a reply, {seen['amid']} amid the lines, {seen['behind']} left bytes behind the closed gate, "
+        f"{seen['unsaid']} a receipt without a reply"
+    )
 
 
 def main():
