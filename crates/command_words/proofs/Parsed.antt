@@ -12,10 +12,10 @@ use Rattle.clap.specs.declared.parser.matches.ValueSource.TheVariants.{CommandLi
 use Rattle.clap.specs.Walk.{Row, Text, Walk, arg_by_long, has_row, settled_rows, used, walked}
 use Rattle.clap.specs.Kinds.{Kinds, or_else}
 use Rattle.clap.specs.Faults.{settle_fault, turn_fault}
-use Rattle.command_words.specs.Words.{Form, Piece, flag, form_of, has_name, has_value, named, assigned, once_each, option_form, pieces_of, put, wrong}
-use Rattle.command_words.specs.inner.Parsing.{built_lines, built_option, is_formed, row, rules, shape}
-use Rattle.command_words.proofs.Rules.{by_id, command_by_id, goes_behind, has_row_of, lines_by_long, no_command, none_by_long, row_more}
-use Rattle.command_words.proofs.Turns.{Turns, assigned_again, assigned_turn, command_turn, command_waits, lines_again, lines_turn, name_turn, second_command, value_turn}
+use Rattle.command_words.specs.Words.{Form, Piece, flag, form_of, has_name, has_value, is_flag, named, assigned, once_each, option_form, pieces_of, put, wrong}
+use Rattle.command_words.specs.inner.Parsing.{built_flag, built_option, is_formed, row, rules, shape}
+use Rattle.command_words.proofs.Rules.{by_id, command_by_id, flag_by_long, flag_no_command, goes_behind, has_row_of, no_command, none_by_long, row_more}
+use Rattle.command_words.proofs.Turns.{Turns, assigned_again, assigned_turn, command_turn, command_waits, flag_again, flag_turn, name_turn, second_command, value_turn}
 use Rattle.command_words.proofs.Walking.{Waits, behind_name, between, ends, ends_end, ends_step, fails, fails_end, fails_step, first_clear, held, idle_long, long_stuck, named_long}
 use Rattle.command_words.proofs.WordForms.{IsLong, IsPlain, by_form}
 
@@ -211,28 +211,28 @@ wrong_step word rest rows p place before form failing = inr (record {
   failed = blocked (between rows p place) word rest failing;
 })
 
-lines_step : (word : Text) (rest : List Text) → form_of word ≡ flag → long_of word ≡ Some (codes "lines", None)
-    → bytes_eq word (45 ∷ 45 ∷ []) ≡ false → Goes rest → Goes (word ∷ rest)
-lines_step word rest form long end_no next rows p place before s = go (has_name (codes "lines") before) refl
+flag_step : (word name : Text) (rest : List Text) → form_of word ≡ flag name → long_of word ≡ Some (name, None)
+    → bytes_eq word (45 ∷ 45 ∷ []) ≡ false → has_value name ≡ false → is_flag name ≡ true → Goes rest → Goes (word ∷ rest)
+flag_step word name rest form long end_no bare is next rows p place before s = go (has_name name before) refl
   where
-    pieces_are : pieces_of (forms (word ∷ rest)) ≡ put (codes "lines", codes "true") (pieces_of (forms rest))
+    pieces_are : pieces_of (forms (word ∷ rest)) ≡ put (name, codes "true") (pieces_of (forms rest))
     pieces_are = ap (λ x. pieces_of (x ∷ forms rest)) form
 
-    go : (b : Bool) → has_name (codes "lines") before ≡ b → Agrees before (word ∷ rest) (fails (between rows p place) (word ∷ rest)) (ends (between rows p place) (word ∷ rest))
+    go : (b : Bool) → has_name name before ≡ b → Agrees before (word ∷ rest) (fails (between rows p place) (word ∷ rest)) (ends (between rows p place) (word ∷ rest))
     go true e =
-        let there : has_row (codes "lines") (settled_rows rules p rows) ≡ true = row_new (codes "lines") (settled_rows rules p rows) before s.are ∙ e in
-        put_again before (codes "lines", codes "true") (word ∷ rest) rest _ _ e pieces_are
-        (blocked (between rows p place) word rest (lines_again rows p place word long end_no s.clear there))
+        let there : has_row name (settled_rows rules p rows) ≡ true = row_new name (settled_rows rules p rows) before s.are ∙ e in
+        put_again before (name, codes "true") (word ∷ rest) rest _ _ e pieces_are
+        (blocked (between rows p place) word rest (flag_again rows p place word name long end_no bare is s.clear there))
     go false e =
-        let fresh : has_row (codes "lines") (settled_rows rules p rows) ≡ false = row_new (codes "lines") (settled_rows rules p rows) before s.are ∙ e in
-        let t = lines_turn rows p place word long end_no s.clear fresh in
-        let after = between (used built_lines [] (settled_rows rules p rows)) None place in
-        put_new before (codes "lines", codes "true") (word ∷ rest) rest _ _ _ _ e pieces_are (passed (between rows p place) after word rest t) (ended (between rows p place) after word rest t)
-        (next (used built_lines [] (settled_rows rules p rows)) None place (before ++ (codes "lines", codes "true") ∷ []) (record {
-          are = goes_behind (codes "lines") AsWritten CommandLine (codes "true" ∷ []) (settled_rows rules p rows) fresh
-              ∙ joins (settled_rows rules p rows) before (codes "lines", codes "true") s.are;
+        let fresh : has_row name (settled_rows rules p rows) ≡ false = row_new name (settled_rows rules p rows) before s.are ∙ e in
+        let t = flag_turn rows p place word name long end_no bare is s.clear fresh in
+        let after = between (used (built_flag name) [] (settled_rows rules p rows)) None place in
+        put_new before (name, codes "true") (word ∷ rest) rest _ _ _ _ e pieces_are (passed (between rows p place) after word rest t) (ended (between rows p place) after word rest t)
+        (next (used (built_flag name) [] (settled_rows rules p rows)) None place (before ++ (name, codes "true") ∷ []) (record {
+          are = goes_behind name AsWritten CommandLine (codes "true" ∷ []) (settled_rows rules p rows) fresh
+              ∙ joins (settled_rows rules p rows) before (name, codes "true") s.are;
           clear = refl;
-          place_is = stays_at before (codes "lines", codes "true") place refl s.place_is;
+          place_is = stays_at before (name, codes "true") place (flag_no_command name is) s.place_is;
         }))
 
 assigned_step : (word name value : Text) (rest : List Text) → form_of word ≡ assigned name value → long_of word ≡ Some (name, Some value)
@@ -278,9 +278,9 @@ named_alone word name is rows p place before s =
 
 -- no form of a long name is a value
 no_value : (name : Text) (n : Text) (v : Option Text) (fs : List Form) → pieces_of (named name ∷ option_form n v ∷ fs) ≡ None
-no_value name n None fs = go (has_value n) (bytes_eq (codes "lines") n) refl refl
+no_value name n None fs = go (has_value n) (is_flag n) refl refl
   where
-    go : (a b : Bool) → has_value n ≡ a → bytes_eq (codes "lines") n ≡ b → pieces_of (named name ∷ option_form n None ∷ fs) ≡ None
+    go : (a b : Bool) → has_value n ≡ a → is_flag n ≡ b → pieces_of (named name ∷ option_form n None ∷ fs) ≡ None
     go true b e d = rw e refl
     go false true e d = rw (e, d) refl
     go false false e d = rw (e, d) refl
@@ -343,22 +343,19 @@ Names word rest = (name : Text) → IsNamed word name → Goes (word ∷ rest)
 long_step : (word : Text) (rest : List Text) → IsLong word → Goes rest → Names word rest → Goes (word ∷ rest)
 long_step word rest is next names = by_value is.value refl
   where
-    unknown : has_value is.name ≡ false → bytes_eq (codes "lines") is.name ≡ false → form_of word ≡ wrong → Goes (word ∷ rest)
+    unknown : has_value is.name ≡ false → is_flag is.name ≡ false → form_of word ≡ wrong → Goes (word ∷ rest)
     unknown h l form rows p place before s = wrong_step word rest rows p place before form
         (λ clear. let bad = rw (none_by_long is.name h l) at (idle_long rows p place word is clear) in cc)
 
-    no_lines_value : (v : Text) → is.value ≡ Some v → codes "lines" ≡ is.name → form_of word ≡ wrong → Goes (word ∷ rest)
-    no_lines_value v e n form rows p place before s = wrong_step word rest rows p place before form
-        (λ clear. let bad = rw (← n, lines_by_long, e) at (idle_long rows p place word is clear) in cc)
+    no_flag_value : (v : Text) → is.value ≡ Some v → has_value is.name ≡ false → is_flag is.name ≡ true → form_of word ≡ wrong → Goes (word ∷ rest)
+    no_flag_value v e h l form rows p place before s = wrong_step word rest rows p place before form
+        (λ clear. let bad = rw (flag_by_long is.name h l, e) at (idle_long rows p place word is clear) in cc)
 
-    by_lines : (b : Bool) → bytes_eq (codes "lines") is.name ≡ b → has_value is.name ≡ false → (v : Option Text) → is.value ≡ v → Goes (word ∷ rest)
-    by_lines true l h None e =
-        let n : codes "lines" ≡ is.name = (bytes_eq-Decides (codes "lines") is.name).0 l in
-        lines_step word rest (is.form ∙ rw (e, h, l) refl) (is.long ∙ rw (e, ← n) refl) is.no_end next
-    by_lines true l h (Some v) e =
-        no_lines_value v e ((bytes_eq-Decides (codes "lines") is.name).0 l) (is.form ∙ rw (e, h) refl)
-    by_lines false l h None e = unknown h l (is.form ∙ rw (e, h, l) refl)
-    by_lines false l h (Some v) e = unknown h l (is.form ∙ rw (e, h) refl)
+    by_flag : (b : Bool) → is_flag is.name ≡ b → has_value is.name ≡ false → (v : Option Text) → is.value ≡ v → Goes (word ∷ rest)
+    by_flag true l h None e = flag_step word is.name rest (is.form ∙ rw (e, h, l) refl) (is.long ∙ rw e refl) is.no_end h l next
+    by_flag true l h (Some v) e = no_flag_value v e h l (is.form ∙ rw (e, h) refl)
+    by_flag false l h None e = unknown h l (is.form ∙ rw (e, h, l) refl)
+    by_flag false l h (Some v) e = unknown h l (is.form ∙ rw (e, h) refl)
 
     by_known : (b : Bool) → has_value is.name ≡ b → (v : Option Text) → is.value ≡ v → Goes (word ∷ rest)
     by_known true h None e = names is.name (record {
@@ -368,7 +365,7 @@ long_step word rest is next names = by_value is.value refl
       known = h;
     })
     by_known true h (Some v) e = assigned_step word is.name v rest (is.form ∙ rw (e, h) refl) (is.long ∙ rw e refl) is.no_end h next
-    by_known false h v e = by_lines (bytes_eq (codes "lines") is.name) refl h v e
+    by_known false h v e = by_flag (is_flag is.name) refl h v e
 
     by_value : (v : Option Text) → is.value ≡ v → Goes (word ∷ rest)
     by_value v e = by_known (has_value is.name) refl v e

@@ -1,8 +1,9 @@
 -- What `clap` answers, in the words of the grammar.
 use Rattle.std.proofs.Common.{◌≡◌, ◌∙◌, ◌==◌, ◌&&◌, ◌||◌, ◌++◌, ap, refl, sym, subst, Bool, true, false, List, [], ◌∷◌, map, codes, Option, Some, None, inl, inr, if◌then◌else◌}
-use Rattle.std.specs.Prelude.{Err, IfErr, IfOk, Ok, Result, fold, option_and_then}
+use Rattle.std.specs.Prelude.{Err, IfErr, IfOk, Ok, Result, fold, is_some, option_and_then}
 use Rattle.std.specs.List.{list_all, list_any}
 use Rattle.std.specs.Str.{bytes_eq}
+use Rattle.std.proofs.lemmas.Slice.Eq.{bytes_eq-Decides}
 use Rattle.clap.specs.Walk.{Held, Row, Rule, Text, finished, first_of, has_row, nothing_held, rows_after, rows_of, settled, walk, walk_from, with_default}
 use Rattle.clap.specs.Matches.{first_value, found_of}
 use Rattle.clap.specs.Kinds.{FailsBy, HasKind, Kinds, or_else}
@@ -21,10 +22,15 @@ use Rattle.clap.specs.declared.parser.matches.Found.{Found}
 use Rattle.clap.proofs.FaultLemmas.{leaf_fault}
 use Rattle.clap.proofs.WalkLemmas.{both, first_value-rows}
 use Rattle.command_words.specs.declared.commands.Command.{Command}
-use Rattle.command_words.specs.Words.{Form, Piece, assigned, flag, named, put, command_of, command_once, command_with, form_of, is_true, pieces_of, reader_of, value_of, wrong, plain}
-use Rattle.command_words.specs.inner.Parsing.{built_command, built_lines, built_option, grundbuch, is_formed, row, rules, shape, with_desks}
+use Rattle.command_words.specs.CommandTable.{name_of, range_of, word_of}
+use Rattle.command_words.specs.declared.table.CommandOption.{CommandOption}
+use Rattle.command_words.specs.declared.table.CommandOption.TheVariants.{Desks, Requests, Seed, Size, Sender, Lines}
+use Rattle.command_words.specs.declared.table.ValueRange.{ValueRange}
+use Rattle.command_words.specs.Words.{Form, Piece, Values, assigned, flag, flags, named, number_by, put, command_of, command_once, command_right, command_with, form_of, is_flag, is_true, pieces_of, stands_by, value_of, valued, wrong, plain}
+use Rattle.command_words.specs.inner.Parsing.{built_flag, built_option, grundbuch, is_formed, row, rules, shape}
 use Rattle.command_words.proofs.Parsed.{Accepted, Agrees, forms, main, passes}
-use Rattle.command_words.proofs.Rules.{appends, is_built, is_simple}
+use Rattle.command_words.proofs.Rules.{appends, is_built, is_simple, neither}
+use Rattle.command_words.proofs.Turns.{same}
 use Rattle.command_words.proofs.Walking.{between, ends, fails}
 
 -- ---- after the walk nothing fails
@@ -44,9 +50,19 @@ no_default_fails rows (a ∷ rest) q =
     ap (λ k. or_else k (defaults_fault (with_default rows a) rest)) (same_both _ [] (given_default_fault a a.defaults) refl q.0)
     ∙ no_default_fails (with_default rows a) rest q.1
 
+options_quiet : (ks : List Text) (rest : List Rule) → quiet rest → quiet (map built_option ks ++ rest)
+unfolding quiet
+options_quiet [] rest q = q
+options_quiet (k ∷ ks) rest q = (refl, options_quiet ks rest q)
+
+flags_quiet : (ks : List Text) → quiet (map built_flag ks)
+unfolding quiet
+flags_quiet [] = tt
+flags_quiet (k ∷ ks) = (refl, flags_quiet ks)
+
 all_quiet : quiet rules
 unfolding quiet rules
-all_quiet = (refl, (refl, (refl, (refl, (refl, (refl, (refl, tt)))))))
+all_quiet = (refl, options_quiet valued (map built_flag flags) (flags_quiet flags))
 
 none_wanted : (rows : List Row) → check_fault shape rows false ≡ []
 unfolding rules
@@ -57,7 +73,7 @@ alone [] d k e f = rw (e, f) refl
 alone (x ∷ xs) d k e f = refl
 
 faults_are : (words : List Text) → fault_of grundbuch words ≡ fails (between [] None 1) words
-unfolding fails grundbuch with_desks
+unfolding fails grundbuch
 faults_are words =
     ap (λ a. built_fault a nothing_held words) is_built
     ∙ leaf_fault (record { top = shape; subs = [] }) nothing_held words refl
@@ -68,36 +84,27 @@ faults_are words =
 
 -- ---- the entries
 
-abbrev with_lines : List Row → List Row
-with_lines rows = with_default rows built_lines
+-- the entries, and one by default for each option without a value that has none
+abbrev with_flags : List Text → List Row → List Row
+with_flags ks rows = fold with_default rows (map built_flag ks)
 
 both_same : (b : Bool) (x : List Row) → (if b then x else x) ≡ x
 both_same true x = refl
 both_same false x = refl
 
-none_given : (a : Rule) (rows : List Row) → a.defaults ≡ [] → with_default rows a ≡ rows
-none_given a rows e = rw e (both_same (has_row a.id rows) rows)
+none_given : (ks : List Text) (rest : List Rule) (rows : List Row) → fold with_default rows (map built_option ks ++ rest) ≡ fold with_default rows rest
+none_given [] rest rows = refl
+none_given (k ∷ ks) rest rows =
+    ap (λ r. fold with_default r (map built_option ks ++ rest)) (both_same (has_row k rows) rows) ∙ none_given ks rest rows
 
-give_nothing : List Rule → Type 0
-give_nothing [] = Unit {0}
-give_nothing (a ∷ rest) = (a.defaults ≡ []) × give_nothing rest
+finished_is : (h : Held) → finished rules h ≡ with_flags flags (settled rules h).rows
+unfolding rules
+finished_is h =
+    ap (λ r. fold with_default r (map built_option valued ++ map built_flag flags)) (both_same (has_row (codes "command") (settled rules h).rows) (settled rules h).rows)
+    ∙ none_given valued (map built_flag flags) (settled rules h).rows
 
-last_gives : (rs : List Rule) (last : Rule) (rows : List Row) → give_nothing rs → fold with_default rows (rs ++ last ∷ []) ≡ with_default rows last
-unfolding give_nothing
-last_gives [] last rows q = refl
-last_gives (a ∷ rest) last rows q =
-    ap (λ r. fold with_default r (rest ++ last ∷ [])) (none_given a rows q.0) ∙ last_gives rest last rows q.1
-
-abbrev others : List Rule
-others = built_command ∷ built_option (codes "desks") ∷ built_option (codes "requests")
-    ∷ built_option (codes "seed") ∷ built_option (codes "size") ∷ built_option (codes "sender") ∷ []
-
-finished_is : (h : Held) → finished rules h ≡ with_lines (settled rules h).rows
-unfolding rules give_nothing
-finished_is h = last_gives others built_lines (settled rules h).rows (refl, (refl, (refl, (refl, (refl, (refl, tt))))))
-
-matches_are : (words : List Text) → matches_of grundbuch words ≡ with_lines (ends (between [] None 1) words)
-unfolding ends grundbuch with_desks
+matches_are : (words : List Text) → matches_of grundbuch words ≡ with_flags flags (ends (between [] None 1) words)
+unfolding ends grundbuch
 matches_are words =
     ap (λ a. rows_after a.top.rules (names_of a) words) is_built ∙ finished_is (walk rules [] nothing_held words).held
 
@@ -109,66 +116,111 @@ first_row name (p ∷ ps) = go (bytes_eq p.0 name) refl (first_row name ps)
     go true e next = rw e refl
     go false e next = rw e next
 
--- ---- the entry of `--lines` by default
+-- ---- the entry by default of an option without a value
 
-abbrev no_lines : Row
-no_lines = record { id = codes "lines"; values = codes "false" ∷ []; count = None; source = Some DefaultValue; reading = AsWritten }
+abbrev by_default : Text → Row
+by_default k = record { id = k; values = codes "false" ∷ []; count = None; source = Some DefaultValue; reading = AsWritten }
 
-behind_all : (name : Text) (rows : List Row) → bytes_eq (codes "lines") name ≡ false → first_of name (rows ++ no_lines ∷ []) ≡ first_of name rows
-behind_all name [] other = rw other refl
-behind_all name (r ∷ rs) other = go (bytes_eq r.id name) refl (behind_all name rs other)
+behind_all : (k name : Text) (rows : List Row) → bytes_eq k name ≡ false → first_of name (rows ++ by_default k ∷ []) ≡ first_of name rows
+behind_all k name [] other = rw other refl
+behind_all k name (r ∷ rs) other = go (bytes_eq r.id name) refl (behind_all k name rs other)
   where
-    go : (b : Bool) → bytes_eq r.id name ≡ b → first_of name (rs ++ no_lines ∷ []) ≡ first_of name rs
-        → first_of name ((r ∷ rs) ++ no_lines ∷ []) ≡ first_of name (r ∷ rs)
+    go : (b : Bool) → bytes_eq r.id name ≡ b → first_of name (rs ++ by_default k ∷ []) ≡ first_of name rs
+        → first_of name ((r ∷ rs) ++ by_default k ∷ []) ≡ first_of name (r ∷ rs)
     go true e next = rw e refl
     go false e next = rw e next
 
-with_more : (rows : List Row) → has_row (codes "lines") rows ≡ false → with_lines rows ≡ rows ++ no_lines ∷ []
-with_more rows h = rw h (appends (codes "lines") AsWritten DefaultValue (codes "false" ∷ []) rows h)
+with_more : (k : Text) (rows : List Row) → has_row k rows ≡ false → with_default rows (built_flag k) ≡ rows ++ by_default k ∷ []
+with_more k rows h = rw h (appends k AsWritten DefaultValue (codes "false" ∷ []) rows h)
 
-other_first : (name : Text) (rows : List Row) → bytes_eq (codes "lines") name ≡ false → first_of name (with_lines rows) ≡ first_of name rows
-other_first name rows other = go (has_row (codes "lines") rows) refl
+other_first : (k name : Text) (rows : List Row) → bytes_eq k name ≡ false → first_of name (with_default rows (built_flag k)) ≡ first_of name rows
+other_first k name rows other = go (has_row k rows) refl
   where
-    go : (b : Bool) → has_row (codes "lines") rows ≡ b → first_of name (with_lines rows) ≡ first_of name rows
+    go : (b : Bool) → has_row k rows ≡ b → first_of name (with_default rows (built_flag k)) ≡ first_of name rows
     go true e = rw e refl
-    go false e = ap (first_of name) (with_more rows e) ∙ behind_all name rows other
+    go false e = ap (first_of name) (with_more k rows e) ∙ behind_all k name rows other
 
-none_first : (rows : List Row) → has_row (codes "lines") rows ≡ false
-    → (is_true (first_of (codes "lines") (rows ++ no_lines ∷ [])) ≡ false) × (is_true (first_of (codes "lines") rows) ≡ false)
-none_first [] h = (refl, refl)
-none_first (r ∷ rs) h = go (bytes_eq r.id (codes "lines")) refl (none_first rs)
+-- what stands under another name stays
+others_first : (ks : List Text) (name : Text) (rows : List Row) → list_any (λ k. bytes_eq k name) ks ≡ false → first_of name (with_flags ks rows) ≡ first_of name rows
+others_first [] name rows h = refl
+others_first (k ∷ ks) name rows h =
+    let n = neither (bytes_eq k name) (list_any (λ k. bytes_eq k name) ks) h in
+    others_first ks name (with_default rows (built_flag k)) n.1 ∙ other_first k name rows n.0
+
+none_first : (k : Text) (rows : List Row) → has_row k rows ≡ false
+    → (is_true (first_of k (rows ++ by_default k ∷ [])) ≡ false) × (is_true (first_of k rows) ≡ false)
+none_first k [] h = (rw (same k) refl, refl)
+none_first k (r ∷ rs) h = go (bytes_eq r.id k) refl (none_first k rs)
   where
-    go : (b : Bool) → bytes_eq r.id (codes "lines") ≡ b
-        → (has_row (codes "lines") rs ≡ false → (is_true (first_of (codes "lines") (rs ++ no_lines ∷ [])) ≡ false) × (is_true (first_of (codes "lines") rs) ≡ false))
-        → (is_true (first_of (codes "lines") ((r ∷ rs) ++ no_lines ∷ [])) ≡ false) × (is_true (first_of (codes "lines") (r ∷ rs)) ≡ false)
+    go : (b : Bool) → bytes_eq r.id k ≡ b
+        → (has_row k rs ≡ false → (is_true (first_of k (rs ++ by_default k ∷ [])) ≡ false) × (is_true (first_of k rs) ≡ false))
+        → (is_true (first_of k ((r ∷ rs) ++ by_default k ∷ [])) ≡ false) × (is_true (first_of k (r ∷ rs)) ≡ false)
     go true e next = let bad : true ≡ false = rw e at h in absurd (cc)
     go false e next = let n = next (rw e at h) in (rw e n.0, rw e n.1)
 
-lines_first : (rows : List Row) → is_true (first_of (codes "lines") (with_lines rows)) ≡ is_true (first_of (codes "lines") rows)
-lines_first rows = go (has_row (codes "lines") rows) refl
+-- whether the value is `true` stays under each name
+true_first : (k name : Text) (rows : List Row) → is_true (first_of name (with_default rows (built_flag k))) ≡ is_true (first_of name rows)
+true_first k name rows = go (bytes_eq k name) (has_row k rows) refl refl
   where
-    go : (b : Bool) → has_row (codes "lines") rows ≡ b → is_true (first_of (codes "lines") (with_lines rows)) ≡ is_true (first_of (codes "lines") rows)
-    go true e = rw e refl
-    go false e =
-        let n = none_first rows e in
-        ap (λ l. is_true (first_of (codes "lines") l)) (with_more rows e) ∙ n.0 ∙ sym n.1
+    here : has_row k rows ≡ false → is_true (first_of k (with_default rows (built_flag k))) ≡ is_true (first_of k rows)
+    here e = let n = none_first k rows e in ap (λ l. is_true (first_of k l)) (with_more k rows e) ∙ n.0 ∙ sym n.1
+
+    go : (a b : Bool) → bytes_eq k name ≡ a → has_row k rows ≡ b → is_true (first_of name (with_default rows (built_flag k))) ≡ is_true (first_of name rows)
+    go a true e d = rw d refl
+    go false false e d = ap is_true (other_first k name rows e)
+    go true false e d =
+        subst (λ n. is_true (first_of n (with_default rows (built_flag k))) ≡ is_true (first_of n rows)) ((bytes_eq-Decides k name).0 e) (here d)
+
+trues_first : (ks : List Text) (name : Text) (rows : List Row) → is_true (first_of name (with_flags ks rows)) ≡ is_true (first_of name rows)
+trues_first [] name rows = refl
+trues_first (k ∷ ks) name rows = trues_first ks name (with_default rows (built_flag k)) ∙ true_first k name rows
 
 -- ---- the command
 
-agree : (f g : Text → Option Text) → f (codes "command") ≡ g (codes "command") → is_true (f (codes "lines")) ≡ is_true (g (codes "lines"))
-    → f (codes "desks") ≡ g (codes "desks") → f (codes "requests") ≡ g (codes "requests") → f (codes "seed") ≡ g (codes "seed")
-    → f (codes "size") ≡ g (codes "size") → f (codes "sender") ≡ g (codes "sender") → command_with f ≡ command_with g
-agree f g c l d r s y e = λ i. option_and_then (λ word. reader_of word (l i) (d i) (r i) (s i) (y i) (e i)) (c i)
+-- what is read of an option by its range is the same, where its value is, or where it has none and is `true` in both or in neither
+Alike : Option ValueRange → Option Text → Option Text → Type 0
+Alike (Some range) x y = x ≡ y
+Alike None x y = is_true x ≡ is_true y
 
-same_command : (f : Found) (pieces : List Piece) → rows_of f ≡ with_lines (map row pieces)
+alike_stand : (r : Option ValueRange) (x y : Option Text) → Alike r x y → stands_by r x ≡ stands_by r y
+unfolding Alike
+alike_stand (Some range) x y e = ap is_some e
+alike_stand None x y e = e
+
+no_number : (x : Option Text) → option_and_then (number_by None) x ≡ None
+no_number None = refl
+no_number (Some text) = refl
+
+alike_number : (r : Option ValueRange) (x y : Option Text) → Alike r x y → option_and_then (number_by r) x ≡ option_and_then (number_by r) y
+unfolding Alike
+alike_number (Some range) x y e = ap (option_and_then (number_by (Some range))) e
+alike_number None x y e = no_number x ∙ sym (no_number y)
+
+agree : (f g : Values) → f (codes "command") ≡ g (codes "command")
+    → ((o : CommandOption) → Alike (range_of o) (f (name_of o)) (g (name_of o))) → command_with f ≡ command_with g
+agree f g word alike =
+    λ i. option_and_then (λ word. command_right word (λ o. alike_stand (range_of o) (f (name_of o)) (g (name_of o)) (alike o) i) (λ o. alike_number (range_of o) (f (name_of o)) (g (name_of o)) (alike o) i))
+    (option_and_then word_of (word i))
+
+same_command : (f : Found) (pieces : List Piece) → rows_of f ≡ with_flags flags (map row pieces)
     → command_with (first_value f) ≡ command_with (λ name. value_of name pieces)
-same_command f pieces are =
-    agree (first_value f) (λ name. value_of name pieces) (at (codes "command") refl)
-    (ap is_true (first_value-rows f (codes "lines") ∙ ap (first_of (codes "lines")) are) ∙ lines_first (map row pieces) ∙ ap is_true (first_row (codes "lines") pieces))
-    (at (codes "desks") refl) (at (codes "requests") refl) (at (codes "seed") refl) (at (codes "size") refl) (at (codes "sender") refl)
+same_command f pieces are = agree (first_value f) (λ name. value_of name pieces) (at (codes "command") refl) alike
   where
-    at : (name : Text) → bytes_eq (codes "lines") name ≡ false → first_value f name ≡ value_of name pieces
-    at name other = first_value-rows f name ∙ ap (first_of name) are ∙ other_first name (map row pieces) other ∙ first_row name pieces
+    at : (name : Text) → is_flag name ≡ false → first_value f name ≡ value_of name pieces
+    at name other = first_value-rows f name ∙ ap (first_of name) are ∙ others_first flags name (map row pieces) other ∙ first_row name pieces
+
+    true_at : (name : Text) → is_true (first_value f name) ≡ is_true (value_of name pieces)
+    true_at name =
+        ap is_true (first_value-rows f name ∙ ap (first_of name) are) ∙ trues_first flags name (map row pieces) ∙ ap is_true (first_row name pieces)
+
+    alike : (o : CommandOption) → Alike (range_of o) (first_value f (name_of o)) (value_of (name_of o) pieces)
+    unfolding Alike
+    alike Desks = at (codes "desks") refl
+    alike Requests = at (codes "requests") refl
+    alike Seed = at (codes "seed") refl
+    alike Size = at (codes "size") refl
+    alike Sender = at (codes "sender") refl
+    alike Lines = true_at (codes "lines")
 
 all_of_map : {W : Type 0} (f : W → Text) (p : Text → Bool) (ws : List W) → list_all (λ w. p (f w)) ws ≡ list_all p (map f ws)
 all_of_map f p [] = refl
@@ -186,7 +238,7 @@ found_command words f formed clear are = go (start words formed)
   where
     accepted : Accepted [] words (fails (between [] None 1) words) (ends (between [] None 1) words) → command_of words ≡ command_with (first_value f)
     accepted a =
-        ap (option_and_then command_once) a.are ∙ rw a.once (sym (same_command f a.pieces (are ∙ matches_are words ∙ ap with_lines a.rows)))
+        ap (option_and_then command_once) a.are ∙ rw a.once (sym (same_command f a.pieces (are ∙ matches_are words ∙ ap (with_flags flags) a.rows)))
 
     go : Agrees [] words (fails (between [] None 1) words) (ends (between [] None 1) words) → command_of words ≡ command_with (first_value f)
     go (inl a) = accepted a
@@ -246,11 +298,11 @@ some_wrong (w ∷ ws) h = go (is_formed w) refl (some_wrong ws)
 no_pieces : (fs : List Form) → list_any is_wrong fs ≡ true → pieces_of fs ≡ None
 no_pieces [] h = absurd (cc)
 no_pieces (plain w ∷ rest) h = ap (put (codes "command", w)) (no_pieces rest h)
-no_pieces (flag ∷ rest) h = ap (put (codes "lines", codes "true")) (no_pieces rest h)
+no_pieces (flag n ∷ rest) h = ap (put (n, codes "true")) (no_pieces rest h)
 no_pieces (assigned n v ∷ rest) h = ap (put (n, v)) (no_pieces rest h)
 no_pieces (named n ∷ []) h = refl
 no_pieces (named n ∷ plain v ∷ rest) h = ap (put (n, v)) (no_pieces rest h)
-no_pieces (named n ∷ flag ∷ rest) h = refl
+no_pieces (named n ∷ flag m ∷ rest) h = refl
 no_pieces (named n ∷ assigned m v ∷ rest) h = refl
 no_pieces (named n ∷ named m ∷ rest) h = refl
 no_pieces (named n ∷ wrong ∷ rest) h = refl

@@ -5,9 +5,9 @@ use Rattle.std.proofs.lemmas.Slice.Eq.{bytes_eq-Decides}
 use Rattle.clap.specs.Lexer.{long_of}
 use Rattle.clap.specs.Walk.{Row, Text, Walk, has_row, is_pending, settled_rows, used, walked}
 use Rattle.clap.specs.Faults.{settle_fault, turn_fault}
-use Rattle.command_words.specs.Words.{has_value}
-use Rattle.command_words.specs.inner.Parsing.{built_command, built_lines, built_option, rules, shape}
-use Rattle.command_words.proofs.Rules.{by_id, by_long, first_place, lines_by_long, second_place}
+use Rattle.command_words.specs.Words.{has_value, is_flag}
+use Rattle.command_words.specs.inner.Parsing.{built_command, built_flag, built_option, rules, shape}
+use Rattle.command_words.proofs.Rules.{by_id, by_long, first_place, flag_by_long, second_place}
 use Rattle.command_words.proofs.Walking.{Waits, behind_name, between, held}
 use Rattle.command_words.proofs.WordForms.{IsPlain}
 
@@ -20,7 +20,7 @@ never : (b : Bool) → (b && false) ≡ false
 never true = refl
 never false = refl
 
-same : (name : Text) → bytes_eq name name ≡ true
+pub same : (name : Text) → bytes_eq name name ≡ true
 same name = (bytes_eq-Decides name name).1 refl
 
 pub command_turn : (rows : List Row) (p : Waits) (word : Text) → IsPlain word → settle_fault rules false (held rows p) ≡ []
@@ -40,14 +40,14 @@ pub second_command : (rows : List Row) (p : Waits) (word : Text) → IsPlain wor
 second_command rows p word is e =
     let bad = rw (is.no_end, is.long, is.short, second_place) at e in cc
 
-pub lines_turn : (rows : List Row) (p : Waits) (place : ℕ) (word : Text) → long_of word ≡ Some (codes "lines", None)
-    → bytes_eq word (45 ∷ 45 ∷ []) ≡ false → settle_fault rules false (held rows p) ≡ []
-    → has_row (codes "lines") (settled_rows rules p rows) ≡ false
-    → Turns (between rows p place) word (between (used built_lines [] (settled_rows rules p rows)) None place)
+pub flag_turn : (rows : List Row) (p : Waits) (place : ℕ) (word name : Text) → long_of word ≡ Some (name, None)
+    → bytes_eq word (45 ∷ 45 ∷ []) ≡ false → has_value name ≡ false → is_flag name ≡ true → settle_fault rules false (held rows p) ≡ []
+    → has_row name (settled_rows rules p rows) ≡ false
+    → Turns (between rows p place) word (between (used (built_flag name) [] (settled_rows rules p rows)) None place)
 unfolding walked
-lines_turn rows p place word long no_end free new = record {
-  clear = rw (no_end, long, lines_by_long, free, new) refl;
-  there = rw (no_end, long, lines_by_long) refl;
+flag_turn rows p place word name long no_end bare is free new = record {
+  clear = rw (no_end, long, flag_by_long name bare is, free, new) refl;
+  there = rw (no_end, long, flag_by_long name bare is) refl;
 }
 
 pub assigned_turn : (rows : List Row) (p : Waits) (place : ℕ) (word name value : Text) → long_of word ≡ Some (name, Some value)
@@ -60,11 +60,11 @@ assigned_turn rows p place word name value long no_end known free new = record {
   there = rw (no_end, long, by_long name known) refl;
 }
 
-pub lines_again : (rows : List Row) (p : Waits) (place : ℕ) (word : Text) → long_of word ≡ Some (codes "lines", None)
-    → bytes_eq word (45 ∷ 45 ∷ []) ≡ false → settle_fault rules false (held rows p) ≡ []
-    → has_row (codes "lines") (settled_rows rules p rows) ≡ true → turn_fault shape [] (between rows p place) word ≡ [] → ⊥
-lines_again rows p place word long no_end free old e =
-    let bad = rw (no_end, long, lines_by_long, free, old) at e in cc
+pub flag_again : (rows : List Row) (p : Waits) (place : ℕ) (word name : Text) → long_of word ≡ Some (name, None)
+    → bytes_eq word (45 ∷ 45 ∷ []) ≡ false → has_value name ≡ false → is_flag name ≡ true → settle_fault rules false (held rows p) ≡ []
+    → has_row name (settled_rows rules p rows) ≡ true → turn_fault shape [] (between rows p place) word ≡ [] → ⊥
+flag_again rows p place word name long no_end bare is free old e =
+    let bad = rw (no_end, long, flag_by_long name bare is, free, old) at e in cc
 
 pub assigned_again : (rows : List Row) (p : Waits) (place : ℕ) (word name value : Text) → long_of word ≡ Some (name, Some value)
     → bytes_eq word (45 ∷ 45 ∷ []) ≡ false → has_value name ≡ true → settle_fault rules false (held rows p) ≡ []

@@ -1,10 +1,10 @@
 -- One turn of the parse, from where it stands between two pieces.
 use Rattle.std.proofs.Common.{◌≡◌, refl, ℕ, Bool, true, false, List, [], ◌∷◌, codes, Option, Some, None}
 use Rattle.std.specs.Prelude.{fold}
-use Rattle.clap.specs.Walk.{Held, Row, Rule, Text, Walk, arg_by_long, has_row, idle, option, settled, takes_values, walked}
+use Rattle.clap.specs.Walk.{Held, Row, Rule, Text, Walk, arg_by_long, idle, option, settled, takes_values, walked}
 use Rattle.clap.specs.Kinds.{Kinds, or_else}
-use Rattle.clap.specs.Faults.{long_fault, settle_fault, turn_fault, use_fault, walk_fault}
-use Rattle.command_words.specs.inner.Parsing.{built_lines, built_option, rules, shape}
+use Rattle.clap.specs.Faults.{long_fault, settle_fault, turn_fault, walk_fault}
+use Rattle.command_words.specs.inner.Parsing.{rules, shape}
 use Rattle.command_words.proofs.WordForms.{IsLong}
 
 abbrev pub Waits : Type 0
@@ -81,17 +81,3 @@ idle_long rows p place word is e = first_clear _ _ (rw (is.no_end, is.long) at e
 pub named_long : (rows : List Row) (name : Text) (place : ℕ) (word : Text) (is : IsLong word)
     → turn_fault shape [] (behind_name rows name place) word ≡ [] → long_fault rules false (arg_by_long rules is.name) is.value (held rows (Some (name, []))) ≡ []
 named_long rows name place word is e = first_clear _ _ (rw (is.no_end, is.long) at e)
-
--- ---- uses
-
-pub use_free : (name value : Text) (rows : List Row) → has_row name rows ≡ false → use_fault false (built_option name) (value ∷ []) rows ≡ []
-use_free name value rows h = rw h refl
-
-pub use_taken : (name value : Text) (rows : List Row) → has_row name rows ≡ true → use_fault false (built_option name) (value ∷ []) rows ≡ [] → ⊥
-use_taken name value rows h e = let bad = rw h at e in cc
-
-pub lines_free : (rows : List Row) → has_row (codes "lines") rows ≡ false → use_fault false built_lines [] rows ≡ []
-lines_free rows h = rw h refl
-
-pub lines_taken : (rows : List Row) → has_row (codes "lines") rows ≡ true → use_fault false built_lines [] rows ≡ [] → ⊥
-lines_taken rows h e = let bad = rw h at e in cc

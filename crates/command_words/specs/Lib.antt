@@ -1,3 +1,4 @@
 -- What contracts cite.
+pub mod CommandTable
 pub mod Words
 pub mod inner

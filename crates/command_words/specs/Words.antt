@@ -1,30 +1,48 @@
 -- The words of the command line: which of them are a command, and which one.
-use Rattle.std.specs.Prelude.{ℕ, ◌≤◌, ◌==◌, ◌&&◌, Bool, true, false, not, if◌then◌else◌, List, [], ◌∷◌, ◌++◌, map, codes, Option, Some, None}
-use Rattle.std.specs.Prelude.{find, is_some, option_map, option_and_then}
-use Rattle.std.specs.List.{list_any, before_first, after_first}
+use Rattle.std.specs.Prelude.{ℕ, ◌≤◌, ◌==◌, ◌&&◌, ◌||◌, Bool, true, false, not, if◌then◌else◌, List, [], ◌∷◌, ◌++◌, map, codes, Option, Some, None}
+use Rattle.std.specs.Prelude.{filter, find, is_some, option_map, option_and_then}
+use Rattle.std.specs.List.{list_any, list_all, before_first, after_first}
 use Rattle.std.specs.Str.{bytes_eq}
 use Rattle.act_model.specs.Limits.{most_receipts}
 use Rattle.opening_lists.specs.Numerals.{number_in}
+use Rattle.opening_lists.specs.OpeningLists.{◌>>=◌}
 use Rattle.intake.specs.declared.intakes.Intake.TheVariants.{Lines, OpeningList}
+use Rattle.command_words.specs.CommandTable.{all_options, name_of, optional_of, range_of, required_of, word_of}
 use Rattle.command_words.specs.declared.commands.Command.{Command}
 use Rattle.command_words.specs.declared.commands.Command.TheVariants.{Settle, SettleLines, Serve, Receive, Sample}
+use Rattle.command_words.specs.declared.table.CommandOption.{CommandOption}
+use Rattle.command_words.specs.declared.table.CommandOption.TheVariants as option
+use Rattle.command_words.specs.declared.table.CommandWord.{CommandWord}
+use Rattle.command_words.specs.declared.table.CommandWord.TheVariants as word
+use Rattle.command_words.specs.declared.table.ValueRange.{ValueRange}
 
--- What one word is: a word that no hyphen begins, `--lines`, the name of an option whose value is to
--- follow, the name of an option with its value, or none of these.
+-- What one word is: a word that no hyphen begins, the name of an option without a value, the name of
+-- an option whose value is to follow, the name of an option with its value, or none of these.
 pub data Form : Type 0 where
   plain : List ℕ → Form
-  flag : Form
+  flag : List ℕ → Form
   named : List ℕ → Form
   assigned : List ℕ → List ℕ → Form
   wrong : Form
 
--- the options that have a value
+-- the option has a value
+abbrev pub takes_value : CommandOption → Bool
+takes_value o = is_some (range_of o)
+
+-- the names of the options that have a value, and of those that have none
 abbrev pub valued : List (List ℕ)
-valued = codes "desks" ∷ codes "requests" ∷ codes "seed" ∷ codes "size" ∷ codes "sender" ∷ []
+valued = map name_of (filter takes_value all_options)
+
+abbrev pub flags : List (List ℕ)
+flags = map name_of (filter (λ o. not (takes_value o)) all_options)
 
 -- an option of this name has a value
 abbrev pub has_value : List ℕ → Bool
 has_value name = list_any (λ known. bytes_eq known name) valued
+
+-- an option of this name has none
+abbrev pub is_flag : List ℕ → Bool
+is_flag name = list_any (λ known. bytes_eq known name) flags
 
 -- the byte is `=`
 abbrev pub is_equals : ℕ → Bool
@@ -32,7 +50,7 @@ is_equals b = b == 61
 
 -- the form of an option by its name, with a value behind `=` or without
 abbrev pub option_form : List ℕ → Option (List ℕ) → Form
-option_form name None = if has_value name then named name else (if bytes_eq (codes "lines") name then flag else wrong)
+option_form name None = if has_value name then named name else (if is_flag name then flag name else wrong)
 option_form name (Some value) = if has_value name then assigned name value else wrong
 
 -- the form of `--` and this text: the name ends at the first `=`
@@ -50,7 +68,7 @@ form_of [] = plain []
 form_of (b ∷ text) = if b == 45 then hyphen_form text else plain (b ∷ text)
 
 -- A piece of the command line: a value, under the name of its option. The word that says the command
--- stands under `command`, and `--lines` has the value `true` under `lines`.
+-- stands under `command`, and an option without a value has the value `true`.
 abbrev pub Piece : Type 0
 Piece = List ℕ × List ℕ
 
@@ -62,7 +80,7 @@ put piece = option_map (λ pieces. piece ∷ pieces)
 abbrev pub pieces_of : List Form → Option (List Piece)
 pieces_of [] = Some []
 pieces_of (plain word ∷ rest) = put (codes "command", word) (pieces_of rest)
-pieces_of (flag ∷ rest) = put (codes "lines", codes "true") (pieces_of rest)
+pieces_of (flag name ∷ rest) = put (name, codes "true") (pieces_of rest)
 pieces_of (assigned name value ∷ rest) = put (name, value) (pieces_of rest)
 pieces_of (named name ∷ plain value ∷ rest) = put (name, value) (pieces_of rest)
 pieces_of (other ∷ rest) = None
@@ -80,91 +98,74 @@ once_each before (piece ∷ rest) = not (has_name piece.0 before) && once_each (
 abbrev pub value_of : List ℕ → List Piece → Option (List ℕ)
 value_of name pieces = option_map (λ piece. piece.1) (find (λ piece. bytes_eq piece.0 name) pieces)
 
--- What the options give, in this order: whether `--lines` is given, and the values of `--desks`,
--- `--requests`, `--seed`, `--size` and `--sender`. Each command takes just its own.
-abbrev pub Reader : Type 0
-Reader = Bool → Option (List ℕ) → Option (List ℕ) → Option (List ℕ) → Option (List ℕ) → Option (List ℕ) → Option Command
-
--- the option is not given
-abbrev pub absent : Option (List ℕ) → Bool
-absent value = not (is_some value)
-
--- the number that the value writes, where it is given and in the range
-abbrev pub number : ℕ → ℕ → Option (List ℕ) → Option ℕ
-number low high value = option_and_then (number_in low high) value
-
--- `take`
-abbrev pub take_by : Reader
-take_by lines desks requests seed size sender =
-    if not lines && (absent desks && (absent requests && (absent seed && (absent size && absent sender))))
-    then Some (Receive Lines) else None
-
--- `settle --desks N`, with `--lines` or without
-abbrev pub settle_of : Bool → Option ℕ → Option Command
-settle_of lines None = None
-settle_of lines (Some desks) = if lines then Some (SettleLines desks) else Some (Settle desks)
-
--- `settle`, by its options
-abbrev pub settle_by : Reader
-settle_by lines desks requests seed size sender =
-    if absent requests && (absent seed && (absent size && absent sender)) then settle_of lines (number 1 64 desks) else None
-
--- `serve --desks N --requests R`
-abbrev pub serve_of : Option ℕ → Option ℕ → Option Command
-serve_of (Some desks) (Some requests) = Some (Serve desks requests)
-serve_of desks requests = None
-
--- `serve`, by its options
-abbrev pub serve_by : Reader
-serve_by lines desks requests seed size sender =
-    if not lines && (absent seed && (absent size && absent sender))
-    then serve_of (number 1 64 desks) (number 1 1000000 requests) else None
-
--- `sample --seed S --size Y --desks N`
-abbrev pub sample_of : Option ℕ → Option ℕ → Option ℕ → Option Command
-sample_of (Some seed) (Some size) (Some desks) = Some (Sample seed size desks)
-sample_of seed size desks = None
-
--- `sample`, by its options
-abbrev pub sample_by : Reader
-sample_by lines desks requests seed size sender =
-    if not lines && (absent requests && absent sender)
-    then sample_of (number 0 9999999999 seed) (number 1 most_receipts size) (number 1 64 desks) else None
-
--- `opening --sender N`
-abbrev pub opening_of : Option ℕ → Option Command
-opening_of None = None
-opening_of (Some sender) = Some (Receive (OpeningList sender))
-
--- `opening`, by its option
-abbrev pub opening_by : Reader
-opening_by lines desks requests seed size sender =
-    if not lines && (absent desks && (absent requests && (absent seed && absent size)))
-    then opening_of (number 0 4294967295 sender) else None
-
--- no command
-abbrev pub none_by : Reader
-none_by lines desks requests seed size sender = None
-
--- the command that a word says, by its options
-abbrev pub reader_of : List ℕ → Reader
-reader_of word =
-    if bytes_eq word (codes "take") then take_by
-    else (if bytes_eq word (codes "settle") then settle_by
-    else (if bytes_eq word (codes "serve") then serve_by
-    else (if bytes_eq word (codes "sample") then sample_by
-    else (if bytes_eq word (codes "opening") then opening_by else none_by))))
-
 -- the value is `true`
 abbrev pub is_true : Option (List ℕ) → Bool
 is_true None = false
 is_true (Some value) = bytes_eq value (codes "true")
 
+-- what stands under each name
+abbrev pub Values : Type 0
+Values = List ℕ → Option (List ℕ)
+
+-- an option of this range stands, under whose name this is
+abbrev pub stands_by : Option ValueRange → Option (List ℕ) → Bool
+stands_by (Some range) value = is_some value
+stands_by None value = is_true value
+
+-- the option stands
+abbrev pub stands : Values → CommandOption → Bool
+stands under o = stands_by (range_of o) (under (name_of o))
+
+-- the number that this text writes, in the range
+abbrev pub number_by : Option ValueRange → List ℕ → Option ℕ
+number_by (Some range) text = number_in range.low range.high text
+number_by None text = None
+
+-- the number of the option, where it stands and the number is in its range
+abbrev pub number : Values → CommandOption → Option ℕ
+number under o = option_and_then (number_by (range_of o)) (under (name_of o))
+
+-- the option is one of these
+abbrev pub is_among : List CommandOption → CommandOption → Bool
+is_among own o = list_any (λ one. bytes_eq (name_of one) (name_of o)) own
+
+-- each option that the command asks for stands
+abbrev pub has_required : CommandWord → (CommandOption → Bool) → Bool
+has_required word standing = list_all standing (required_of word)
+
+-- each option that stands is one that the command asks for, or one that may stand besides
+abbrev pub has_no_other : CommandWord → (CommandOption → Bool) → Bool
+has_no_other word standing =
+    list_all (λ o. not (standing o) || (is_among (required_of word) o || is_among (optional_of word) o)) all_options
+
+-- the command of a word, by which options stand and which numbers they have
+abbrev pub command_by : CommandWord → (CommandOption → Bool) → (CommandOption → Option ℕ) → Option Command
+command_by word.Take standing number_at = Some (Receive Lines)
+command_by word.Settle standing number_at = do
+  desks ← number_at option.Desks
+  Some (if standing option.Lines then SettleLines desks else Settle desks)
+command_by word.Serve standing number_at = do
+  desks ← number_at option.Desks
+  requests ← number_at option.Requests
+  Some (Serve desks requests)
+command_by word.Sample standing number_at = do
+  seed ← number_at option.Seed
+  size ← number_at option.Size
+  desks ← number_at option.Desks
+  Some (Sample seed size desks)
+command_by word.Opening standing number_at = do
+  sender ← number_at option.Sender
+  Some (Receive (OpeningList sender))
+
+-- the command of a word, where the options that stand are right
+abbrev pub command_right : CommandWord → (CommandOption → Bool) → (CommandOption → Option ℕ) → Option Command
+command_right word standing number_at =
+    if has_required word standing && has_no_other word standing then command_by word standing number_at else None
+
 -- the command, by what stands under each name
-abbrev pub command_with : (List ℕ → Option (List ℕ)) → Option Command
-command_with under = option_and_then (λ word. reader_of word (is_true (under (codes "lines")))
-    (under (codes "desks")) (under (codes "requests")) (under (codes "seed")) (under (codes "size"))
-    (under (codes "sender"))) (under (codes "command"))
+abbrev pub command_with : Values → Option Command
+command_with under =
+    option_and_then (λ word. command_right word (stands under) (number under)) (option_and_then word_of (under (codes "command")))
 
 -- the command of pieces, each of which stands under a name of its own
 abbrev pub command_once : List Piece → Option Command

@@ -3,8 +3,9 @@ ghost use Rattle.std.specs.Prelude.{◌≡◌, [], IfErr, IfOk, codes, false, ma
 ghost use Rattle.std.specs.Rc.{rc_str_bytes};
 ghost use Rattle.clap.specs.Words.{app_of, fault_of, found_of, kind_of, matches_of, rows_of, rule_of};
 ghost use Rattle.clap.specs.declared.error.kind.ErrorKind.TheVariants.{OutOfMemory};
-ghost use Rattle.command_words.specs.inner.Parsing.{bare, grundbuch, lines_rule, option_rule, with_desks};
+ghost use Rattle.command_words.specs.inner.Parsing.{bare, grundbuch, rule_by};
 
+use crate::table::{CommandOption, all_options};
 use clap::{Arg, ArgAction, ArgMatches, Command, Error};
 use gb_base::NoMemory;
 use std::alloc::Global;
@@ -24,21 +25,11 @@ pub(crate) fn parse<'a>(grammar: Command<'a>, words: &'a [RcStr]) -> Result<ArgM
 pub(crate) fn grammar<'a>(alloc: Global) -> Result<Command<'a>, NoMemory>
     ensures { IfOk result (λ command. app_of command ≡ grundbuch) }
 {
-    with_desks_and_requests(alloc)?
-        .arg(option(alloc, "seed"))?
-        .arg(option(alloc, "size"))?
-        .arg(option(alloc, "sender"))?
-        .arg(lines(alloc))
-}
-
-/// The word that says the command, and the options `--desks` and `--requests`.
-fn with_desks_and_requests<'a>(alloc: Global) -> Result<Command<'a>, NoMemory>
-    ensures { IfOk result (λ command. app_of command ≡ with_desks) }
-{
-    start(alloc)
-        .arg(Arg::new(alloc, "command"))?
-        .arg(option(alloc, "desks"))?
-        .arg(option(alloc, "requests"))
+    let mut grammar = start(alloc).arg(Arg::new(alloc, "command"))?;
+    for option in all_options() {
+        grammar = grammar.arg(argument(alloc, option))?;
+    }
+    Ok(grammar)
 }
 
 /// No word is the program's name, and none asks for help.
@@ -50,20 +41,14 @@ fn start<'a>(alloc: Global) -> Command<'a>
         .disable_help_flag(true)
 }
 
-/// `--name`, with a value.
-fn option<'a>(alloc: Global, name: &'a str) -> Arg<'a>
-    ensures rule { rule_of result ≡ option_rule name.entry.now }
+/// `--name`, with a value or without.
+fn argument<'a>(alloc: Global, option: &CommandOption) -> Arg<'a>
+    ensures rule { rule_of result ≡ rule_by option.now }
     ensures local { result.global ≡ false }
 {
-    Arg::new(alloc, name).long(name)
-}
-
-/// `--lines`, without a value.
-fn lines<'a>(alloc: Global) -> Arg<'a>
-    ensures rule { rule_of result ≡ lines_rule }
-    ensures local { result.global ≡ false }
-{
-    Arg::new(alloc, "lines")
-        .long("lines")
-        .action(ArgAction::SetTrue)
+    let argument = Arg::new(alloc, option.name()).long(option.name());
+    match option.range() {
+        Some(_) => argument,
+        None => argument.action(ArgAction::SetTrue),
+    }
 }

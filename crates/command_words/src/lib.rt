@@ -6,6 +6,7 @@ mod forms;
 mod grammar;
 mod options;
 mod reading;
+mod table;
 
 pub use commands::Command;
 pub use reading::{WordsFault, read_words};

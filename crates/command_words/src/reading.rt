@@ -1,14 +1,14 @@
 //! The words of a run, read.
-ghost use Rattle.std.specs.Prelude.{◌≡◌, IfErr, IfOk, IfSome, None, Some, codes};
+ghost use Rattle.std.specs.Prelude.{◌≡◌, IfErr, IfOk, IfSome, None, Some};
 ghost use Rattle.std.specs.Rc.{rc_str_bytes};
 ghost use Rattle.clap.specs.Words.{first_value, found_of};
-ghost use Rattle.command_words.specs.Words.{HasDesks, HasRequests, HasSize, command_with, commanded, is_true};
-ghost use Rattle.command_words.specs.inner.Parsing.{text_of};
+ghost use Rattle.command_words.specs.Words.{HasDesks, HasRequests, HasSize, command_with, commanded};
 
 use crate::commands::Command;
 use crate::forms::are_formed;
 use crate::grammar::{grammar, parse};
-use crate::options::{Given, read_command};
+use crate::options::command_right;
+use crate::table::word_of;
 use clap::ArgMatches;
 use clap::error::ErrorKind;
 use std::alloc::Global;
@@ -77,34 +77,6 @@ fn command_found(matches: &ArgMatches<'_>) -> Option<Command>
     ensures size { IfSome result HasSize }
     ensures requests { IfSome result HasRequests }
 {
-    read_command(matches.get_str("command")?, &given_in(matches))
-}
-
-/// What the matches have under the name of each option.
-fn given_in<'a>(matches: &ArgMatches<'a>) -> Given<'a>
-    ensures lines { result.lines ≡ is_true (first_value (found_of matches.now) (codes "lines")) }
-    ensures desks { text_of result.desks ≡ first_value (found_of matches.now) (codes "desks") }
-    ensures requests { text_of result.requests ≡ first_value (found_of matches.now) (codes "requests") }
-    ensures seed { text_of result.seed ≡ first_value (found_of matches.now) (codes "seed") }
-    ensures size { text_of result.size ≡ first_value (found_of matches.now) (codes "size") }
-    ensures sender { text_of result.sender ≡ first_value (found_of matches.now) (codes "sender") }
-{
-    Given {
-        lines: is_set(matches),
-        desks: matches.get_str("desks"),
-        requests: matches.get_str("requests"),
-        seed: matches.get_str("seed"),
-        size: matches.get_str("size"),
-        sender: matches.get_str("sender"),
-    }
-}
-
-/// Whether `--lines` is given.
-fn is_set(matches: &ArgMatches<'_>) -> bool
-    ensures { result ≡ is_true (first_value (found_of matches.now) (codes "lines")) }
-{
-    match matches.get_str("lines") {
-        Some(value) => value == "true",
-        None => false,
-    }
+    let word = word_of(matches.get_str("command")?)?;
+    command_right(&word, matches)
 }
