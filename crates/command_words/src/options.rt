@@ -31,9 +31,7 @@ pub(crate) fn command_right(word: &CommandWord, matches: &ArgMatches<'_>) -> Opt
 fn has_required(word: &CommandWord, matches: &ArgMatches<'_>) -> bool
     ensures { result ≡ has_required word.now (stands (first_value (found_of matches.now))) }
 {
-    word.required()
-        .iter()
-        .all(|option| stands(matches, option))
+    word.required().iter().all(|option| stands(matches, option))
 }
 
 /// Whether each option that stands is one of the command's own.

@@ -67,7 +67,11 @@ impl CommandWord {
             CommandWord::Take => &[],
             CommandWord::Settle => &[CommandOption::Desks],
             CommandWord::Serve => &[CommandOption::Desks, CommandOption::Requests],
-            CommandWord::Sample => &[CommandOption::Seed, CommandOption::Size, CommandOption::Desks],
+            CommandWord::Sample => &[
+                CommandOption::Seed,
+                CommandOption::Size,
+                CommandOption::Desks,
+            ],
             CommandWord::Opening => &[CommandOption::Sender],
         }
     }

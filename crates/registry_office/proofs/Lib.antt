@@ -7,4 +7,5 @@ pub mod Reported
 pub mod ServedDoors
 pub mod ServedInTurn
 pub mod Takings
+pub mod TasksOfWords
 pub mod Whole

@@ -4,5 +4,6 @@ pub mod Outcomes
 pub mod Receivings
 pub mod Servings
 pub mod Statuses
+pub mod Tasks
 pub mod Unread
 pub mod inner

@@ -11,13 +11,12 @@ ghost use Rattle.registry_office.specs.Disks.{FindsBy, IsJournalFile, KeepsGrown
 ghost use Rattle.intake.specs.EarlyEnds.{EndsEarly, AreOf};
 ghost use Rattle.intake.specs.Grown.{GrownFrom, IsDurable};
 ghost use Rattle.intake.specs.Intakes.{whole_of, cut_of};
-ghost use Rattle.registry_office.specs.Outcomes.{outcome, Told};
 ghost use Rattle.registry_office.specs.Receivings.{AllTell, HasWritten, Receives};
 ghost use Rattle.intake.specs.Requests.{OnDisk, Held, holding, replies, held_after};
 ghost use Rattle.intake.specs.Sessions.{most_input, Took};
 ghost use Rattle.registry_office.specs.Statuses.{read_fault, write_fault, disk_fault, door_fault, is_no_journal, is_of_session, tells_of_opening};
+ghost use Rattle.registry_office.specs.Tasks.{receiving, Told};
 ghost use Rattle.intake_requests.specs.declared.requests.Request.{Request};
-ghost use Rattle.command_words.specs.declared.commands.Command.TheVariants.{Receive};
 
 use crate::statuses::{Status, status_of_opening};
 use crate::taking::{take, take_list};
@@ -63,44 +62,44 @@ pub(crate) fn receive_disk<R: AllocGlobal, S: Source, K: Sink, D: Disk, C: Clock
     disk: &mut D,
     clock: &mut C,
 ) -> Status
-    ensures written { (held : Held) (input : List ℕ) → Told (Some (Receive intake)) D.tells (D.reads disk.old) (S.left source.old) (C.ticks clock.old) held input → result ≡ Status.Ok
-        → Appends (K.written sink.old) (K.written sink.new) (outcome (Some (Receive intake)) held input).written }
-    ensures stands_at_end { (held : Held) (input : List ℕ) (file : List ℕ) → Told (Some (Receive intake)) D.tells (D.reads disk.old) (S.left source.old) (C.ticks clock.old) held input → result ≡ Status.Ok
-        → D.images disk.new file → StandsForJournal file (outcome (Some (Receive intake)) held input).journal }
-    ensures ticks { (held : Held) (input : List ℕ) → Told (Some (Receive intake)) D.tells (D.reads disk.old) (S.left source.old) (C.ticks clock.old) held input → result ≡ Status.Ok
-        → C.ticks clock.new ≡ Some (outcome (Some (Receive intake)) held input).ticks }
+    ensures written { (held : Held) (input : List ℕ) → Told (receiving intake) D.tells (D.reads disk.old) (S.left source.old) (C.ticks clock.old) held input → result ≡ Status.Ok
+        → Appends (K.written sink.old) (K.written sink.new) ((receiving intake).outcome held input).written }
+    ensures stands_at_end { (held : Held) (input : List ℕ) (file : List ℕ) → Told (receiving intake) D.tells (D.reads disk.old) (S.left source.old) (C.ticks clock.old) held input → result ≡ Status.Ok
+        → D.images disk.new file → StandsForJournal file ((receiving intake).outcome held input).journal }
+    ensures ticks { (held : Held) (input : List ℕ) → Told (receiving intake) D.tells (D.reads disk.old) (S.left source.old) (C.ticks clock.old) held input → result ≡ Status.Ok
+        → C.ticks clock.new ≡ Some ((receiving intake).outcome held input).ticks }
     ensures at_end { result ≡ Status.Ok → IfSome (S.left source.old) (λ _. S.left source.new ≡ Some []) }
     ensures short { (result ≡ Status.InputTooLong → ⊥) → Took (S.left source.old) (S.left source.new) (λ read. length read ≤ most_input) }
     ensures long { result ≡ Status.InputTooLong → Took (S.left source.old) (S.left source.new) (λ read. length read ≡ most_input + 1) }
 
     // Where it ended early, how far it came.
-    ensures part { (held : Held) (input : List ℕ) → Told (Some (Receive intake)) D.tells (D.reads disk.old) (S.left source.old) (C.ticks clock.old) held input → (result ≡ Status.Ok → ⊥)
-        → AppendsFront (K.written sink.old) (K.written sink.new) (outcome (Some (Receive intake)) held input).written }
-    ensures early { (held : Held) (input : List ℕ) → Told (Some (Receive intake)) D.tells (D.reads disk.old) (S.left source.old) (C.ticks clock.old) held input → (result ≡ Status.Ok → ⊥)
+    ensures part { (held : Held) (input : List ℕ) → Told (receiving intake) D.tells (D.reads disk.old) (S.left source.old) (C.ticks clock.old) held input → (result ≡ Status.Ok → ⊥)
+        → AppendsFront (K.written sink.old) (K.written sink.new) ((receiving intake).outcome held input).written }
+    ensures early { (held : Held) (input : List ℕ) → Told (receiving intake) D.tells (D.reads disk.old) (S.left source.old) (C.ticks clock.old) held input → (result ≡ Status.Ok → ⊥)
         → Took (S.left source.old) (S.left source.new) (λ read. (requests : List Request) × AreOf (whole_of intake) (cut_of intake) (S.left source.new) read requests
         × EndsEarly OnDisk held (C.ticks clock.new) (K.written sink.old) (K.written sink.new) (LeftAnew (disk_fault result) (D.images disk.old) (D.images disk.new)) requests
         × KeepsGrown D.reads D.images D.moment D.since disk.old disk.new (disk_fault result) held.journal (held_after OnDisk held requests).journal
         × WritesBehind (tells_of_opening result) held.journal (held_after OnDisk held requests).journal (D.reads disk.old) (D.reads disk.new)) }
-    ensures cut { (held : Held) (input : List ℕ) → Told (Some (Receive intake)) D.tells (D.reads disk.old) (S.left source.old) (C.ticks clock.old) held input
+    ensures cut { (held : Held) (input : List ℕ) → Told (receiving intake) D.tells (D.reads disk.old) (S.left source.old) (C.ticks clock.old) held input
         → (result ≡ Status.ReadFault) ⊎ (result ≡ Status.InputTooLong)
         → Took (S.left source.old) (S.left source.new) (λ read. Appends (K.written sink.old) (K.written sink.new) (replies OnDisk held (cut_of intake (take most_input read)))) }
-    ensures cut_journal { (held : Held) (input : List ℕ) (file : List ℕ) → Told (Some (Receive intake)) D.tells (D.reads disk.old) (S.left source.old) (C.ticks clock.old) held input
+    ensures cut_journal { (held : Held) (input : List ℕ) (file : List ℕ) → Told (receiving intake) D.tells (D.reads disk.old) (S.left source.old) (C.ticks clock.old) held input
         → (result ≡ Status.ReadFault) ⊎ (result ≡ Status.InputTooLong) → D.images disk.new file
         → Took (S.left source.old) (S.left source.new) (λ read. StandsForJournal file (held_after OnDisk held (cut_of intake (take most_input read))).journal) }
-    ensures cut_ticks { (held : Held) (input : List ℕ) → Told (Some (Receive intake)) D.tells (D.reads disk.old) (S.left source.old) (C.ticks clock.old) held input
+    ensures cut_ticks { (held : Held) (input : List ℕ) → Told (receiving intake) D.tells (D.reads disk.old) (S.left source.old) (C.ticks clock.old) held input
         → (result ≡ Status.ReadFault) ⊎ (result ≡ Status.InputTooLong)
         → Took (S.left source.old) (S.left source.new) (λ read. C.ticks clock.new ≡ Some (held_after OnDisk held (cut_of intake (take most_input read))).ticks) }
 
     // What a stop leaves, and which bytes are written.
     ensures acknowledged { (held : Held) (input : List ℕ) (front back : List Request) (file : List ℕ)
-        → Told (Some (Receive intake)) D.tells (D.reads disk.old) (S.left source.old) (C.ticks clock.old) held input → whole_of intake input ≡ front ++ back
+        → Told (receiving intake) D.tells (D.reads disk.old) (S.left source.old) (C.ticks clock.old) held input → whole_of intake input ≡ front ++ back
         → (replies OnDisk held front ≡ [] → ⊥) → HasWritten (K.written sink.old) (K.written sink.new) (replies OnDisk held front)
         → D.images disk.new file
-        → GrownFrom (held_after OnDisk held front).journal (outcome (Some (Receive intake)) held input).journal file }
-    ensures any_moment { (held : Held) (input : List ℕ) → Told (Some (Receive intake)) D.tells (D.reads disk.old) (S.left source.old) (C.ticks clock.old) held input
-        → KeepsGrown D.reads D.images D.moment D.since disk.old disk.new (disk_fault result) held.journal (outcome (Some (Receive intake)) held input).journal }
-    ensures frames { (held : Held) (input : List ℕ) → Told (Some (Receive intake)) D.tells (D.reads disk.old) (S.left source.old) (C.ticks clock.old) held input
-        → WritesBehind (tells_of_opening result) held.journal (outcome (Some (Receive intake)) held input).journal (D.reads disk.old) (D.reads disk.new) }
+        → GrownFrom (held_after OnDisk held front).journal ((receiving intake).outcome held input).journal file }
+    ensures any_moment { (held : Held) (input : List ℕ) → Told (receiving intake) D.tells (D.reads disk.old) (S.left source.old) (C.ticks clock.old) held input
+        → KeepsGrown D.reads D.images D.moment D.since disk.old disk.new (disk_fault result) held.journal ((receiving intake).outcome held input).journal }
+    ensures frames { (held : Held) (input : List ℕ) → Told (receiving intake) D.tells (D.reads disk.old) (S.left source.old) (C.ticks clock.old) held input
+        → WritesBehind (tells_of_opening result) held.journal ((receiving intake).outcome held input).journal (D.reads disk.old) (D.reads disk.new) }
 
     // What the file stood for; where it stood for no journal, nothing else is touched, and it stays.
     ensures found { IsTrue D.tells → FindsBy (D.reads disk.old) result }

@@ -15,13 +15,13 @@ ghost use Rattle.registry_office.specs.Disks.{FindsBy, IsJournalFile, KeepsGrown
 ghost use Rattle.intake.specs.EarlyEnds.{EndsEarly, AreOf};
 ghost use Rattle.intake.specs.Grown.{GrownFrom};
 ghost use Rattle.connections.specs.Doors.{AskSo, LinkRequests};
-ghost use Rattle.registry_office.specs.Outcomes.{outcome, requests_of, cut_requests_of, replies_of, uses_disk, uses_input, receives, serves, Begins};
 ghost use Rattle.command_words.specs.Words.{commanded};
 ghost use Rattle.intake.specs.Requests.{Held, OnDisk, replies, held_after};
 ghost use Rattle.intake.specs.Sessions.{most_input, Took};
 ghost use Rattle.registry_office.specs.Receivings.{HasWritten};
 ghost use Rattle.registry_office.specs.Servings.{IsHeld, ServesOffice};
 ghost use Rattle.registry_office.specs.Statuses.{read_fault, write_fault, disk_fault, door_fault, is_no_journal, tells_of_opening};
+ghost use Rattle.registry_office.specs.Tasks.{task_by, Begins};
 ghost use Rattle.registry_office.specs.Unread.{IsUnread};
 ghost use Rattle.intake_requests.specs.declared.requests.Request.{Request};
 
@@ -76,17 +76,21 @@ pub fn run<
     ensures no_command { commanded rc_str_bytes words.now ≡ None → (result ≡ Status.Usage) ⊎ (result ≡ Status.Memory) }
 
     // All was read, and all was written.
-    ensures written { (begun : Begins (commanded rc_str_bytes words.now) D.tells (D.reads disk.old) (S.left source.old) (C.ticks clock.old))
+    ensures written { let task = task_by rc_str_bytes words.now in
+        (begun : Begins task D.tells (D.reads disk.old) (S.left source.old) (C.ticks clock.old))
         → result ≡ Status.Ok
-        → Appends (K.written sink.old) (K.written sink.new) (outcome (commanded rc_str_bytes words.now) begun.held begun.input).written }
-    ensures at_end { uses_input (commanded rc_str_bytes words.now) ≡ true → result ≡ Status.Ok
+        → Appends (K.written sink.old) (K.written sink.new) (task.outcome begun.held begun.input).written }
+    ensures at_end { let task = task_by rc_str_bytes words.now in
+        task.uses_input ≡ true → result ≡ Status.Ok
         → IfSome (S.left source.old) (λ _. S.left source.new ≡ Some []) }
-    ensures ticks { (begun : Begins (commanded rc_str_bytes words.now) D.tells (D.reads disk.old) (S.left source.old) (C.ticks clock.old))
-        → receives (commanded rc_str_bytes words.now) ≡ true → result ≡ Status.Ok
-        → C.ticks clock.new ≡ Some (outcome (commanded rc_str_bytes words.now) begun.held begun.input).ticks }
-    ensures stands_at_end { (begun : Begins (commanded rc_str_bytes words.now) D.tells (D.reads disk.old) (S.left source.old) (C.ticks clock.old)) (file : List ℕ)
-        → uses_disk (commanded rc_str_bytes words.now) ≡ true → serves (commanded rc_str_bytes words.now) ≡ None → result ≡ Status.Ok → D.images disk.new file
-        → StandsForJournal file (outcome (commanded rc_str_bytes words.now) begun.held begun.input).journal }
+    ensures ticks { let task = task_by rc_str_bytes words.now in
+        (begun : Begins task D.tells (D.reads disk.old) (S.left source.old) (C.ticks clock.old))
+        → task.receives ≡ true → result ≡ Status.Ok
+        → C.ticks clock.new ≡ Some (task.outcome begun.held begun.input).ticks }
+    ensures stands_at_end { let task = task_by rc_str_bytes words.now in
+        (begun : Begins task D.tells (D.reads disk.old) (S.left source.old) (C.ticks clock.old)) (file : List ℕ)
+        → task.uses_disk ≡ true → task.serves ≡ None → result ≡ Status.Ok → D.images disk.new file
+        → StandsForJournal file (task.outcome begun.held begun.input).journal }
 
     // No more than 64 MiB are taken, unless the status says so.
     ensures short { (result ≡ Status.InputTooLong → ⊥) → Took (S.left source.old) (S.left source.new) (λ read. length read ≤ most_input) }
@@ -95,31 +99,37 @@ pub fn run<
     // On every other status a front of it was written. While the source is not at its end, that is a
     // front of the replies to the lines that an LF ends in what was read, of which the first 64 MiB
     // count; all of these replies, and their receipts, where the source failed or gave too much.
-    ensures part { (begun : Begins (commanded rc_str_bytes words.now) D.tells (D.reads disk.old) (S.left source.old) (C.ticks clock.old))
+    ensures part { let task = task_by rc_str_bytes words.now in
+        (begun : Begins task D.tells (D.reads disk.old) (S.left source.old) (C.ticks clock.old))
         → (result ≡ Status.Ok → ⊥)
-        → AppendsFront (K.written sink.old) (K.written sink.new) (outcome (commanded rc_str_bytes words.now) begun.held begun.input).written }
-    ensures read_part { (begun : Begins (commanded rc_str_bytes words.now) D.tells (D.reads disk.old) (S.left source.old) (C.ticks clock.old))
-        → uses_input (commanded rc_str_bytes words.now) ≡ true → (result ≡ Status.Ok → ⊥) → (IsAtEnd (S.left source.new) → ⊥)
+        → AppendsFront (K.written sink.old) (K.written sink.new) (task.outcome begun.held begun.input).written }
+    ensures read_part { let task = task_by rc_str_bytes words.now in
+        (begun : Begins task D.tells (D.reads disk.old) (S.left source.old) (C.ticks clock.old))
+        → task.uses_input ≡ true → (result ≡ Status.Ok → ⊥) → (IsAtEnd (S.left source.new) → ⊥)
         → Took (S.left source.old) (S.left source.new) (λ read. AppendsFront (K.written sink.old) (K.written sink.new)
-        (replies_of (commanded rc_str_bytes words.now) begun.held (cut_requests_of (commanded rc_str_bytes words.now) (take most_input read)))) }
-    ensures cut { (begun : Begins (commanded rc_str_bytes words.now) D.tells (D.reads disk.old) (S.left source.old) (C.ticks clock.old))
+        (task.replies begun.held (task.cut_requests (take most_input read)))) }
+    ensures cut { let task = task_by rc_str_bytes words.now in
+        (begun : Begins task D.tells (D.reads disk.old) (S.left source.old) (C.ticks clock.old))
         → (result ≡ Status.ReadFault) ⊎ (result ≡ Status.InputTooLong)
         → Took (S.left source.old) (S.left source.new) (λ read. Appends (K.written sink.old) (K.written sink.new)
-        (replies_of (commanded rc_str_bytes words.now) begun.held (cut_requests_of (commanded rc_str_bytes words.now) (take most_input read)))) }
-    ensures cut_journal { (begun : Begins (commanded rc_str_bytes words.now) D.tells (D.reads disk.old) (S.left source.old) (C.ticks clock.old)) (file : List ℕ)
-        → receives (commanded rc_str_bytes words.now) ≡ true → (result ≡ Status.ReadFault) ⊎ (result ≡ Status.InputTooLong) → D.images disk.new file
-        → Took (S.left source.old) (S.left source.new) (λ read. StandsForJournal file (held_after OnDisk begun.held (cut_requests_of (commanded rc_str_bytes words.now) (take most_input read))).journal) }
-    ensures cut_ticks { (begun : Begins (commanded rc_str_bytes words.now) D.tells (D.reads disk.old) (S.left source.old) (C.ticks clock.old))
-        → receives (commanded rc_str_bytes words.now) ≡ true → (result ≡ Status.ReadFault) ⊎ (result ≡ Status.InputTooLong)
-        → Took (S.left source.old) (S.left source.new) (λ read. C.ticks clock.new ≡ Some (held_after OnDisk begun.held (cut_requests_of (commanded rc_str_bytes words.now) (take most_input read))).ticks) }
+        (task.replies begun.held (task.cut_requests (take most_input read)))) }
+    ensures cut_journal { let task = task_by rc_str_bytes words.now in
+        (begun : Begins task D.tells (D.reads disk.old) (S.left source.old) (C.ticks clock.old)) (file : List ℕ)
+        → task.receives ≡ true → (result ≡ Status.ReadFault) ⊎ (result ≡ Status.InputTooLong) → D.images disk.new file
+        → Took (S.left source.old) (S.left source.new) (λ read. StandsForJournal file (held_after OnDisk begun.held (task.cut_requests (take most_input read))).journal) }
+    ensures cut_ticks { let task = task_by rc_str_bytes words.now in
+        (begun : Begins task D.tells (D.reads disk.old) (S.left source.old) (C.ticks clock.old))
+        → task.receives ≡ true → (result ≡ Status.ReadFault) ⊎ (result ≡ Status.InputTooLong)
+        → Took (S.left source.old) (S.left source.new) (λ read. C.ticks clock.new ≡ Some (held_after OnDisk begun.held (task.cut_requests (take most_input read))).ticks) }
 
     // Where a command that receives ends early, the first requests of what was read are replied to
     // whole; at most one more was begun, the clock was asked for no other, and no other receipt came
     // to the disk at any moment.
-    ensures early { (begun : Begins (commanded rc_str_bytes words.now) D.tells (D.reads disk.old) (S.left source.old) (C.ticks clock.old))
-        → receives (commanded rc_str_bytes words.now) ≡ true → (result ≡ Status.Ok → ⊥)
+    ensures early { let task = task_by rc_str_bytes words.now in
+        (begun : Begins task D.tells (D.reads disk.old) (S.left source.old) (C.ticks clock.old))
+        → task.receives ≡ true → (result ≡ Status.Ok → ⊥)
         → IsUnread source.old source.new sink.old sink.new disk.old disk.new clock.old clock.new door.old door.new result
-        ⊎ Took (S.left source.old) (S.left source.new) (λ read. (requests : List Request) × AreOf (requests_of (commanded rc_str_bytes words.now)) (cut_requests_of (commanded rc_str_bytes words.now)) (S.left source.new) read requests
+        ⊎ Took (S.left source.old) (S.left source.new) (λ read. (requests : List Request) × AreOf task.requests task.cut_requests (S.left source.new) read requests
         × EndsEarly OnDisk begun.held (C.ticks clock.new) (K.written sink.old) (K.written sink.new) (LeftAnew (disk_fault result) (D.images disk.old) (D.images disk.new)) requests
         × KeepsGrown D.reads D.images D.moment D.since disk.old disk.new (disk_fault result) begun.held.journal (held_after OnDisk begun.held requests).journal
         × WritesBehind (tells_of_opening result) begun.held.journal (held_after OnDisk begun.held requests).journal (D.reads disk.old) (D.reads disk.new)) }
@@ -127,37 +137,46 @@ pub fn run<
     // A stop at any moment after the first sync leaves the journal that was found, followed by the first
     // of the receipts that this call receives, and their frames alone are written; each reply that stands
     // whole has its receipts in every image.
-    ensures any_moment { (begun : Begins (commanded rc_str_bytes words.now) D.tells (D.reads disk.old) (S.left source.old) (C.ticks clock.old))
-        → uses_disk (commanded rc_str_bytes words.now) ≡ true → serves (commanded rc_str_bytes words.now) ≡ None
+    ensures any_moment { let task = task_by rc_str_bytes words.now in
+        (begun : Begins task D.tells (D.reads disk.old) (S.left source.old) (C.ticks clock.old))
+        → task.uses_disk ≡ true → task.serves ≡ None
         → IsUnread source.old source.new sink.old sink.new disk.old disk.new clock.old clock.new door.old door.new result
-        ⊎ KeepsGrown D.reads D.images D.moment D.since disk.old disk.new (disk_fault result) begun.held.journal (outcome (commanded rc_str_bytes words.now) begun.held begun.input).journal }
-    ensures frames { (begun : Begins (commanded rc_str_bytes words.now) D.tells (D.reads disk.old) (S.left source.old) (C.ticks clock.old))
-        → receives (commanded rc_str_bytes words.now) ≡ true
-        → WritesBehind (tells_of_opening result) begun.held.journal (outcome (commanded rc_str_bytes words.now) begun.held begun.input).journal (D.reads disk.old) (D.reads disk.new) }
-    ensures acknowledged { (begun : Begins (commanded rc_str_bytes words.now) D.tells (D.reads disk.old) (S.left source.old) (C.ticks clock.old)) (front back : List Request) (file : List ℕ)
-        → receives (commanded rc_str_bytes words.now) ≡ true → requests_of (commanded rc_str_bytes words.now) begun.input ≡ front ++ back
+        ⊎ KeepsGrown D.reads D.images D.moment D.since disk.old disk.new (disk_fault result) begun.held.journal (task.outcome begun.held begun.input).journal }
+    ensures frames { let task = task_by rc_str_bytes words.now in
+        (begun : Begins task D.tells (D.reads disk.old) (S.left source.old) (C.ticks clock.old))
+        → task.receives ≡ true
+        → WritesBehind (tells_of_opening result) begun.held.journal (task.outcome begun.held begun.input).journal (D.reads disk.old) (D.reads disk.new) }
+    ensures acknowledged { let task = task_by rc_str_bytes words.now in
+        (begun : Begins task D.tells (D.reads disk.old) (S.left source.old) (C.ticks clock.old)) (front back : List Request) (file : List ℕ)
+        → task.receives ≡ true → task.requests begun.input ≡ front ++ back
         → (replies OnDisk begun.held front ≡ [] → ⊥) → HasWritten (K.written sink.old) (K.written sink.new) (replies OnDisk begun.held front)
         → D.images disk.new file
-        → GrownFrom (held_after OnDisk begun.held front).journal (outcome (commanded rc_str_bytes words.now) begun.held begun.input).journal file }
+        → GrownFrom (held_after OnDisk begun.held front).journal (task.outcome begun.held begun.input).journal file }
 
     // A status tells what the disk's file stood for, and an unmade one is made. Where the command
     // receives nothing, no other byte changes; where the file stood for no journal, nothing else is touched.
-    ensures found { IsTrue D.tells → uses_disk (commanded rc_str_bytes words.now) ≡ true → FindsBy (D.reads disk.old) result }
-    ensures made { IsTrue D.tells → uses_disk (commanded rc_str_bytes words.now) ≡ true → tells_of_opening result ≡ true → IsMade the_heading (D.reads disk.new) }
-    ensures made_so { IsTrue D.tells → uses_disk (commanded rc_str_bytes words.now) ≡ true → receives (commanded rc_str_bytes words.now) ≡ false → serves (commanded rc_str_bytes words.now) ≡ None → tells_of_opening result ≡ true → IsUnmade (D.reads disk.old)
+    ensures found { let task = task_by rc_str_bytes words.now in IsTrue D.tells → task.uses_disk ≡ true → FindsBy (D.reads disk.old) result }
+    ensures made { let task = task_by rc_str_bytes words.now in
+        IsTrue D.tells → task.uses_disk ≡ true → tells_of_opening result ≡ true → IsMade the_heading (D.reads disk.new) }
+    ensures made_so { let task = task_by rc_str_bytes words.now in
+        IsTrue D.tells → task.uses_disk ≡ true → task.receives ≡ false → task.serves ≡ None → tells_of_opening result ≡ true → IsUnmade (D.reads disk.old)
         → D.reads disk.new ≡ made_from the_heading (D.reads disk.old) }
-    ensures kept { IsTrue D.tells → uses_disk (commanded rc_str_bytes words.now) ≡ true → ((receives (commanded rc_str_bytes words.now) ≡ false) × (serves (commanded rc_str_bytes words.now) ≡ None)) ⊎ (IsJournalFile (D.reads disk.old) → ⊥) → IsKept (D.reads disk.old) (D.reads disk.new) }
-    ensures kept_any_moment { IsTrue D.tells → uses_disk (commanded rc_str_bytes words.now) ≡ true → ((receives (commanded rc_str_bytes words.now) ≡ false) × (serves (commanded rc_str_bytes words.now) ≡ None)) ⊎ (IsJournalFile (D.reads disk.old) → ⊥)
+    ensures kept { let task = task_by rc_str_bytes words.now in
+        IsTrue D.tells → task.uses_disk ≡ true → ((task.receives ≡ false) × (task.serves ≡ None)) ⊎ (IsJournalFile (D.reads disk.old) → ⊥) → IsKept (D.reads disk.old) (D.reads disk.new) }
+    ensures kept_any_moment { let task = task_by rc_str_bytes words.now in
+        IsTrue D.tells → task.uses_disk ≡ true → ((task.receives ≡ false) × (task.serves ≡ None)) ⊎ (IsJournalFile (D.reads disk.old) → ⊥)
         → IsUnread source.old source.new sink.old sink.new disk.old disk.new clock.old clock.new door.old door.new result
         ⊎ AnswersSynced D.reads D.images D.moment D.since disk.old disk.new (disk_fault result) }
-    ensures unopened { IsTrue D.tells → uses_disk (commanded rc_str_bytes words.now) ≡ true → (IsJournalFile (D.reads disk.old) → ⊥)
+    ensures unopened { let task = task_by rc_str_bytes words.now in
+        IsTrue D.tells → task.uses_disk ≡ true → (IsJournalFile (D.reads disk.old) → ⊥)
         → (source.new ≡ source.old) × (sink.new ≡ sink.old) × (clock.new ≡ clock.old) × (door.new ≡ door.old) }
     ensures unopened_by { is_no_journal result ≡ true → (source.new ≡ source.old) × (sink.new ≡ sink.old) × (clock.new ≡ clock.old) × (door.new ≡ door.old) }
 
     // A command that serves answers the requests of the links that come, one link after another, each
     // from what the one before left, and hands each back. A disk that fails behind its opening is
     // answered to the request in which it failed, and ends nothing.
-    ensures served { (most : ℕ) (held : Held) (waiting : List (List ℕ)) (asked : List LinkRequests) → serves (commanded rc_str_bytes words.now) ≡ Some most
+    ensures served { let task = task_by rc_str_bytes words.now in
+        (most : ℕ) (held : Held) (waiting : List (List ℕ)) (asked : List LinkRequests) → task.serves ≡ Some most
         → IsTrue D.tells → IsHeld (D.reads disk.old) (C.ticks clock.old) held → L.waiting door.old ≡ Some waiting → AllZip AskSo waiting asked
         → IsUnread source.old source.new sink.old sink.new disk.old disk.new clock.old clock.new door.old door.new result
         ⊎ ServesOffice D.reads D.images D.moment D.since D.faults disk.old disk.new held most waiting asked (L.waiting door.new) (L.served door.old) (L.served door.new) (C.ticks clock.new) result }
@@ -165,25 +184,27 @@ pub fn run<
     ensures disk_at_opening { disk_fault result ≡ true → Rose (D.faults disk.old) (D.faults disk.new) × (door.new ≡ door.old) }
 
     // What the command does not use stays as it is.
-    ensures same_source { uses_input (commanded rc_str_bytes words.now) ≡ false → source.new ≡ source.old }
-    ensures same_sink { (commanded rc_str_bytes words.now ≡ None) ⊎ IsSome (serves (commanded rc_str_bytes words.now)) → sink.new ≡ sink.old }
-    ensures same_disk { uses_disk (commanded rc_str_bytes words.now) ≡ false → disk.new ≡ disk.old }
-    ensures same_clock { receives (commanded rc_str_bytes words.now) ≡ false → serves (commanded rc_str_bytes words.now) ≡ None → clock.new ≡ clock.old }
-    ensures same_door { serves (commanded rc_str_bytes words.now) ≡ None → door.new ≡ door.old }
+    ensures same_source { let task = task_by rc_str_bytes words.now in task.uses_input ≡ false → source.new ≡ source.old }
+    ensures same_sink { let task = task_by rc_str_bytes words.now in
+        (commanded rc_str_bytes words.now ≡ None) ⊎ IsSome task.serves → sink.new ≡ sink.old }
+    ensures same_disk { let task = task_by rc_str_bytes words.now in task.uses_disk ≡ false → disk.new ≡ disk.old }
+    ensures same_clock { let task = task_by rc_str_bytes words.now in task.receives ≡ false → task.serves ≡ None → clock.new ≡ clock.old }
+    ensures same_door { let task = task_by rc_str_bytes words.now in task.serves ≡ None → door.new ≡ door.old }
 
     // Each fault has its cause, and a count rises with no other answer.
     ensures read { Counts (S.faults source.old) (S.faults source.new) (read_fault result) }
     ensures write { Counts (K.faults sink.old) (K.faults sink.new) (write_fault result) }
-    ensures disk { serves (commanded rc_str_bytes words.now) ≡ None → Counts (D.faults disk.old) (D.faults disk.new) (disk_fault result) }
+    ensures disk { let task = task_by rc_str_bytes words.now in
+        task.serves ≡ None → Counts (D.faults disk.old) (D.faults disk.new) (disk_fault result) }
     ensures door { Counts (L.faults door.old) (L.faults door.new) (door_fault result) }
 
     // A status of an object that the command does not use never comes.
-    ensures no_disk { uses_disk (commanded rc_str_bytes words.now) ≡ false
-        → (disk_fault result ≡ false) × (is_no_journal result ≡ false) }
-    ensures no_input { uses_input (commanded rc_str_bytes words.now) ≡ false
-        → (read_fault result ≡ false) × (result ≡ Status.InputTooLong → ⊥) }
-    ensures no_output { IsSome (serves (commanded rc_str_bytes words.now)) → write_fault result ≡ false }
-    ensures no_door { serves (commanded rc_str_bytes words.now) ≡ None → door_fault result ≡ false }
+    ensures no_disk { let task = task_by rc_str_bytes words.now in
+        task.uses_disk ≡ false → (disk_fault result ≡ false) × (is_no_journal result ≡ false) }
+    ensures no_input { let task = task_by rc_str_bytes words.now in
+        task.uses_input ≡ false → (read_fault result ≡ false) × (result ≡ Status.InputTooLong → ⊥) }
+    ensures no_output { let task = task_by rc_str_bytes words.now in IsSome task.serves → write_fault result ≡ false }
+    ensures no_door { let task = task_by rc_str_bytes words.now in task.serves ≡ None → door_fault result ≡ false }
 {
     match read_words(rt.alloc(), words) {
         Err(WordsFault::Usage) => Status::Usage,

@@ -1,4 +1,4 @@
-use Rattle.std.proofs.Common.{◌≡◌, inl, ⊎_elim, ℕ, List, [], true, false, refl, sym, ap, ◌∙◌, subst, take, arith, Some, IsTrue}
+use Rattle.std.proofs.Common.{◌≡◌, inl, ⊎_elim, ℕ, List, [], true, false, refl, sym, ap, ◌∙◌, subst, take, arith, IsTrue}
 use Rattle.act_model.specs.declared.receipts.Receipt.{Receipt}
 use Rattle.journal_disk.specs.Opening.{AnswersSynced}
 use Rattle.receipt_journal.specs.Standing.{records, StandsForJournal}
@@ -6,11 +6,10 @@ use Rattle.receipt_journal.proofs.Standings.{journal_once}
 use Rattle.registry_office.specs.Disks.{KeepsGrown, LeftAnew, WritesBehind}
 use Rattle.intake.specs.Grown.{IsFront, DiskGrows}
 use Rattle.intake.specs.Intakes.{whole_of, cut_of}
-use Rattle.registry_office.specs.Outcomes.{Told}
 use Rattle.registry_office.specs.Receivings.{Receives}
 use Rattle.intake.specs.Requests.{OnDisk, Held, holding, held_after}
 use Rattle.registry_office.specs.Statuses.{disk_fault, tells_of_opening}
-use Rattle.command_words.specs.declared.commands.Command.TheVariants.{Receive}
+use Rattle.registry_office.specs.Tasks.{receiving, Told}
 use Rattle.intake.proofs.Durable.{durable_stands}
 use Rattle.intake.proofs.EarlyEnds.{early_of_fewer}
 use Rattle.registry_office.proofs.Opened.{early_unopened, grows_synced, grows_further, keeps_grown, opening_status, disk_at_opening, found_at_opening, session_not_none, found_by_session, session_no_door, session_no_usage, none_written, no_front, made_of_journal, left_by_opening, left_of, told_by_session, cut_by_source}
@@ -25,7 +24,7 @@ same : (g : _) (c : goal.After-drop-book-inside-in-Ok-7 g) (held : Held) → IsT
 same g c held tells stands = ap (λ (j : List Receipt). holding j held.ticks) (journal_once (g.D.Disk.reads c.args.disk.now) c.in-Ok.book.journal held.journal (c.in-Ok.ensures.opened tells).found stands)
 
 -- what the session did
-session : (g : _) (c : goal.After-drop-book-inside-in-Ok-7 g) (held : Held) (input : List ℕ) → Told (Some (Receive c.args.intake)) g.D.Disk.tells (g.D.Disk.reads c.args.disk.now) (g.S.Source.left c.args.source.now) (g.C.Clock.ticks c.args.clock.now) held input
+session : (g : _) (c : goal.After-drop-book-inside-in-Ok-7 g) (held : Held) (input : List ℕ) → Told (receiving c.args.intake) g.D.Disk.tells (g.D.Disk.reads c.args.disk.now) (g.S.Source.left c.args.source.now) (g.C.Clock.ticks c.args.clock.now) held input
     → Receives (whole_of c.args.intake) (cut_of c.args.intake) held input (g.S.Source.left c.args.source.now) (g.S.Source.left c.receive.new.source) (g.C.Clock.ticks c.receive.new.clock) (g.K.Sink.written c.args.sink.now) (g.K.Sink.written c.receive.new.sink) c.receive.new.book.journal g.D.Disk.reads g.D.Disk.images g.D.Disk.moment g.D.Disk.since c.open.new.disk c.receive.new.disk c.receive.result
 session g c held input told =
     subst (λ (h : Held). Receives (whole_of c.args.intake) (cut_of c.args.intake) h input (g.S.Source.left c.args.source.now) (g.S.Source.left c.receive.new.source) (g.C.Clock.ticks c.receive.new.clock) (g.K.Sink.written c.args.sink.now) (g.K.Sink.written c.receive.new.sink) c.receive.new.book.journal g.D.Disk.reads g.D.Disk.images g.D.Disk.moment g.D.Disk.since c.open.new.disk c.receive.new.disk c.receive.result)

@@ -1,70 +1,79 @@
-use Rattle.std.proofs.Common.{◌≡◌, inl, inr, ℕ, Option, Some, List, take, refl, subst, sym, ap, ◌∙◌}
+use Rattle.std.proofs.Common.{◌≡◌, inl, inr, ℕ, Some, List, take, refl, subst, sym, ap, ◌∙◌}
 use Rattle.std.specs.Io.KnownBytes.{Appends}
 use Rattle.gb_outside.specs.Bytes.{AppendsFront}
 use Rattle.receipt_journal.specs.Standing.{StandsForJournal}
 use Rattle.registry_office.specs.Disks.{KeepsGrown, LeftAnew, WritesBehind}
 use Rattle.intake.specs.EarlyEnds.{EndsEarly, AreOf}
 use Rattle.intake.specs.Intakes.{whole_of, cut_of}
-use Rattle.registry_office.specs.Outcomes.{outcome, requests_of, cut_requests_of, replies_of, serves, uses_disk, Told}
 use Rattle.registry_office.specs.Servings.{ServesOffice}
 use Rattle.intake.specs.Requests.{OnDisk, held_after, replies}
 use Rattle.intake.specs.Sessions.{Took}
 use Rattle.registry_office.specs.Statuses.{disk_fault, tells_of_opening}
+use Rattle.registry_office.specs.Tasks.{Task, Told}
 use Rattle.intake_requests.specs.declared.requests.Request.{Request}
-use Rattle.command_words.specs.declared.commands.Command.{Command}
 use Rattle.intake.proofs.SessionInputs.{took_none}
 use Rattle.registry_office.proofs.Opened.{no_front, none_written}
 use Rattle.registry_office.proofs.Takings.{cut_by_status, err_by_status, read_part_of_early}
+use Rattle.registry_office.proofs.TasksOfWords.{task_is}
 use Rattle.registry_office.proofs.top.run.Goals as goal
 
 pub returns-in-Ok-Settle-clause-part : goal.returns-in-Ok-Settle-clause-part
 returns-in-Ok-Settle-clause-part g c = λ begun other.
-    subst (λ (command : Option Command). AppendsFront (g.K.Sink.written c.args.sink.now) (g.K.Sink.written c.settle_disk.new.sink) (outcome command begun.held begun.input).written) (sym (c.in-Ok-Settle.ensures.command ∙ ap (λ (command : Command). Some command) c.in-Ok-Settle.field-0-is))
-    (c.settle_disk.ensures.part (begun.told.disk_tells (ap uses_disk (c.in-Ok-Settle.ensures.command ∙ ap (λ (command : Command). Some command) c.in-Ok-Settle.field-0-is))) begun.held.journal (begun.told.disk_stands (ap uses_disk (c.in-Ok-Settle.ensures.command ∙ ap (λ (command : Command). Some command) c.in-Ok-Settle.field-0-is))))
+    let is = task_is _ _ _ c.in-Ok-Settle.ensures.command c.in-Ok-Settle.field-0-is in
+    subst (λ (task : Task). AppendsFront (g.K.Sink.written c.args.sink.now) (g.K.Sink.written c.settle_disk.new.sink) (task.outcome begun.held begun.input).written) (sym is)
+    (c.settle_disk.ensures.part (begun.told.disk_tells (ap (λ (task : Task). task.uses_disk) is)) begun.held.journal (begun.told.disk_stands (ap (λ (task : Task). task.uses_disk) is)))
 
 pub returns-in-Ok-SettleLines-clause-read_part : goal.returns-in-Ok-SettleLines-clause-read_part
 returns-in-Ok-SettleLines-clause-read_part g c = λ begun uses other unended.
-    subst (λ (command : Option Command). Took (g.S.Source.left c.args.source.now) (g.S.Source.left c.settle_lines.new.source) (λ read. AppendsFront (g.K.Sink.written c.args.sink.now) (g.K.Sink.written c.settle_lines.new.sink) (replies_of command begun.held (cut_requests_of command (take 67108864 read))))) (sym (c.in-Ok-SettleLines.ensures.command ∙ ap (λ (command : Command). Some command) c.in-Ok-SettleLines.field-0-is))
+    let is = task_is _ _ _ c.in-Ok-SettleLines.ensures.command c.in-Ok-SettleLines.field-0-is in
+    subst (λ (task : Task). Took (g.S.Source.left c.args.source.now) (g.S.Source.left c.settle_lines.new.source) (λ read. AppendsFront (g.K.Sink.written c.args.sink.now) (g.K.Sink.written c.settle_lines.new.sink) (task.replies begun.held (task.cut_requests (take 67108864 read))))) (sym is)
     (err_by_status c.settle_lines.result c.status_of.result _ c.status_of.ensures other c.settle_lines.ensures.read_part unended)
 
 pub returns-in-Ok-SettleLines-clause-cut : goal.returns-in-Ok-SettleLines-clause-cut
 returns-in-Ok-SettleLines-clause-cut g c = λ begun which.
-    subst (λ (command : Option Command). Took (g.S.Source.left c.args.source.now) (g.S.Source.left c.settle_lines.new.source) (λ read. Appends (g.K.Sink.written c.args.sink.now) (g.K.Sink.written c.settle_lines.new.sink) (replies_of command begun.held (cut_requests_of command (take 67108864 read))))) (sym (c.in-Ok-SettleLines.ensures.command ∙ ap (λ (command : Command). Some command) c.in-Ok-SettleLines.field-0-is))
+    let is = task_is _ _ _ c.in-Ok-SettleLines.ensures.command c.in-Ok-SettleLines.field-0-is in
+    subst (λ (task : Task). Took (g.S.Source.left c.args.source.now) (g.S.Source.left c.settle_lines.new.source) (λ read. Appends (g.K.Sink.written c.args.sink.now) (g.K.Sink.written c.settle_lines.new.sink) (task.replies begun.held (task.cut_requests (take 67108864 read))))) (sym is)
     (c.settle_lines.ensures.cut (cut_by_status c.settle_lines.result c.status_of.result c.status_of.ensures which))
 
 pub returns-in-Ok-Receive-clause-read_part : goal.returns-in-Ok-Receive-clause-read_part
 returns-in-Ok-Receive-clause-read_part g c = λ begun uses other unended.
-    let took = c.receive_disk.ensures.early begun.held begun.input (subst (λ (command : Option Command). Told command g.D.Disk.tells (g.D.Disk.reads c.args.disk.now) (g.S.Source.left c.args.source.now) (g.C.Clock.ticks c.args.clock.now) begun.held begun.input) (c.in-Ok-Receive.ensures.command ∙ ap (λ (command : Command). Some command) c.in-Ok-Receive.field-0-is) begun.told) other in
-    subst (λ (command : Option Command). Took (g.S.Source.left c.args.source.now) (g.S.Source.left c.receive_disk.new.source) (λ read. AppendsFront (g.K.Sink.written c.args.sink.now) (g.K.Sink.written c.receive_disk.new.sink) (replies_of command begun.held (cut_requests_of command (take 67108864 read))))) (sym (c.in-Ok-Receive.ensures.command ∙ ap (λ (command : Command). Some command) c.in-Ok-Receive.field-0-is))
+    let is = task_is _ _ _ c.in-Ok-Receive.ensures.command c.in-Ok-Receive.field-0-is in
+    let took = c.receive_disk.ensures.early begun.held begun.input (subst (λ (task : Task). Told task g.D.Disk.tells (g.D.Disk.reads c.args.disk.now) (g.S.Source.left c.args.source.now) (g.C.Clock.ticks c.args.clock.now) begun.held begun.input) is begun.told) other in
+    subst (λ (task : Task). Took (g.S.Source.left c.args.source.now) (g.S.Source.left c.receive_disk.new.source) (λ read. AppendsFront (g.K.Sink.written c.args.sink.now) (g.K.Sink.written c.receive_disk.new.sink) (task.replies begun.held (task.cut_requests (take 67108864 read))))) (sym is)
     (read_part_of_early OnDisk (whole_of c.in-Ok-Receive.intake) (cut_of c.in-Ok-Receive.intake) begun.held (g.S.Source.left c.args.source.now) (g.S.Source.left c.receive_disk.new.source) (g.C.Clock.ticks c.receive_disk.new.clock) (g.K.Sink.written c.args.sink.now) (g.K.Sink.written c.receive_disk.new.sink)
     (LeftAnew (disk_fault c.receive_disk.result) (g.D.Disk.images c.args.disk.now) (g.D.Disk.images c.receive_disk.new.disk)) (record { read = took.read; consumed = took.consumed; did = (took.did.0, took.did.1, took.did.2) }) unended)
 
 pub returns-in-Ok-Receive-clause-cut : goal.returns-in-Ok-Receive-clause-cut
 returns-in-Ok-Receive-clause-cut g c = λ begun which.
-    subst (λ (command : Option Command). Took (g.S.Source.left c.args.source.now) (g.S.Source.left c.receive_disk.new.source) (λ read. Appends (g.K.Sink.written c.args.sink.now) (g.K.Sink.written c.receive_disk.new.sink) (replies_of command begun.held (cut_requests_of command (take 67108864 read))))) (sym (c.in-Ok-Receive.ensures.command ∙ ap (λ (command : Command). Some command) c.in-Ok-Receive.field-0-is))
-    (c.receive_disk.ensures.cut begun.held begun.input (subst (λ (command : Option Command). Told command g.D.Disk.tells (g.D.Disk.reads c.args.disk.now) (g.S.Source.left c.args.source.now) (g.C.Clock.ticks c.args.clock.now) begun.held begun.input) (c.in-Ok-Receive.ensures.command ∙ ap (λ (command : Command). Some command) c.in-Ok-Receive.field-0-is) begun.told) which)
+    let is = task_is _ _ _ c.in-Ok-Receive.ensures.command c.in-Ok-Receive.field-0-is in
+    subst (λ (task : Task). Took (g.S.Source.left c.args.source.now) (g.S.Source.left c.receive_disk.new.source) (λ read. Appends (g.K.Sink.written c.args.sink.now) (g.K.Sink.written c.receive_disk.new.sink) (task.replies begun.held (task.cut_requests (take 67108864 read))))) (sym is)
+    (c.receive_disk.ensures.cut begun.held begun.input (subst (λ (task : Task). Told task g.D.Disk.tells (g.D.Disk.reads c.args.disk.now) (g.S.Source.left c.args.source.now) (g.C.Clock.ticks c.args.clock.now) begun.held begun.input) is begun.told) which)
 
 pub returns-in-Ok-Receive-clause-cut_journal : goal.returns-in-Ok-Receive-clause-cut_journal
 returns-in-Ok-Receive-clause-cut_journal g c = λ begun file receiving which image.
-    subst (λ (command : Option Command). Took (g.S.Source.left c.args.source.now) (g.S.Source.left c.receive_disk.new.source) (λ read. StandsForJournal file (held_after OnDisk begun.held (cut_requests_of command (take 67108864 read))).journal)) (sym (c.in-Ok-Receive.ensures.command ∙ ap (λ (command : Command). Some command) c.in-Ok-Receive.field-0-is))
-    (c.receive_disk.ensures.cut_journal begun.held begun.input file (subst (λ (command : Option Command). Told command g.D.Disk.tells (g.D.Disk.reads c.args.disk.now) (g.S.Source.left c.args.source.now) (g.C.Clock.ticks c.args.clock.now) begun.held begun.input) (c.in-Ok-Receive.ensures.command ∙ ap (λ (command : Command). Some command) c.in-Ok-Receive.field-0-is) begun.told) which image)
+    let is = task_is _ _ _ c.in-Ok-Receive.ensures.command c.in-Ok-Receive.field-0-is in
+    subst (λ (task : Task). Took (g.S.Source.left c.args.source.now) (g.S.Source.left c.receive_disk.new.source) (λ read. StandsForJournal file (held_after OnDisk begun.held (task.cut_requests (take 67108864 read))).journal)) (sym is)
+    (c.receive_disk.ensures.cut_journal begun.held begun.input file (subst (λ (task : Task). Told task g.D.Disk.tells (g.D.Disk.reads c.args.disk.now) (g.S.Source.left c.args.source.now) (g.C.Clock.ticks c.args.clock.now) begun.held begun.input) is begun.told) which image)
 
 pub returns-in-Ok-Receive-clause-cut_ticks : goal.returns-in-Ok-Receive-clause-cut_ticks
 returns-in-Ok-Receive-clause-cut_ticks g c = λ begun receiving which.
-    subst (λ (command : Option Command). Took (g.S.Source.left c.args.source.now) (g.S.Source.left c.receive_disk.new.source) (λ read. g.C.Clock.ticks c.receive_disk.new.clock ≡ Some (held_after OnDisk begun.held (cut_requests_of command (take 67108864 read))).ticks)) (sym (c.in-Ok-Receive.ensures.command ∙ ap (λ (command : Command). Some command) c.in-Ok-Receive.field-0-is))
-    (c.receive_disk.ensures.cut_ticks begun.held begun.input (subst (λ (command : Option Command). Told command g.D.Disk.tells (g.D.Disk.reads c.args.disk.now) (g.S.Source.left c.args.source.now) (g.C.Clock.ticks c.args.clock.now) begun.held begun.input) (c.in-Ok-Receive.ensures.command ∙ ap (λ (command : Command). Some command) c.in-Ok-Receive.field-0-is) begun.told) which)
+    let is = task_is _ _ _ c.in-Ok-Receive.ensures.command c.in-Ok-Receive.field-0-is in
+    subst (λ (task : Task). Took (g.S.Source.left c.args.source.now) (g.S.Source.left c.receive_disk.new.source) (λ read. g.C.Clock.ticks c.receive_disk.new.clock ≡ Some (held_after OnDisk begun.held (task.cut_requests (take 67108864 read))).ticks)) (sym is)
+    (c.receive_disk.ensures.cut_ticks begun.held begun.input (subst (λ (task : Task). Told task g.D.Disk.tells (g.D.Disk.reads c.args.disk.now) (g.S.Source.left c.args.source.now) (g.C.Clock.ticks c.args.clock.now) begun.held begun.input) is begun.told) which)
 
 pub returns-in-Ok-Receive-clause-early : goal.returns-in-Ok-Receive-clause-early
 returns-in-Ok-Receive-clause-early g c = λ begun receiving other.
-    inr (subst (λ (command : Option Command). Took (g.S.Source.left c.args.source.now) (g.S.Source.left c.receive_disk.new.source) (λ read. (requests : List Request) × AreOf (requests_of command) (cut_requests_of command) (g.S.Source.left c.receive_disk.new.source) read requests
+    let is = task_is _ _ _ c.in-Ok-Receive.ensures.command c.in-Ok-Receive.field-0-is in
+    inr (subst (λ (task : Task). Took (g.S.Source.left c.args.source.now) (g.S.Source.left c.receive_disk.new.source) (λ read. (requests : List Request) × AreOf task.requests task.cut_requests (g.S.Source.left c.receive_disk.new.source) read requests
     × EndsEarly OnDisk begun.held (g.C.Clock.ticks c.receive_disk.new.clock) (g.K.Sink.written c.args.sink.now) (g.K.Sink.written c.receive_disk.new.sink) (LeftAnew (disk_fault c.receive_disk.result) (g.D.Disk.images c.args.disk.now) (g.D.Disk.images c.receive_disk.new.disk)) requests
     × KeepsGrown g.D.Disk.reads g.D.Disk.images g.D.Disk.moment g.D.Disk.since c.args.disk.now c.receive_disk.new.disk (disk_fault c.receive_disk.result) begun.held.journal (held_after OnDisk begun.held requests).journal
-    × WritesBehind (tells_of_opening c.receive_disk.result) begun.held.journal (held_after OnDisk begun.held requests).journal (g.D.Disk.reads c.args.disk.now) (g.D.Disk.reads c.receive_disk.new.disk))) (sym (c.in-Ok-Receive.ensures.command ∙ ap (λ (command : Command). Some command) c.in-Ok-Receive.field-0-is))
-    (c.receive_disk.ensures.early begun.held begun.input (subst (λ (command : Option Command). Told command g.D.Disk.tells (g.D.Disk.reads c.args.disk.now) (g.S.Source.left c.args.source.now) (g.C.Clock.ticks c.args.clock.now) begun.held begun.input) (c.in-Ok-Receive.ensures.command ∙ ap (λ (command : Command). Some command) c.in-Ok-Receive.field-0-is) begun.told) other))
+    × WritesBehind (tells_of_opening c.receive_disk.result) begun.held.journal (held_after OnDisk begun.held requests).journal (g.D.Disk.reads c.args.disk.now) (g.D.Disk.reads c.receive_disk.new.disk))) (sym is)
+    (c.receive_disk.ensures.early begun.held begun.input (subst (λ (task : Task). Told task g.D.Disk.tells (g.D.Disk.reads c.args.disk.now) (g.S.Source.left c.args.source.now) (g.C.Clock.ticks c.args.clock.now) begun.held begun.input) is begun.told) other))
 
 pub returns-in-Ok-Serve-clause-served : goal.returns-in-Ok-Serve-clause-served
-returns-in-Ok-Serve-clause-served g c = λ most held waiting asked is tells holds waits asks.
-    let these : Some c.in-Ok-Serve.requests ≡ Some most = sym (ap serves (c.in-Ok-Serve.ensures.command ∙ ap (λ (command : Command). Some command) c.in-Ok-Serve.field-0-is)) ∙ is in
+returns-in-Ok-Serve-clause-served g c = λ most held waiting asked up_to tells holds waits asks.
+    let is = task_is _ _ _ c.in-Ok-Serve.ensures.command c.in-Ok-Serve.field-0-is in
+    let these : Some c.in-Ok-Serve.requests ≡ Some most = sym (ap (λ (task : Task). task.serves) is) ∙ up_to in
     let same : c.in-Ok-Serve.requests ≡ most = cc in
     inr (subst (λ (m : ℕ). ServesOffice g.D.Disk.reads g.D.Disk.images g.D.Disk.moment g.D.Disk.since g.D.Disk.faults c.args.disk.now c.serve.new.disk held m waiting asked (g.L.Listener.waiting c.serve.new.door) (g.L.Listener.served c.args.door.now) (g.L.Listener.served c.serve.new.door) (g.C.Clock.ticks c.serve.new.clock) c.serve.result)
     same (c.serve.ensures.serves tells held waiting asked holds waits asks))
