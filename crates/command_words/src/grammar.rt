@@ -1,9 +1,9 @@
 //! The grammar as `clap` is told it, and the parse.
-ghost use Rattle.std.specs.Prelude.{◌≡◌, [], IfErr, IfOk, codes, false, map};
+ghost use Rattle.std.specs.Prelude.{◌≡◌, [], IfErr, IfOk, codes, false, fold, map};
 ghost use Rattle.std.specs.Rc.{rc_str_bytes};
-ghost use Rattle.clap.specs.Words.{app_of, fault_of, found_of, kind_of, matches_of, rows_of, rule_of};
+ghost use Rattle.clap.specs.Words.{app_of, fault_of, found_of, kind_of, matches_of, rows_of, rule_of, with_rule};
 ghost use Rattle.clap.specs.declared.error.kind.ErrorKind.TheVariants.{OutOfMemory};
-ghost use Rattle.command_words.specs.inner.Parsing.{bare, grundbuch, rule_by};
+ghost use Rattle.command_words.specs.inner.Parsing.{bare, flag_rule, grundbuch, option_rule, rule_by};
 
 use crate::table::{CommandOption, all_options};
 use clap::{Arg, ArgAction, ArgMatches, Command, Error};
@@ -25,8 +25,20 @@ pub(crate) fn parse<'a>(grammar: Command<'a>, words: &'a [RcStr]) -> Result<ArgM
 pub(crate) fn grammar<'a>(alloc: Global) -> Result<Command<'a>, NoMemory>
     ensures { IfOk result (λ command. app_of command ≡ grundbuch) }
 {
-    let mut grammar = start(alloc).arg(Arg::new(alloc, "command"))?;
-    for option in all_options() {
+    let word = start(alloc).arg(Arg::new(alloc, "command"))?;
+    with_options(alloc, word, all_options())
+}
+
+/// These options besides.
+fn with_options<'a>(
+    alloc: Global,
+    start: Command<'a>,
+    options: &[CommandOption],
+) -> Result<Command<'a>, NoMemory>
+    ensures { IfOk result (λ command. app_of command ≡ fold with_rule (app_of start.entry) (map rule_by options.now)) }
+{
+    let mut grammar = start;
+    for option in options {
         grammar = grammar.arg(argument(alloc, option))?;
     }
     Ok(grammar)
@@ -46,9 +58,24 @@ fn argument<'a>(alloc: Global, option: &CommandOption) -> Arg<'a>
     ensures rule { rule_of result ≡ rule_by option.now }
     ensures local { result.global ≡ false }
 {
-    let argument = Arg::new(alloc, option.name()).long(option.name());
     match option.range() {
-        Some(_) => argument,
-        None => argument.action(ArgAction::SetTrue),
+        Some(_) => valued(alloc, option.name()),
+        None => flag(alloc, option.name()),
     }
+}
+
+/// `--name`, with a value.
+fn valued<'a>(alloc: Global, name: &'a str) -> Arg<'a>
+    ensures rule { rule_of result ≡ option_rule name.entry.now }
+    ensures local { result.global ≡ false }
+{
+    Arg::new(alloc, name).long(name)
+}
+
+/// `--name`, without a value.
+fn flag<'a>(alloc: Global, name: &'a str) -> Arg<'a>
+    ensures rule { rule_of result ≡ flag_rule name.entry.now }
+    ensures local { result.global ≡ false }
+{
+    Arg::new(alloc, name).long(name).action(ArgAction::SetTrue)
 }

@@ -64,24 +64,13 @@ fn command_by(word: &CommandWord, matches: &ArgMatches<'_>) -> Option<Command>
             intake: Intake::Lines,
         }),
         CommandWord::Settle => settle(matches),
-        CommandWord::Serve => Some(Command::Serve {
-            desks: number_of_desks(matches)?,
-            requests: number_of_requests(matches)?,
-        }),
-        CommandWord::Sample => Some(Command::Sample {
-            seed: number(matches, &CommandOption::Seed)?,
-            size: number_of_receipts(matches)?,
-            desks: number_of_desks(matches)?,
-        }),
-        CommandWord::Opening => Some(Command::Receive {
-            intake: Intake::OpeningList {
-                sender: number(matches, &CommandOption::Sender)? as u32,
-            },
-        }),
+        CommandWord::Serve => serve(matches),
+        CommandWord::Sample => sample(matches),
+        CommandWord::Opening => opening(matches),
     }
 }
 
-/// `settle`: over the input with `--lines`, else over the disk.
+/// `settle`: over the input where `--lines` stands, else over the disk.
 fn settle(matches: &ArgMatches<'_>) -> Option<Command>
     ensures command { result ≡ command_by CommandWord.Settle (stands (first_value (found_of matches.now))) (number (first_value (found_of matches.now))) }
     ensures desks { IfSome result HasDesks }
@@ -94,6 +83,48 @@ fn settle(matches: &ArgMatches<'_>) -> Option<Command>
     } else {
         Some(Command::Settle { desks })
     }
+}
+
+/// `serve`.
+fn serve(matches: &ArgMatches<'_>) -> Option<Command>
+    ensures command { result ≡ command_by CommandWord.Serve (stands (first_value (found_of matches.now))) (number (first_value (found_of matches.now))) }
+    ensures desks { IfSome result HasDesks }
+    ensures size { IfSome result HasSize }
+    ensures requests { IfSome result HasRequests }
+{
+    Some(Command::Serve {
+        desks: number_of_desks(matches)?,
+        requests: number_of_requests(matches)?,
+    })
+}
+
+/// `sample`.
+fn sample(matches: &ArgMatches<'_>) -> Option<Command>
+    ensures command { result ≡ command_by CommandWord.Sample (stands (first_value (found_of matches.now))) (number (first_value (found_of matches.now))) }
+    ensures desks { IfSome result HasDesks }
+    ensures size { IfSome result HasSize }
+    ensures requests { IfSome result HasRequests }
+{
+    Some(Command::Sample {
+        seed: number(matches, &CommandOption::Seed)?,
+        size: number_of_receipts(matches)?,
+        desks: number_of_desks(matches)?,
+    })
+}
+
+/// `opening`.
+fn opening(matches: &ArgMatches<'_>) -> Option<Command>
+    ensures command { result ≡ command_by CommandWord.Opening (stands (first_value (found_of matches.now))) (number (first_value (found_of matches.now))) }
+    ensures desks { IfSome result HasDesks }
+    ensures size { IfSome result HasSize }
+    ensures requests { IfSome result HasRequests }
+{
+    let sender = number(matches, &CommandOption::Sender)?;
+    Some(Command::Receive {
+        intake: Intake::OpeningList {
+            sender: sender as u32,
+        },
+    })
 }
 
 /// The number of desks: 1 to 64.

@@ -89,7 +89,9 @@ impl CommandWord {
 
 impl CommandOption {
     /// The name, as it stands after two hyphens.
-    pub(crate) fn name(&self) -> &'static str
+    ///
+    /// `clap` keeps names for as long as it borrows the words, so the caller says for how long.
+    pub(crate) fn name<'a>(&self) -> &'a str
         ensures { result.now ≡ name_of self.now }
     {
         match self {
