@@ -204,6 +204,7 @@ agree f g word alike =
 
 same_command : (f : Found) (pieces : List Piece) → rows_of f ≡ with_flags flags (map row pieces)
     → command_with (first_value f) ≡ command_with (λ name. value_of name pieces)
+unfolding Alike
 same_command f pieces are = agree (first_value f) (λ name. value_of name pieces) (at (codes "command") refl) alike
   where
     at : (name : Text) → is_flag name ≡ false → first_value f name ≡ value_of name pieces
@@ -214,7 +215,6 @@ same_command f pieces are = agree (first_value f) (λ name. value_of name pieces
         ap is_true (first_value-rows f name ∙ ap (first_of name) are) ∙ trues_first flags name (map row pieces) ∙ ap is_true (first_row name pieces)
 
     alike : (o : CommandOption) → Alike (range_of o) (first_value f (name_of o)) (value_of (name_of o) pieces)
-    unfolding Alike
     alike Desks = at (codes "desks") refl
     alike Requests = at (codes "requests") refl
     alike Seed = at (codes "seed") refl

@@ -1,4 +1,6 @@
--- What `clap` finds in its rules under a name, and what a use Rattle.std.proofs.Common.{◌≡◌, ◌∙◌, ◌&&◌, ◌||◌, ◌++◌, ap, refl, subst, sym, Bool, true, false, not, List, [], ◌∷◌, map, codes, Some, None, is_some, find}
+-- What `clap` finds in its rules under a name, and what a use of a rule comes to.
+use Rattle.std.proofs.Common.{◌≡◌, ◌∙◌, ◌&&◌, ◌||◌, ◌++◌, ap, refl, subst, sym, Bool, true, false, List, [], ◌∷◌, map, codes, Some, None}
+use Rattle.std.specs.Prelude.{find, is_some, not}
 use Rattle.std.specs.List.{list_all, list_any}
 use Rattle.std.specs.Str.{bytes_eq}
 use Rattle.std.proofs.lemmas.List.{append-nil}
@@ -94,10 +96,10 @@ flag_by_long name h is =
 
 pub none_by_long : (name : Text) → has_value name ≡ false → is_flag name ≡ false → arg_by_long rules name ≡ None
 unfolding rules
-none_by_long name h no =
+none_by_long name h other =
     found_past by_its_long built_option long_option name valued (map built_flag flags) h
     ∙ ap (find (by_its_long name)) (sym (append-nil (map built_flag flags)))
-    ∙ found_past by_its_long built_flag long_flag name flags [] no
+    ∙ found_past by_its_long built_flag long_flag name flags [] other
 
 pub command_by_id : arg_by_id rules (codes "command") ≡ Some built_command
 unfolding rules

@@ -9,5 +9,5 @@ pub returns : goal.returns
 unfolding grundbuch
 returns c = IfOk-weaker c.with_options.result _ _ (λ command are.
     are ∙ ap₂ (λ start options. fold with_rule start (map rule_by options))
-    (c.in_ok-arg.ensures.shape c.new.ensures.optional.1 ∙ ap₂ with_rule c.start.ensures c.new.ensures.rule)
+    (c.in_ok-word.ensures.shape c.new.ensures.optional.1 ∙ ap₂ with_rule c.start.ensures c.new.ensures.rule)
     c.all_options.ensures) c.with_options.ensures
