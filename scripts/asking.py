@@ -51,9 +51,9 @@ def opens_port(child):
 
 
 @contextlib.contextmanager
-def serving(folder, requests=1_000_000, before=(), env=None):
+def serving(folder, requests=1_000_000, before=(), env=None, desks=1):
     """The program, which serves in a folder; it is killed in the end where it still runs."""
-    words = [*before, checks.PROGRAM, "serve", "--desks", "1", "--requests", str(requests)]
+    words = [*before, checks.PROGRAM, "serve", "--desks", str(desks), "--requests", str(requests)]
     child = subprocess.Popen(words, cwd=folder, env=env, stdin=subprocess.DEVNULL, stdout=subprocess.PIPE, stderr=subprocess.PIPE)
     try:
         yield child

@@ -31,9 +31,9 @@ FIRST_DAY, LAST_DAY = 10_957, 65_743
 
 def verdict_of(number, body):
     """The line of a receipt of 23 bytes, which is a lapse or a distribution; None where they spell none."""
-    day, minute = number_in(body, 0, 4), number_in(body, 4, 6)
+    day, minute = checks.number_in(body, 0, 4), checks.number_in(body, 4, 6)
     is_stamp = FIRST_DAY <= day <= LAST_DAY and minute < 1440
-    if len(body) != 23 or not is_stamp or body[18] not in (3, 8) or number_in(body, 19, 23) == 0:
+    if len(body) != 23 or not is_stamp or body[18] not in (3, 8) or checks.number_in(body, 19, 23) == 0:
         return None
     return f"receipt {number} " + ("not pending" if body[18] == 3 else "rejected ZVG 15")
 
@@ -42,7 +42,7 @@ def verdicts_of(bodies):
     """The lines of these receipts, up to the first that is no record of the journal before it."""
     lines, known, last = [], set(), 0
     for number, body in enumerate(bodies, 1):
-        line, stamp, name = verdict_of(number, body), number_in(body, 0, 6), body[6:18]
+        line, stamp, name = verdict_of(number, body), checks.number_in(body, 0, 6), body[6:18]
         if line is None or name in known or stamp < last:
             break
         lines.append(line)
@@ -57,7 +57,7 @@ def settled(file):
         return (0, b"end receipts 0 folios 0\n", b""), b"GGBJOURN1\0" + file[10:]
     if len(file) < 10 or file[1:9] != b"GBJOURN1":
         return (7, b"", b"not a journal\n"), file
-    gates, bodies, is_cut = frames_of(file)
+    gates, bodies, is_cut = checks.frames_of(file)
     lines = verdicts_of(bodies)
     if is_cut or len(lines) < len(bodies):
         return (8, b"", f"bad record at {gates[len(lines)]}\n".encode()), file

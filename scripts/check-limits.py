@@ -5,10 +5,9 @@ import pathlib
 import tempfile
 
 import checks
+from plain_lines import LONGEST_LINE, MOST_RECEIPTS
 
 LINES = ["settle", "--desks", "1", "--lines"]
-MOST_LINE = 65_536
-MOST_RECEIPTS = 200_000
 MOST_RIGHTS = 256
 MANY_RECEIPTS = 20_000
 
@@ -19,7 +18,7 @@ def replies(word, count):
 
 def check_line(look):
     """A line may have 65,536 bytes and no byte more."""
-    for size, wanted in ((MOST_LINE, "accepted 1"), (MOST_LINE + 1, "malformed length")):
+    for size, wanted in ((LONGEST_LINE, "accepted 1"), (LONGEST_LINE + 1, "malformed length")):
         line = checks.stamped(1).encode().ljust(size)
         status, said, _ = checks.run(LINES, input=line + b"\n")
         look.same(f"a line of {size} bytes", (status, said.split(b"\n")[0].decode()), (0, wanted))

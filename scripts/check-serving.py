@@ -24,13 +24,14 @@ from asking import (
     HOST, NOT_FOUND, NOT_JSON, NO_SENDER, PORT, TOO_LONG, UNAVAILABLE, WRONG_METHOD, all_of, connected, head, is_free,
     posted, reply, said, send, serving, so_many_of,
 )
+from plain_lines import MOST_RECEIPTS
+from report_texts import texts_of
 import wrong_lines
 
 KILLS = 100
 CONNECTIONS = 1000
 REQUESTS = 10_000
 BESIDE = 50
-MOST_RECEIPTS = 200_000
 
 
 def sends_on(sent, wanted):
@@ -277,21 +278,6 @@ def check_growing(look):
         if not told.endswith(reply(200, "OK", report)):
             grown.append(lines.name)
     look.same(f"{len(inputs)} journals that grow: those whose report is not that of the whole", grown, [])
-
-
-def texts_of(report):
-    """Each text of a report, with the path that it is asked for by."""
-    path, texts = "", {}
-    for line in report.splitlines(keepends=True):
-        words = line.split()
-        if words[0] in ("receipt", "folio", "ranks", "plan"):
-            path = {
-                "receipt": f"/receipts/{words[1]}", "folio": f"/folios/{words[1]}",
-                "ranks": f"/folios/{words[1]}/ranks", "plan": f"/plans/{words[-1]}",
-            }[words[0]]
-        if words[0] != "end" or words[1] == "plan":
-            texts[path] = texts.get(path, "") + line
-    return texts
 
 
 def check_texts(look):

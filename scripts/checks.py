@@ -190,6 +190,23 @@ def journal(bodies):
     return frames.HEAD + records + b"\x00"
 
 
+def number_in(file, begin, end):
+    return int.from_bytes(file[begin:end], "big")
+
+
+def frames_of(file):
+    """The gates and the bodies of a file's frames, and whether the gate after the last is open, though no whole frame follows."""
+    gate, gates, bodies = 9, [], []
+    while file[gate] == 1:
+        end = gate + 5 + number_in(file, gate + 1, gate + 5)
+        if not gate + 5 < end <= gate + 1029 or end >= len(file):
+            return [*gates, gate], bodies, True
+        gates.append(gate)
+        bodies.append(file[gate + 5 : end])
+        gate = end
+    return [*gates, gate], bodies, False
+
+
 def journal_of_lines(lines):
     """The bytes of a journal whose receipts are those of these stamped lines."""
     return journal([spelling.receipt(json.loads(line)) for line in lines.splitlines()])

@@ -2,7 +2,7 @@
 
 For each kind of item, act, document, basis and registration there is one line that is an item, and for
 each member of it the values that it must not have: absent, of another kind, below its range, above
-it. The tables are those of docs/formats/lines.md; nothing here is taken from a program.
+it. The members and their ranges are those of plain_lines.py; nothing here is taken from a program.
 
     scripts/wrong_lines.py             prints 'PATH<tab>LINE' for each wrong line
     scripts/wrong_lines.py --good      prints the lines that are items
@@ -16,6 +16,7 @@ import copy
 import json
 import sys
 
+import plain_lines
 import spelling
 
 ABSENT = object()
@@ -28,81 +29,65 @@ DATE = [
     20240301, "", "1969-12-31", "2200-01-01", "2024-3-01", "2024-03-01 ", "2024/03/01", "2O24-03-01", "+024-03-01", "2024-00-01",
     "2024-13-01", "2024-03-00", "2024-02-30", "2024-04-31", *NO_DAYS,
 ]
+STAMP_DAY = DATE + ["1999-12-31", "2150-01-01"]
+TRUTH = [0, "false", None]
 OBJECT = ["right", [], None]
 ARRAY = [{}, None, 1]
+ARRAYS = {"acts": ARRAY + [[]], "docs": ARRAY, "owners": ARRAY + [[], [1, 2, 3, 4, 5], [10, 10]]}
+
+# Members whose values stand in a text elsewhere, and these texts.
+QUOTED = {"sender": "1", "reference": "1", "minute": "9"}
+
+# A word that is none, by the first of the right ones.
+OTHER_WORDS = {
+    "open": "sell", "personal-easement": "Mortgage", "mortgage": "Mortgage", "consent": "will", "certified": "sealed",
+    "personal": "public", "advance": "costs", "filing": "deed",
+}
 
 
-def whole(low, high):
-    return [None, low - 1, high + 1]
+def wrong_values(name, kind):
+    """Values that a member of this name and kind must not have."""
+    if kind is plain_lines.SERIAL:
+        return SERIAL
+    if kind is plain_lines.AMOUNT:
+        return AMOUNT
+    match kind:
+        case plain_lines.Whole():
+            return [QUOTED.get(name), kind.low - 1, kind.high + 1]
+        case plain_lines.Words():
+            return [1, "", OTHER_WORDS[kind.words[0]]]
+        case plain_lines.Day():
+            return DATE if kind is plain_lines.DATES else STAMP_DAY
+        case plain_lines.Truth():
+            return TRUTH
+        case plain_lines.Array():
+            return ARRAYS[name]
+    return OBJECT
 
 
-def word(other):
-    return [1, "", other]
+def values_of(one):
+    """The members of an object in their order, with values that are wrong."""
+    values = {name: wrong_values(name, kind) for name, kind in one.members.items()}
+    if "reserve" in values:
+        values["reserve"] = AMOUNT + [None]
+    return values
 
 
-# The members of each object in their order, with values that are wrong.
-RIGHT = {"receipt": SERIAL, "act": whole(1, 8)}
-SECURED = {
-    "kind": word("Mortgage"),
-    "rate": whole(0, 2000),
-    "capital": AMOUNT,
-    "holder": SERIAL,
-    "group": whole(1, 8),
-}
-UNSECURED = {name: SECURED[name] for name in ("kind", "capital", "holder", "group")}
-FOLIO = {"act": word("sell"), "folio": SERIAL}
-ACTS = {
-    "open": {
-        **FOLIO,
-        "district": whole(1, 65535),
-        "parcel": whole(1, 4294967295),
-        "sub": whole(0, 65535),
-        "area": whole(1, 1000000000),
-        "owners": ARRAY + [[], [1, 2, 3, 4, 5], [10, 10], [1, 2, 1]],
-    },
-    "transfer": {**FOLIO, "owners": ARRAY + [[], [1, 2, 3, 4, 5], [10, 10]]},
-    "create": {**FOLIO, **SECURED, "reserve": AMOUNT + [None]},
-    "notice": {**FOLIO, **SECURED},
-    "convert": {**FOLIO, "right": OBJECT},
-    "assign": {**FOLIO, "right": OBJECT, "holder": SERIAL},
-    "cancel": {**FOLIO, "right": OBJECT},
-    "exchange": {**FOLIO, "recede": OBJECT, "rise": OBJECT},
-    "exercise": {**FOLIO, "behind": OBJECT, **SECURED},
-}
-DOC = {"doc": word("will"), "act": whole(1, 8)}
-DOCS = {
-    "consent": {**DOC, "person": SERIAL, "form": word("sealed")},
-    "agreement": DOC,
-    "clearance": DOC,
-    "expiry": DOC,
-}
-BASES = {
-    "personal": {"type": word("public"), "creditor": SERIAL, "claim": AMOUNT},
-    "right": {"type": word("public"), "right": OBJECT},
-}
-REGISTRATIONS = {
-    "advance": {"type": word("costs"), "person": SERIAL, "amount": AMOUNT},
-    "charge": {"type": word("costs"), "person": SERIAL, "amount": AMOUNT, "due": DATE},
-    "arrears": {"type": word("costs"), "right": OBJECT, "from": DATE, "until": DATE},
-}
-ITEMS = {
-    "filing": {
-        "kind": word("deed"),
-        "applicant": SERIAL,
-        "conditional": [0, "false", None],
-        "acts": ARRAY + [[]],
-        "docs": ARRAY,
-    },
-    "cure": {"kind": word("deed"), "filing": SERIAL, "docs": ARRAY},
-    "lapse": {"kind": word("deed"), "filing": SERIAL},
-    "seize": {"kind": word("deed"), "folio": SERIAL, "basis": OBJECT, "served": DATE},
-    "register": {"kind": word("deed"), "folio": SERIAL, "what": OBJECT},
-    "open-bids": {"kind": word("deed"), "folio": SERIAL, "costs": AMOUNT},
-    "award": {"kind": word("deed"), "folio": SERIAL, "buyer": SERIAL, "bid": AMOUNT},
-    "distribute": {"kind": word("deed"), "folio": SERIAL},
-}
-LINE = {"sender": ["1", -1, 4294967296], "reference": ["1", -1, 18446744073709551616], "item": OBJECT}
-STAMP = {"day": DATE + ["1999-12-31", "2150-01-01"], "minute": ["9", -1, 1440]}
+def values_of_each(kinds):
+    return {word: values_of(one) for word, one in kinds.objects.items()}
+
+
+RIGHT = values_of(plain_lines.RIGHT)
+ACTS = values_of_each(plain_lines.ACT)
+ACTS["open"]["owners"] = ACTS["open"]["owners"] + [[1, 2, 1]]
+# A notice of a right that has no rate.
+WITHOUT_RATE = {name: values for name, values in ACTS["notice"].items() if name != "rate"}
+DOCS = values_of_each(plain_lines.DOCUMENT)
+BASES = values_of_each(plain_lines.BASIS)
+REGISTRATIONS = values_of_each(plain_lines.REGISTRATION)
+ITEMS = values_of_each(plain_lines.ITEM)
+LINE = values_of(plain_lines.UNSTAMPED_LINE)
+STAMPED = values_of(plain_lines.STAMPED_LINE)
 
 # One of each.
 A_RIGHT = {"receipt": 3, "act": 2}
@@ -206,7 +191,7 @@ def good_lines():
         yield line(filing([act], [])), ["item", "acts", 0], ACTS[name]
     for name in ("personal-easement", "usufruct"):
         act = {"act": "notice", "folio": 7, "kind": name, "capital": 1, "holder": 20, "group": 8}
-        yield line(filing([act], [])), ["item", "acts", 0], {**FOLIO, **UNSECURED}
+        yield line(filing([act], [])), ["item", "acts", 0], WITHOUT_RATE
     mortgage = {**AN_ACT["create"], "kind": "mortgage", "rate": 0}
     yield line(filing([mortgage], [])), ["item", "acts", 0], ACTS["create"]
     for name, doc in A_DOC.items():
@@ -220,7 +205,7 @@ def good_lines():
     for act, name in [("convert", "right"), ("exchange", "recede"), ("exchange", "rise"), ("exercise", "behind")]:
         yield line(filing([AN_ACT[act]], [])), ["item", "acts", 0, name], RIGHT
     yield line(AN_ITEM["lapse"]), [], LINE
-    yield stamped(AN_ITEM["lapse"]), [], {**STAMP, **LINE}
+    yield stamped(AN_ITEM["lapse"]), [], STAMPED
 
 
 def wrong_arrays():
