@@ -6,6 +6,7 @@ What a line is and what is replied to it is not known here: plain_lines.py tells
 
 import copy
 import datetime
+import itertools
 import json
 
 import plain_lines
@@ -59,6 +60,11 @@ class Twice:
         self.values = first, second
 
 
+def day_beside(day, days):
+    """The day that is so many later."""
+    return str(datetime.date.fromisoformat(day) + datetime.timedelta(days))
+
+
 def both(name, value):
     """The members that stand for this one."""
     return [(name, each) for each in (value.values if isinstance(value, Twice) else (value,))]
@@ -78,6 +84,8 @@ class DrawnLines:
     def __init__(self, chance, form, space=" \t\r"):
         self.chance, self.form, self.space = chance, form, space
         self.kept = []
+        # How many values are drawn until one is beyond its limit; 0 where none is to be.
+        self.left = 0
 
     def line(self):
         """The bytes of the next line, without its line feed."""
@@ -85,8 +93,10 @@ class DrawnLines:
         if draw < 1:
             return self.text()
         value = self.known() if self.kept and draw < 20 else self.fresh()
-        if draw < 60:
+        if draw < 58:
             return self.written(value).encode()
+        if draw < 64:
+            return self.written(self.beyond()).encode()
         text = (self.written(self.spoiled(value), is_whole=False) if draw < 90 else self.written(value)).encode()
         return self.spoiled_bytes(text) if draw >= 88 else text
 
@@ -111,6 +121,18 @@ class DrawnLines:
             self.kept.pop(self.chance.randrange(KEPT))
         return value
 
+    def beyond(self):
+        """A line in which a value is just beyond its limit, if there are so many values before it."""
+        self.left = self.chance.randint(1, 30)
+        value = self.value(self.form)
+        self.left = 0
+        return value
+
+    def is_beyond(self):
+        """Whether the value that is drawn now is the one that is to be beyond its limit."""
+        self.left -= 1
+        return self.left == 0
+
     def known(self):
         """A line that came before: as it was, with another stamp, or with another item."""
         value = dict(self.chance.choice(self.kept))
@@ -131,11 +153,15 @@ class DrawnLines:
         chance = self.chance
         match kind:
             case plain_lines.Whole():
+                if self.is_beyond():
+                    return chance.choice([kind.low - 1, kind.high + 1])
                 near = chance.randint(kind.low, min(kind.low + 3, kind.high))
                 return chance.choice([near, near, near, kind.low, kind.high, chance.randint(kind.low, kind.high)])
             case plain_lines.Day():
-                day = datetime.date(1970, 1, 1) + datetime.timedelta(chance.randrange(84_006))
-                return chance.choice([day for day in [*DAYS, str(day), kind.first, kind.last] if kind.first <= day <= kind.last])
+                if self.is_beyond():
+                    return chance.choice([day_beside(kind.first, -1), day_beside(kind.last, 1)])
+                among = [*DAYS, day_beside("1970-01-01", chance.randrange(84_006)), kind.first, kind.last]
+                return chance.choice([day for day in among if kind.first <= day <= kind.last])
             case plain_lines.Words():
                 return chance.choice(kind.words)
             case plain_lines.Array():
@@ -150,17 +176,24 @@ class DrawnLines:
 
     def array(self, kind):
         count = self.chance.choice([kind.least, 1, 1, 1, 1, 2, 2, 3, 4, self.chance.choice([kind.least, kind.most])])
+        if self.is_beyond():
+            count = self.chance.choice([kind.most + 1, max(0, kind.least - 1)])
         values = [self.value(kind.kind) for _ in range(count)]
         if kind.distinct:
-            values = list(dict.fromkeys(values))
+            values = list(dict.fromkeys(values)) if count <= kind.most else list(range(1, count + 1))
         if kind.kind is plain_lines.ACT and self.chance.randrange(4):
             values = self.acts_by_the_rules(values)
         return values
 
     def acts_by_the_rules(self, acts):
-        """Those of the acts that keep the rules with the ones before them."""
-        kept = []
-        for act in acts:
+        """As many acts, mostly of one folio, each of which keeps the rules with the ones before it; fewer where the
+        draws do not bring them."""
+        kept, others = [], (self.value(plain_lines.ACT) for _ in range(2 * len(acts)))
+        for act in itertools.chain(acts, others):
+            if len(kept) == len(acts):
+                break
+            if kept and self.chance.randrange(4):
+                act["folio"] = self.chance.choice(kept)["folio"]
             if plain_lines.keeps_rules({"acts": [*kept, act]}):
                 kept.append(act)
         return kept

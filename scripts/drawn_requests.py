@@ -67,31 +67,34 @@ class DrawnConnections:
         return data, count
 
     def request(self):
-        """The bytes of a request. One head in six is spoiled in one of its parts, and a few in their bytes."""
+        """The bytes of a request. One head in four is spoiled in one of its parts, and a few in their bytes."""
         chance = self.chance
-        spoiled = chance.choice(["blanks", "method", "target", "version", "end", "headers", "length"]) if chance.randrange(6) == 0 else ""
+        spoiled = chance.choice(["blanks", "method", "target", "version", "end", "headers", "headers", "length"]) if chance.randrange(4) == 0 else ""
         method, target = self.asked()
         if spoiled == "method":
             method = chance.choice(METHODS[1])
         if spoiled == "target":
             target = chance.choice(TARGETS[1])
         body = self.body() if method == b"POST" or spoiled == "length" else b""
-        front = self.part(BLANKS, spoiled == "blanks") + method + b" " + target + b" " + self.part(VERSIONS, spoiled == "version")
         end = chance.choice(ENDS[0])
-        headers = [self.part(HEADERS, spoiled == "headers") + self.end(spoiled) for _ in range(chance.choice([0, 1, 2, 3]))]
-        headers.insert(chance.randint(0, len(headers)), self.length(body, spoiled == "length"))
-        head = front + self.end(spoiled) + b"".join(headers) + end
-        if chance.randrange(200) == 0:
+        lines = [
+            self.part(BLANKS, spoiled == "blanks") + method + b" " + target + b" " + self.part(VERSIONS, spoiled == "version"),
+            *(chance.choice(HEADERS[0]) for _ in range(chance.choice([0, 1, 2]))),
+        ]
+        for line in self.lengths(body, spoiled == "length") + ([chance.choice(HEADERS[1])] if spoiled == "headers" else []):
+            lines.insert(chance.randint(1, len(lines)), line)
+        ends = [chance.choice(ENDS[0]) for _ in lines]
+        if spoiled == "end":
+            ends[chance.randrange(len(ends))] = chance.choice(ENDS[1])
+        head = b"".join(line + after for line, after in zip(lines, ends)) + end
+        if chance.randrange(100) == 0:
             head = self.at_limit(head, end)
-        if chance.randrange(60) == 0:
+        if chance.randrange(50) == 0:
             head = self.spoiled_bytes(head)
         return head + body
 
     def part(self, parts, is_spoiled):
-        return self.chance.choice(parts[1] if is_spoiled and self.chance.randrange(2) else parts[0])
-
-    def end(self, spoiled):
-        return self.part(ENDS, spoiled == "end")
+        return self.chance.choice(parts[1 if is_spoiled else 0])
 
     def asked(self):
         """A method and a target that go together, or nearly."""
@@ -115,24 +118,24 @@ class DrawnConnections:
             body = self.story.pop(0)
         elif draw < 5 and self.posted:
             return self.chance.choice(self.posted)
-        elif draw == 5 and self.chance.randrange(40) == 0:
+        elif draw == 5 and self.chance.randrange(16) == 0:
             return self.lines.line().ljust(self.chance.choice([LONGEST_BODY - 1, LONGEST_BODY, LONGEST_BODY + 1]))
         else:
             body = self.lines.line()
         self.posted.append(body)
         return body
 
-    def length(self, body, is_spoiled):
-        """The line that says how long a body is, with its line end; nothing where none says it."""
+    def lengths(self, body, is_spoiled):
+        """The line that says how long a body is, where one says it."""
         size = len(body)
         if not is_spoiled:
-            return f"Content-Length: {size}\r\n".encode() if size or self.chance.randrange(4) == 0 else b""
-        draw = self.chance.randrange(4)
+            return [b"Content-Length: %d" % size] if size or self.chance.randrange(4) == 0 else []
+        draw = self.chance.randrange(6)
         if draw == 0:
-            return b""
+            return []
         if draw == 1:
-            return f"Content-Length: {max(0, size + self.chance.choice([-5, -1, 1, 20]))}\r\n".encode()
-        return self.chance.choice(LENGTHS).format(size).encode() + b"\r\n"
+            return [b"Content-Length: %d" % max(0, size + self.chance.choice([-5, -1, 1, 20]))]
+        return [self.chance.choice(LENGTHS).format(size).encode()]
 
     def at_limit(self, head, end):
         """The head with so many lines or bytes that it is at the limit, or one off."""
