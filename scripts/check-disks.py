@@ -4,11 +4,11 @@
     scripts/check-disks.py                        50 points of `take` and 50 of `serve`, the same each time
     scripts/check-disks.py --points N --seed S    so many of each, drawn otherwise
 
-From a point on one call of the file fails, or some, or all; before that a write may be cut short (fail_disk.c).
-Just where a call failed `take` ends with status 5, and `serve` answers 503 to that request and goes on; after a
-failed sync it answers so to all. What was acknowledged is in the file then, and a program without failures receives
-the same lines again and ends with each of them once. A tenth as many times a small file system fills up while lines
-are received, and is given room again.
+From a point on one call of the file fails, or some, or all, or the program is killed there; before that a write
+may be cut short (fail_disk.c). Just where a call failed `take` ends with status 5, and `serve` answers 503 to that
+request and goes on; after a failed sync it answers so to all. What was acknowledged is in the file then, and a
+program without failures receives the same lines again and ends with each of them once. A tenth as many times a
+small file system fills up while lines are received, and is given room again.
 
 Without a C compiler the points are skipped, and without the right to mount a file system of its own the rest.
 """
@@ -21,6 +21,7 @@ import http.client
 import os
 import pathlib
 import random
+import signal
 import subprocess
 import tempfile
 import time
@@ -31,6 +32,10 @@ import kept_lines
 
 SOURCE = pathlib.Path(__file__).resolve().parent / "fail_disk.c"
 DISK_FAULT = (5, b"disk fault\n")
+KILLED = (-signal.SIGKILL, b"")
+
+# What a connection may end with where the program is gone.
+GONE = (OSError, http.client.HTTPException)
 
 # How often a line is posted whose request found a failure.
 TRIES = 3
@@ -56,7 +61,8 @@ class Point:
         # An opening makes up to ten calls, and a receipt four.
         at, short = chance.randint(1, 10 + 4 * lines), chance.choice((0, 0, chance.randint(1, 90)))
         failing = chance.choice((1, 1, 2, 3, 1_000_000, 0 if short else 1))
-        error = chance.choice((errno.EIO, errno.ENOSPC))
+        # With no error the program is killed there.
+        error = chance.choice((errno.EIO, errno.ENOSPC, 0))
         self.how = {"FAIL_AT": at, "FAIL_CALLS": failing, "FAIL_SHORT": short, "FAIL_WITH": error}
 
     def __str__(self):
@@ -76,8 +82,15 @@ class Disk:
         return {**os.environ, "LD_PRELOAD": self.library, "FAIL_LOG": str(self.log), **how}
 
     def noted(self):
-        """The calls that failed or were cut short, in order."""
+        """The calls that failed, were cut short or ended the program, in order."""
         return [call for call in self.log.read_text().splitlines() if " " in call]
+
+    def is_killed(self):
+        return any(call.endswith(" killed") for call in self.noted())
+
+    def ends(self):
+        """How a run ends that cannot go on after a failed call."""
+        return KILLED if self.is_killed() else DISK_FAULT if self.failures() else (0, b"")
 
     def failures(self):
         return [call.split()[0] for call in self.noted() if call.endswith(" failed")]
@@ -96,10 +109,10 @@ def taken(disk, point, folder, kept):
     """What is wrong after a `take` whose calls fail at a point."""
     lines = kept_lines.texts_of(point.references)
     status, output, errors = checks.run(["take"], folder, input=lines, env=disk.failing_at(point))
-    told, failures = kept_lines.told_by(output, point.references), disk.failures()
-    if (status, errors) != (DISK_FAULT if failures else (0, b"")):
-        return f"status {status} {errors} where {failures} failed"
-    if not failures and len(told) < len(point.references):
+    told = kept_lines.told_by(output, point.references)
+    if (status, errors) != disk.ends():
+        return f"status {status} {errors} where {disk.noted()}"
+    if status == 0 and len(told) < len(point.references):
         return f"{len(told)} replies where no call failed"
     return kept.wrong_after(told, point.references, 1) or repeated(folder, kept, point.references)
 
@@ -152,15 +165,19 @@ def posted_at(disk, point, folder, kept):
     with asking.serving(folder, env=disk.failing_at(point)) as child:
         if not asking.opens_port(child):
             ended = child.returncode, child.stderr.read()
-            return "" if ended == DISK_FAULT and disk.failures() else f"it ends with {ended} where {disk.failures()} failed"
+            return "" if disk.noted() and ended == disk.ends() else f"it ends with {ended} where {disk.noted()}"
         if disk.failures():
             return f"it serves where {disk.failures()} failed"
         with client_of() as client:
             posting = Posting(disk, client, point.stood)
-            for reference in point.references:
-                posting.post(reference)
-        if child.poll() is not None:
-            return f"it ends with {child.returncode} where {disk.failures()} failed"
+            try:
+                for reference in point.references:
+                    posting.post(reference)
+            except GONE:
+                if not disk.is_killed():
+                    raise
+        if not disk.is_killed() and child.poll() is not None:
+            return f"it ends with {child.returncode} where {disk.noted()}"
     return "; ".join(posting.wrong) or kept.wrong_after(posting.told, point.references, 1)
 
 
@@ -204,7 +221,7 @@ def checked_at(disk, point, over):
         kept.read(point.references)
         try:
             return over(disk, point, folder, kept)
-        except (OSError, http.client.HTTPException) as error:
+        except GONE as error:
             return f"the connection fails: {error!r}"
 
 

@@ -1,11 +1,13 @@
 /* Has calls on the journal's file fail for the program that it is loaded ahead of (LD_PRELOAD). The calls that
  * read, write, cut or sync a file named grundbuch.journal are counted from 1. FAIL_CALLS of them, from the number
- * FAIL_AT on, fail with the error FAIL_WITH. Where FAIL_SHORT is more than 0, the first write from FAIL_AT on that has
- * more bytes than that writes so many and says so, and the calls after it fail. Each call adds a line to the file
- * FAIL_LOG: its name, and then `failed` or `short` where it was. It wants 64-bit Linux. */
+ * FAIL_AT on, fail with the error FAIL_WITH; where that is 0, the program is killed ahead of the first. Where
+ * FAIL_SHORT is more than 0, the first write from FAIL_AT on that has more bytes than that writes so many and says
+ * so, and the calls after it fail. Each call adds a line to the file FAIL_LOG: its name, and then `failed`,
+ * `killed` or `short` where it was. It wants 64-bit Linux. */
 
 #include <errno.h>
 #include <fcntl.h>
+#include <signal.h>
 #include <stdatomic.h>
 #include <stdio.h>
 #include <stdlib.h>
@@ -58,7 +60,8 @@ static enum answer answer_of(int file, const char *name, size_t bytes) {
         will_be_short = 0;
         fail_at = number + 1;
     }
-    dprintf(notes, "%s%s\n", name, is_short ? " short" : fails ? " failed" : "");
+    dprintf(notes, "%s%s\n", name, is_short ? " short" : !fails ? "" : fail_with ? " failed" : " killed");
+    if (fails && !fail_with) kill(getpid(), SIGKILL);
     if (fails) errno = fail_with;
     return is_short ? SHORT : fails ? FAILED : AS_EVER;
 }
