@@ -7,12 +7,15 @@
 After each kill the file is read beside the program: what stood there stands there, each receipt whose reply
 came out has its number and its own content, and of the other lines that were sent each is there whole and
 once, or not at all. Then the same lines are sent again, to a run that is killed too or to one that ends.
-The latter answers all of them: `repeated` where the file had the line, else `accepted`.
+The latter answers all of them: `repeated` where the file had the line, else `accepted`. Where a C compiler is
+found, the disk is slow in most of the runs that are killed (fail_disk.c).
 """
 
 import argparse
 import collections
 import contextlib
+import os
+import pathlib
 import random
 import signal
 import socket
@@ -24,6 +27,8 @@ import asking
 import checks
 import kept_lines
 
+SOURCE = pathlib.Path(__file__).resolve().parent / "fail_disk.c"
+
 # Lines that are sent until a run has ended with all of them, and then others are.
 WINDOW = 40
 
@@ -34,8 +39,11 @@ SETTLED = 10
 CONNECTIONS = 3
 MANY = 1_000_000
 
-# The time of some receipts, in seconds.
+# The time of some receipts, in seconds. With a slow disk each of their four calls takes some tenths of a millisecond, so
+# that many kills come between two of them.
 SOON = 0.0003
+SLOW = {"FAIL_SLOW": "100"}
+SOON_IF_SLOW = 0.004
 
 SETTLE = ["settle", "--desks", "1"]
 
@@ -43,19 +51,21 @@ SETTLE = ["settle", "--desks", "1"]
 class Killer:
     """Kills a run while it opens its journal, or soon after some replies, while it has other lines in hand."""
 
-    def __init__(self, chance):
+    def __init__(self, chance, library):
         self.chance, self.opening = chance, 0.01
+        self.slow = {**os.environ, "LD_PRELOAD": library, **SLOW} if library else None
         self.draw()
 
     def draw(self):
-        self.is_early, self.is_killing = self.chance.random() < 0.3, True
+        self.is_early, self.is_killing = self.chance.random() < 0.2, True
+        self.environment = self.slow if self.chance.random() < 0.6 else None
         self.replies = self.chance.randrange(WINDOW) if not self.is_early else 0
-        self.seconds = self.chance.random() * (self.opening if self.is_early else SOON)
+        self.seconds = self.chance.random() * (self.opening if self.is_early else SOON_IF_SLOW if self.environment else SOON)
 
     def spare(self):
         """Lets the next run end by itself, and learns how long its opening takes."""
         self.is_early = self.is_killing = False
-        self.replies, self.begun = 1, time.perf_counter()
+        self.environment, self.replies, self.begun = None, 1, time.perf_counter()
 
     def opened(self):
         if not self.is_killing:
@@ -74,7 +84,7 @@ class Killer:
 def taken(folder, references, killer):
     """How a `take` ends that is sent these lines, and its replies by their references."""
     texts = [kept_lines.text_of(reference) + b"\n" for reference in references]
-    child = subprocess.Popen([checks.PROGRAM, "take"], cwd=folder, stdin=subprocess.PIPE, stdout=subprocess.PIPE)
+    child = subprocess.Popen([checks.PROGRAM, "take"], cwd=folder, env=killer.environment, stdin=subprocess.PIPE, stdout=subprocess.PIPE)
     with child, checks.ended_late(child):
         child.stdin.write(b"".join(texts[: killer.replies]))
         child.stdin.flush()
@@ -92,7 +102,7 @@ def served(folder, references, killer):
     """The same of a `serve`, to which lines are posted over one connection, and then others over several at once.
     One that is spared ends after so many replies."""
     told = {}
-    with asking.serving(folder, MANY if killer.is_killing else len(references)) as child:
+    with asking.serving(folder, MANY if killer.is_killing else len(references), env=killer.environment) as child:
         if not killer.is_early and asking.opens_port(child):
             killer.opened()
             before, others = references[: killer.replies], references[killer.replies :]
@@ -121,8 +131,8 @@ def posted(shares, meanwhile):
 class Growing:
     """A journal that grows while the program is killed, and what was found of it."""
 
-    def __init__(self, folder, receive, chance):
-        self.folder, self.receive, self.killer = folder, receive, Killer(chance)
+    def __init__(self, folder, receive, killer):
+        self.folder, self.receive, self.killer = folder, receive, killer
         self.kept, self.first = kept_lines.Kept(folder), 1
         self.kills, self.seen, self.wrong = 0, collections.Counter(), []
 
@@ -162,13 +172,13 @@ class Growing:
         return "" if is_right else f"settle ends with {status} {errors} {output[-80:]}"
 
 
-def check_kills(look, what, kills, chance, receive):
+def check_kills(look, what, kills, killer, receive):
     begun = time.monotonic()
     with tempfile.TemporaryDirectory(dir=checks.QUICK) as folder:
-        growing = Growing(folder, receive, chance)
+        growing = Growing(folder, receive, killer)
         while growing.kills < kills:
             growing.kill()
-            if chance.random() < 0.5:
+            if killer.chance.random() < 0.5:
                 growing.end_window()
         growing.end_window()
         count, seen = len(growing.kept.references), growing.seen
@@ -193,12 +203,15 @@ def main():
     asked = words.parse_args()
     checks.build()
     look = checks.Checks()
-    chance = random.Random(asked.seed)
-    check_kills(look, "take", asked.kills, chance, taken)
-    if asking.is_free():
-        check_kills(look, "serve", asked.kills, chance, served)
-    else:
-        look.skip("kills while it serves", "another program has the port")
+    with tempfile.TemporaryDirectory() as folder:
+        killer = Killer(random.Random(asked.seed), checks.library_of(SOURCE, folder))
+        if not killer.slow:
+            look.skip("kills where the disk is slow", "there is no C compiler")
+        check_kills(look, "take", asked.kills, killer, taken)
+        if asking.is_free():
+            check_kills(look, "serve", asked.kills, killer, served)
+        else:
+            look.skip("kills while it serves", "another program has the port")
     look.end()
 
 

@@ -1,9 +1,9 @@
-/* Has calls on the journal's file fail for the program that it is loaded ahead of (LD_PRELOAD). The calls that
- * read, write, cut or sync a file named grundbuch.journal are counted from 1. FAIL_CALLS of them, from the number
- * FAIL_AT on, fail with the error FAIL_WITH; where that is 0, the program is killed ahead of the first. Where
- * FAIL_SHORT is more than 0, the first write from FAIL_AT on that has more bytes than that writes so many and says
- * so, and the calls after it fail. Each call adds a line to the file FAIL_LOG: its name, and then `failed`,
- * `killed` or `short` where it was. It wants 64-bit Linux. */
+/* Has calls on the journal's file fail, or be slow, for the program that it is loaded ahead of (LD_PRELOAD). The
+ * calls that read, write, cut or sync a file named grundbuch.journal are counted from 1. FAIL_CALLS of them, from
+ * the number FAIL_AT on, fail with the error FAIL_WITH; where that is 0, the program is killed ahead of the first.
+ * Where FAIL_SHORT is more than 0, the first write from FAIL_AT on that has more bytes than that writes so many and
+ * says so, and the calls after it fail. Each call adds a line to the file FAIL_LOG: its name, and then `failed`,
+ * `killed` or `short` where it was. Ahead of each call FAIL_SLOW microseconds pass. It wants 64-bit Linux. */
 
 #include <errno.h>
 #include <fcntl.h>
@@ -21,7 +21,7 @@ enum answer { AS_EVER, SHORT, FAILED };
 static const char *const JOURNAL = "/grundbuch.journal";
 
 static atomic_long calls;
-static long fail_at, fail_calls, fail_short;
+static long fail_at, fail_calls, fail_short, fail_slow;
 static int fail_with, will_be_short, notes;
 
 static long number_in(const char *name) {
@@ -34,6 +34,7 @@ __attribute__((constructor)) static void begin(void) {
     fail_at = number_in("FAIL_AT");
     fail_calls = number_in("FAIL_CALLS");
     fail_short = number_in("FAIL_SHORT");
+    fail_slow = number_in("FAIL_SLOW");
     will_be_short = fail_short > 0;
     fail_with = (int)number_in("FAIL_WITH");
     /* Beside the numbers that the program's own files get. */
@@ -54,6 +55,7 @@ static int is_journal(int file) {
 static enum answer answer_of(int file, const char *name, size_t bytes) {
     if (file == notes || !is_journal(file)) return AS_EVER;
     long number = atomic_fetch_add(&calls, 1) + 1;
+    if (fail_slow > 0) usleep((useconds_t)fail_slow);
     int is_short = will_be_short && number >= fail_at && bytes > (size_t)fail_short;
     int fails = !will_be_short && fail_at > 0 && number >= fail_at && number - fail_at < fail_calls;
     if (is_short) {
