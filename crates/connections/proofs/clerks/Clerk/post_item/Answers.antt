@@ -85,7 +85,7 @@ returns-clause-asked g c =
       book = some_or (working c.args.self.now) _ c.in-Ok.ensures.opens;
       stamp = c.receive-answer.ensures.asked.0;
       asked = c.receive-answer.ensures.asked.1;
-      there = refl;
+      there = refl {a = true};
       works = λ sound. some_works c.receive-answer.new.book (c.receive-answer.ensures.failed ∙ sym status.disk ∙ sound);
     })
 
