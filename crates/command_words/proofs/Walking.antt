@@ -1,5 +1,5 @@
 -- One turn of the parse, from where it stands between two pieces.
-use Rattle.std.proofs.Common.{◌≡◌, refl, ℕ, Bool, true, false, List, [], ◌∷◌, codes, Option, Some, None}
+use Rattle.std.proofs.Common.{◌≡◌, refl, ℕ, Bool, true, false, List, [], ◌∷◌, Option, Some, None}
 use Rattle.std.specs.Prelude.{fold}
 use Rattle.clap.specs.Walk.{Held, Row, Rule, Text, Walk, arg_by_long, idle, option, settled, takes_values, walked}
 use Rattle.clap.specs.Kinds.{Kinds, or_else}

@@ -1,5 +1,5 @@
 //! The grammar as `clap` is told it, and the parse.
-ghost use Rattle.std.specs.Prelude.{◌≡◌, [], IfErr, IfOk, codes, false, fold, map};
+ghost use Rattle.std.specs.Prelude.{◌≡◌, [], IfErr, IfOk, false, fold, map};
 ghost use Rattle.std.specs.Rc.{rc_str_bytes};
 ghost use Rattle.clap.specs.Words.{app_of, fault_of, found_of, kind_of, matches_of, rows_of, rule_of, with_rule};
 ghost use Rattle.clap.specs.declared.error.kind.ErrorKind.TheVariants.{OutOfMemory};

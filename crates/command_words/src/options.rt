@@ -1,9 +1,8 @@
 //! Which options stand, their numbers, and the command that a word and they are.
-ghost use Rattle.std.specs.Prelude.{◌≡◌, ◌≤◌, ◌&&◌, ◌||◌, IfSome, not};
-ghost use Rattle.std.specs.List.{list_all};
+ghost use Rattle.std.specs.Prelude.{◌≡◌, ◌≤◌, IfSome};
 ghost use Rattle.act_model.specs.Limits.{most_receipts};
 ghost use Rattle.clap.specs.Words.{first_value, found_of};
-ghost use Rattle.command_words.specs.CommandTable.{name_of, range_of};
+ghost use Rattle.command_words.specs.CommandTable.{range_of};
 ghost use Rattle.command_words.specs.Words.{HasDesks, HasRequests, HasSize, command_by, command_right, has_no_other, has_required, is_among, is_true, number, stands};
 ghost use Rattle.command_words.specs.inner.Parsing.{text_of};
 
