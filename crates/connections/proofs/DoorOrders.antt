@@ -1,7 +1,7 @@
 -- In which order the links of a door are served, link by link.
 use Rattle.std.proofs.Common.{◌≡◌, ◌⊎◌, ⊎_elim, inl, inr, ℕ, ◌+◌, ◌-◌, ◌<◌, ◌≤◌, List, [], ◌∷◌, ◌++◌, length, Option, Result, Ok, Err, refl, sym, ◌∙◌, ap, subst, arith, length-append}
 use Rattle.registry_http.specs.RequestParts.{RequestParts}
-use Rattle.connections.specs.DoorOrder.{ComesNone, EndsLacking, EndsUnmet, LacksReply, ServesAll, ServesDoorInOrder, ServesEach, ServesOne, left_after}
+use Rattle.connections.specs.DoorOrder.{ComesNone, LacksReply, ServesDoorInOrder, ServesEach, ServesOne, left_after}
 use Rattle.connections.specs.LinkOrder.{Stage, stage}
 use Rattle.connections.specs.Replies.{ReplyParts}
 use Rattle.connections.specs.declared.doors.DoorEnd.{DoorEnd}

@@ -1,9 +1,8 @@
 -- The book that is open stays open, over the turns of a link and over the links of a door.
-use Rattle.std.proofs.Common.{◌≡◌, ℕ, ◌==◌, Bool, false, ◌||◌, List, Option}
+use Rattle.std.proofs.Common.{ℕ, ◌==◌, Bool, false, ◌||◌, List, Option}
 use Rattle.std.proofs.lemmas.Bool.{or_parts}
 use Rattle.gb_base.specs.DayMinute.{DayMinute}
 use Rattle.registry_http.specs.RequestParts.{RequestParts}
-use Rattle.settled_book.specs.SettledBookState.{SettledBookState}
 use Rattle.connections.specs.Answering.{AnswersTurn, KeepsOpen}
 use Rattle.connections.specs.DoorOrder.{ServesDoorInOrder}
 use Rattle.connections.specs.LinkOrder.{ServesInOrder, Stage}

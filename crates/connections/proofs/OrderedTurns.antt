@@ -1,13 +1,13 @@
 -- In which order a link is read and written, turn by turn.
-use Rattle.std.proofs.Common.{◌≡◌, ◌⊎◌, ⊎_elim, inl, inr, ℕ, ◌+◌, ◌<◌, ◌≤◌, false, true, List, [], ◌∷◌, ◌++◌, length, Option, Some, None, refl, sym, ◌∙◌, ap, subst, arith, length-append}
+use Rattle.std.proofs.Common.{◌≡◌, ◌⊎◌, ⊎_elim, inl, inr, ℕ, ◌+◌, ◌<◌, false, List, [], ◌∷◌, ◌++◌, length, Option, Some, None, refl, sym, ◌∙◌, ap, subst, arith, length-append}
 use Rattle.std.specs.Io.KnownBytes.{Appends}
 use Rattle.gb_outside.specs.Faults.{Counts}
 use Rattle.registry_http.specs.Replies.{AppendsPart}
 use Rattle.registry_http.specs.RequestParts.{RequestParts}
-use Rattle.registry_http.specs.Requests.{ReadsNext, link_failed}
+use Rattle.registry_http.specs.Requests.{ReadsNext}
 use Rattle.registry_http.specs.declared.requests.Next.{Next}
 use Rattle.registry_http.specs.declared.requests.Next.TheVariants as next
-use Rattle.connections.specs.LinkOrder.{AnswersLast, EndsTurn, RepliesLast, ServesInOrder, Stage, StandsWritten, TurnsInOrder, TurnsLast, TurnsOnce, last_replies, served_so, stage}
+use Rattle.connections.specs.LinkOrder.{EndsTurn, RepliesLast, ServesInOrder, Stage, StandsWritten, TurnsInOrder, TurnsLast, TurnsOnce, last_replies, served_so, stage}
 use Rattle.connections.specs.Replies.{ReplyParts, bytes_of}
 use Rattle.connections.specs.Serving.{is_link_fault}
 use Rattle.connections.specs.declared.serving.Ended.{Ended}
