@@ -38,9 +38,6 @@ REPORT = ("receipt ", "end ")
 ROUND = 5_000
 TAKEN = 2_000
 
-# The bytes of a stamp, with which a receipt begins.
-STAMP = 6
-
 # No more differences are shown.
 SHOWN = 20
 
@@ -114,9 +111,9 @@ class Round:
     def check_file(self, folder):
         """Each receipt of the file is the item that came, whatever its stamp."""
         with open(os.path.join(folder, checks.JOURNAL), "rb") as file:
-            _, bodies, is_cut = checks.frames_of(file.read())
-        if is_cut or [body[STAMP:] for body in bodies] != self.journal.bodies():
-            self.differences.append(("the file", len(bodies), len(self.journal.items)))
+            kept = checks.receipts_without_stamps(file.read())
+        if kept != self.journal.receipts():
+            self.differences.append(("the file", len(kept or []), len(self.journal.items)))
 
 
 def round_of(of):
@@ -163,7 +160,7 @@ def check_drawn(look, seed, lines, beside):
             replies.update(told)
             differences += differ
     for differ in differences[:SHOWN]:
-        look.differs("a drawn line", str(differ))
+        look.differs("a drawn line", checks.shortened(differ, 2_000))
     words = ", ".join(f"{count} {word}" for word, count in sorted(counted(replies).items()))
     paths = paths_of(plain_lines.STAMPED_LINE, "")
     came = sum(f"malformed {path}" in replies for path in paths)

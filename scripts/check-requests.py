@@ -49,9 +49,6 @@ REPORT = reply(200, "OK", EMPTY_REPORT)
 # The most bytes of connections that are opened at once: what waits is in the system's hands.
 MOST_BESIDE = 50_000
 
-# The bytes of a stamp, with which a receipt begins.
-STAMP = 6
-
 
 # ---- by hand
 
@@ -259,7 +256,7 @@ class Reports:
 
     def __init__(self, file):
         self.file, self.texts = file, {}
-        self.gates, self.bodies, _ = checks.frames_of(file)
+        self.gates, _, _ = checks.frames_of(file)
 
     def of(self, count):
         """Each text by its path."""
@@ -309,8 +306,8 @@ def check_drawn(look, seed, requests):
         found = list(differences(one, told, reports))
         if ended != (0, b"", b""):
             found.append(("the end", ended))
-        if [body[STAMP:] for body in reports.bodies] != one.office.journal.bodies():
-            found.append(("the file", len(reports.bodies)))
+        if checks.receipts_without_stamps(file) != one.office.journal.receipts():
+            found.append(("the file", len(reports.gates) - 1))
         for what, why in found[: max(0, SHOWN - differ)]:
             look.differs(f"round {number} of seed {seed}, {what}", why)
         differ, links = differ + len(found), links + len(one.links)

@@ -207,6 +207,12 @@ def frames_of(file):
     return [*gates, gate], bodies, False
 
 
+def receipts_without_stamps(file):
+    """The receipts of a journal's file behind the six bytes of their stamps; None where the file is cut off."""
+    _, bodies, is_cut = frames_of(file)
+    return None if is_cut else [body[6:] for body in bodies]
+
+
 def journal_of_lines(lines):
     """The bytes of a journal whose receipts are those of these stamped lines."""
     return journal([spelling.receipt(json.loads(line)) for line in lines.splitlines()])

@@ -79,7 +79,7 @@ def places(value):
 
 
 class DrawnLines:
-    """Draws lines of a form, with this white space between their parts. Senders and references are few, so that they come again."""
+    """Draws lines of a form, with this white space between their parts. Some come again, as they were or with something else."""
 
     def __init__(self, chance, form, space=" \t\r"):
         self.chance, self.form, self.space = chance, form, space

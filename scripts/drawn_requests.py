@@ -10,7 +10,7 @@ import plain_lines
 from drawn_lines import DrawnLines
 from plain_requests import LONGEST_BODY, LONGEST_HEAD, MOST_HEADERS
 
-# Of each list the first is what a client writes, and is drawn mostly.
+# Of each pair the first has what a client writes, and is drawn mostly.
 BLANKS = [b""], [b"\r\n", b"\n", b"\n\r\n\n", b"\r", b"\r\r\n", b" ", b" \r\n", b"\t", b"\x00", b"\xef\xbb\xbf", b"\n" * 8_180]
 METHODS = [b"GET", b"POST"], [
     b"HEAD", b"PUT", b"DELETE", b"OPTIONS", b"PATCH", b"TRACE", b"CONNECT", b"get", b"GETS", b"G", b"brew-!#$%&'*+.^_`|~9", b"", b"GE T",

@@ -237,7 +237,7 @@ class Journal:
         self.numbers[key] = len(self.items)
         return f"accepted {len(self.items)}"
 
-    def bodies(self):
+    def receipts(self):
         """The bytes of each receipt behind its stamp."""
         return [spelling.u32(sender) + spelling.u64(reference) + item for (sender, reference), item in zip(self.numbers, self.items)]
 
