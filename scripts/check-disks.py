@@ -204,7 +204,7 @@ def check_points(look, disk, what, points, chance, over):
         why = checked_at(disk, point, over)
         if why:
             wrong.append(f"{point}: {why}")
-        # A point behind the last call is none.
+        # A point after the last call is none.
         done += bool(disk.noted())
         seen.update(set(disk.noted()))
     calls = ", ".join(f"{call} {times}" for call, times in sorted(seen.items()))

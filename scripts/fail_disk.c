@@ -1,9 +1,9 @@
 /* Has calls on the journal's file fail, or be slow, for the program that it is loaded ahead of (LD_PRELOAD). The
  * calls that read, write, cut or sync a file named grundbuch.journal are counted from 1. FAIL_CALLS of them, from
- * the number FAIL_AT on, fail with the error FAIL_WITH; where that is 0, the program is killed ahead of the first.
+ * the number FAIL_AT on, fail with the error FAIL_WITH; where that is 0, the program is killed before the first.
  * Where FAIL_SHORT is more than 0, the first write from FAIL_AT on that has more bytes than that writes so many and
  * says so, and the calls after it fail. Each call adds a line to the file FAIL_LOG: its name, and then `failed`,
- * `killed` or `short` where it was. Ahead of each call FAIL_SLOW microseconds pass. It wants 64-bit Linux. */
+ * `killed` or `short` where it was. Before each call FAIL_SLOW microseconds pass. It wants 64-bit Linux. */
 
 #include <errno.h>
 #include <fcntl.h>
