@@ -19,7 +19,7 @@ ghost use Rattle.command_words.specs.Words.{commanded};
 ghost use Rattle.intake.specs.Requests.{Held, OnDisk, replies, held_after};
 ghost use Rattle.intake.specs.Sessions.{most_input, Took};
 ghost use Rattle.registry_office.specs.Receivings.{HasWritten};
-ghost use Rattle.registry_office.specs.Servings.{IsHeld, ServesOffice};
+ghost use Rattle.registry_office.specs.Servings.{IsHeld, ServesInTurn, ServesOffice};
 ghost use Rattle.registry_office.specs.Statuses.{read_fault, write_fault, disk_fault, door_fault, is_no_journal, tells_of_opening};
 ghost use Rattle.registry_office.specs.Tasks.{task_by, Begins};
 ghost use Rattle.registry_office.specs.Unread.{IsUnread};
@@ -180,6 +180,10 @@ pub fn run<
         → IsTrue D.tells → IsHeld (D.reads disk.old) (C.ticks clock.old) held → L.waiting door.old ≡ Some waiting → AllZip AskSo waiting asked
         → IsUnread source.old source.new sink.old sink.new disk.old disk.new clock.old clock.new door.old door.new result
         ⊎ ServesOffice D.reads D.images D.moment D.since D.faults disk.old disk.new held most waiting asked (L.waiting door.new) (L.served door.old) (L.served door.new) (C.ticks clock.new) result }
+    ensures served_in_turn { let task = task_by rc_str_bytes words.now in
+        (most : ℕ) → task.serves ≡ Some most
+        → IsUnread source.old source.new sink.old sink.new disk.old disk.new clock.old clock.new door.old door.new result
+        ⊎ ServesInTurn L.waiting L.served L.faults L.Link.left L.Link.written L.Link.faults D.tells D.reads D.images D.faults C.ticks most door.old door.new disk.old disk.new clock.old clock.new result }
     ensures handed_back { IsSome (L.served door.old) → IsSome (L.served door.new) × (L.out door.new ≡ L.out door.old) }
     ensures disk_at_opening { disk_fault result ≡ true → Rose (D.faults disk.old) (D.faults disk.new) × (door.new ≡ door.old) }
 

@@ -5,7 +5,7 @@ use Rattle.receipt_journal.specs.Standing.{StandsForJournal}
 use Rattle.registry_office.specs.Disks.{KeepsGrown, LeftAnew, WritesBehind}
 use Rattle.intake.specs.EarlyEnds.{EndsEarly, AreOf}
 use Rattle.intake.specs.Intakes.{whole_of, cut_of}
-use Rattle.registry_office.specs.Servings.{ServesOffice}
+use Rattle.registry_office.specs.Servings.{ServesInTurn, ServesOffice}
 use Rattle.intake.specs.Requests.{OnDisk, held_after, replies}
 use Rattle.intake.specs.Sessions.{Took}
 use Rattle.registry_office.specs.Statuses.{disk_fault, tells_of_opening}
@@ -77,6 +77,14 @@ returns-in-Ok-Serve-clause-served g c = λ most held waiting asked up_to tells h
     let same : c.in-Ok-Serve.requests ≡ most = cc in
     inr (subst (λ (m : ℕ). ServesOffice g.D.Disk.reads g.D.Disk.images g.D.Disk.moment g.D.Disk.since g.D.Disk.faults c.args.disk.now c.serve.new.disk held m waiting asked (g.L.Listener.waiting c.serve.new.door) (g.L.Listener.served c.args.door.now) (g.L.Listener.served c.serve.new.door) (g.C.Clock.ticks c.serve.new.clock) c.serve.result)
     same (c.serve.ensures.serves tells held waiting asked holds waits asks))
+
+pub returns-in-Ok-Serve-clause-served_in_turn : goal.returns-in-Ok-Serve-clause-served_in_turn
+returns-in-Ok-Serve-clause-served_in_turn g c = λ most up_to.
+    let is = task_is _ _ _ c.in-Ok-Serve.ensures.command c.in-Ok-Serve.field-0-is in
+    let these : Some c.in-Ok-Serve.requests ≡ Some most = sym (ap (λ (task : Task). task.serves) is) ∙ up_to in
+    let same : c.in-Ok-Serve.requests ≡ most = cc in
+    inr (subst (λ (m : ℕ). ServesInTurn g.L.Listener.waiting g.L.Listener.served g.L.Listener.faults g.L.Link.Link.left g.L.Link.Link.written g.L.Link.Link.faults g.D.Disk.tells g.D.Disk.reads g.D.Disk.images g.D.Disk.faults g.C.Clock.ticks m c.args.door.now c.serve.new.door c.args.disk.now c.serve.new.disk c.args.clock.now c.serve.new.clock c.serve.result)
+    same c.serve.ensures.order)
 
 -- ---- no memory was found for the words
 
