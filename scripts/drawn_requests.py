@@ -30,7 +30,7 @@ VERSIONS = [b"HTTP/1.1"], [
     b"HTTP/1.1\t", b"HTTP/1.1\x00", b"HTTPS/1.1", b"HTTP/1,1", b"HTTP/01.1",
 ]
 ENDS = [b"\r\n", b"\n"], [b"\r", b"\r\r\n", b"\n\r", b"", b" \r\n", b"\t\n", b"\x00\r\n", b"\x0b\n", b"\x85\n"]
-HEADERS = [b"Host: 127.0.0.1:7117", b"Accept: */*", b"Content-Type: application/json", b"User-Agent: a/1 (b; c)"], [
+HEADERS = [b"Host: 127.0.0.1:7117", b"Connection: keep-alive", b"Accept: */*", b"Content-Type: application/json", b"User-Agent: a/1 (b; c)"], [
     b"Connection: close", b"connection:cLOSE\t", b"CONNECTION:  close  ", b"Connection: keep-alive", b"Connection: keep-alive, close", b"Connection: close,",
     b"Connection: close;", b"Connection: closed", b"Connection:", b"Connection: upgrade", b"Connexion: close", b"Proxy-Connection: close", b"Close: connection",
     b"Expect: 100-continue", b"expect: x", b"Upgrade: h2c", b"A:", b"A: \t b c \t ", b"!#$%&'*+-.^_`|~9: \xff\x80", b"A: \"\\(){}", b"Cookie: " + b"c" * 2_000,
@@ -81,7 +81,8 @@ class DrawnConnections:
             self.part(BLANKS, spoiled == "blanks") + method + b" " + target + b" " + self.part(VERSIONS, spoiled == "version"),
             *(chance.choice(HEADERS[0]) for _ in range(chance.choice([0, 1, 2]))),
         ]
-        for line in self.lengths(body, spoiled == "length") + ([chance.choice(HEADERS[1])] if spoiled == "headers" else []):
+        more = chance.choices(HEADERS[1], k=chance.choice([1, 1, 1, 2])) if spoiled == "headers" else []
+        for line in self.lengths(body, spoiled == "length") + more:
             lines.insert(chance.randint(1, len(lines)), line)
         ends = [chance.choice(ENDS[0]) for _ in lines]
         if spoiled == "end":
