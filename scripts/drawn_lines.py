@@ -232,7 +232,8 @@ class DrawnLines:
         if draw == 0:
             owner[name] = self.chance.choice([[old], {str(name): old}, [], {}])
         elif draw == 1 and type(old) in (int, str):
-            owner[name] = self.chance.choice([f"{old}", f"{old} ", Written(f"{old}.0"), Written(f"{old}e0"), Written(f"-{old}"), Written(f"0{old}")])
+            numbers = [Written(text.format(old)) for text in ("{}.0", "{}.", "{}e0", "{}E", "-{}", "+{}", "0{}")]
+            owner[name] = self.chance.choice([f"{old}", f"{old} ", *numbers])
         elif draw == 2 and type(old) is int:
             owner[name] = old + self.chance.choice([-1, 1])
         elif draw == 3 and isinstance(old, list):
