@@ -1,4 +1,4 @@
-use Rattle.std.proofs.Common.{◌∙◌, ap, inl, inr, refl, sym, subst}
+use Rattle.std.proofs.Common.{◌∙◌, ap, inl, inr, refl, sym, subst, true}
 use Rattle.gb_outside.specs.Faults.{Counts}
 use Rattle.receipt_journal.specs.Receiving.{receiving_disk_failed}
 use Rattle.connections.specs.Answers.{item_answer}
