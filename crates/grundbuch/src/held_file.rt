@@ -49,34 +49,18 @@ where
 {
     ghost use Rattle.std.specs.Prelude.{◌≡◌, None, IsOk, IsErr, IsSome};
 
-    /// Opens the file where it is shut. Where that fails it stays shut. One that is open stays so.
+    /// Opens the file where it is shut. Where that fails it stays shut. One that is open stays the
+    /// same.
     pub fn open(&mut self) -> io::Result<()>
         ensures shut { IsErr result → self.new.opened ≡ None }
         ensures now_open { IsOk result → IsSome self.new.opened }
-        ensures stays_open { IsSome self.old.opened → IsSome self.new.opened }
+        ensures stays_open { IsSome self.old.opened → self.new ≡ self.old }
     {
         if self.opened.is_none() {
             let file = self.open_and_lock()?;
             self.opened = Some(file);
         }
         Ok(())
-    }
-
-    /// The open file.
-    pub fn get(&mut self) -> io::Result<&R::File> {
-        let file = match self.opened.take() {
-            Some(file) => file,
-            None => self.open_and_lock()?,
-        };
-        Ok(self.opened.insert(file))
-    }
-
-    /// Brings the file onto the disk. One that is shut is an error.
-    pub fn sync(&self) -> io::Result<()> {
-        match &self.opened {
-            Some(file) => file.sync_all(),
-            None => Err(io::Error::from(io::ErrorKind::Other)),
-        }
     }
 
     fn open_and_lock(&self) -> io::Result<R::File> {
@@ -87,19 +71,46 @@ where
         Ok(file)
     }
 
+    /// The open file. One that is shut is an error.
+    fn file(&self) -> io::Result<&R::File>
+        ensures now_open { IsOk result → IsSome self.now.opened }
+    {
+        match &self.opened {
+            Some(file) => Ok(file),
+            None => Err(io::Error::from(io::ErrorKind::Other)),
+        }
+    }
+
+    /// Brings the file onto the disk. One that is shut is an error.
+    pub fn sync(&self) -> io::Result<()> {
+        self.file()?.sync_all()
+    }
+
     /// The length in bytes.
-    pub fn len(&mut self) -> io::Result<u64> {
-        Ok(self.get()?.metadata()?.len())
+    pub fn len(&mut self) -> io::Result<u64>
+        ensures now_open { IsOk result → IsSome self.new.opened }
+        ensures stays_open { IsSome self.old.opened → self.new ≡ self.old }
+    {
+        self.open()?;
+        Ok(self.file()?.metadata()?.len())
     }
 
     /// Fills `into` with the bytes from this offset on.
-    pub fn read_at(&mut self, at: u64, into: &mut [u8]) -> io::Result<()> {
-        self.get()?.read_exact_at(into, at)
+    pub fn read_at(&mut self, at: u64, into: &mut [u8]) -> io::Result<()>
+        ensures now_open { IsOk result → IsSome self.new.opened }
+        ensures stays_open { IsSome self.old.opened → self.new ≡ self.old }
+    {
+        self.open()?;
+        self.file()?.read_exact_at(into, at)
     }
 
     /// Writes all the bytes, from this offset on.
-    pub fn write_at(&mut self, at: u64, bytes: &[u8]) -> io::Result<()> {
-        self.get()?.write_all_at(bytes, at)
+    pub fn write_at(&mut self, at: u64, bytes: &[u8]) -> io::Result<()>
+        ensures now_open { IsOk result → IsSome self.new.opened }
+        ensures stays_open { IsSome self.old.opened → self.new ≡ self.old }
+    {
+        self.open()?;
+        self.file()?.write_all_at(bytes, at)
     }
 }
 

@@ -55,7 +55,8 @@ where
         ensures lost { IsErr result → (self.new.file.opened ≡ None) ⊎ IsTrue self.new.lost }
         ensures stays_lost { IsTrue self.old.lost → IsErr result × IsTrue self.new.lost }
         ensures unopened { self.new.file.opened ≡ None → self.new.lost ≡ self.old.lost }
-        ensures stays_open { IsSome self.old.file.opened → IsSome self.new.file.opened }
+        ensures now_open { IsOk result → IsSome self.new.file.opened }
+        ensures stays_open { IsSome self.old.file.opened → self.new.file ≡ self.old.file }
         ensures uncounted { self.new.faults ≡ self.old.faults }
     {
         if self.lost {
@@ -108,6 +109,8 @@ where
     fn len(&mut self) -> Result<u64, DiskFailed>
         ensures keeps_lost { self.new.lost ≡ self.old.lost }
         ensures keeps_entry { self.new.has_entry ≡ self.old.has_entry }
+        ensures now_open { IsOk result → IsSome self.new.file.opened }
+        ensures stays_open { IsSome self.old.file.opened → self.new.file ≡ self.old.file }
         ensures cause { Counts self.old.faults self.new.faults (is_err result) }
         ensures once { self.new.faults ≡ faults_after self.old.faults (is_err result) }
     {
@@ -117,6 +120,8 @@ where
     fn read_at(&mut self, at: u64, into: &mut [u8]) -> Result<(), DiskFailed>
         ensures keeps_lost { self.new.lost ≡ self.old.lost }
         ensures keeps_entry { self.new.has_entry ≡ self.old.has_entry }
+        ensures now_open { IsOk result → IsSome self.new.file.opened }
+        ensures stays_open { IsSome self.old.file.opened → self.new.file ≡ self.old.file }
         ensures cause { Counts self.old.faults self.new.faults (is_err result) }
         ensures once { self.new.faults ≡ faults_after self.old.faults (is_err result) }
     {
@@ -126,6 +131,8 @@ where
     fn write_at(&mut self, at: u64, bytes: &[u8]) -> Result<(), DiskFailed>
         ensures keeps_lost { self.new.lost ≡ self.old.lost }
         ensures keeps_entry { self.new.has_entry ≡ self.old.has_entry }
+        ensures now_open { IsOk result → IsSome self.new.file.opened }
+        ensures stays_open { IsSome self.old.file.opened → self.new.file ≡ self.old.file }
         ensures cause { Counts self.old.faults self.new.faults (is_err result) }
         ensures once { self.new.faults ≡ faults_after self.old.faults (is_err result) }
     {
@@ -137,7 +144,8 @@ where
         ensures lost { IsErr result → (self.new.file.opened ≡ None) ⊎ IsTrue self.new.lost }
         ensures stays_lost { IsTrue self.old.lost → IsErr result × IsTrue self.new.lost }
         ensures unopened { self.new.file.opened ≡ None → self.new.lost ≡ self.old.lost }
-        ensures stays_open { IsSome self.old.file.opened → IsSome self.new.file.opened }
+        ensures now_open { IsOk result → IsSome self.new.file.opened }
+        ensures stays_open { IsSome self.old.file.opened → self.new.file ≡ self.old.file }
         ensures cause { Counts self.old.faults self.new.faults (is_err result) }
         ensures once { self.new.faults ≡ faults_after self.old.faults (is_err result) }
     {

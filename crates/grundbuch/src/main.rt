@@ -36,7 +36,7 @@ fn main(rt: HostRuntime) -> ExitCode {
 }
 
 /// Runs the office over standard input and output, the journal's file of the current folder, the
-/// system's clock and the office's port. `threads` is the same runtime, as what starts desks.
+/// system's clock and the office's port. `threads` is the same runtime, seen as what starts threads.
 fn office<R: AllocGlobal + Threads + Wait + Sync>(
     rt: &HostRuntime,
     threads: &R,
