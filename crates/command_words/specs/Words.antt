@@ -138,6 +138,14 @@ abbrev pub has_no_other : CommandWord → (CommandOption → Bool) → Bool
 has_no_other word standing =
     list_all (λ o. not (standing o) || (is_among (required_of word) o || is_among (optional_of word) o)) all_options
 
+-- the option has a number in its range, where it stands and has a value
+abbrev pub is_in_range : (CommandOption → Bool) → (CommandOption → Option ℕ) → CommandOption → Bool
+is_in_range standing number_at o = not (standing o && takes_value o) || is_some (number_at o)
+
+-- each option that stands and has a value has a number in its range
+abbrev pub has_numbers : (CommandOption → Bool) → (CommandOption → Option ℕ) → Bool
+has_numbers standing number_at = list_all (is_in_range standing number_at) all_options
+
 -- the command of a word, by which options stand and which numbers they have
 abbrev pub command_by : CommandWord → (CommandOption → Bool) → (CommandOption → Option ℕ) → Option Command
 command_by word.Take standing number_at = Some (Receive Lines)
@@ -160,7 +168,7 @@ command_by word.Opening standing number_at = do
 -- the command of a word, where the options that stand are right
 abbrev pub command_right : CommandWord → (CommandOption → Bool) → (CommandOption → Option ℕ) → Option Command
 command_right word standing number_at =
-    if has_required word standing && has_no_other word standing then command_by word standing number_at else None
+    if has_required word standing && (has_no_other word standing && has_numbers standing number_at) then command_by word standing number_at else None
 
 -- the command, by what stands under each name
 abbrev pub command_with : Values → Option Command

@@ -3,7 +3,7 @@ ghost use Rattle.std.specs.Prelude.{◌≡◌, ◌≤◌, IfSome};
 ghost use Rattle.act_model.specs.Limits.{most_receipts};
 ghost use Rattle.clap.specs.Words.{first_value, found_of};
 ghost use Rattle.command_words.specs.CommandTable.{range_of};
-ghost use Rattle.command_words.specs.Words.{HasDesks, HasRequests, HasSize, command_by, command_right, has_no_other, has_required, is_among, is_true, number, stands};
+ghost use Rattle.command_words.specs.Words.{HasDesks, HasRequests, HasSize, command_by, command_right, has_no_other, has_numbers, has_required, is_among, is_in_range, is_true, number, stands};
 ghost use Rattle.command_words.specs.inner.Parsing.{text_of};
 
 use crate::commands::Command;
@@ -19,7 +19,7 @@ pub(crate) fn command_right(word: &CommandWord, matches: &ArgMatches<'_>) -> Opt
     ensures size { IfSome result HasSize }
     ensures requests { IfSome result HasRequests }
 {
-    if has_required(word, matches) && has_no_other(word, matches) {
+    if has_required(word, matches) && has_no_other(word, matches) && has_numbers(matches) {
         command_by(word, matches)
     } else {
         None
@@ -49,6 +49,22 @@ fn is_among(own: &[CommandOption], option: &CommandOption) -> bool
     ensures { result ≡ is_among own.now option.now }
 {
     own.iter().any(|one| one.name() == option.name())
+}
+
+/// Whether each option that stands and has a value has a number in its range.
+fn has_numbers(matches: &ArgMatches<'_>) -> bool
+    ensures { result ≡ has_numbers (stands (first_value (found_of matches.now))) (number (first_value (found_of matches.now))) }
+{
+    all_options()
+        .iter()
+        .all(|option| is_in_range(matches, option))
+}
+
+/// Whether the option has a number in its range, where it stands and has a value.
+fn is_in_range(matches: &ArgMatches<'_>, option: &CommandOption) -> bool
+    ensures { result ≡ is_in_range (stands (first_value (found_of matches.now))) (number (first_value (found_of matches.now))) option.now }
+{
+    !(stands(matches, option) && option.takes_value()) || number(matches, option).is_some()
 }
 
 /// The command of this word, by which options stand and which numbers they have.

@@ -1,6 +1,7 @@
 //! The commands, the options of each, and the range of each option's value.
 ghost use Rattle.std.specs.Prelude.{◌≡◌};
 ghost use Rattle.command_words.specs.CommandTable.{all_options, name_of, optional_of, range_of, required_of, word_of};
+ghost use Rattle.command_words.specs.Words.{takes_value};
 
 /// The word that says a command.
 #[derive(Clone, Copy)]
@@ -102,6 +103,13 @@ impl CommandOption {
             CommandOption::Sender => "sender",
             CommandOption::Lines => "lines",
         }
+    }
+
+    /// Whether the option has a value.
+    pub(crate) fn takes_value(&self) -> bool
+        ensures { result ≡ takes_value self.now }
+    {
+        self.range().is_some()
     }
 
     /// The range of the option's value. None where it has no value.
