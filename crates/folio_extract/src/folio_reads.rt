@@ -81,7 +81,7 @@ pub(crate) fn has_sale_note(register: &Register, folio: FolioId) -> bool
 
 /// Whether a forced sale runs and no award stands in it, so that its folio has the sale note (ZVG
 /// § 19).
-pub fn awaits_award(case: &CasePart) -> bool
+fn awaits_award(case: &CasePart) -> bool
     ensures { result ≡ is_running case.now.entries && is_none (award case.now.entries) }
 {
     case.running() && case.award().is_none()

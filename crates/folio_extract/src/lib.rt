@@ -19,11 +19,9 @@ mod waiting;
 mod waiting_lines;
 
 pub use extracts::extract;
-pub use folio_reads::awaits_award;
 pub use plans::{plan_csv, plan_text};
 pub use rank_tables::rank_table;
 pub use reports::report;
-pub use right_lines::add_right_line;
 pub use shared_reports::report_at_desks;
 pub use summaries::summary;
-pub use verdict_lines::{add_verdict_line, verdict_line};
+pub use verdict_lines::verdict_line;

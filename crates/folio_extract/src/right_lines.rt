@@ -13,7 +13,7 @@ use gb_base::{Cents, NoMemory, Person, ReceiptNo, RightId};
 
 /// Adds the line of a right, as it stands by the entries at it. Where memory runs out, a part of
 /// the line may stand in the text.
-pub fn add_right_line(
+pub(crate) fn add_right_line(
     text: &mut String,
     part: &RightPart,
     right: &CreatedRight,

@@ -41,7 +41,7 @@ pub(crate) fn add_verdict_lines(text: &mut String, register: &Register) -> Resul
 
 /// Adds the line of what becomes of receipt n. Where memory runs out, a part of the line may stand
 /// in the text.
-pub fn add_verdict_line(text: &mut String, n: usize, verdict: &Verdict) -> Result<(), NoMemory>
+fn add_verdict_line(text: &mut String, n: usize, verdict: &Verdict) -> Result<(), NoMemory>
     ensures { OnOk result (string_bytes text.new ≡ string_bytes text.old ++ verdict_line n verdict.now) }
 {
     write!(text, "receipt {n} ")?;
