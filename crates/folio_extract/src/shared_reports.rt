@@ -5,7 +5,7 @@ ghost use Rattle.std.specs.String.{string_bytes};
 ghost use Rattle.folio_sections.specs.Held.{entries_at};
 ghost use Rattle.folio_extract.specs.Reports.{Tells, folio_texts, report, report_text};
 ghost use Rattle.folio_extract.specs.inner.TellsPlans.{TellsPlans};
-ghost use Rattle.folio_extract.specs.inner.TextsInTurn.{AreTextsOf};
+ghost use Rattle.folio_extract.specs.inner.TextsInTurn.{AreTextsOf, folios_each};
 ghost use Rattle.registrar.specs.HasSettled.{IsRegisterOf};
 ghost use Rattle.registrar.specs.Settling.{Settlement};
 
@@ -33,42 +33,24 @@ pub fn report_at_desks<R: AllocGlobal + Threads + Sync>(
     ensures report { (settled : Settlement) → Tells register.now settled → IfOk result (λ text. text.items ≡ report journal.now.receipts settled) }
 {
     tells_plans(register, journal);
-    shared_text(rt, register, journal, desks as usize)
+    let texts = texts_at_desks(rt, register, journal, desks)?;
+    joined_report(rt.alloc(), register, journal, texts.as_slice(), desks)
 }
 
-/// The text of the report.
-fn shared_text<R: AllocGlobal + Threads + Sync>(
+/// The texts of the open folios, as so many desks write them, each of the next folios in turn.
+fn texts_at_desks<R: AllocGlobal + Threads + Sync>(
     rt: &R,
     register: &Register,
     journal: &Journal,
-    desks: usize,
-) -> Result<Vec<u8>, NoMemory>
+    desks: u16,
+) -> Result<Vec<Result<String, NoMemory>>, NoMemory>
     requires told { TellsPlans journal.now.receipts register.now }
     requires desks { 1 ≤ desks }
-    ensures { IfOk result (λ text. text.items ≡ report_text journal.now.receipts register.now.verdicts (entries_at register.now.parts) register.now.folios) }
-{
-    let mut text = String::new(rt.alloc());
-    add_verdict_lines(&mut text, register)?;
-    add_folios_at_desks(rt, &mut text, register, journal, desks)?;
-    add_end_line(&mut text, register)?;
-    Ok(text.into_bytes())
-}
-
-/// Adds the texts of the open folios, which so many desks write.
-fn add_folios_at_desks<R: AllocGlobal + Threads + Sync>(
-    rt: &R,
-    text: &mut String,
-    register: &Register,
-    journal: &Journal,
-    desks: usize,
-) -> Result<(), NoMemory>
-    requires told { TellsPlans journal.now.receipts register.now }
-    requires desks { 1 ≤ desks }
-    ensures { OnOk result (string_bytes text.new ≡ string_bytes text.old ++ folio_texts journal.now.receipts (entries_at register.now.parts) register.now.folios) }
+    ensures { IfOk result (λ texts. AreTextsOf (λ s. string_bytes s) journal.now.receipts (entries_at register.now.parts) register.now.folios desks texts.items) }
 {
     let alloc = rt.alloc();
     let folios = register.folios();
-    let each = folios_each(folios.len(), desks);
+    let each = folios_each(folios.len(), desks as usize);
     let texts = thread::map_chunks(
         rt,
         alloc,
@@ -76,12 +58,13 @@ fn add_folios_at_desks<R: AllocGlobal + Threads + Sync>(
         each,
         &|_, some| { texts_of(alloc, register, journal, some) },
     )?;
-    add_texts(text, texts.as_slice(), register, journal, each)
+    Ok(texts)
 }
 
 /// How many folios each desk writes the texts of: as few as are enough for all, and at least one.
 fn folios_each(folios: usize, desks: usize) -> usize
     requires desks { 1 ≤ desks }
+    ensures value { result ≡ folios_each folios desks }
     ensures some { 1 ≤ result }
     ensures enough { folios ≤ result * desks }
     ensures fewest { (fewer : ℕ) → 1 ≤ fewer → folios ≤ fewer * desks → result ≤ fewer }
@@ -104,15 +87,33 @@ fn texts_of(
     Ok(text)
 }
 
-/// Adds these texts, each of which is that of the next so many open folios.
+/// The report, made of these texts, which so many desks wrote.
+fn joined_report(
+    alloc: Global,
+    register: &Register,
+    journal: &Journal,
+    texts: &[Result<String, NoMemory>],
+    desks: u16,
+) -> Result<Vec<u8>, NoMemory>
+    requires texts { AreTextsOf (λ s. string_bytes s) journal.now.receipts (entries_at register.now.parts) register.now.folios desks texts.now }
+    ensures { IfOk result (λ text. text.items ≡ report_text journal.now.receipts register.now.verdicts (entries_at register.now.parts) register.now.folios) }
+{
+    let mut text = String::new(alloc);
+    add_verdict_lines(&mut text, register)?;
+    add_texts(&mut text, texts, register, journal, desks)?;
+    add_end_line(&mut text, register)?;
+    Ok(text.into_bytes())
+}
+
+/// Adds these texts, which so many desks wrote of the open folios.
 fn add_texts(
     text: &mut String,
     texts: &[Result<String, NoMemory>],
     register: &Register,
     journal: &Journal,
-    each: usize,
+    desks: u16,
 ) -> Result<(), NoMemory>
-    requires texts { AreTextsOf (λ s. string_bytes s) journal.now.receipts (entries_at register.now.parts) register.now.folios each texts.now }
+    requires texts { AreTextsOf (λ s. string_bytes s) journal.now.receipts (entries_at register.now.parts) register.now.folios desks texts.now }
     ensures { OnOk result (string_bytes text.new ≡ string_bytes text.old ++ folio_texts journal.now.receipts (entries_at register.now.parts) register.now.folios) }
 {
     for some in texts {

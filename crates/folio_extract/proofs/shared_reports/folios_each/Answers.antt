@@ -1,9 +1,14 @@
 -- So many folios for each desk are enough, and no fewer are.
-use Rattle.std.proofs.Common.{ℕ, ◌+◌, ◌*◌, ◌<◌, ◌≤◌, ⊎_elim, sym, subst, arith}
+use Rattle.std.proofs.Common.{ℕ, ◌+◌, ◌*◌, ◌<◌, ◌≤◌, ◌∙◌, max, ⊎_elim, ap, sym, subst, arith}
 use Rattle.std.proofs.lemmas.Bool.{cases_lt}
 use Rattle.std.proofs.lemmas.Grind.{div_ceil_times}
 use Rattle.std.proofs.lemmas.Nat.{mul-le}
+use Rattle.folio_extract.specs.inner.TextsInTurn.{folios_each}
 use Rattle.folio_extract.proofs.shared_reports.folios_each.Goals as goal
+
+pub returns-clause-value : goal.returns-clause-value
+unfolding folios_each
+returns-clause-value c = c.max.ensures ∙ ap (λ n. max n 1) c.div_ceil.ensures
 
 pub returns-clause-enough : goal.returns-clause-enough
 returns-clause-enough c =
