@@ -2,3 +2,4 @@
 pub mod MemDisks
 pub mod Moments
 pub mod Record
+pub mod FilesLeft

@@ -1,10 +1,10 @@
 -- One more call on a disk in memory.
-use Rattle.std.proofs.Common.{◌≡◌, ℕ, ◌<◌, ◌≤◌, false, List, [], ◌∷◌, ◌++◌, length, nat_le, if◌then◌else◌, sym, ap, ◌∙◌, arith, length-append}
+use Rattle.std.proofs.Common.{◌≡◌, ℕ, ◌<◌, ◌≤◌, false, List, [], ◌∷◌, ◌++◌, length, nat_le, if◌then◌else◌, sym, ap, subst, ◌∙◌, arith, length-append}
 use Rattle.std.proofs.lemmas.Bool.{leb-false}
 use Rattle.gb_outside.specs.Images.{Torn, Follows}
 use Rattle.gb_outside.specs.Recorded.{Event, wrote, overwritten, file_after}
 use Rattle.gb_outside.specs.MemDisks.{DiskInMemory, file_of, images_of, is_full, disk_after}
-use Rattle.gb_outside.specs.inner.Calls.{events, IsReplayed}
+use Rattle.gb_outside.specs.inner.Calls.{events, ArePlaced, IsReplayed}
 use Rattle.gb_outside.specs.declared.mem_disk.Call.{Call}
 use Rattle.gb_outside.specs.declared.mem_disk.Call.TheVariants.{Idle, Write, Sync}
 use Rattle.gb_outside.proofs.Record.{length_events, idle_more, sync_more, write_more, kept_more, wrote_torn}
@@ -19,19 +19,22 @@ module _ (first file written : List ℕ) (calls more : List Call) (is : IsReplay
   replayed_idle pushed = record {
     replayed = is.replayed ∙ sym (ap (file_after first) (idle_more calls more written pushed));
     all_written = omega (arith, kept_more calls more written Idle pushed, is.all_written);
+    placed = subst (ArePlaced first) (sym (idle_more calls more written pushed)) is.placed;
   }
 
   pub replayed_sync : more ≡ calls ++ Sync ∷ [] → IsReplayed first file written more
   replayed_sync pushed = record {
     replayed = is.replayed ∙ sym (ap (file_after first) (sync_more calls more written pushed));
     all_written = omega (arith, kept_more calls more written Sync pushed, is.all_written);
+    placed = subst (ArePlaced first) (sym (sync_more calls more written pushed)) is.placed;
   }
 
-  pub replayed_write : (longer piece : List ℕ) (at size : ℕ) → more ≡ calls ++ Write at size (length piece) ∷ [] → longer ≡ written ++ piece
+  pub replayed_write : (longer piece : List ℕ) (at size : ℕ) → at ≤ length file → length piece ≤ size → more ≡ calls ++ Write at size (length piece) ∷ [] → longer ≡ written ++ piece
       → IsReplayed first (overwritten at piece file) longer more
-  replayed_write longer piece at size pushed appended = record {
+  replayed_write longer piece at size place whole pushed appended = record {
     replayed = ap (overwritten at piece) is.replayed ∙ sym (ap (file_after first) (write_more calls more written longer piece at size pushed appended is.all_written));
     all_written = omega (arith, kept_more calls more written (Write at size (length piece)) pushed, is.all_written, ap length appended, length-append written piece);
+    placed = subst (ArePlaced first) (sym (write_more calls more written longer piece at size pushed appended is.all_written)) (omega (arith, place, ap length is.replayed), whole, is.placed);
   }
 
 -- a call that has room is recorded

@@ -7,4 +7,5 @@ pub mod Doors
 pub mod InMemory
 pub mod Recorded
 pub mod MemDisks
+pub mod Stops
 pub mod inner

@@ -4,17 +4,19 @@ ghost use Rattle.std.specs.Prelude.{◌≡◌, ◌+◌, ◌≤◌, [], length, n
 ghost use Rattle.gb_outside.specs.Faults.{Counts};
 ghost use Rattle.gb_outside.specs.Images.{Only};
 ghost use Rattle.gb_outside.specs.Recorded.{idle, wrote, synced, overwritten};
+ghost use Rattle.gb_outside.specs.Stops.{disk_then, disk_left};
 ghost use Rattle.gb_outside.specs.MemDisks.{file_of, bytes_written, is_full, is_due, call_fails, has_room_at, faulted, disk_after, after_look};
 
 use crate::calls::is_named;
-use crate::{Disk, DiskFailed};
+use crate::stops::Replay;
+use crate::{Disk, DiskFailed, Fill};
 use gb_base::NoMemory;
 use std::alloc::Global;
 use std::marker::Model;
 
 /// A call on the disk, as far as its file goes.
 #[derive(Clone, Copy)]
-enum Call {
+pub(crate) enum Call {
     /// A length, a read, or a call that failed and did nothing.
     Idle,
     /// A write of `size` bytes at `at`, of which the first `kept` came into the file.
@@ -109,6 +111,28 @@ impl MemDisk {
     {
         &self.bytes
     }
+
+    /// The disk that a stop after the first `calls` recorded calls leaves, or after all of them
+    /// where there are fewer. Its file is as long as this one was then, and what no successful sync
+    /// covers of it is filled so. No call of it is to fail, and it has an empty record and the room
+    /// of this one.
+    pub fn stopped(&self, alloc: Global, calls: u32, fill: Fill) -> Result<MemDisk, NoMemory>
+        ensures left { IfOk result (λ disk. disk ≡ disk_left calls fill self.now) }
+        ensures size { IfOk result (λ disk. length (⟦<MemDisk as Disk>⟧.reads disk) ≡ length (⟦<MemDisk as Disk>⟧.reads (disk_then calls self.now))) }
+        ensures image { IfOk result (λ disk. ⟦<MemDisk as Disk>⟧.images (disk_then calls self.now) (⟦<MemDisk as Disk>⟧.reads disk)) }
+    {
+        let count = self.calls.len().min(calls as usize);
+        let mut replay = Replay::new(alloc, &self.first, &self.written)?;
+        replay.make_all(alloc, &self.calls[..count], fill)?;
+        MemDisk::new(
+            alloc,
+            replay.left(),
+            self.longest,
+            self.most_written,
+            self.most_calls,
+            &[],
+        )
+    }
 }
 
 impl MemDisk {
@@ -174,6 +198,7 @@ impl MemDisk {
         requires file { at + length piece.now ≤ self.old.longest }
         requires written { bytes_written self.old.done + length piece.now ≤ self.old.most_written }
         requires calls { is_full self.old ≡ false }
+        requires whole { length piece.now ≤ size }
         ensures { self.new ≡ disk_after false (wrote at size piece.now) self.old }
     {
         overwrite(&mut self.bytes, at, piece);
@@ -203,8 +228,8 @@ fn fits(count: usize, more: usize, limit: usize) -> bool
     count <= limit && more <= limit - count
 }
 
-// Puts a piece over what is there from `at` on, and past the end.
-fn overwrite(bytes: &mut Vec<u8>, at: usize, piece: &[u8])
+/// Puts a piece over what is there from `at` on, and past the end, where there is room.
+pub(crate) fn overwrite(bytes: &mut Vec<u8>, at: usize, piece: &[u8])
     requires offset { at ≤ vec_len bytes.old }
     requires room { at + length piece.now ≤ vec_capacity bytes.old }
     ensures file { bytes.new.items ≡ overwritten at piece.now bytes.old.items }
