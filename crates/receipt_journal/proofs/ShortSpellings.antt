@@ -20,11 +20,11 @@ use Rattle.act_model.specs.declared.receipts.Receipt.{Receipt}
 use Rattle.act_codec.specs.Spelling.{u16_bytes, u32_bytes, u64_bytes, kind_bytes, reserve_bytes, act_bytes, form_bytes, doc_bytes, condition_bytes, basis_bytes, registration_bytes, item_bytes, longest_spelling, spelling}
 use Rattle.receipt_journal.specs.inner.Lists.{HasFewOwners, HasShortLists}
 
-u16_len : (n : ℕ) → length (u16_bytes n) ≡ 2
+pub u16_len : (n : ℕ) → length (u16_bytes n) ≡ 2
 unfolding u16_bytes
 u16_len n = refl
 
-u32_len : (n : ℕ) → length (u32_bytes n) ≡ 4
+pub u32_len : (n : ℕ) → length (u32_bytes n) ≡ 4
 unfolding u32_bytes
 u32_len n = refl
 

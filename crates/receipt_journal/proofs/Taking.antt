@@ -53,7 +53,7 @@ neither : (b : Bool) (n : ℕ) → is_accepted (cond b (Repeated n) (Differs n))
 neither true n = refl
 neither false n = refl
 
-again_not_accepted : (item : Item) (n : ℕ) (o : Option Receipt) → is_accepted (answer_again item n o) ≡ false
+pub again_not_accepted : (item : Item) (n : ℕ) (o : Option Receipt) → is_accepted (answer_again item n o) ≡ false
 again_not_accepted item n None = refl
 again_not_accepted item n (Some r) = neither (same_item r.item item) n
 

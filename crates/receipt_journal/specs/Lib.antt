@@ -2,5 +2,6 @@
 pub mod BookState
 pub mod Opening
 pub mod Receiving
+pub mod Repeating
 pub mod Standing
 pub mod inner
